@@ -1,0 +1,2 @@
+-- Document 01 in antt, in its order.
+pub mod Number

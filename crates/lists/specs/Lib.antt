@@ -1,0 +1,3 @@
+-- Definitions on lists.
+pub mod Lists
+pub mod Ascends
