@@ -1,2 +1,15 @@
 -- Document 01 in antt, in its order.
 pub mod Number
+pub mod Points
+pub mod Keys
+pub mod Levels
+pub mod Quotas
+pub mod Sampling
+pub mod Cut
+pub mod Overlaps
+pub mod Tree
+pub mod Packed
+pub mod Refusals
+pub mod Outcome
+pub mod Stream
+pub mod Printout
