@@ -1,0 +1,97 @@
+-- The table of the items that document 01 marks (P), and the lemma that the definitions yield every row of it: the rows of
+-- public functions through their complete outcomes. Each row is computed. Assumes nothing.
+use Prim.Native.Nat.{ℕ}
+use mathlib.Core.Path.{_≡_, refl}
+use mathlib.Core.List.{List, [], _∷_, _++_}
+use lib.ListN.{replicate}
+use lib.Ieee.{Float, binary64, ofBits, toBits}
+use Rattle.lists.specs.Lists.{from}
+use Rattle.definition.specs.Number.{plusZero}
+use Rattle.definition.specs.Levels.{auto, threshold}
+use Rattle.definition.specs.Packed.{Counts}
+use Rattle.definition.specs.Outcome.{Answer, Shared, TreeLists, rootAnswer, sizeAnswer, quotaAnswer, quotaOutput, sampleAnswer, sampleOutput, buildAnswer, buildLists}
+use Rattle.definition.specs.Printout.{ascii, printout}
+use Rattle.definition.proofs.Samples.{opened, line, onLine, nines, floatRoom, wholeRoom, fourPoints}
+
+-- an accepted call that reports x
+abbrev reports : {A : Type 0} → A → Answer A
+reports x = record { number = 0; place = 0; value = x }
+
+-- an accepted build with these counts per level
+abbrev built : ℕ → List ℕ → List ℕ → Answer Counts
+built levels rows domains = reports (record { levels = levels; rows = rows; domains = domains })
+
+-- an accepted quota call for four leaves, or two, with this many seats
+abbrev shared : ℕ → ℕ → Answer Shared
+shared leaves seats = reports (record { leaves = leaves; seats = seats })
+
+pub record Examples : Type 0 where
+  -- the four-point job, byte for byte
+  printed :
+      printout fourPoints
+      ≡ ascii "levels 2\nlevel 0 points 0 1 2 3\ndomain 0 internal 0 overlap 1 box 0000000000000000 3ff0000000000000\ndomain 1 internal 1 overlap 0 2 box 3ff0000000000000 4008000000000000\ndomain 2 internal 2 overlap 1 3 box 4008000000000000 401c000000000000\ndomain 3 internal 3 overlap 2 box 401c000000000000 401c000000000000\nlevel 1 points 0 1\ndomain 0 internal 0 1 overlap - box -\n"
+  -- the same tree in lists that held nines: packed, and what stands past it stays
+  packed :
+      buildLists (onLine 2 2) (line (0 ∷ 1 ∷ 3 ∷ 7 ∷ [])) (nines 4) (floatRoom 4) (wholeRoom 4)
+      ≡ record {
+        points = 0 ∷ 1 ∷ 2 ∷ 3 ∷ 0 ∷ 1 ∷ replicate 10 9;
+        internals = 0 ∷ 1 ∷ 2 ∷ 3 ∷ 0 ∷ 1 ∷ replicate 10 9;
+        domains =
+            (0 ∷ 1 ∷ 0 ∷ 1 ∷ []) ++ (1 ∷ 1 ∷ 1 ∷ 2 ∷ []) ++ (2 ∷ 1 ∷ 3 ∷ 2 ∷ []) ++ (3 ∷ 1 ∷ 5 ∷ 1 ∷ []) ++ (4 ∷ 2 ∷ 6 ∷ 0 ∷ [])
+            ++ replicate 80 9;
+        boxes = line (0 ∷ 1 ∷ 1 ∷ 3 ∷ 3 ∷ 7 ∷ 7 ∷ 7 ∷ 0 ∷ 0 ∷ replicate 40 9);
+        borrowed = 1 ∷ 0 ∷ 2 ∷ 1 ∷ 3 ∷ 2 ∷ replicate 42 9;
+      }
+  counted : buildAnswer (onLine 2 2) (line (0 ∷ 1 ∷ 3 ∷ 7 ∷ [])) (nines 4) (floatRoom 4) (wholeRoom 4) ≡ built 2 (4 ∷ 2 ∷ 0 ∷ 0 ∷ []) (4 ∷ 1 ∷ 0 ∷ 0 ∷ [])
+  -- Auto
+  auto1 : threshold auto 1 ≡ 512
+  auto16384 : threshold auto 16384 ≡ 512
+  auto16385 : threshold auto 16385 ≡ 513
+  -- c = 1, f = 2
+  run8 : buildAnswer (onLine 1 1) (line (from 0 8)) (nines 8) (floatRoom 8) (wholeRoom 8) ≡ built 4 (8 ∷ 4 ∷ 2 ∷ 1 ∷ []) (16 ∷ 8 ∷ 4 ∷ 1 ∷ [])
+  run3 : buildAnswer (onLine 1 1) (line (from 0 3)) (nines 3) (floatRoom 3) (wholeRoom 3) ≡ built 3 (3 ∷ 2 ∷ 1 ∷ 0 ∷ []) (6 ∷ 4 ∷ 1 ∷ 0 ∷ [])
+  -- level size alone
+  size3 : sizeAnswer 3 2 2 ≡ reports 2
+  size10 : sizeAnswer 10 3 2 ≡ reports 6
+  -- quotas, into an output of one entry more
+  quota5302 : quotaAnswer (5 ∷ 3 ∷ 0 ∷ 2 ∷ []) 4 (replicate 5 9) (replicate 4 9) ≡ shared 4 4
+  quota5302-output : quotaOutput (5 ∷ 3 ∷ 0 ∷ 2 ∷ []) 4 (replicate 5 9) (replicate 4 9) ≡ 2 ∷ 1 ∷ 0 ∷ 1 ∷ 9 ∷ []
+  quota22 : quotaAnswer (2 ∷ 2 ∷ []) 3 (replicate 3 9) (replicate 2 9) ≡ shared 2 3
+  quota22-output : quotaOutput (2 ∷ 2 ∷ []) 3 (replicate 3 9) (replicate 2 9) ≡ 2 ∷ 1 ∷ 9 ∷ []
+  quota1111 : quotaAnswer (1 ∷ 1 ∷ 1 ∷ 1 ∷ []) 2 (replicate 5 9) (replicate 4 9) ≡ shared 4 2
+  quota1111-output : quotaOutput (1 ∷ 1 ∷ 1 ∷ 1 ∷ []) 2 (replicate 5 9) (replicate 4 9) ≡ 1 ∷ 1 ∷ 0 ∷ 0 ∷ 9 ∷ []
+  -- sampling, into an output of one entry more
+  sample0137 : sampleAnswer 1 (line (0 ∷ 1 ∷ 3 ∷ 7 ∷ [])) 3 1 (replicate 4 9) (line (replicate 8 9)) (replicate 4 9) ≡ reports 3
+  sample0137-output : sampleOutput 1 (line (0 ∷ 1 ∷ 3 ∷ 7 ∷ [])) 3 1 (replicate 4 9) (line (replicate 8 9)) (replicate 4 9) ≡ 1 ∷ 3 ∷ 2 ∷ 9 ∷ []
+  sample555 : sampleAnswer 1 (line (5 ∷ 5 ∷ 5 ∷ [])) 3 2 (replicate 4 9) (line (replicate 6 9)) (replicate 3 9) ≡ reports 3
+  sample555-output : sampleOutput 1 (line (5 ∷ 5 ∷ 5 ∷ [])) 3 2 (replicate 4 9) (line (replicate 6 9)) (replicate 3 9) ≡ 2 ∷ 0 ∷ 1 ∷ 9 ∷ []
+  -- the root of 3ff0000000000001
+  root : rootAnswer (ofBits binary64 0x3ff0000000000001) ≡ reports (ofBits binary64 0x3ff0000000000000)
+
+-- the definitions yield every row
+pub examples : Examples
+unfolding opened
+examples =
+    record {
+      printed = refl;
+      packed = refl;
+      counted = refl;
+      auto1 = refl;
+      auto16384 = refl;
+      auto16385 = refl;
+      run8 = refl;
+      run3 = refl;
+      size3 = refl;
+      size10 = refl;
+      quota5302 = refl;
+      quota5302-output = refl;
+      quota22 = refl;
+      quota22-output = refl;
+      quota1111 = refl;
+      quota1111-output = refl;
+      sample0137 = refl;
+      sample0137-output = refl;
+      sample555 = refl;
+      sample555-output = refl;
+      root = refl;
+    }

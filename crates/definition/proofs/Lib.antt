@@ -1,0 +1,4 @@
+-- The tables of examples.
+pub mod Samples
+pub mod Examples
+pub mod Lookalikes
