@@ -1,0 +1,158 @@
+-- Strictly ascending lists: of what is kept, of stretches, by index, and that its members make such a list. Assumes nothing.
+use mathlib.Core.Path.{_≡_, refl, sym, ap, _∙_}
+use mathlib.Core.Logic.{_⊎_, inl, inr, ⊎-elim}
+use Prim.Native.Nat.{ℕ, zero, suc, _≤_, _<_}
+use native.Mathlib.Omega.{arith}
+use native.Mathlib.Nat.{not-suc-le-zero}
+use mathlib.Core.Bool.{Bool, true, false}
+use mathlib.Core.List.{List, [], _∷_, _++_, map, List·Memᴰ, List·Memᴰ·head, List·Memᴰ·tail, List·Memᴰ·not-nil, List·Memᴰ·cases-cons}
+use lib.ListN.{length, getD, take, drop}
+use lib.Dec.{ltb}
+use borrow.Author.Tests.{lt-ltb, le-ltb}
+use native.Mathlib.Decide.{ℕ-discrete, decLt}
+use Rattle.lists.specs.Lists.{consIf, keep, from, part}
+use Rattle.lists.specs.Ascends.{All, Ascends}
+use Rattle.lists.proofs.All.{all-append, all-keep, all-take, all-at, all-by-index, all-mem, all-of, all-imp}
+use Rattle.lists.proofs.Count.{count-len, count-lt, length-keep}
+use Rattle.lists.proofs.Members.{mem-keep, map-mem}
+use Rattle.lists.proofs.From.{from-mem}
+use Rattle.lists.proofs.Times.{times, Once, times-nil, times-one, times-other, mem-times, times-mem}
+
+-- ---- what is kept, stretches, and the numbers from a on
+pub ascends-keep : (p : ℕ → Bool) (l : List ℕ) → Ascends l → Ascends (keep p l)
+unfolding Ascends keep
+ascends-keep p [] h = tt
+ascends-keep p (x ∷ l) h = go (p x) (ascends-keep p l (h .1))
+  where
+    go : (b : Bool) → Ascends (keep p l) → Ascends (consIf b x (keep p l))
+    go true k = (all-keep (λ y. x < y) p l (h .0), k)
+    go false k = k
+
+pub ascends-take : (n : ℕ) (l : List ℕ) → Ascends l → Ascends (take n l)
+unfolding Ascends
+ascends-take zero l h = tt
+ascends-take (suc n) [] h = tt
+ascends-take (suc n) (x ∷ l) h = (all-take (λ y. x < y) n l (h .0), ascends-take n l (h .1))
+
+pub ascends-drop : (n : ℕ) (l : List ℕ) → Ascends l → Ascends (drop n l)
+unfolding Ascends
+ascends-drop zero l h = h
+ascends-drop (suc n) [] h = tt
+ascends-drop (suc n) (x ∷ l) h = ascends-drop n l (h .1)
+
+pub ascends-part : (l : List ℕ) (at n : ℕ) → Ascends l → Ascends (part l at n)
+unfolding part
+ascends-part l at n h = ascends-take n (drop at l) (ascends-drop at l h)
+
+pub ascends-from : (a n : ℕ) → Ascends (from a n)
+unfolding from Ascends
+ascends-from a zero = tt
+ascends-from a (suc n) =
+    (all-of (λ y. a < y) (from (suc a) n) (λ y m. omega (arith, from-mem (suc a) n m)), ascends-from (suc a) n)
+
+-- ---- two lists together, of which each element of the first is below each of the second
+pub ascends-append : (xs ys : List ℕ) → Ascends xs → Ascends ys → All (λ x. All (λ y. x < y) ys) xs → Ascends (xs ++ ys)
+unfolding Ascends All
+ascends-append [] ys h g k = g
+ascends-append (x ∷ xs) ys h g k = (all-append (λ y. x < y) xs ys (h .0) (k .0), ascends-append xs ys (h .1) g (k .1))
+
+pub ascends-snoc : (xs : List ℕ) (y : ℕ) → Ascends xs → All (λ x. x < y) xs → Ascends (xs ++ y ∷ [])
+unfolding Ascends All
+ascends-snoc xs y h k = ascends-append xs (y ∷ []) h (tt, tt) (all-imp (λ x. x < y) (λ x. All (λ z. x < z) (y ∷ [])) xs (λ x q. (q, tt)) k)
+
+-- a map that keeps the order of the elements
+pub ascends-map : (f : ℕ → ℕ) (l : List ℕ) → ((a b : ℕ) → List·Memᴰ a l → List·Memᴰ b l → a < b → f a < f b) → Ascends l → Ascends (map f l)
+unfolding Ascends
+ascends-map f [] g h = tt
+ascends-map f (x ∷ l) g h = (
+  all-of (λ y. f x < y) (map f l) (λ y m.
+      let r = map-mem f l m in
+      rw (r .2) (g x (r .0) (List·Memᴰ·head refl) (List·Memᴰ·tail (r .1)) (all-mem (λ z. x < z) l (h .0) (r .0) (r .1)))),
+  ascends-map f l (λ a b m n. g a b (List·Memᴰ·tail m) (List·Memᴰ·tail n)) (h .1),
+)
+
+-- ---- by index
+pub ascends-at : (l : List ℕ) (a b : ℕ) → Ascends l → a < b → b < length l → getD l a 0 < getD l b 0
+unfolding Ascends
+ascends-at [] a b h g k = absurd (not-suc-le-zero k)
+ascends-at (x ∷ l) a zero h g k = absurd (not-suc-le-zero g)
+ascends-at (x ∷ l) zero (suc b) h g k = all-at (λ y. x < y) l b 0 (h .0) (omega arith)
+ascends-at (x ∷ l) (suc a) (suc b) h g k = ascends-at l a b (h .1) (omega arith) (omega arith)
+
+pub ascends-by-index : (l : List ℕ) → ((a b : ℕ) → a < b → b < length l → getD l a 0 < getD l b 0) → Ascends l
+unfolding Ascends
+ascends-by-index [] f = tt
+ascends-by-index (x ∷ l) f =
+    (all-by-index (λ y. x < y) l 0 (λ i h. f 0 (suc i) (omega arith) (omega arith)), ascends-by-index l (λ a b g h. f (suc a) (suc b) (omega arith) (omega arith)))
+
+-- the order of two elements is that of their indices
+pub ascends-order : (l : List ℕ) (a b : ℕ) → Ascends l → a < length l → b < length l → ltb (getD l a 0) (getD l b 0) ≡ ltb a b
+ascends-order l a b up h g = elim (decLt a b) [
+  | yes s ↦ lt-ltb (getD l a 0) (getD l b 0) (ascends-at l a b up s g) ∙ sym (lt-ltb a b s)
+  | no s ↦ le-ltb (getD l a 0) (getD l b 0) (back s (decLt b a)) ∙ sym (le-ltb a b (omega arith))
+]
+  where
+    back : (a < b → ⊥) → Dec (b < a) → getD l b 0 ≤ getD l a 0
+    back s (yes t) = omega (arith, ascends-at l b a up t h)
+    back s (no t) = let e : b ≡ a = omega arith in omega (arith, ap (λ (k : ℕ). getD l k 0) e)
+
+pub ascends-same : (l : List ℕ) (a b : ℕ) → Ascends l → a < length l → b < length l → getD l a 0 ≡ getD l b 0 → a ≡ b
+ascends-same l a b up h g e = elim (decLt a b) [
+  | yes s ↦ absurd (omega (arith, ascends-at l a b up s g))
+  | no s ↦ elim (decLt b a) [ yes t ↦ absurd (omega (arith, ascends-at l b a up t h)) | no t ↦ omega arith ]
+]
+
+-- ---- two strictly ascending lists with the same members are equal
+heads : (x y : ℕ) (xs ys : List ℕ) → All (λ z. x < z) xs → All (λ z. y < z) ys
+    → (x ≡ y) ⊎ List·Memᴰ x ys → (y ≡ x) ⊎ List·Memᴰ y xs → x ≡ y
+heads x y xs ys h g (inl e) t = e
+heads x y xs ys h g (inr m) (inl e) = sym e
+heads x y xs ys h g (inr m) (inr n) = omega (arith, all-mem (λ z. y < z) ys g x m, all-mem (λ z. x < z) xs h y n)
+
+behind : (x y : ℕ) (xs ys : List ℕ) → x ≡ y → All (λ z. x < z) xs → ((z : ℕ) → List·Memᴰ z (x ∷ xs) → List·Memᴰ z (y ∷ ys)) → (z : ℕ) → List·Memᴰ z xs → List·Memᴰ z ys
+behind x y xs ys e h f z m =
+    let g : x < z = all-mem (λ w. x < w) xs h z m in
+    ⊎-elim (λ (q : z ≡ y). absurd (omega arith)) (λ n. n) (List·Memᴰ·cases-cons (f z (List·Memᴰ·tail m)))
+
+pub ascends-unique : (xs ys : List ℕ) → Ascends xs → Ascends ys
+    → ((z : ℕ) → List·Memᴰ z xs → List·Memᴰ z ys) → ((z : ℕ) → List·Memᴰ z ys → List·Memᴰ z xs) → xs ≡ ys
+unfolding Ascends
+ascends-unique [] [] h g f k = refl
+ascends-unique [] (y ∷ ys) h g f k = absurd (List·Memᴰ·not-nil (k y (List·Memᴰ·head refl)))
+ascends-unique (x ∷ xs) [] h g f k = absurd (List·Memᴰ·not-nil (f x (List·Memᴰ·head refl)))
+ascends-unique (x ∷ xs) (y ∷ ys) h g f k =
+    let e : x ≡ y = heads x y xs ys (h .0) (g .0) (List·Memᴰ·cases-cons (f x (List·Memᴰ·head refl))) (List·Memᴰ·cases-cons (k y (List·Memᴰ·head refl))) in
+    rw (e, ascends-unique xs ys (h .1) (g .1) (behind x y xs ys e (h .0) f) (behind y x ys xs (sym e) (g .0) k))
+
+-- the same, by how often each number stands in them
+pub ascends-unique-count : (xs ys : List ℕ) → Ascends xs → Ascends ys → ((z : ℕ) → times z xs ≡ times z ys) → xs ≡ ys
+ascends-unique-count xs ys h g f =
+    ascends-unique xs ys h g
+    (λ z m. times-mem ys z (omega (arith, f z, mem-times xs z m)))
+    (λ z m. times-mem xs z (omega (arith, f z, mem-times ys z m)))
+
+-- ---- a strictly ascending list holds no number twice
+none-above : (l : List ℕ) (z : ℕ) → All (λ y. z < y) l → times z l ≡ 0
+unfolding All
+none-above [] z h = times-nil z
+none-above (x ∷ l) z h = times-other z x l (λ e. omega (arith, h .0)) ∙ none-above l z (h .1)
+
+pub ascends-once : (l : List ℕ) → Ascends l → Once l
+unfolding Ascends
+ascends-once [] h z = omega (arith, times-nil z)
+ascends-once (x ∷ l) h z = elim (ℕ-discrete x z) [
+  | yes e ↦ rw (← e) (omega (arith, times-one x l, none-above l x (h .0)))
+  | no n ↦ omega (arith, times-other z x l n, ascends-once l (h .1) z)
+]
+
+pub from-once : (a n : ℕ) → Once (from a n)
+from-once a n = ascends-once (from a n) (ascends-from a n)
+
+-- ---- a strictly ascending list is no longer than one with all its members
+pub ascends-short : (xs ys : List ℕ) → Ascends xs → ((z : ℕ) → List·Memᴰ z xs → List·Memᴰ z ys) → length xs ≤ length ys
+unfolding Ascends
+ascends-short [] ys h f = omega arith
+ascends-short (x ∷ xs) ys h f =
+    let p : ℕ → Bool = λ y. ltb x y in
+    let k = ascends-short xs (keep p ys) (h .1) (λ z m. mem-keep p ys (f z (List·Memᴰ·tail m)) (lt-ltb x z (all-mem (λ y. x < y) xs (h .0) z m))) in
+    omega (arith, k, length-keep p ys, count-lt p (λ y. true) ys (λ y m e. refl) x (f x (List·Memᴰ·head refl)) (le-ltb x x (omega arith)) refl, count-len (λ y. true) ys)

@@ -1,0 +1,55 @@
+-- The image of a list, element by element. Assumes nothing.
+use mathlib.Core.Path.{_≡_, refl, ap, _∙_}
+use Prim.Native.Nat.{ℕ, zero, suc, _<_}
+use native.Mathlib.Nat.{not-suc-le-zero, le-of-suc-le-suc}
+use mathlib.Core.List.{List, [], _∷_, _++_, map, map-append, List·Memᴰ, List·Memᴰ·head, List·Memᴰ·tail}
+use lib.ListN.{length, getD, set, take, drop}
+use Rattle.lists.specs.Lists.{anyOf, joined, part}
+use mathlib.Core.Bool.{Bool, _||_}
+
+module _ {A B : Type 0} (f : A → B) where
+  -- ---- one more element, and stretches
+  pub map-snoc : (xs : List A) (x : A) → map f (xs ++ x ∷ []) ≡ map f xs ++ f x ∷ []
+  map-snoc xs x = map-append f xs (x ∷ [])
+
+  pub take-map : (n : ℕ) (l : List A) → take n (map f l) ≡ map f (take n l)
+  take-map zero l = refl
+  take-map (suc n) [] = refl
+  take-map (suc n) (x ∷ l) = ap (λ (t : List B). f x ∷ t) (take-map n l)
+
+  pub drop-map : (n : ℕ) (l : List A) → drop n (map f l) ≡ map f (drop n l)
+  drop-map zero l = refl
+  drop-map (suc n) [] = refl
+  drop-map (suc n) (x ∷ l) = drop-map n l
+
+  pub part-map : (l : List A) (at n : ℕ) → part (map f l) at n ≡ map f (part l at n)
+  unfolding part
+  part-map l at n = ap (take n) (drop-map at l) ∙ take-map n (drop at l)
+
+  -- ---- by index
+  pub getD-map-in : (l : List A) (i : ℕ) (d : A) (e : B) → i < length l → getD (map f l) i e ≡ f (getD l i d)
+  getD-map-in [] i d e h = absurd (not-suc-le-zero h)
+  getD-map-in (x ∷ l) zero d e h = refl
+  getD-map-in (x ∷ l) (suc i) d e h = getD-map-in l i d e (le-of-suc-le-suc h)
+
+  pub map-set : (l : List A) (i : ℕ) (x : A) → map f (set l i x) ≡ set (map f l) i (f x)
+  map-set [] i x = refl
+  map-set (y ∷ l) zero x = refl
+  map-set (y ∷ l) (suc i) x = ap (λ (t : List B). f y ∷ t) (map-set l i x)
+
+  -- ---- some element of the image passes a test
+  pub any-map : (p : B → Bool) (l : List A) → anyOf p (map f l) ≡ anyOf (λ x. p (f x)) l
+  unfolding anyOf
+  any-map p [] = refl
+  any-map p (x ∷ l) = ap (λ (b : Bool). p (f x) || b) (any-map p l)
+
+  -- ---- lists of lists
+  pub map-joined : (ls : List (List A)) → map f (joined ls) ≡ joined (map (map f) ls)
+  unfolding joined
+  map-joined [] = refl
+  map-joined (l ∷ ls) = map-append f l (joined ls) ∙ ap (λ (t : List B). map f l ++ t) (map-joined ls)
+
+-- ---- two functions that agree on the elements
+pub map-same : {A B : Type 0} (f g : A → B) (l : List A) → ((x : A) → List·Memᴰ x l → f x ≡ g x) → map f l ≡ map g l
+map-same f g [] h = refl
+map-same f g (x ∷ l) h = rw (h x (List·Memᴰ·head refl), map-same f g l (λ y m. h y (List·Memᴰ·tail m)))

@@ -1,0 +1,148 @@
+-- Sums of lists of numbers, and of values over a list or over the numbers below n. Assumes nothing.
+use mathlib.Core.Path.{_≡_, refl, sym, ap, _∙_}
+use Prim.Native.Nat.{ℕ, zero, suc, _+_, _-_, _*_, _≤_, _<_, zero-le}
+use native.Mathlib.Nat.{zero-add, mul-zero, mul-add, suc-mul, not-suc-le-zero, le-of-suc-le-suc}
+use native.Mathlib.Numerals.{add-one}
+use native.Mathlib.Omega.{arith}
+use mathlib.Core.Bool.{Bool}
+use mathlib.Core.List.{List, [], _∷_, _++_, map, map-append, List·Memᴰ, List·Memᴰ·head, List·Memᴰ·tail}
+use lib.ListN.{length, getD, set, take, drop, take-append-drop}
+use Rattle.lists.specs.Lists.{oneIf, count, total, from}
+use Rattle.lists.proofs.From.{from-mem, length-from, list-at, from-append, map-below-suc, map-below-snoc}
+
+-- ---- the sums of two lists
+pub total-nil : total [] ≡ 0
+unfolding total
+total-nil = refl
+
+pub total-cons : (x : ℕ) (xs : List ℕ) → total (x ∷ xs) ≡ x + total xs
+unfolding total
+total-cons x xs = refl
+
+pub total-append : (xs ys : List ℕ) → total (xs ++ ys) ≡ total xs + total ys
+unfolding total
+total-append [] ys = sym (zero-add (total ys))
+total-append (x ∷ xs) ys = omega (arith, total-append xs ys)
+
+pub total-halves : (n : ℕ) (xs : List ℕ) → total (take n xs) + total (drop n xs) ≡ total xs
+total-halves n xs = sym (total-append (take n xs) (drop n xs)) ∙ ap total (take-append-drop n xs)
+
+-- ---- one more element: the turn of a loop that adds
+pub total-snoc : (xs : List ℕ) (x : ℕ) → total (xs ++ x ∷ []) ≡ total xs + x
+total-snoc xs x = omega (arith, total-append xs (x ∷ []), total-cons x [], total-nil)
+
+pub total-more : (xs : List ℕ) (t : ℕ) → total (take (suc t) xs) ≡ total (take t xs) + getD xs t 0
+unfolding total
+total-more [] zero = refl
+total-more [] (suc t) = refl
+total-more (x ∷ xs) zero = omega arith
+total-more (x ∷ xs) (suc t) = omega (arith, total-more xs t)
+
+-- the same with the code's t + 1
+pub total-step : (xs : List ℕ) (t : ℕ) → total (take (t + 1) xs) ≡ total (take t xs) + getD xs t 0
+total-step xs t = ap (λ (k : ℕ). total (take k xs)) (add-one t) ∙ total-more xs t
+
+-- ---- a front's sum, and one element
+pub total-front : (n : ℕ) (xs : List ℕ) → total (take n xs) ≤ total xs
+total-front n xs = omega (arith, total-halves n xs)
+
+pub total-longer : (xs : List ℕ) (t n : ℕ) → t ≤ n → total (take t xs) ≤ total (take n xs)
+unfolding total
+total-longer xs zero n h = zero-le
+total-longer xs (suc t) zero h = absurd (not-suc-le-zero h)
+total-longer [] (suc t) (suc n) h = zero-le
+total-longer (x ∷ xs) (suc t) (suc n) h = omega (arith, total-longer xs t n (le-of-suc-le-suc h))
+
+pub total-below : (xs : List ℕ) (t n : ℕ) → t < n → total (take t xs) + getD xs t 0 ≤ total (take n xs)
+total-below xs t n h = omega (arith, total-more xs t, total-longer xs (suc t) n h)
+
+pub total-at : (xs : List ℕ) (i : ℕ) → getD xs i 0 ≤ total xs
+total-at xs i = omega (arith, total-more xs i, total-front (suc i) xs)
+
+pub total-set : (xs : List ℕ) (k v : ℕ) → k < length xs → total (set xs k v) + getD xs k 0 ≡ total xs + v
+unfolding total
+total-set [] k v h = absurd (not-suc-le-zero h)
+total-set (x ∷ xs) zero v h = omega arith
+total-set (x ∷ xs) (suc k) v h = omega (arith, total-set xs k v (le-of-suc-le-suc h))
+
+-- ---- sums of values over a list
+module _ {A : Type 0} where
+  pub sum-same : (f g : A → ℕ) (l : List A) → ((x : A) → List·Memᴰ x l → f x ≡ g x) → total (map f l) ≡ total (map g l)
+  unfolding total
+  sum-same f g [] h = refl
+  sum-same f g (x ∷ l) h = omega (arith, h x (List·Memᴰ·head refl), sum-same f g l (λ y m. h y (List·Memᴰ·tail m)))
+
+  pub sum-le : (f g : A → ℕ) (l : List A) → ((x : A) → List·Memᴰ x l → f x ≤ g x) → total (map f l) ≤ total (map g l)
+  unfolding total
+  sum-le f g [] h = zero-le
+  sum-le f g (x ∷ l) h = omega (arith, h x (List·Memᴰ·head refl), sum-le f g l (λ y m. h y (List·Memᴰ·tail m)))
+
+  pub sum-add : (f g : A → ℕ) (l : List A) → total (map (λ x. f x + g x) l) ≡ total (map f l) + total (map g l)
+  unfolding total
+  sum-add f g [] = refl
+  sum-add f g (x ∷ l) = omega (arith, sum-add f g l)
+
+  pub sum-mul : (k : ℕ) (f : A → ℕ) (l : List A) → total (map (λ x. k * f x) l) ≡ k * total (map f l)
+  unfolding total
+  sum-mul k f [] = sym (mul-zero k)
+  sum-mul k f (x ∷ l) = rw (mul-add k (f x) (total (map f l))) (omega (arith, sum-mul k f l))
+
+  pub sum-const : (k : ℕ) (l : List A) → total (map (λ x. k) l) ≡ length l * k
+  unfolding total
+  sum-const k [] = omega arith
+  sum-const k (x ∷ l) = rw (suc-mul (length l) k) (omega (arith, sum-const k l))
+
+  pub sum-none : (f : A → ℕ) (l : List A) → ((x : A) → List·Memᴰ x l → f x ≡ 0) → total (map f l) ≡ 0
+  unfolding total
+  sum-none f [] h = refl
+  sum-none f (x ∷ l) h = omega (arith, h x (List·Memᴰ·head refl), sum-none f l (λ y m. h y (List·Memᴰ·tail m)))
+
+  pub sum-mem : (f : A → ℕ) (l : List A) (x : A) → List·Memᴰ x l → f x ≤ total (map f l)
+  unfolding total
+  sum-mem f (y ∷ l) x (List·Memᴰ·head e) = omega (arith, ap f e)
+  sum-mem f (y ∷ l) x (List·Memᴰ·tail m) = omega (arith, sum-mem f l x m)
+
+  -- a count is a sum of ones
+  pub count-sum : (p : A → Bool) (l : List A) → count p l ≡ total (map (λ x. oneIf (p x)) l)
+  unfolding count total
+  count-sum p [] = refl
+  count-sum p (x ∷ l) = ap (λ (n : ℕ). oneIf (p x) + n) (count-sum p l)
+
+-- ---- sums over the numbers below n: f 0 + f 1 + .. + f (n - 1)
+pub sum-below-nil : (f : ℕ → ℕ) → total (map f (from 0 0)) ≡ 0
+unfolding total from
+sum-below-nil f = refl
+
+pub sum-below-snoc : (n : ℕ) (f : ℕ → ℕ) → total (map f (from 0 (suc n))) ≡ total (map f (from 0 n)) + f n
+sum-below-snoc n f = ap total (map-below-snoc f n) ∙ total-snoc (map f (from 0 n)) (f n)
+
+-- the same with the code's n + 1
+pub sum-below-suc : (n : ℕ) (f : ℕ → ℕ) → total (map f (from 0 (n + 1))) ≡ total (map f (from 0 n)) + f n
+sum-below-suc n f = ap total (map-below-suc f n) ∙ total-snoc (map f (from 0 n)) (f n)
+
+pub sum-below-same : (n : ℕ) (f g : ℕ → ℕ) → ((j : ℕ) → j < n → f j ≡ g j) → total (map f (from 0 n)) ≡ total (map g (from 0 n))
+sum-below-same n f g h = sum-same f g (from 0 n) (λ j m. h j (omega (arith, from-mem 0 n m)))
+
+pub sum-below-le : (n : ℕ) (f g : ℕ → ℕ) → ((j : ℕ) → j < n → f j ≤ g j) → total (map f (from 0 n)) ≤ total (map g (from 0 n))
+sum-below-le n f g h = sum-le f g (from 0 n) (λ j m. h j (omega (arith, from-mem 0 n m)))
+
+pub sum-below-none : (n : ℕ) (f : ℕ → ℕ) → ((j : ℕ) → j < n → f j ≡ 0) → total (map f (from 0 n)) ≡ 0
+sum-below-none n f h = sum-none f (from 0 n) (λ j m. h j (omega (arith, from-mem 0 n m)))
+
+pub sum-below-const : (n k : ℕ) → total (map (λ j. k) (from 0 n)) ≡ n * k
+sum-below-const n k = sum-const k (from 0 n) ∙ ap (λ (m : ℕ). m * k) (length-from 0 n)
+
+pub sum-below-part : (i n : ℕ) (f : ℕ → ℕ) → i ≤ n → total (map f (from 0 i)) ≤ total (map f (from 0 n))
+sum-below-part i n f h =
+    let d = n - i in
+    let e : i + d ≡ n = omega arith in
+    let s : total (map f (from 0 (i + d))) ≡ total (map f (from 0 i)) + total (map f (from (0 + i) d)) =
+    ap (λ (l : List ℕ). total (map f l)) (from-append 0 i d) ∙ ap total (map-append f (from 0 i) (from (0 + i) d)) ∙ total-append (map f (from 0 i)) (map f (from (0 + i) d)) in
+    omega (arith, ap (λ (k : ℕ). total (map f (from 0 k))) e)
+
+pub sum-below-at : (i n : ℕ) (f : ℕ → ℕ) → i < n → f i ≤ total (map f (from 0 n))
+sum-below-at i n f h = omega (arith, sum-below-part (suc i) n f h, sum-below-snoc i f)
+
+-- ---- a list's sum is the sum over its indices
+pub total-index : (xs : List ℕ) → total xs ≡ total (map (λ i. getD xs i 0) (from 0 (length xs)))
+total-index xs = ap total (list-at xs 0)
