@@ -1,0 +1,1 @@
+// Laws of the square root of the definition; there is no code of its own.
