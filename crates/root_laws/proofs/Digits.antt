@@ -3,9 +3,9 @@
 use mathlib.Core.Path.{_≡_, refl, sym, ap, _∙_, subst}
 use mathlib.Core.Logic.{inl, inr}
 use Prim.Native.Nat.{ℕ, zero, suc, _+_, _-_, _*_, _/_, _%_, _^_, _≤_, _<_}
-use native.Mathlib.Nat.{le-trans, le-of-eq, lt-of-le-of-lt, lt-of-lt-of-le, lt-of-not-le, not-le-of-lt, eq-zero-or-pos, mul-comm, mul-assoc, add-comm, mul-le-mul-right, mul-lt-mul-of-pos-right, mod-eq-of-lt, mod-lt}
+use native.Mathlib.Nat.{le-trans, le-of-eq, lt-of-lt-of-le, lt-of-not-le, not-le-of-lt, eq-zero-or-pos, mul-assoc, add-comm, mul-le-mul-right, mul-lt-mul-of-pos-right, mod-eq-of-lt, mod-lt}
 use native.Mathlib.Omega.{arith}
-use lib.Dec.{lit<, lit≤}
+use lib.Dec.{lit≤}
 use lib.Pow.{pow-pos, pow-add, pow-mono}
 use lib.Count.{leadingZeros, leading-top}
 use Rattle.root_laws.specs.Steps.{Leading, bitUnits, fieldUnits}

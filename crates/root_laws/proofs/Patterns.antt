@@ -1,9 +1,9 @@
 -- The bit pattern of a finite value above zero, and the value's size in units of 2 ^ -1074 by the pattern's two fields.
 -- Assumes nothing.
 use mathlib.Core.Path.{_≡_, refl, sym, ap, _∙_, subst}
-use mathlib.Core.Logic.{_⊎_, inl, inr}
+use mathlib.Core.Logic.{inl, inr}
 use mathlib.Core.Bool.{Bool, true, false, cond, not, true≢false}
-use Prim.Native.Nat.{ℕ, zero, suc, _+_, _-_, _*_, _/_, _%_, _^_, _≤_, _<_}
+use Prim.Native.Nat.{ℕ, zero, suc, _+_, _*_, _/_, _%_, _^_, _≤_, _<_}
 use native.Mathlib.Nat.{mul-one, zero-mul, mul-pos, zero-lt-suc, mul-div-cancel, mod-eq-of-lt, lt-irrefl, eq-zero-or-pos}
 use native.Mathlib.Omega.{arith}
 use lib.IntN.{ℤ}

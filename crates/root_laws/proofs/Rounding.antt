@@ -1,15 +1,15 @@
 -- How `round` rounds a root: with a whole number q at most a half away from the root of A, the root of A * 4 ^ j
 -- rounds to q * 2 ^ j units. Assumes nothing.
-use mathlib.Core.Path.{_≡_, refl, sym, ap, _∙_, subst}
-use mathlib.Core.Logic.{_⊎_, inl, inr}
-use mathlib.Core.Bool.{Bool, true, false, cond, not, true≢false}
-use Prim.Native.Nat.{ℕ, zero, suc, _+_, _-_, _*_, _/_, _%_, _^_, _≤_, _<_, compare, Ordering, Ordering·lt, Ordering·eq, Ordering·gt}
-use native.Mathlib.Nat.{le-trans, le-of-eq, le-of-lt, le-antisymm, lt-of-lt-of-le, lt-of-le-of-lt, lt-of-not-le, not-le-of-lt, lt-irrefl, le-of-suc-le-suc, suc-mul, suc-add, mul-le-mul-right, mul-lt-mul-of-pos-right, lt-of-mul-lt-mul-right, mul-mul-mul-comm, mul-add, add-mul, mul-one, one-mul, mul-assoc, mul-comm, mul-left-comm, mul-right-comm, mul-pos, zero-lt-suc, zero-add, div-add-mod', mod-lt, mul-div-cancel, mul-div-mul-right, le-div-iff-mul-le, div-lt-iff-lt-mul, pow-succ', eq-or-lt-of-le}
+use mathlib.Core.Path.{_≡_, sym, ap, _∙_, subst}
+use mathlib.Core.Logic.{inl, inr}
+use mathlib.Core.Bool.{true, false, not, true≢false}
+use Prim.Native.Nat.{ℕ, suc, _+_, _-_, _*_, _/_, _%_, _^_, _≤_, _<_, compare, Ordering, Ordering·lt, Ordering·eq, Ordering·gt}
+use native.Mathlib.Nat.{le-trans, le-of-eq, le-of-lt, le-antisymm, lt-of-lt-of-le, lt-of-not-le, le-of-suc-le-suc, suc-mul, suc-add, mul-le-mul-right, mul-lt-mul-of-pos-right, lt-of-mul-lt-mul-right, mul-mul-mul-comm, mul-add, add-mul, mul-one, one-mul, mul-assoc, mul-comm, mul-left-comm, mul-pos, zero-lt-suc, zero-add, div-add-mod', mod-lt, mul-div-cancel, mul-div-mul-right, pow-succ', eq-or-lt-of-le}
 use native.Mathlib.Omega.{arith}
 use lib.Dec.{T, isLe, isEq, leb→le, nleb→lt, eqb→eq}
 use lib.Pow.{pow-add, pow-pos, pow-mono, shl-lt}
 use lib.IntN.{ℤ}
-use lib.Ieee.{Float, nan, inf, fin, binary64, fits, up, down, size, nearest, units, round, toBits, ofBits}
+use lib.Ieee.{Float, nan, inf, fin, binary64, up, down, size, nearest, units, round, toBits, ofBits}
 use lib.Ieee.Digits.{size-lt, size-le}
 use lib.Ieee.Fits.{round-is, round-fits, down-pos}
 use lib.Ieee.Exact.{HasValue, units-val}

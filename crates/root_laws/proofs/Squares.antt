@@ -2,10 +2,10 @@
 use mathlib.Core.Path.{_≡_, refl, sym, ap, _∙_, subst}
 use mathlib.Core.Logic.{_⊎_, inl, inr}
 use mathlib.Core.Bool.{Bool, true, false, cond, not}
-use Prim.Native.Nat.{ℕ, zero, suc, _+_, _*_, _/_, _%_, _^_, _≤_, _<_}
-use native.Mathlib.Nat.{le-trans, le-of-eq, le-refl, le-of-lt, lt-of-lt-of-le, lt-of-le-of-lt, lt-of-not-le, not-le-of-lt, le-of-suc-le-suc, mul-le-mul, mul-add, add-mul, mul-one, one-mul, mul-assoc, mul-comm, mul-left-comm, add-assoc, add-comm, add-left-comm, pow-suc, pow-le-pow-left, div-lt-iff-lt-mul, zero-lt-suc, eq-or-lt-of-le}
+use Prim.Native.Nat.{ℕ, zero, suc, _+_, _*_, _/_, _^_, _≤_, _<_}
+use native.Mathlib.Nat.{le-of-eq, le-of-lt, lt-of-lt-of-le, lt-of-le-of-lt, lt-of-not-le, not-le-of-lt, le-of-suc-le-suc, mul-le-mul, mul-add, add-mul, mul-one, one-mul, mul-assoc, mul-left-comm, pow-suc, pow-le-pow-left, div-lt-iff-lt-mul, zero-lt-suc, eq-or-lt-of-le}
 use native.Mathlib.Omega.{arith}
-use lib.Dec.{T, leb, eqb, leb→le, nleb→lt, eqb→eq, T-not, lit≤}
+use lib.Dec.{T, leb, eqb, leb→le, nleb→lt, eqb→eq, lit≤}
 use lib.Arith.{lt-of-le-ne}
 use lib.Ieee.{size}
 use lib.Ieee.Fits.{eq→eqb}

@@ -1,0 +1,3 @@
+-- What the contracts of the numbers cite beside the definition.
+pub mod Outcome
+pub mod Coordinates
