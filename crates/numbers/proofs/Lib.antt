@@ -1,5 +1,5 @@
 -- Laws that the proofs of the numbers cite.
-mod Steps
+pub mod Steps
 mod Whole
 mod Cases
 mod Answers
