@@ -7,4 +7,6 @@ pub mod Scaling
 pub mod Rooted
 pub mod Nearest
 pub mod Monotone
+pub mod Order
+pub mod Operations
 pub mod Values

@@ -3,6 +3,12 @@ use Prim.Native.Nat.{ℕ, zero, suc, _+_, _*_, _<_}
 use mathlib.Core.Bool.{Bool, true, false, not, _&&_}
 use lib.Ieee.{Float, nan, inf, fin, binary64, fits}
 
+-- any value but NaN
+abbrev pub isNumber : Float → Bool
+isNumber nan = false
+isNumber (inf s) = true
+isNumber (fin s m e) = true
+
 -- +0, a positive number or +infinity
 abbrev pub notNegative : Float → Bool
 notNegative nan = false
