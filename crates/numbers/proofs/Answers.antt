@@ -20,7 +20,8 @@ unless true h = absurd (h tt)
 unless false h = refl
 
 no-root : (x : Float) → T (fits binary64 x) → squareRoot x ≡ nan → hasRoot x ≡ false
-no-root x f e = unless (hasRoot x) (λ (h : T (hasRoot x)). nan-is (subst (λ (y : Float). T (not (isNan y))) e (root-no-nan x f h)))
+no-root x f e =
+    unless (hasRoot x) (λ (h : T (hasRoot x)). nan-is (subst (λ (y : Float). T (not (isNan y))) e (root-no-nan x f h)))
 
 nan-differs : ne nan nan ≡ true
 unfolding ne
@@ -38,7 +39,8 @@ some-root (fin false (suc m) e) h = refl
 by : (x : Float) (b : Bool) → hasRoot x ≡ b → rootOutcome x ≡ cond b (accepted (squareRoot x)) refused
 by x b e = ap (λ (t : Bool). cond t (accepted (squareRoot x)) refused) e
 
-pub answer-refused : (x r : Float) → T (fits binary64 x) → r ≡ squareRoot x → ne r r ≡ true → answerOf Refused ≡ rootOutcome x
+pub answer-refused :
+    (x r : Float) → T (fits binary64 x) → r ≡ squareRoot x → ne r r ≡ true → answerOf Refused ≡ rootOutcome x
 answer-refused x r f e h = sym (by x false (no-root x f (sym e ∙ differs-from-itself r (subst T (sym h) tt))))
 
 pub answer-value : (x r : Float) → r ≡ squareRoot x → ne r r ≡ false → answerOf (Value r) ≡ rootOutcome x

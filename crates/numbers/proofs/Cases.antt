@@ -58,7 +58,8 @@ zero-itself nan h = absurd (false≢true h)
 zero-itself (inf s) h = absurd (false≢true h)
 zero-itself (fin s zero e) h = refl
 zero-itself (fin s (suc m) e) h =
-    absurd (clash (suc m * up e * 1) (0 * down e) (above-zero m e) (zero-mul (down e)) (eqb-true (suc m * up e * 1) (0 * down e) (and-true (eqb (suc m * up e * 1) (0 * down e)) (Bool·beq s false || eqb (suc m * up e * 1) 0) h)))
+    absurd
+    (clash (suc m * up e * 1) (0 * down e) (above-zero m e) (zero-mul (down e)) (eqb-true (suc m * up e * 1) (0 * down e) (and-true (eqb (suc m * up e * 1) (0 * down e)) (Bool·beq s false || eqb (suc m * up e * 1) 0) h)))
   where
     clash : (a b : ℕ) → 0 < a → b ≡ 0 → a ≡ b → ⊥
     clash a b p q r = omega arith

@@ -23,14 +23,17 @@ unfolding firstBad
 none-left i = refl
 
 -- one more position is passed
-pub bad-later : (n : ℕ) (xs : List Float) (i : ℕ) → i < length xs → finite (getD xs i nan) ≡ true → n ≡ firstBad i (drop i xs) → n ≡ firstBad (i + 1) (drop (i + 1) xs)
+pub bad-later :
+    (n : ℕ) (xs : List Float) (i : ℕ) → i < length xs → finite (getD xs i nan) ≡ true → n ≡ firstBad i (drop i xs) →
+    n ≡ firstBad (i + 1) (drop (i + 1) xs)
 bad-later n xs i l h e =
     e
     ∙ ap (firstBad i) (drop-cons xs i nan l)
     ∙ cons-finite i (getD xs i nan) (drop (suc i) xs) h
     ∙ ap (λ (k : ℕ). firstBad (i + 1) (drop k xs)) (sym (add-one i))
 
-pub bad-here : (n : ℕ) (xs : List Float) (i : ℕ) → i < length xs → finite (getD xs i nan) ≡ false → n ≡ firstBad i (drop i xs) → i ≡ n
+pub bad-here :
+    (n : ℕ) (xs : List Float) (i : ℕ) → i < length xs → finite (getD xs i nan) ≡ false → n ≡ firstBad i (drop i xs) → i ≡ n
 bad-here n xs i l h e = sym (e ∙ ap (firstBad i) (drop-cons xs i nan l) ∙ cons-bad i (getD xs i nan) (drop (suc i) xs) h)
 
 pub bad-none : (n : ℕ) (xs : List Float) (i : ℕ) → i ≡ length xs → n ≡ firstBad i (drop i xs) → i ≡ n

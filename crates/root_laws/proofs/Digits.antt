@@ -28,7 +28,9 @@ short t p h =
       least = one (leadingZeros 64 t) j (l .1) j-lt;
       most = top (leadingZeros 64 t) j (l .1);
       low = le-trans (le-of-eq (ap (λ (x : ℕ). 2 ^ x) (sym e) ∙ pow-add 2 j z)) (mul-le-mul-right (2 ^ z) (l .2));
-      high = lt-of-lt-of-le (mul-lt-mul-of-pos-right (l .3) (pow-pos z)) (le-of-eq (sym (pow-add 2 (suc j) z) ∙ ap (λ (x : ℕ). 2 ^ x) (up j z e)));
+      high =
+          lt-of-lt-of-le (mul-lt-mul-of-pos-right (l .3) (pow-pos z))
+          (le-of-eq (sym (pow-add 2 (suc j) z) ∙ ap (λ (x : ℕ). 2 ^ x) (up j z e)));
     }
   where
     sum : (lz j : ℕ) → lz + suc j ≡ 64 → j < 52 → j + (lz - 11) ≡ 52
@@ -46,7 +48,9 @@ short t p h =
 pub small-field : (b : ℕ) → 0 < b → b / 2 ^ 52 ≡ 0 → 0 < b % 2 ^ 52
 small-field b p h = omega arith
 
-pub lead-small : (b t : ℕ) → t ≡ b % 2 ^ 52 → 0 < b → b / 2 ^ 52 ≡ 0 → Leading b (t * 2 ^ (leadingZeros 64 t - 11) % 2 ^ 64) (1074 - (leadingZeros 64 t - 11))
+pub lead-small :
+    (b t : ℕ) → t ≡ b % 2 ^ 52 → 0 < b → b / 2 ^ 52 ≡ 0 →
+    Leading b (t * 2 ^ (leadingZeros 64 t - 11) % 2 ^ 64) (1074 - (leadingZeros 64 t - 11))
 lead-small b t e p h =
     let z = leadingZeros 64 t - 11 in
     let t-pos : 0 < t = subst (λ (x : ℕ). 0 < x) (sym e) (small-field b p h) in
@@ -61,7 +65,10 @@ lead-small b t e p h =
       high = s .high;
       least = least;
       most = near z;
-      size = ap (λ (x : ℕ). x * 2 ^ 1074) u ∙ ap (λ (x : ℕ). t * x) (ap (λ (x : ℕ). 2 ^ x) (sym (back z (s .most))) ∙ pow-add 2 z (1074 - z)) ∙ sym (mul-assoc t (2 ^ z) (2 ^ (1074 - z)));
+      size =
+          ap (λ (x : ℕ). x * 2 ^ 1074) u
+          ∙ ap (λ (x : ℕ). t * x) (ap (λ (x : ℕ). 2 ^ x) (sym (back z (s .most))) ∙ pow-add 2 z (1074 - z))
+          ∙ sym (mul-assoc t (2 ^ z) (2 ^ (1074 - z)));
     })
   where
     far : (z : ℕ) → z ≤ 52 → 1000 ≤ 1074 - z
@@ -75,12 +82,16 @@ lead-small b t e p h =
 
 by-field : (x t m : ℕ) → (x ≡ 0 → ⊥) → m ≡ 2 ^ 52 + t → fieldUnits x t * 2 ^ 1074 ≡ m * 2 ^ (x + 1073)
 by-field zero t m h e = absurd (h refl)
-by-field (suc x) t m h e = mul-assoc (2 ^ 52 + t) (2 ^ x) (2 ^ 1074) ∙ ap (λ (y : ℕ). (2 ^ 52 + t) * y) (sym (pow-add 2 x 1074) ∙ ap (λ (y : ℕ). 2 ^ y) (shift x)) ∙ ap (λ (y : ℕ). y * 2 ^ (suc x + 1073)) (sym e)
+by-field (suc x) t m h e =
+    mul-assoc (2 ^ 52 + t) (2 ^ x) (2 ^ 1074)
+    ∙ ap (λ (y : ℕ). (2 ^ 52 + t) * y) (sym (pow-add 2 x 1074) ∙ ap (λ (y : ℕ). 2 ^ y) (shift x))
+    ∙ ap (λ (y : ℕ). y * 2 ^ (suc x + 1073)) (sym e)
   where
     shift : (x : ℕ) → x + 1074 ≡ suc x + 1073
     shift x = omega arith
 
-pub lead-large : (b t : ℕ) → t ≡ b % 2 ^ 52 → b < 2047 * 2 ^ 52 → (b / 2 ^ 52 ≡ 0 → ⊥) → Leading b (t + 2 ^ 52) (b / 2 ^ 52 + 1073)
+pub lead-large :
+    (b t : ℕ) → t ≡ b % 2 ^ 52 → b < 2047 * 2 ^ 52 → (b / 2 ^ 52 ≡ 0 → ⊥) → Leading b (t + 2 ^ 52) (b / 2 ^ 52 + 1073)
 lead-large b t e l h =
     let t-lt : t < 2 ^ 52 = subst (λ (x : ℕ). x < 2 ^ 52) (sym e) (mod-lt b (pow-pos 52)) in
     record {

@@ -49,7 +49,8 @@ unfolding le
 zero-below s e nan n d v = absurd v
 zero-below s e (inf t) n d v = absurd v
 zero-below s e (fin true m g) n d v = absurd (true≢false (v .0))
-zero-below s e (fin false m g) n d v = zero-under (0 * up e * down g) (m * up g * down e) s (ap (λ (x : ℕ). x * down g) (zero-mul (up e)) ∙ zero-mul (down g))
+zero-below s e (fin false m g) n d v =
+    zero-under (0 * up e * down g) (m * up g * down e) s (ap (λ (x : ℕ). x * down g) (zero-mul (up e)) ∙ zero-mul (down g))
 
 -- nothing above zero is below a zero
 neither : (a b : Bool) → (T a → ⊥) → (T b → ⊥) → T (a || b) → ⊥
@@ -61,7 +62,9 @@ not-under a b true p z h = no (eqb→eq a b (and-l (eqb a b) (false || eqb a 0) 
   where
     no : a ≡ b → ⊥
     no e = omega arith
-not-under a b false p z h = neither (ltb a b) (level false a false b) (λ c. no (ltb→lt a b c)) (λ c. no' (eqb→eq a b (and-l (eqb a b) (true || eqb a 0) c))) h
+not-under a b false p z h =
+    neither (ltb a b) (level false a false b) (λ c. no (ltb→lt a b c))
+    (λ c. no' (eqb→eq a b (and-l (eqb a b) (true || eqb a 0) c))) h
   where
     no : a < b → ⊥
     no e = omega arith
@@ -71,17 +74,25 @@ not-under a b false p z h = neither (ltb a b) (level false a false b) (λ c. no 
 
 above-no-zero : (m : ℕ) (e : ℤ) (t : Bool) (d : ℤ) → T (le (fin false (suc m) e) (fin t zero d)) → ⊥
 unfolding le
-above-no-zero m e t d h = not-under (suc m * up e * down d) (0 * up d * down e) t (mul-pos (mul-pos (zero-lt-suc m) (up-pos e)) (down-pos d)) (ap (λ (x : ℕ). x * down e) (zero-mul (up d)) ∙ zero-mul (down e)) h
+above-no-zero m e t d h =
+    not-under (suc m * up e * down d) (0 * up d * down e) t (mul-pos (mul-pos (zero-lt-suc m) (up-pos e)) (down-pos d))
+    (ap (λ (x : ℕ). x * down e) (zero-mul (up d)) ∙ zero-mul (down e)) h
 
-units-order : (m : ℕ) (e : ℤ) (n : ℕ) (d : ℤ) → T (le (fin false (suc m) e) (fin false (suc n) d)) → unitsOf (fin false (suc m) e) ≤ unitsOf (fin false (suc n) d)
+units-order :
+    (m : ℕ) (e : ℤ) (n : ℕ) (d : ℤ) → T (le (fin false (suc m) e) (fin false (suc n) d)) →
+    unitsOf (fin false (suc m) e) ≤ unitsOf (fin false (suc n) d)
 units-order m e n d h =
-    let c = le→cross (fin false (suc m) e) (fin false (suc n) d) (lt→ltb 0 (suc m) (zero-lt-suc m)) (lt→ltb 0 (suc n) (zero-lt-suc n)) h in
+    let c =
+    le→cross (fin false (suc m) e) (fin false (suc n) d) (lt→ltb 0 (suc m) (zero-lt-suc m))
+    (lt→ltb 0 (suc n) (zero-lt-suc n)) h in
     let l = 2 ^ 1074 in
     div-mono (suc m * up e * l) (down e) (suc n * up d * l) (down d) (down-pos e) (down-pos d)
     (le-trans (le-of-eq (mul-right-comm (suc m * up e) l (down d))) (le-trans (mul-le-mul-right l c) (le-of-eq (mul-right-comm (suc n * up d) (down e) l))))
 
 -- of two values that have a root, the larger has the larger root, or an equal one
-pub root-monotone : (x y : Float) → T (fits binary64 x) → T (fits binary64 y) → T (hasRoot x) → T (hasRoot y) → T (le x y) → T (le (squareRoot x) (squareRoot y))
+pub root-monotone :
+    (x y : Float) → T (fits binary64 x) → T (fits binary64 y) → T (hasRoot x) → T (hasRoot y) →
+    T (le x y) → T (le (squareRoot x) (squareRoot y))
 unfolding squareRoot
 root-monotone nan y f g a b h = absurd a
 root-monotone (inf true) y f g a b h = absurd a
@@ -106,4 +117,5 @@ root-monotone (fin false (suc m) e) (inf false) f g a b h =
     below-infinity (rootOfUnits (unitsOf (fin false (suc m) e))) (r .q * 2 ^ suc (r .j)) (2 ^ 1074) (r .value)
 root-monotone (fin false (suc m) e) (fin t zero d) f g a b h = absurd (above-no-zero m e t d h)
 root-monotone (fin false (suc m) e) (fin true (suc n) d) f g a b h = absurd b
-root-monotone (fin false (suc m) e) (fin false (suc n) d) f g a b h = units-monotone (unitsOf (fin false (suc m) e)) (unitsOf (fin false (suc n) d)) (units-order m e n d h)
+root-monotone (fin false (suc m) e) (fin false (suc n) d) f g a b h =
+    units-monotone (unitsOf (fin false (suc m) e)) (unitsOf (fin false (suc n) d)) (units-order m e n d h)

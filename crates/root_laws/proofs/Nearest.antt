@@ -32,7 +32,9 @@ finer a k K h l =
 
 -- and on a coarser grid it is on this one too
 coarser : (a k K : ℕ) → K ≤ k → a * 2 ^ k ≡ a * 2 ^ (k - K) * 2 ^ K
-coarser a k K l = ap (λ (x : ℕ). a * x) (ap (λ (x : ℕ). 2 ^ x) (sym (back k K l)) ∙ pow-add 2 (k - K) K) ∙ sym (mul-assoc a (2 ^ (k - K)) (2 ^ K))
+coarser a k K l =
+    ap (λ (x : ℕ). a * x) (ap (λ (x : ℕ). 2 ^ x) (sym (back k K l)) ∙ pow-add 2 (k - K) K)
+    ∙ sym (mul-assoc a (2 ^ (k - K)) (2 ^ K))
   where
     back : (k K : ℕ) → K ≤ k → k - K + K ≡ k
     back k K l = omega arith
@@ -48,7 +50,9 @@ module _ (A q K a k : ℕ) (N : NearRoot A q) (h : a < 2 ^ 53) where
   at-most r e l g = elim (either-way K k) [
     | inl c ↦
         let d = coarser a k K c in
-        let f : a * 2 ^ (k - K) < r + 1 = lt-of-mul-lt-mul-right (2 ^ K) (lt-of-le-of-lt (le-of-eq (sym d)) (lt-of-lt-of-le g (le-of-eq (ap (λ (x : ℕ). x * 2 ^ K) e)))) in
+        let f : a * 2 ^ (k - K) < r + 1 =
+        lt-of-mul-lt-mul-right (2 ^ K)
+        (lt-of-le-of-lt (le-of-eq (sym d)) (lt-of-lt-of-le g (le-of-eq (ap (λ (x : ℕ). x * 2 ^ K) e)))) in
         le-trans (le-of-eq d) (mul-le-mul-right (2 ^ K) (less (a * 2 ^ (k - K)) r f))
     | inr c ↦ le-trans (le-of-lt (finer a k K h c)) (mul-le-mul-right (2 ^ K) l)
   ]
@@ -107,11 +111,14 @@ grid-fields : (x t : ℕ) → t < 2 ^ 52 → (a : ℕ) × (k : ℕ) × (a < 2 ^ 
 grid-fields zero t h = (t, 0, omega arith, sym (mul-one t))
 grid-fields (suc x) t h = (2 ^ 52 + t, x, omega arith, refl)
 
-on-grid : (y : Float) → T (fits binary64 y) → T (finite y) → T (notNegative y) → (a : ℕ) × (k : ℕ) × (a < 2 ^ 53) × (unitsOf y ≡ a * 2 ^ k)
+on-grid :
+    (y : Float) → T (fits binary64 y) → T (finite y) → T (notNegative y) →
+    (a : ℕ) × (k : ℕ) × (a < 2 ^ 53) × (unitsOf y ≡ a * 2 ^ k)
 on-grid nan f i p = absurd p
 on-grid (inf s) f i p = absurd i
 on-grid (fin true m e) f i p = absurd p
-on-grid (fin false zero e) f i p = (0, 0, zero-lt-suc (2 ^ 53 - 1), ap (λ (x : ℕ). x * 2 ^ 1074 / down e) (zero-mul (up e)) ∙ ap (λ (x : ℕ). x / down e) (zero-mul (2 ^ 1074)) ∙ zero-div (down e))
+on-grid (fin false zero e) f i p =
+    (0, 0, zero-lt-suc (2 ^ 53 - 1), ap (λ (x : ℕ). x * 2 ^ 1074 / down e) (zero-mul (up e)) ∙ ap (λ (x : ℕ). x / down e) (zero-mul (2 ^ 1074)) ∙ zero-div (down e))
 on-grid (fin false (suc m) e) f i p =
     let r = read m e f in
     let b = toBits binary64 (fin false (suc m) e) in
@@ -124,7 +131,9 @@ units-of-value nan n v = absurd v
 units-of-value (inf s) n v = absurd v
 units-of-value (fin s m e) n v = ap (λ (x : ℕ). x / down e) (v .1) ∙ mul-div-cancel n (down-pos e)
 
-nearer : (u : ℕ) (y : Float) → Rooted u → T (fits binary64 y) → T (finite y) → T (notNegative y) → Nearer (u * 2 ^ 1074) (unitsOf (rootOfUnits u)) (unitsOf y)
+nearer :
+    (u : ℕ) (y : Float) → Rooted u → T (fits binary64 y) → T (finite y) → T (notNegative y) →
+    Nearer (u * 2 ^ 1074) (unitsOf (rootOfUnits u)) (unitsOf y)
 nearer u y r f i p =
     let g = on-grid y f i p in
     let K = suc (r .j) in
@@ -135,19 +144,24 @@ nearer u y r f i p =
 
 -- For a finite x above zero the root is nearer to the exact root than any other finite value y that is not negative.
 -- Sizes are in units of 2 ^ -1074, and the square of a size in units of 2 ^ -2148.
-pub root-nearest : (x y : Float) → T (fits binary64 x) → T (positive x) → T (fits binary64 y) → T (finite y) → T (notNegative y) → Nearer (unitsOf x * 2 ^ 1074) (unitsOf (squareRoot x)) (unitsOf y)
+pub root-nearest :
+    (x y : Float) → T (fits binary64 x) → T (positive x) → T (fits binary64 y) → T (finite y) → T (notNegative y) →
+    Nearer (unitsOf x * 2 ^ 1074) (unitsOf (squareRoot x)) (unitsOf y)
 root-nearest nan y f p g i n = absurd p
 root-nearest (inf s) y f p g i n = absurd p
 root-nearest (fin true m e) y f p g i n = absurd p
 root-nearest (fin false zero e) y f p g i n = absurd p
 root-nearest (fin false (suc m) e) y f p g i n =
-    subst (λ (r : Float). Nearer (unitsOf (fin false (suc m) e) * 2 ^ 1074) (unitsOf r) (unitsOf y)) (sym (value-is m e)) (nearer (unitsOf (fin false (suc m) e)) y (rooted m e f) g i n)
+    subst (λ (r : Float). Nearer (unitsOf (fin false (suc m) e) * 2 ^ 1074) (unitsOf r) (unitsOf y)) (sym (value-is m e))
+    (nearer (unitsOf (fin false (suc m) e)) y (rooted m e f) g i n)
 
 -- the units are exact: y is unitsOf y / 2 ^ 1074
-pub units-exact : (y : Float) → T (fits binary64 y) → T (finite y) → T (notNegative y) → HasValue y false (unitsOf y) (2 ^ 1074)
+pub units-exact :
+    (y : Float) → T (fits binary64 y) → T (finite y) → T (notNegative y) → HasValue y false (unitsOf y) (2 ^ 1074)
 units-exact nan f i p = absurd p
 units-exact (inf s) f i p = absurd i
 units-exact (fin true m e) f i p = absurd p
 units-exact (fin false zero e) f i p =
     (refl, ap (λ (x : ℕ). x * 2 ^ 1074) (zero-mul (up e)) ∙ zero-mul (2 ^ 1074) ∙ sym (ap (λ (x : ℕ). x * down e) (ap (λ (x : ℕ). x * 2 ^ 1074 / down e) (zero-mul (up e)) ∙ ap (λ (x : ℕ). x / down e) (zero-mul (2 ^ 1074)) ∙ zero-div (down e)) ∙ zero-mul (down e)))
-units-exact (fin false (suc m) e) f i p = let r = read m e f in (refl, r .exact ∙ ap (λ (x : ℕ). x * down e) (sym (r .size)))
+units-exact (fin false (suc m) e) f i p =
+    let r = read m e f in (refl, r .exact ∙ ap (λ (x : ℕ). x * down e) (sym (r .size)))

@@ -22,7 +22,9 @@ cond-number false x y h k = k
 
 units-number : (f : Format) (s : Bool) (q k : ℕ) → isNumber (units f s q k) ≡ true
 unfolding units
-units-number f s q k = cond-number (ltb (q * 2 ^ k) (2 ^ (low f + suc (emax f)))) (odd (suc (prec f)) s q k (low f)) (inf s) (odd-number (suc (prec f)) s q k (low f)) refl
+units-number f s q k =
+    cond-number (ltb (q * 2 ^ k) (2 ^ (low f + suc (emax f)))) (odd (suc (prec f)) s q k (low f)) (inf s)
+    (odd-number (suc (prec f)) s q k (low f)) refl
 
 round-number : (f : Format) (s : Bool) (a b : ℕ) → isNumber (round f s a b) ≡ true
 round-number f s a b = rw (round-is f s a b) (units-number f s _ _)
@@ -30,7 +32,8 @@ round-number f s a b = rw (round-is f s a b) (units-number f s _ _)
 sum-number : (f : Format) (s : Bool) (a : ℕ) (t : Bool) (b c : ℕ) → isNumber (sum f s a t b c) ≡ true
 unfolding sum
 sum-number f s a t b c =
-    cond-number (Bool·beq s t) (round f s (a + b) c) (cond (ltb a b) (round f t (b - a) c) (round f (s && ltb b a) (a - b) c)) (round-number f s (a + b) c)
+    cond-number (Bool·beq s t) (round f s (a + b) c)
+    (cond (ltb a b) (round f t (b - a) c) (round f (s && ltb b a) (a - b) c)) (round-number f s (a + b) c)
     (cond-number (ltb a b) (round f t (b - a) c) (round f (s && ltb b a) (a - b) c) (round-number f t (b - a) c) (round-number f (s && ltb b a) (a - b) c))
 
 -- ---- which operations give a value that is not negative
@@ -45,7 +48,9 @@ cond-nn false x y h k = k
 
 units-nn : (f : Format) (q k : ℕ) → notNegative (units f false q k) ≡ true
 unfolding units
-units-nn f q k = cond-nn (ltb (q * 2 ^ k) (2 ^ (low f + suc (emax f)))) (odd (suc (prec f)) false q k (low f)) (inf false) (odd-nn (suc (prec f)) q k (low f)) refl
+units-nn f q k =
+    cond-nn (ltb (q * 2 ^ k) (2 ^ (low f + suc (emax f)))) (odd (suc (prec f)) false q k (low f)) (inf false)
+    (odd-nn (suc (prec f)) q k (low f)) refl
 
 round-nn : (f : Format) (a b : ℕ) → notNegative (round f false a b) ≡ true
 round-nn f a b = rw (round-is f false a b) (units-nn f _ _)
@@ -73,7 +78,8 @@ add-nn (num m e) (num n d) = round-nn binary64 (m * up e * down d + n * up d * d
 
 -- a sum of two
 pub add-good : (x y : Float) → good x ≡ true → good y ≡ true → good (plus x y) ≡ true
-add-good x y g h = both (notNegative (plus x y)) (fits binary64 (plus x y)) (add-nn (view x g) (view y h)) (add-fits binary64 x y)
+add-good x y g h =
+    both (notNegative (plus x y)) (fits binary64 (plus x y)) (add-nn (view x g) (view y h)) (add-fits binary64 x y)
 
 -- +0 and +infinity
 pub zero-good : good plusZero ≡ true
@@ -93,7 +99,8 @@ sub-number (inf s) (inf t) h k = absurd (true≢false (sym k))
 sub-number (inf s) (fin t n d) h k = refl
 sub-number (fin s m e) nan h k = absurd (true≢false (sym k))
 sub-number (fin s m e) (inf t) h k = absurd (true≢false (sym k))
-sub-number (fin s m e) (fin t n d) h k = sum-number binary64 s (m * up e * down d) (not t) (n * up d * down e) (down e * down d)
+sub-number (fin s m e) (fin t n d) h k =
+    sum-number binary64 s (m * up e * down d) (not t) (n * up d * down e) (down e * down d)
 
 -- a finite value is a number
 pub finite-number : (x : Float) → finite x ≡ true → isNumber x ≡ true

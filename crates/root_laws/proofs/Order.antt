@@ -55,7 +55,8 @@ not-lt→le top top h = tt
 not-lt→le top (num n d) h = absurd (true≢false h)
 not-lt→le (num m e) top h = tt
 not-lt→le (num m e) (num n d) h =
-    le-of-values (fin false m e) (fin false n d) (m * up e) (down e) (n * up d) (down d) (down-pos e) (down-pos d) (refl, refl) (refl, refl)
+    le-of-values (fin false m e) (fin false n d) (m * up e) (down e) (n * up d) (down d) (down-pos e) (down-pos d)
+    (refl, refl) (refl, refl)
     (ltb-false (n * up d * down e) (m * up e * down d) h)
 
 or-le : (p q z : Bool) (a b : ℕ) → (T p → a < b) → (T q → a ≡ b) → T (p || (q && z)) → a ≤ b
@@ -96,7 +97,8 @@ unfolding lt
 asym-of top top h = refl
 asym-of top (num n d) h = absurd (true≢false (sym h))
 asym-of (num m e) top h = refl
-asym-of (num m e) (num n d) h = le-ltb (n * up d * down e) (m * up e * down d) (le-of-lt (ltb-true (m * up e * down d) (n * up d * down e) h))
+asym-of (num m e) (num n d) h =
+    le-ltb (n * up d * down e) (m * up e * down d) (le-of-lt (ltb-true (m * up e * down d) (n * up d * down e) h))
 
 trans-of : {x y z : Float} → Good x → Good y → Good z → lt y x ≡ false → lt z y ≡ false → lt z x ≡ false
 unfolding lt
@@ -119,7 +121,8 @@ pub lt-asym : (x y : Float) → good x ≡ true → good y ≡ true → lt x y �
 lt-asym x y g h = asym-of (view x g) (view y h)
 
 -- x ≤ y ≤ z
-pub le-le : (x y z : Float) → good x ≡ true → good y ≡ true → good z ≡ true → lt y x ≡ false → lt z y ≡ false → lt z x ≡ false
+pub le-le :
+    (x y z : Float) → good x ≡ true → good y ≡ true → good z ≡ true → lt y x ≡ false → lt z y ≡ false → lt z x ≡ false
 le-le x y z g h i = trans-of (view x g) (view y h) (view z i)
 
 -- x ≤ y < z

@@ -20,7 +20,8 @@ use Rattle.root_laws.specs.Steps.{fieldUnits, bitUnits}
 
 fields-value : (s : Bool) (x t : ℕ) → (x ≡ 2047 → ⊥) → HasValue (ofFields binary64 s x t) s (fieldUnits x t) (2 ^ 1074)
 unfolding ofFields
-fields-value s zero t h = subst (λ (z : ℕ). HasValue (odd 53 s t 0 1074) s z (2 ^ 1074)) (mul-one t) (odd-sign 53 s t 0 1074)
+fields-value s zero t h =
+    subst (λ (z : ℕ). HasValue (odd 53 s t 0 1074) s z (2 ^ 1074)) (mul-one t) (odd-sign 53 s t 0 1074)
 fields-value s (suc x) t h =
     subst (λ (z : Float). HasValue z s ((2 ^ 52 + t) * 2 ^ x) (2 ^ 1074))
     (sym (cond-no (eqb (suc x) 2047) (cond (eqb t 0) (inf s) nan) (odd 53 s (2 ^ 52 + t) x 1074) (not-T (eqb (suc x) 2047) (λ u. h (eqb→eq (suc x) 2047 u)))))
@@ -67,10 +68,14 @@ read m e h = record { positive = pos'; below = not-top b low top'; size = sz; ex
     is = sym (of-bits b) ∙ ofBits-toBits binary64 x h
 
     top : y ≡ 2047 → ⊥
-    top g = true≢false (sym (finite-is false (suc m) e) ∙ ap finite (sym is ∙ ap (λ (z : ℕ). ofFields binary64 (leb (2 ^ 63) b) z (b % 2 ^ 52)) g) ∙ top-fields (leb (2 ^ 63) b) (b % 2 ^ 52))
+    top g =
+        true≢false
+        (sym (finite-is false (suc m) e) ∙ ap finite (sym is ∙ ap (λ (z : ℕ). ofFields binary64 (leb (2 ^ 63) b) z (b % 2 ^ 52)) g) ∙ top-fields (leb (2 ^ 63) b) (b % 2 ^ 52))
 
     val : HasValue x (leb (2 ^ 63) b) (fieldUnits y (b % 2 ^ 52)) (2 ^ 1074)
-    val = subst (λ (z : Float). HasValue z (leb (2 ^ 63) b) (fieldUnits y (b % 2 ^ 52)) (2 ^ 1074)) is (fields-value (leb (2 ^ 63) b) y (b % 2 ^ 52) top)
+    val =
+        subst (λ (z : Float). HasValue z (leb (2 ^ 63) b) (fieldUnits y (b % 2 ^ 52)) (2 ^ 1074)) is
+        (fields-value (leb (2 ^ 63) b) y (b % 2 ^ 52) top)
 
     low : b < 2 ^ 63
     low = nleb→lt (2 ^ 63) b (subst (λ (z : Bool). T (not z)) (val .0) tt)
@@ -89,13 +94,16 @@ read m e h = record { positive = pos'; below = not-top b low top'; size = sz; ex
 
     pos' : 0 < b
     pos' = elim (eq-zero-or-pos b) [
-      | inl z ↦ absurd (lt-irrefl 0 (subst (λ (w : ℕ). 0 < w) (eqn ∙ ap (λ (w : ℕ). bitUnits w * down e) z ∙ zero-mul (down e)) (mul-pos (mul-pos (zero-lt-suc m) (up-pos e)) (pow-pos 1074))))
+      | inl z ↦
+          absurd
+          (lt-irrefl 0 (subst (λ (w : ℕ). 0 < w) (eqn ∙ ap (λ (w : ℕ). bitUnits w * down e) z ∙ zero-mul (down e)) (mul-pos (mul-pos (zero-lt-suc m) (up-pos e)) (pow-pos 1074))))
       | inr p ↦ p
     ]
 
 -- ---- a pattern below the infinity's is no NaN's
 pub no-nan : (b : ℕ) → b < 2047 * 2 ^ 52 → T (not (nanBits binary64 b))
-no-nan b h = subst (λ (z : Bool). T (not z)) (sym (nanBits-above binary64 b)) (le→nltb (2047 * 2 ^ 52) (b % 2 ^ 63) (under b h))
+no-nan b h =
+    subst (λ (z : Bool). T (not z)) (sym (nanBits-above binary64 b)) (le→nltb (2047 * 2 ^ 52) (b % 2 ^ 63) (under b h))
   where
     under : (b : ℕ) → b < 2047 * 2 ^ 52 → b % 2 ^ 63 ≤ 2047 * 2 ^ 52
     under b h = omega arith

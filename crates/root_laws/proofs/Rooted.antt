@@ -25,7 +25,8 @@ pub record Rooted (u : ℕ) : Type 0 where
   pub split : u * 2 ^ 1074 ≡ A * 2 ^ suc j * 2 ^ suc j
   pub value : HasValue (rootOfUnits u) false (q * 2 ^ suc j) (2 ^ 1074)
 
-rooted-by : (u n q k : ℕ) → u * 2 ^ 1074 ≡ n * 2 ^ 52 * 2 ^ k * 2 ^ k → NearRoot (n * 2 ^ 52) q → 1 ≤ k → k ≤ 1600 → Rooted u
+rooted-by :
+    (u n q k : ℕ) → u * 2 ^ 1074 ≡ n * 2 ^ 52 * 2 ^ k * 2 ^ k → NearRoot (n * 2 ^ 52) q → 1 ≤ k → k ≤ 1600 → Rooted u
 rooted-by u n q zero s N a b = absurd (lt-irrefl 0 a)
 rooted-by u n q (suc j) s N a b = record {
   A = n * 2 ^ 52;
@@ -33,7 +34,10 @@ rooted-by u n q (suc j) s N a b = record {
   j = j;
   near = N;
   split = s;
-  value = subst (λ (z : Float). HasValue z false (q * 2 ^ suc j) (2 ^ 1074)) (sym (root-is u ∙ ap (λ (x : ℕ). round binary64 false (halves x) (2 * 2 ^ 1074)) s)) (root-value (n * 2 ^ 52) q j N b);
+  value =
+      subst (λ (z : Float). HasValue z false (q * 2 ^ suc j) (2 ^ 1074))
+      (sym (root-is u ∙ ap (λ (x : ℕ). round binary64 false (halves x) (2 * 2 ^ 1074)) s))
+      (root-value (n * 2 ^ 52) q j N b);
 }
 
 parity : (e : ℕ) → (e % 2 ≡ 1) ⊎ (e % 2 ≡ 1 → ⊥)
@@ -52,8 +56,12 @@ by-lead b m e L =
     let x = L .low in
     let y = L .high in
     elim (parity e) [
-      | inl o ↦ let N = near-any (m * 2) (omega arith) (omega arith) in rooted-by (bitUnits b) (m * 2) (N .0) (e / 2 - 26) (L .size ∙ odd-split m e a o) (N .1) (omega arith) (omega arith)
-      | inr o ↦ let N = near-any m (omega arith) (omega arith) in rooted-by (bitUnits b) m (N .0) (e / 2 - 26) (L .size ∙ even-split m e a o) (N .1) (omega arith) (omega arith)
+      | inl o ↦
+          let N = near-any (m * 2) (omega arith) (omega arith) in rooted-by (bitUnits b) (m * 2) (N .0) (e / 2 - 26)
+          (L .size ∙ odd-split m e a o) (N .1) (omega arith) (omega arith)
+      | inr o ↦
+          let N = near-any m (omega arith) (omega arith) in rooted-by (bitUnits b) m (N .0) (e / 2 - 26)
+          (L .size ∙ even-split m e a o) (N .1) (omega arith) (omega arith)
     ]
 
 pub rooted : (m : ℕ) (e : ℤ) → T (fits binary64 (fin false (suc m) e)) → Rooted (unitsOf (fin false (suc m) e))

@@ -34,7 +34,8 @@ even-split m e l o =
 pub odd-split : (m e : ℕ) → 1000 ≤ e → e % 2 ≡ 1 → m * 2 ^ e ≡ m * 2 * 2 ^ 52 * 2 ^ (e / 2 - 26) * 2 ^ (e / 2 - 26)
 odd-split m e l o =
     let h : e ≡ suc (e / 2 + e / 2) = omega arith in
-    ap (λ (x : ℕ). m * x) (ap (λ (x : ℕ). 2 ^ x) h ∙ pow-succ' 2 (e / 2 + e / 2) ∙ ap (λ (x : ℕ). 2 * x) (half-power (e / 2) (omega arith)))
+    ap (λ (x : ℕ). m * x)
+    (ap (λ (x : ℕ). 2 ^ x) h ∙ pow-succ' 2 (e / 2 + e / 2) ∙ ap (λ (x : ℕ). 2 * x) (half-power (e / 2) (omega arith)))
     ∙ sym (mul-assoc m 2 (2 ^ 52 * 2 ^ (e / 2 - 26) * 2 ^ (e / 2 - 26)))
     ∙ into (m * 2) (2 ^ 52) (2 ^ (e / 2 - 26))
 
@@ -43,7 +44,9 @@ unfolding rootOfUnits
 root-is u = refl
 
 -- ---- a number n of 53 or 54 digits has a nearest root of 53
-near-by : (A s : ℕ) → IsWhole s A → 2 ^ 52 * 2 ^ 52 ≤ A → A ≤ 2 ^ 53 * 2 ^ 53 - 2 ^ 53 → (A ≤ s * s + s) ⊎ (s * s + s < A) → (q : ℕ) × NearRoot A q
+near-by :
+    (A s : ℕ) → IsWhole s A → 2 ^ 52 * 2 ^ 52 ≤ A → A ≤ 2 ^ 53 * 2 ^ 53 - 2 ^ 53 → (A ≤ s * s + s) ⊎ (s * s + s < A) →
+    (q : ℕ) × NearRoot A q
 near-by A s w lo hi k =
     let a : 2 ^ 52 < s + 1 = sq-back (2 ^ 52) (s + 1) (lt-of-le-of-lt lo (w .1)) in
     let small : A < 2 ^ 53 * 2 ^ 53 = omega arith in

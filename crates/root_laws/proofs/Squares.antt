@@ -37,7 +37,8 @@ abbrev pub IsWhole : ℕ → ℕ → Type 0
 IsWhole s n = (s * s ≤ n) × (n < (s + 1) * (s + 1))
 
 step : (r n : ℕ) → IsWhole r (n / 4) → IsWhole (digit (2 * r) n) n
-step r n h = go (leb ((2 * r + 1) * (2 * r + 1)) n) (leb→le ((2 * r + 1) * (2 * r + 1)) n) (nleb→lt ((2 * r + 1) * (2 * r + 1)) n)
+step r n h =
+    go (leb ((2 * r + 1) * (2 * r + 1)) n) (leb→le ((2 * r + 1) * (2 * r + 1)) n) (nleb→lt ((2 * r + 1) * (2 * r + 1)) n)
   where
     low : 2 * r * (2 * r) ≤ n
     low = let e = sq-two r in let f = h .0 in omega arith
@@ -50,7 +51,9 @@ step r n h = go (leb ((2 * r + 1) * (2 * r + 1)) n) (leb→le ((2 * r + 1) * (2 
         let k = sq-one (2 * r + 1) in
         omega arith
 
-    go : (b : Bool) → (T b → (2 * r + 1) * (2 * r + 1) ≤ n) → (T (not b) → n < (2 * r + 1) * (2 * r + 1)) → IsWhole (cond b (2 * r + 1) (2 * r)) n
+    go :
+        (b : Bool) → (T b → (2 * r + 1) * (2 * r + 1) ≤ n) → (T (not b) → n < (2 * r + 1) * (2 * r + 1)) →
+        IsWhole (cond b (2 * r + 1) (2 * r)) n
     go true p q = (p tt, high)
     go false p q = (low, q tt)
 
@@ -60,7 +63,9 @@ none n h = (omega arith, omega arith)
 pub whole-root : (d n : ℕ) → n < 4 ^ d → IsWhole (wholeRoot d n) n
 unfolding wholeRoot
 whole-root zero n h = none n h
-whole-root (suc d) n h = step (wholeRoot d (n / 4)) n (whole-root d (n / 4) (div-lt-iff-lt-mul (zero-lt-suc 3) .1 (subst (λ (x : ℕ). n < x) (pow-suc 4 d) h)))
+whole-root (suc d) n h =
+    step (wholeRoot d (n / 4)) n
+    (whole-root d (n / 4) (div-lt-iff-lt-mul (zero-lt-suc 3) .1 (subst (λ (x : ℕ). n < x) (pow-suc 4 d) h)))
 
 pub the-root : (n : ℕ) → IsWhole (wholeRoot (size n) n) n
 the-root n = whole-root (size n) n (lt-of-lt-of-le (size-lt n) (pow-le-pow-left (lit≤ tt) (size n)))

@@ -23,7 +23,9 @@ root-fits (inf true) f = unfold fits in tt
 root-fits (inf false) f = f
 root-fits (fin s zero e) f = f
 root-fits (fin true (suc m) e) f = unfold fits in tt
-root-fits (fin false (suc m) e) f = subst (λ (z : Float). T (fits binary64 z)) (sym (root-is (unitsOf (fin false (suc m) e)))) (round-fits binary64 false (halves (unitsOf (fin false (suc m) e) * 2 ^ 1074)) (2 * 2 ^ 1074))
+root-fits (fin false (suc m) e) f =
+    subst (λ (z : Float). T (fits binary64 z)) (sym (root-is (unitsOf (fin false (suc m) e))))
+    (round-fits binary64 false (halves (unitsOf (fin false (suc m) e) * 2 ^ 1074)) (2 * 2 ^ 1074))
 
 -- and of a finite value above zero it is one
 pub root-positive : (x : Float) → T (fits binary64 x) → T (positive x) → T (positive (squareRoot x))
@@ -53,11 +55,15 @@ positive-nn (fin false m e) p = refl
 root-nn : {x : Float} → Good x → T (fits binary64 x) → notNegative (squareRoot x) ≡ true
 root-nn top f = unfold squareRoot in refl
 root-nn (num zero e) f = unfold squareRoot in refl
-root-nn (num (suc m) e) f = positive-nn (squareRoot (fin false (suc m) e)) (root-positive (fin false (suc m) e) f (lt→ltb 0 (suc m) (zero-lt-suc m)))
+root-nn (num (suc m) e) f =
+    positive-nn (squareRoot (fin false (suc m) e))
+    (root-positive (fin false (suc m) e) f (lt→ltb 0 (suc m) (zero-lt-suc m)))
 
 -- the root of a value that is not negative is one
 pub root-good : (x : Float) → good x ≡ true → good (squareRoot x) ≡ true
-root-good x g = both (notNegative (squareRoot x)) (fits binary64 (squareRoot x)) (root-nn (view x g) (fits-of x g)) (root-fits x (fits-of x g))
+root-good x g =
+    both (notNegative (squareRoot x)) (fits binary64 (squareRoot x)) (root-nn (view x g) (fits-of x g))
+    (root-fits x (fits-of x g))
 
 -- where y is not below x, its root is not below the root of x
 pub root-order : (x y : Float) → good x ≡ true → good y ≡ true → lt y x ≡ false → lt (squareRoot y) (squareRoot x) ≡ false

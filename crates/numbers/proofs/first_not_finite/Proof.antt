@@ -31,7 +31,9 @@ is-finite-requires : tie.Need-is-finite-requires Inv-loop μ-loop
 is-finite-requires c κs = search needs
 
 returns : tie.Need-returns Inv-loop μ-loop
-returns c = bad-here _ _ _ (omega arith) (sym (c .before .is-finite .ensures) ∙ not-true _ (c .if1 .taken)) (c .before .before .before .before .loop .inv .1)
+returns c =
+    bad-here _ _ _ (omega arith) (sym (c .before .is-finite .ensures) ∙ not-true _ (c .if1 .taken))
+    (c .before .before .before .before .loop .inv .1)
 
 add-i : tie.Need-add-i Inv-loop μ-loop
 add-i c = omega arith
@@ -40,7 +42,11 @@ loop-less : tie.Need-loop-less Inv-loop μ-loop
 loop-less c = omega arith
 
 loop-again : tie.Need-loop-again Inv-loop μ-loop
-loop-again c = (omega arith, bad-later _ _ _ (omega arith) (sym (c .before .is-finite .ensures) ∙ not-false _ (c .if1 .left)) (c .before .before .before .before .loop .inv .1))
+loop-again c = (
+  omega arith,
+  bad-later _ _ _ (omega arith) (sym (c .before .is-finite .ensures) ∙ not-false _ (c .if1 .left))
+      (c .before .before .before .before .loop .inv .1),
+)
 
 returns-2 : tie.Need-returns-2 Inv-loop μ-loop
 returns-2 c = bad-none _ _ _ (le-antisymm (c .before .loop .inv .0) (c .loop-test .left)) (c .before .loop .inv .1)

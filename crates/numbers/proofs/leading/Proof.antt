@@ -39,7 +39,9 @@ sub-t10 : tie.Need-sub-t10
 sub-t10 c = let s = shift (c .before .args .b) (c .before .pre .0) (c .if1 .taken) in omega arith
 
 returns : tie.Need-returns
-returns c = lead-small (c .before .args .b) (digits (c .before .args .b)) (is (c .before .args .b)) (c .before .pre .0) (c .if1 .taken)
+returns c =
+    lead-small (c .before .args .b) (digits (c .before .args .b)) (is (c .before .args .b)) (c .before .pre .0)
+    (c .if1 .taken)
 
 add-t11 : tie.Need-add-t11
 add-t11 c = let s = under (c .before .args .b) in omega arith
@@ -48,7 +50,9 @@ add-t12 : tie.Need-add-t12
 add-t12 c = search needs
 
 returns-2 : tie.Need-returns-2
-returns-2 c = lead-large (c .before .args .b) (digits (c .before .args .b)) (is (c .before .args .b)) (c .before .pre .1) (c .if1 .left)
+returns-2 c =
+    lead-large (c .before .args .b) (digits (c .before .args .b)) (is (c .before .args .b)) (c .before .pre .1)
+    (c .if1 .left)
 
 pub leading-spec : {M : Type 1} → statement M
 leading-spec =

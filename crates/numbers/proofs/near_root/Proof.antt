@@ -1,4 +1,5 @@
--- `numbers::near_root` meets its contract. The invariant: the number looked for is from lo to hi. Nothing is said of the guess. Assumes nothing.
+-- `numbers::near_root` meets its contract. The invariant: the number looked for is from lo to hi. Nothing is said of
+-- the guess. Assumes nothing.
 use mathlib.Core.Path.{_≡_, sym, _∙_, subst}
 use Prim.Native.Nat.{ℕ, _+_, _-_, _*_, _^_, _≤_, _<_}
 use native.Mathlib.Nat.{le-antisymm}
@@ -10,7 +11,8 @@ use Rattle.numbers.proofs.near_root.Statement.{statement}
 use Rattle.numbers.proofs.near_root.Tie as tie
 
 abbrev Inv-loop : tie.InvT-loop
-Inv-loop n g lo₀ hi₀ p₀ k₀ lo hi p k = (2 ^ 52 ≤ lo) × (lo ≤ hi) × (hi < 2 ^ 53) × (lo * lo < n * 2 ^ 52 + lo) × (n * 2 ^ 52 ≤ hi * hi + hi)
+Inv-loop n g lo₀ hi₀ p₀ k₀ lo hi p k =
+    (2 ^ 52 ≤ lo) × (lo ≤ hi) × (hi < 2 ^ 53) × (lo * lo < n * 2 ^ 52 + lo) × (n * 2 ^ 52 ≤ hi * hi + hi)
 
 abbrev μ-loop : tie.MeasureT-loop
 μ-loop n g lo₀ hi₀ p₀ k₀ lo hi p k = hi - lo

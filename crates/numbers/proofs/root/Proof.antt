@@ -31,7 +31,9 @@ held c = subst T (sym (c .before .before .before .before .good .0 .1)) tt
 
 left : (c : tie.Then4) → Finite (c .before .before .before .before .args .x)
 unfolding ofBits
-left c = finite-left (c .before .before .before .before .args .x) (c .before .before .if2 .left) (c .before .if3 .left) (c .if4 .taken)
+left c =
+    finite-left (c .before .before .before .before .args .x) (c .before .before .if2 .left) (c .before .if3 .left)
+    (c .if4 .taken)
 
 float-to-bits-b : tie.Need-float-to-bits-b
 float-to-bits-b c = equal-no-nan (c .before .before .before .before .args .x) (c .before .before .before .if1 .left)
@@ -43,11 +45,14 @@ float-from-bits-result : tie.Need-float-from-bits-result
 float-from-bits-result c = no-nan (c .root-bits .result) (c .root-bits .ensures .below)
 
 returns-4 : tie.Need-returns-4
-returns-4 c = finite-root (c .before .before .before .before .before .args .x) (c .root-bits .result) (left (c .before)) (held (c .before)) (c .root-bits .ensures)
+returns-4 c =
+    finite-root (c .before .before .before .before .before .args .x) (c .root-bits .result) (left (c .before))
+    (held (c .before)) (c .root-bits .ensures)
 
 returns-5 : tie.Need-returns-5
 unfolding ofBits
-returns-5 c = infinite-itself (c .before .before .before .before .args .x) (c .before .before .before .if1 .left) (c .if4 .left)
+returns-5 c =
+    infinite-itself (c .before .before .before .before .args .x) (c .before .before .before .if1 .left) (c .if4 .left)
 
 pub root-spec : {M : Type 1} → statement M
 root-spec =

@@ -1,3 +1,4 @@
+-- `numbers::root_bits` meets its contract, for an odd and an even exponent. Assumes nothing.
 use Prim.Native.Nat.{_*_}
 use Rattle.root_laws.proofs.Scaling.{odd-split, even-split}
 use Rattle.numbers.proofs.Whole.{rooted}
@@ -53,7 +54,8 @@ returns c =
     let l = c .before .before .before .leading in
     let m = l .result .m in
     let e = l .result .e in
-    rooted b m e (m * 2) (c .near-root .result) (l .ensures) (odd-split m e (l .ensures .least) (c .before .before .if1 .taken)) (c .near-root .ensures)
+    rooted b m e (m * 2) (c .near-root .result) (l .ensures)
+    (odd-split m e (l .ensures .least) (c .before .before .if1 .taken)) (c .near-root .ensures)
 
 returns-2 : tie.Need-returns-2
 returns-2 c =
@@ -61,7 +63,8 @@ returns-2 c =
     let l = c .before .before .before .leading in
     let m = l .result .m in
     let e = l .result .e in
-    rooted b m e m (c .near-root2 .result) (l .ensures) (even-split m e (l .ensures .least) (c .before .before .if1 .left)) (c .near-root2 .ensures)
+    rooted b m e m (c .near-root2 .result) (l .ensures) (even-split m e (l .ensures .least) (c .before .before .if1 .left))
+    (c .near-root2 .ensures)
 
 pub root-bits-spec : {M : Type 1} → statement M
 root-bits-spec =

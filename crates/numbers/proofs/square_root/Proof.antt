@@ -10,7 +10,9 @@ root-requires : tie.Need-root-requires
 root-requires c κs = search needs
 
 returns : tie.Need-returns
-returns c = answer-refused (c .before .before .args .x) (c .before .root .result) (subst T (sym (c .before .before .good .0 .1)) tt) (c .before .root .ensures) (c .if1 .taken)
+returns c =
+    answer-refused (c .before .before .args .x) (c .before .root .result) (subst T (sym (c .before .before .good .0 .1)) tt)
+    (c .before .root .ensures) (c .if1 .taken)
 
 returns-2 : tie.Need-returns-2
 returns-2 c = answer-value (c .before .before .args .x) (c .before .root .result) (c .before .root .ensures) (c .if1 .left)

@@ -17,16 +17,34 @@ halves a b c d =
     let k = mul-left-comm c b (2 ^ 32) in
     simp (mul-add, add-mul) (omega arith)
 
-small : (u v : ℕ) → Fits w64 u → Fits w64 v → let a = u / 2 ^ 32 in let b = u % 2 ^ 32 in let c = v / 2 ^ 32 in let d = v % 2 ^ 32 in (a * c ≤ 4294967295 * 4294967295) × (a * d ≤ 4294967295 * 4294967295) × (b * c ≤ 4294967295 * 4294967295) × (b * d ≤ 4294967295 * 4294967295)
+abbrev top : ℕ
+top = 4294967295
+
+small :
+    (u v : ℕ) → Fits w64 u → Fits w64 v →
+    let a = u / 2 ^ 32 in
+    let b = u % 2 ^ 32 in
+    let c = v / 2 ^ 32 in
+    let d = v % 2 ^ 32 in
+    (a * c ≤ top * top) × (a * d ≤ top * top) × (b * c ≤ top * top) × (b * d ≤ top * top)
 small u v m n =
-    let a : u / 2 ^ 32 ≤ 4294967295 = omega arith in
-    let b : u % 2 ^ 32 ≤ 4294967295 = omega arith in
-    let c : v / 2 ^ 32 ≤ 4294967295 = omega arith in
-    let d : v % 2 ^ 32 ≤ 4294967295 = omega arith in
+    let a : u / 2 ^ 32 ≤ top = omega arith in
+    let b : u % 2 ^ 32 ≤ top = omega arith in
+    let c : v / 2 ^ 32 ≤ top = omega arith in
+    let d : v % 2 ^ 32 ≤ top = omega arith in
     (mul-le-mul a c, mul-le-mul a d, mul-le-mul b c, mul-le-mul b d)
 
-quotient : (u v : ℕ) → let a = u / 2 ^ 32 in let b = u % 2 ^ 32 in let c = v / 2 ^ 32 in let d = v % 2 ^ 32 in a * c + a * d / 2 ^ 32 + b * c / 2 ^ 32 + (b * d / 2 ^ 32 + a * d % 2 ^ 32 + b * c % 2 ^ 32) / 2 ^ 32 ≡ u * v / 2 ^ 64
-quotient u v = let e = rw (div-add-mod' u (2 ^ 32), div-add-mod' v (2 ^ 32)) at (halves (u / 2 ^ 32) (u % 2 ^ 32) (v / 2 ^ 32) (v % 2 ^ 32)) in omega arith
+quotient :
+    (u v : ℕ) →
+    let a = u / 2 ^ 32 in
+    let b = u % 2 ^ 32 in
+    let c = v / 2 ^ 32 in
+    let d = v % 2 ^ 32 in
+    a * c + a * d / 2 ^ 32 + b * c / 2 ^ 32 + (b * d / 2 ^ 32 + a * d % 2 ^ 32 + b * c % 2 ^ 32) / 2 ^ 32
+    ≡ u * v / 2 ^ 64
+quotient u v =
+    let e = rw (div-add-mod' u (2 ^ 32), div-add-mod' v (2 ^ 32)) at
+    (halves (u / 2 ^ 32) (u % 2 ^ 32) (v / 2 ^ 32) (v % 2 ^ 32)) in omega arith
 
 mul-x : tie.Need-mul-x
 mul-x c = omega (arith, small (c .args .u) (c .args .v) (c .fits .u) (c .fits .v))
