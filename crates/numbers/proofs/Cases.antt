@@ -3,25 +3,15 @@
 use mathlib.Core.Path.{_≡_, refl, sym, ap, _∙_, subst}
 use mathlib.Core.Bool.{Bool, true, false, _&&_, _||_, Bool·beq, true≢false, false≢true}
 use Prim.Native.Nat.{ℕ, zero, suc, _+_, _*_, _<_}
-use native.Mathlib.Nat.{zero-mul, mul-one, mul-pos, zero-lt-suc}
+use native.Mathlib.Nat.{zero-mul}
 use native.Mathlib.Omega.{arith}
-use borrow.Author.Tests.{lt-ltb, ltb-true, eqb-true}
-use lib.Dec.{T, ltb, eqb}
-use lib.IntN.{ℤ, pos}
-use lib.Ieee.{Float, nan, inf, fin, up, down, lt, eq, ne}
+use borrow.Author.Tests.{ltb-true, eqb-true}
+use lib.Dec.{T, eqb}
+use lib.IntN.{ℤ}
+use lib.Ieee.{Float, nan, inf, fin, up, down, lt, eq, ne, ofBits}
 use lib.Ieee.Compare.{differs-from-itself}
-use lib.Ieee.Fits.{up-pos}
-use Rattle.definition.specs.Number.{squareRoot}
-
-abbrev pub zeroF : Float
-zeroF = fin false 0 (pos 0)
-
--- ---- numbers
-zero-size : (e : ℤ) → 0 * up e * 1 ≡ 0
-zero-size e = mul-one (0 * up e) ∙ zero-mul (up e)
-
-above-zero : (m : ℕ) (e : ℤ) → 0 < suc m * up e * 1
-above-zero m e = subst (λ (x : ℕ). 0 < x) (sym (mul-one (suc m * up e))) (mul-pos (zero-lt-suc m) (up-pos e))
+use Rattle.definition.specs.Number.{squareRoot, plusZero}
+use Rattle.root_laws.proofs.Refusal.{zero-size, above-zero, negative-below}
 
 not-below-zero : (a : ℕ) (e : ℤ) → a < 0 * down e → ⊥
 not-below-zero a e h = let z = zero-mul (down e) in omega arith
@@ -34,8 +24,8 @@ nan-root = refl
 pub nan-nan : (x : Float) → ne x x ≡ true → nan ≡ squareRoot x
 nan-nan x h = subst (λ (y : Float). nan ≡ squareRoot y) (sym (differs-from-itself x (subst T (sym h) tt))) nan-root
 
-pub negative-nan : (x : Float) → lt x zeroF ≡ true → nan ≡ squareRoot x
-unfolding lt squareRoot
+pub negative-nan : (x : Float) → lt x plusZero ≡ true → nan ≡ squareRoot x
+unfolding lt ofBits squareRoot
 negative-nan nan h = absurd (false≢true h)
 negative-nan (inf true) h = refl
 negative-nan (inf false) h = absurd (false≢true h)
@@ -52,8 +42,8 @@ and-true : (a b : Bool) → (a && b) ≡ true → a ≡ true
 and-true true b h = refl
 and-true false b h = h
 
-pub zero-itself : (x : Float) → eq x zeroF ≡ true → x ≡ squareRoot x
-unfolding eq squareRoot
+pub zero-itself : (x : Float) → eq x plusZero ≡ true → x ≡ squareRoot x
+unfolding eq ofBits squareRoot
 zero-itself nan h = absurd (false≢true h)
 zero-itself (inf s) h = absurd (false≢true h)
 zero-itself (fin s zero e) h = refl
@@ -65,8 +55,8 @@ zero-itself (fin s (suc m) e) h =
     clash a b p q r = omega arith
 
 -- ---- what is left
-zero-equals : (s : Bool) (e : ℤ) → eq (fin s zero e) zeroF ≡ true
-unfolding eq
+zero-equals : (s : Bool) (e : ℤ) → eq (fin s zero e) plusZero ≡ true
+unfolding eq ofBits
 zero-equals s e =
     ap (λ (a : ℕ). eqb a (0 * down e) && (Bool·beq s false || eqb a 0)) (zero-size e)
     ∙ ap (λ (b : ℕ). eqb 0 b && (Bool·beq s false || eqb 0 0)) (zero-mul (down e))
@@ -76,16 +66,6 @@ zero-equals s e =
     go true = refl
     go false = refl
 
-negative-below : (m : ℕ) (e : ℤ) → lt (fin true (suc m) e) zeroF ≡ true
-unfolding lt
-negative-below m e = ltb-of (suc m * up e * 1 + 0 * down e) (big (suc m * up e * 1) (0 * down e) (above-zero m e))
-  where
-    big : (a b : ℕ) → 0 < a → 0 < a + b
-    big a b h = omega arith
-
-    ltb-of : (n : ℕ) → 0 < n → ltb 0 n ≡ true
-    ltb-of n h = lt-ltb 0 n h
-
 -- a finite number above zero, with its parts
 pub record Finite (x : Float) : Type 0 where
   pub m : ℕ
@@ -93,8 +73,8 @@ pub record Finite (x : Float) : Type 0 where
   pub is : x ≡ fin false (suc m) e
 
 -- a number that is not negative, no zero and below the infinity
-pub finite-left : (x : Float) → lt x zeroF ≡ false → eq x zeroF ≡ false → lt x (inf false) ≡ true → Finite x
-unfolding lt eq
+pub finite-left : (x : Float) → lt x plusZero ≡ false → eq x plusZero ≡ false → lt x (inf false) ≡ true → Finite x
+unfolding lt eq ofBits
 finite-left nan p q r = absurd (false≢true r)
 finite-left (inf true) p q r = absurd (true≢false p)
 finite-left (inf false) p q r = absurd (false≢true r)

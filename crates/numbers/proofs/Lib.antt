@@ -2,5 +2,5 @@
 pub mod Steps
 mod Whole
 mod Cases
-mod Answers
+mod Outcomes
 mod Positions

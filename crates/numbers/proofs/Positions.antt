@@ -8,7 +8,7 @@ use lib.ListN.{length, drop, getD}
 use lib.Seq.{drop-cons, drop-length}
 use lib.Ieee.{Float, nan}
 use lib.Ieee.Scale.{finite}
-use Rattle.numbers.specs.Coordinates.{firstBad}
+use Rattle.definition.specs.Refusals.{firstBad}
 
 cons-finite : (i : ℕ) (x : Float) (xs : List Float) → finite x ≡ true → firstBad i (x ∷ xs) ≡ firstBad (i + 1) xs
 unfolding firstBad

@@ -1,3 +1,2 @@
 -- What the contracts of the numbers cite beside the definition.
-pub mod Outcome
-pub mod Coordinates
+pub mod Answers

@@ -4,9 +4,10 @@ ghost use Prim.Native.Nat.{_+_, _*_, _/_, _^_, _≤_, _<_};
 ghost use lib.Dec.{leb};
 ghost use lib.Ieee.Scale.{finite};
 ghost use Rattle.definition.specs.Number.{squareRoot};
+ghost use Rattle.definition.specs.Refusals.{firstBad};
+ghost use Rattle.definition.specs.Outcome.{rootAnswer};
 ghost use Rattle.root_laws.specs.Steps.{Leading, NearRoot, RootBits};
-ghost use Rattle.numbers.specs.Outcome.{answerOf, rootOutcome};
-ghost use Rattle.numbers.specs.Coordinates.{firstBad};
+ghost use Rattle.numbers.specs.Answers.{answerOf};
 
 // What a call of the root answers: the root, or that it is refused (number 15).
 pub enum RootAnswer {
@@ -169,13 +170,12 @@ pub fn root(x: f64) -> f64
 
 // The root of x, with the refusal: NaN and the numbers below zero have none.
 pub fn square_root(x: f64) -> RootAnswer
-    ensures { λ r. ⌜ answerOf r ≡ rootOutcome x ⌝ }
+    ensures { λ r. ⌜ answerOf r ≡ rootAnswer x ⌝ }
 {
-    let r = root(x);
-    if r != r {
+    if x != x || x < 0.0 {
         return RootAnswer::Refused;
     }
-    RootAnswer::Value(r)
+    RootAnswer::Value(root(x))
 }
 
 // Whether x is neither infinite nor NaN.

@@ -9,4 +9,5 @@ pub mod Nearest
 pub mod Monotone
 pub mod Order
 pub mod Operations
+pub mod Refusal
 pub mod Values

@@ -90,32 +90,32 @@ units-order m e n d h =
     (le-trans (le-of-eq (mul-right-comm (suc m * up e) l (down d))) (le-trans (mul-le-mul-right l c) (le-of-eq (mul-right-comm (suc n * up d) (down e) l))))
 
 -- of two values that have a root, the larger has the larger root, or an equal one
-pub root-monotone :
+pub monotone :
     (x y : Float) → T (fits binary64 x) → T (fits binary64 y) → T (hasRoot x) → T (hasRoot y) →
     T (le x y) → T (le (squareRoot x) (squareRoot y))
 unfolding squareRoot
-root-monotone nan y f g a b h = absurd a
-root-monotone (inf true) y f g a b h = absurd a
-root-monotone (inf false) nan f g a b h = absurd b
-root-monotone (inf false) (inf true) f g a b h = absurd b
-root-monotone (inf false) (inf false) f g a b h = h
-root-monotone (inf false) (fin t zero d) f g a b h = absurd (unfold le in h)
-root-monotone (inf false) (fin t (suc n) d) f g a b h = absurd (unfold le in h)
-root-monotone (fin s zero e) nan f g a b h = absurd b
-root-monotone (fin s zero e) (inf true) f g a b h = absurd b
-root-monotone (fin s zero e) (inf false) f g a b h = h
-root-monotone (fin s zero e) (fin t zero d) f g a b h = h
-root-monotone (fin s zero e) (fin true (suc n) d) f g a b h = absurd b
-root-monotone (fin s zero e) (fin false (suc n) d) f g a b h =
+monotone nan y f g a b h = absurd a
+monotone (inf true) y f g a b h = absurd a
+monotone (inf false) nan f g a b h = absurd b
+monotone (inf false) (inf true) f g a b h = absurd b
+monotone (inf false) (inf false) f g a b h = h
+monotone (inf false) (fin t zero d) f g a b h = absurd (unfold le in h)
+monotone (inf false) (fin t (suc n) d) f g a b h = absurd (unfold le in h)
+monotone (fin s zero e) nan f g a b h = absurd b
+monotone (fin s zero e) (inf true) f g a b h = absurd b
+monotone (fin s zero e) (inf false) f g a b h = h
+monotone (fin s zero e) (fin t zero d) f g a b h = h
+monotone (fin s zero e) (fin true (suc n) d) f g a b h = absurd b
+monotone (fin s zero e) (fin false (suc n) d) f g a b h =
     let r = rooted n d g in
     zero-below s e (rootOfUnits (unitsOf (fin false (suc n) d))) (r .q * 2 ^ suc (r .j)) (2 ^ 1074) (r .value)
-root-monotone (fin true (suc m) e) y f g a b h = absurd a
-root-monotone (fin false (suc m) e) nan f g a b h = absurd b
-root-monotone (fin false (suc m) e) (inf true) f g a b h = absurd b
-root-monotone (fin false (suc m) e) (inf false) f g a b h =
+monotone (fin true (suc m) e) y f g a b h = absurd a
+monotone (fin false (suc m) e) nan f g a b h = absurd b
+monotone (fin false (suc m) e) (inf true) f g a b h = absurd b
+monotone (fin false (suc m) e) (inf false) f g a b h =
     let r = rooted m e f in
     below-infinity (rootOfUnits (unitsOf (fin false (suc m) e))) (r .q * 2 ^ suc (r .j)) (2 ^ 1074) (r .value)
-root-monotone (fin false (suc m) e) (fin t zero d) f g a b h = absurd (above-no-zero m e t d h)
-root-monotone (fin false (suc m) e) (fin true (suc n) d) f g a b h = absurd b
-root-monotone (fin false (suc m) e) (fin false (suc n) d) f g a b h =
+monotone (fin false (suc m) e) (fin t zero d) f g a b h = absurd (above-no-zero m e t d h)
+monotone (fin false (suc m) e) (fin true (suc n) d) f g a b h = absurd b
+monotone (fin false (suc m) e) (fin false (suc n) d) f g a b h =
     units-monotone (unitsOf (fin false (suc m) e)) (unitsOf (fin false (suc n) d)) (units-order m e n d h)

@@ -5,15 +5,17 @@ use Prim.Native.Nat.{zero, suc, _*_, _^_, _<_}
 use native.Mathlib.Nat.{lt-of-lt-of-le, mul-pos, zero-lt-suc}
 use lib.Dec.{T, lt→ltb}
 use lib.Pow.{pow-pos}
-use lib.Ieee.{Float, nan, inf, fin, binary64, lt, fits, isNan}
+use lib.Ieee.{Float, nan, inf, fin, binary64, lt, le, fits, isNan}
 use lib.Ieee.Fits.{round-fits}
 use lib.Ieee.Positive.{positive, positive-of-value}
+use Rattle.definition.specs.Refusals.{accepted, rootVerdict}
 use Rattle.definition.specs.Number.{halves, unitsOf, rootOfUnits, squareRoot}
 use Rattle.root_laws.specs.Sorts.{notNegative, good, hasRoot}
 use Rattle.root_laws.proofs.Order.{Good, top, num, view, fits-of, both, not-lt→le, le→not-lt}
 use Rattle.root_laws.proofs.Scaling.{root-is}
 use Rattle.root_laws.proofs.Rooted.{rooted, value-is}
-use Rattle.root_laws.proofs.Monotone.{root-monotone}
+use Rattle.root_laws.proofs.Monotone.{monotone}
+use Rattle.root_laws.proofs.Refusal.{accepted-has-root, good-accepted}
 
 -- the root is a value of the format
 pub root-fits : (x : Float) → T (fits binary64 x) → T (fits binary64 (squareRoot x))
@@ -39,12 +41,14 @@ root-positive (fin false (suc m) e) f p =
     subst (λ (z : Float). T (positive z)) (sym (value-is m e))
     (positive-of-value (rootOfUnits (unitsOf (fin false (suc m) e))) (r .q * 2 ^ suc (r .j)) (2 ^ 1074) (r .value) (mul-pos l (pow-pos (suc (r .j)))))
 
--- ---- roots of values that are not negative
+-- ---- order
+-- of two values whose roots are not refused, the larger has the larger root, or an equal one
+pub root-monotone :
+    (x y : Float) → T (fits binary64 x) → T (fits binary64 y) → rootVerdict x ≡ accepted → rootVerdict y ≡ accepted →
+    T (le x y) → T (le (squareRoot x) (squareRoot y))
+root-monotone x y f g a b = monotone x y f g (accepted-has-root x a) (accepted-has-root y b)
 
-root-of : {x : Float} → Good x → T (hasRoot x)
-root-of top = tt
-root-of (num zero e) = tt
-root-of (num (suc m) e) = tt
+-- ---- roots of values that are not negative
 
 positive-nn : (x : Float) → T (positive x) → notNegative x ≡ true
 positive-nn nan p = absurd p
@@ -69,7 +73,7 @@ root-good x g =
 pub root-order : (x y : Float) → good x ≡ true → good y ≡ true → lt y x ≡ false → lt (squareRoot y) (squareRoot x) ≡ false
 root-order x y g h l =
     le→not-lt (view (squareRoot x) (root-good x g)) (view (squareRoot y) (root-good y h))
-    (root-monotone x y (fits-of x g) (fits-of y h) (root-of (view x g)) (root-of (view y h)) (not-lt→le (view x g) (view y h) l))
+    (root-monotone x y (fits-of x g) (fits-of y h) (good-accepted x g) (good-accepted y h) (not-lt→le (view x g) (view y h) l))
 
 pub root-inf : squareRoot (inf false) ≡ inf false
 unfolding squareRoot
@@ -81,11 +85,14 @@ no-nan-of nan h = absurd (true≢false (sym h))
 no-nan-of (inf s) h = tt
 no-nan-of (fin s m e) h = tt
 
--- a value that has a root has one that is no NaN
-pub root-no-nan : (x : Float) → T (fits binary64 x) → T (hasRoot x) → T (not (isNan (squareRoot x)))
-root-no-nan nan f h = absurd h
-root-no-nan (inf true) f h = absurd h
-root-no-nan (inf false) f h = no-nan-of (squareRoot (inf false)) (root-nn top f)
-root-no-nan (fin s zero e) f h = unfold squareRoot isNan in tt
-root-no-nan (fin true (suc m) e) f h = absurd h
-root-no-nan (fin false (suc m) e) f h = no-nan-of (squareRoot (fin false (suc m) e)) (root-nn (num (suc m) e) f)
+no-nan : (x : Float) → T (fits binary64 x) → T (hasRoot x) → T (not (isNan (squareRoot x)))
+no-nan nan f h = absurd h
+no-nan (inf true) f h = absurd h
+no-nan (inf false) f h = no-nan-of (squareRoot (inf false)) (root-nn top f)
+no-nan (fin s zero e) f h = unfold squareRoot isNan in tt
+no-nan (fin true (suc m) e) f h = absurd h
+no-nan (fin false (suc m) e) f h = no-nan-of (squareRoot (fin false (suc m) e)) (root-nn (num (suc m) e) f)
+
+-- a root that is not refused is no NaN
+pub root-no-nan : (x : Float) → T (fits binary64 x) → rootVerdict x ≡ accepted → T (not (isNan (squareRoot x)))
+root-no-nan x f a = no-nan x f (accepted-has-root x a)

@@ -7,7 +7,7 @@ use native.Mathlib.Omega.{arith}
 use borrow.Author.Needs.{needs}
 use borrow.Author.Tests.{not-true, not-false}
 use lib.ListN.{length, drop}
-use Rattle.numbers.specs.Coordinates.{firstBad}
+use Rattle.definition.specs.Refusals.{firstBad}
 use Rattle.numbers.proofs.Positions.{bad-later, bad-here, bad-none}
 use Rattle.numbers.proofs.first_not_finite.Statement.{statement}
 use Rattle.numbers.proofs.first_not_finite.Tie as tie

@@ -18,7 +18,6 @@ unfolding ofBits div
 returns-2 c = negative-nan (c .before .before .args .x) (c .if2 .taken)
 
 returns-3 : tie.Need-returns-3
-unfolding ofBits
 returns-3 c = zero-itself (c .before .before .before .args .x) (c .if3 .taken)
 
 float-from-bits-top : tie.Need-float-from-bits-top

@@ -1,21 +1,22 @@
--- `numbers::square_root` meets its contract: the root is NaN where x has none. Assumes nothing.
-use mathlib.Core.Path.{sym, subst}
-use lib.Dec.{T}
+-- `numbers::square_root` meets its contract: its test is the refusal's. Assumes nothing.
+use mathlib.Core.Logic.{⊎-elim}
 use borrow.Author.Needs.{needs}
-use Rattle.numbers.proofs.Answers.{answer-refused, answer-value}
+use Rattle.numbers.proofs.Outcomes.{nan-refused, negative-refused, value-given}
 use Rattle.numbers.proofs.square_root.Statement.{statement}
 use Rattle.numbers.proofs.square_root.Tie as tie
+
+returns : tie.Need-returns
+returns c =
+    let x = c .before .args .x in
+    ⊎-elim (λ w. nan-refused x (w .taken)) (λ w. negative-refused x (w .1 .taken)) (c .if1 .came)
 
 root-requires : tie.Need-root-requires
 root-requires c κs = search needs
 
-returns : tie.Need-returns
-returns c =
-    answer-refused (c .before .before .args .x) (c .before .root .result) (subst T (sym (c .before .before .good .0 .1)) tt)
-    (c .before .root .ensures) (c .if1 .taken)
-
 returns-2 : tie.Need-returns-2
-returns-2 c = answer-value (c .before .before .args .x) (c .before .root .result) (c .before .root .ensures) (c .if1 .left)
+returns-2 c =
+    let x = c .before .before .before .args .x in
+    value-given x (c .root .result) (c .root .ensures) (c .before .before .if1 .left) (c .before .if2 .left)
 
 pub square-root-spec : {M : Type 1} → statement M
-square-root-spec = tie.close (tie.spec root-requires returns returns-2)
+square-root-spec = tie.close (tie.spec returns root-requires returns-2)
