@@ -1,0 +1,2 @@
+-- What the settings stand for.
+pub mod Params
