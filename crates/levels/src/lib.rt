@@ -6,7 +6,7 @@ ghost use Rattle.definition.specs.Outcome.{sizeAnswer};
 ghost use Rattle.levels.specs.Answers.{policyOf, sizeReport};
 
 // The most points that a build takes.
-const LIMIT: usize = 1_048_576;
+pub const LIMIT: usize = 1_048_576;
 
 // How the coarse threshold is set.
 pub enum SizePolicy {

@@ -9,9 +9,7 @@ ghost use Rattle.definition.specs.Quotas.{sizeAt, wholeAt, remainderAt, leftove
 ghost use Rattle.definition.specs.Outcome.{written, quotaCall, quotaAnswer, quotaOutput, RoomAfter};
 ghost use Rattle.quotas.specs.Answers.{quotaReport};
 ghost use Rattle.quotas.specs.Cuts.{aboveIn, above, CutBy, extraBy};
-
-// The most points that a build takes.
-const LIMIT: usize = 1_048_576;
+use levels::LIMIT;
 
 // The leaves that got a quota and the seats handed out in all, or why there are none. `quotaReport` gives document 01's
 // number of each refusal.
