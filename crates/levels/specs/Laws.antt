@@ -1,5 +1,5 @@
--- The laws of the levels. Definitions only: `proofs/Laws.antt` has their proof.
-use Prim.Native.Nat.{ℕ, zero, suc, _*_, _^_, _≤_, _<_}
+-- The laws of the level sizes. Definitions only: `proofs/Sizes.antt` has their proofs.
+use Prim.Native.Nat.{ℕ, zero, suc, _≤_, _<_}
 use mathlib.Core.Path.{_≡_}
 use mathlib.Core.Bool.{cond}
 use lib.Dec.{leb}

@@ -7,7 +7,7 @@ use mathlib.Core.List.{map}
 use native.Mathlib.Nat.{le-refl, eq-or-lt-of-le}
 use native.Mathlib.Omega.{arith}
 use lib.Dec.{leb, ltb, eqb}
-use borrow.Author.Tests.{leb-true, leb-false, le-leb, lt-ltb, le-ltb, eq-eqb, ne-eqb}
+use borrow.Author.Tests.{leb-true, leb-false, lt-ltb, le-ltb, eq-eqb, ne-eqb}
 use Rattle.lists.specs.Lists.{oneIf, count, total, from, least}
 use Rattle.lists.proofs.Tests.{le-or-lt}
 use Rattle.lists.proofs.From.{count-below-same}

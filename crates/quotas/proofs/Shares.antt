@@ -1,7 +1,7 @@
 -- Laws of one sharing: the shares, rounded down, fit the rest, few seats are left over, and the seats that come of it.
 -- Assumes nothing.
 use Prim.Native.Nat.{ℕ, _+_, _-_, _*_, _/_, _%_, _≤_, _<_, min, max}
-use mathlib.Core.Path.{_≡_, refl, sym, ap, _∙_}
+use mathlib.Core.Path.{_≡_, sym, ap, _∙_}
 use mathlib.Core.Logic.{_⊎_, inl, inr, ⊎-elim}
 use mathlib.Core.List.{List, map}
 use native.Mathlib.Nat.{mul-comm, mul-add, mul-le-mul-left, mul-le-mul-right, le-of-mul-le-mul-left, div-add-mod, mod-lt, mul-div-le, le-of-lt, lt-of-mul-lt-mul-left, div-le-self, mul-le-mul}
@@ -18,7 +18,7 @@ use Rattle.definition.specs.Quotas.{sizeAt, wholeAt, remainderAt, leftover, sea
 use Rattle.definition.specs.Outcome.{written}
 use Rattle.quotas.specs.Cuts.{aboveIn, above, ties, extraBy, CutBy}
 use Rattle.quotas.proofs.Written.{take-written}
-use Rattle.quotas.proofs.Seats.{extra-is, cut-from, one-lt, one-ge, sum-extra, extra-none, extra-le}
+use Rattle.quotas.proofs.Seats.{extra-is, cut-from, one-lt, sum-extra, extra-none, extra-le}
 
 module _ (sizes : List ℕ) (first rest capacity : ℕ) (within : rest ≤ capacity) (all : total (map (λ w. w - first) sizes) ≡ capacity) where
   abbrev n : ℕ

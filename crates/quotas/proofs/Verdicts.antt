@@ -1,13 +1,13 @@
 -- The outcome of a call of `get_domain_coarse_quotas`, refusal by refusal: answer, output and working room. Assumes nothing.
 use Prim.Native.Nat.{ℕ, _≤_, _<_}
-use mathlib.Core.Path.{_≡_, refl, sym, ap, _∙_}
+use mathlib.Core.Path.{_≡_, refl, ap, _∙_}
 use mathlib.Core.List.{List}
 use lib.ListN.{length}
 use borrow.Author.Tests.{lt-ltb, le-ltb}
 use Rattle.lists.specs.Lists.{total}
 use Rattle.definition.specs.Quotas.{heldSeats, quotas, quotasFor}
 use Rattle.definition.specs.Packed.{quotaStated}
-use Rattle.definition.specs.Refusals.{Verdict, accepted, refused, verdict, mostPoints, quotaShort, quotaVerdict}
+use Rattle.definition.specs.Refusals.{accepted, refused, verdict, mostPoints, quotaShort, quotaVerdict}
 use Rattle.definition.specs.Outcome.{Answer, Shared, numberOf, placeOf, valueOf, written, listAfter, RoomAfter, quotaCall, quotaAnswer, quotaOutput}
 use Rattle.levels.specs.Answers.{reports, refuses}
 use Rattle.quotas.specs.Answers.{noSeats}

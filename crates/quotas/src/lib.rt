@@ -3,7 +3,7 @@ ghost use mathlib.Core.Path.{_≡_};
 ghost use mathlib.Core.List.{map};
 ghost use lib.ListN.{length, take};
 ghost use lib.Dec.{eqb};
-ghost use Prim.Native.Nat.{ℕ, _+_, _-_, _*_, _≤_, _<_, min, max};
+ghost use Prim.Native.Nat.{ℕ, _-_, _*_, _≤_, _<_, min, max};
 ghost use Rattle.lists.specs.Lists.{oneIf, total, from};
 ghost use Rattle.definition.specs.Quotas.{sizeAt, wholeAt, remainderAt, leftover, seatsAt, seatsOf, quotasFor};
 ghost use Rattle.definition.specs.Outcome.{written, quotaCall, quotaAnswer, quotaOutput, RoomAfter};

@@ -1,6 +1,6 @@
 -- `quotas::get_domain_coarse_quotas` meets its contract: the tests that led to each `return` say which outcome is due.
 -- Assumes nothing.
-use mathlib.Core.Path.{_≡_, refl}
+use mathlib.Core.Path.{refl}
 use native.Mathlib.Omega.{arith}
 use Rattle.quotas.proofs.Verdicts.{refused-8, refused-11-out, refused-11-room, seated}
 use borrow.Author.Needs.{needs}

@@ -1,7 +1,7 @@
 -- `quotas::hand_out` meets its contract: `at_cut` seats are left for remainders equal to the cut, and the quotas so far stand at
 -- the front of the output. Assumes nothing.
 use mathlib.Core.Path.{_≡_, refl, ap, _∙_}
-use mathlib.Core.List.{List, _++_, map}
+use mathlib.Core.List.{_++_, map}
 use Prim.Native.Nat.{ℕ, _-_, _%_, _≤_}
 use borrow.Author.Needs.{needs}
 use native.Mathlib.Omega.{arith}

@@ -1,7 +1,7 @@
 -- `quotas::note_remainders` meets its contract: `left` is the rest less the shares so far, rounded down, and the remainders so
 -- far stand at the front of the room. Assumes nothing.
 use mathlib.Core.Path.{_≡_, refl, ap, _∙_}
-use mathlib.Core.List.{List, _++_, map}
+use mathlib.Core.List.{_++_, map}
 use Prim.Native.Nat.{ℕ, _+_, _-_, _/_, _%_, _≤_}
 use native.Mathlib.Omega.{arith}
 use lib.ListN.{length, drop, length-set}
