@@ -1,6 +1,6 @@
 // Runs document 01's edges of the level arithmetic and the quotas, and prints what each call answers and leaves in its lists.
+use config::SizePolicy;
 use levels::LevelSize;
-use levels::SizePolicy;
 use quotas::QuotaAnswer;
 
 // Writes a space and the number.

@@ -1,16 +1,8 @@
--- Document 01's policy, numbers and values for each case of the enums. Definitions only.
+-- Document 01's numbers and values for each case of the answer. Definitions only.
 use Prim.Native.Nat.{ℕ}
-use Rattle.definition.specs.Levels.{Policy, auto, fixed}
 use Rattle.definition.specs.Outcome.{Answer}
-use Rattle.levels.specs.declared.SizePolicy.{SizePolicy}
-use Rattle.levels.specs.declared.SizePolicy.the-variants.{Auto, Fixed}
 use Rattle.levels.specs.declared.LevelSize.{LevelSize}
 use Rattle.levels.specs.declared.LevelSize.the-variants.{Points, ZeroThreshold, TooManyPoints, NotAboveThreshold, WrongReductions}
-
--- the policy that a setting stands for
-abbrev pub policyOf : SizePolicy → Policy
-policyOf Auto = auto
-policyOf (Fixed c) = fixed c
 
 -- an accepted call, and a refusal, which names no place here; `zeros` is the value that a refusal reports
 abbrev pub reports : {A : Type 0} → A → Answer A

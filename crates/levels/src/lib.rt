@@ -3,16 +3,12 @@ ghost use mathlib.Core.Path.{_≡_};
 ghost use Prim.Native.Nat.{_≤_, _<_, _^_};
 ghost use Rattle.definition.specs.Levels.{auto, threshold, reductions, exactSize, levelSize};
 ghost use Rattle.definition.specs.Outcome.{sizeAnswer};
-ghost use Rattle.levels.specs.Answers.{policyOf, sizeReport};
+ghost use Rattle.config.specs.Params.{policyOf};
+ghost use Rattle.levels.specs.Answers.{sizeReport};
+use config::SizePolicy;
 
 // The most points that a build takes.
 pub const LIMIT: usize = 1_048_576;
-
-// How the coarse threshold is set.
-pub enum SizePolicy {
-    Auto,
-    Fixed(u32),
-}
 
 // The size of the next level, or why there is none. `sizeReport` gives document 01's number of each refusal.
 pub enum LevelSize {
