@@ -122,6 +122,14 @@ fn print_short() {
     print_quotas(&large, 3, &mut one, &mut two);
 }
 
+// No leaves at all.
+fn print_none() {
+    let sizes = [0usize];
+    let mut out = [77usize];
+    let mut room = [88usize];
+    print_quotas(&sizes[..0], 3, &mut out, &mut room);
+}
+
 fn print_thresholds() {
     print_auto(1);
     print_auto(16_384);
@@ -163,6 +171,7 @@ fn main() {
     print_four(&[1, 1, 1, 1], 2);
     print_pair(2, 2, 9);
     print_pair(0, 0, 3);
+    print_none();
     print_pair(1_048_576, 1, 3);
     print_pair(18_446_744_073_709_551_615, 18_446_744_073_709_551_615, 3);
     print_short();
