@@ -1,0 +1,24 @@
+-- A lent list whose front was written. Assumes nothing.
+use Prim.Native.Nat.{ℕ, _≤_}
+use mathlib.Core.Path.{_≡_, sym, ap}
+use mathlib.Core.List.{List, _++_, map}
+use native.Mathlib.Omega.{arith}
+use lib.ListN.{length, take, drop, length-append, length-drop}
+use lib.Seq.{take-at}
+use Rattle.lists.specs.Lists.{from}
+use Rattle.lists.proofs.From.{length-map-from}
+use Rattle.definition.specs.Outcome.{written}
+
+module _ {A : Type 0} where
+  pub length-written : (xs old : List A) → length xs ≤ length old → length (written xs old) ≡ length old
+  unfolding written
+  length-written xs old h = simp (length-append, length-drop) (omega arith)
+
+  pub take-written : (xs old : List A) (n : ℕ) → length xs ≡ n → take n (written xs old) ≡ xs
+  unfolding written
+  take-written xs old n e = take-at xs (drop (length xs) old) n e
+
+  -- values written one after the other, from the front on
+  pub written-below : (f : ℕ → A) (n : ℕ) (old : List A) → map f (from 0 n) ++ drop n old ≡ written (map f (from 0 n)) old
+  unfolding written
+  written-below f n old = ap (λ (k : ℕ). map f (from 0 n) ++ drop k old) (sym (length-map-from f 0 n))
