@@ -7,17 +7,15 @@ use mathlib.Core.List.{List, map}
 use native.Mathlib.Nat.{mul-comm, mul-add, mul-le-mul-left, mul-le-mul-right, le-of-mul-le-mul-left, div-add-mod, mod-lt, mul-div-le, le-of-lt, lt-of-mul-lt-mul-left, div-le-self, mul-le-mul}
 use native.Mathlib.Omega.{arith}
 use lib.Dec.{ltb}
-use lib.ListN.{length, take}
+use lib.ListN.{length}
 use borrow.Author.Tests.{le-ltb}
 use Rattle.lists.specs.Lists.{oneIf, total, from}
 use Rattle.lists.proofs.Tests.{le-or-lt}
-use Rattle.lists.proofs.Count.{count-map, count-none}
-use Rattle.lists.proofs.From.{map-at, length-map-from}
+use Rattle.lists.proofs.Count.{count-none}
+use Rattle.lists.proofs.From.{map-at}
 use Rattle.lists.proofs.Sums.{sum-add, sum-mul, sum-below-le, count-sum}
 use Rattle.definition.specs.Quotas.{sizeAt, wholeAt, remainderAt, leftover, seatsAt, extraAt}
-use Rattle.definition.specs.Outcome.{written}
-use Rattle.quotas.specs.Cuts.{aboveIn, above, ties, extraBy, CutBy}
-use Rattle.quotas.proofs.Written.{take-written}
+use Rattle.quotas.specs.Cuts.{above, ties, extraBy, CutBy}
 use Rattle.quotas.proofs.Seats.{extra-is, cut-from, one-lt, sum-extra, extra-none, extra-le}
 
 module _ (sizes : List ℕ) (first rest capacity : ℕ) (within : rest ≤ capacity) (all : total (map (λ w. w - first) sizes) ≡ capacity) where
@@ -142,27 +140,17 @@ module _ (sizes : List ℕ) (first rest pool i p : ℕ) (ep : p ≡ rest * (size
       let l : sizeAt sizes i - first ≤ 1048576 = omega arith in
       omega (arith, div-le-self p pool, mul-le-mul hr l)
 
--- ---- the cut of the remainders that stand at the front of a list
-module _ (sizes : List ℕ) (first rest pool : ℕ) (old room : List ℕ)
-    (e : room ≡ written (map (remainderAt sizes first rest pool) (from 0 (length sizes))) old) where
-  pub noted-above : (t : ℕ) → aboveIn (take (length sizes) room) t ≡ above (length sizes) (remainderAt sizes first rest pool) t
-  noted-above t =
-      let r = remainderAt sizes first rest pool in
-      let xs = map r (from 0 (length sizes)) in
-      ap (λ (l : List ℕ). aboveIn (take (length sizes) l) t) e
-      ∙ ap (λ (l : List ℕ). aboveIn l t) (take-written xs old (length sizes) (length-map-from r 0 (length sizes)))
-      ∙ count-map r (λ x. ltb t x) (from 0 (length sizes))
+-- ---- the cut of the remainders
+module _ (sizes : List ℕ) (first rest capacity pool : ℕ) (within : rest ≤ capacity) (all : total (map (λ w. w - first) sizes) ≡ capacity)
+    (ep : pool ≡ max 1 capacity) where
+  pub divisor-top : (left : ℕ) → above (length sizes) (remainderAt sizes first rest pool) pool ≤ left
+  divisor-top left =
+      let z : above (length sizes) (remainderAt sizes first rest pool) pool ≡ 0 = rw ep (none-above sizes first rest capacity within all) in
+      omega arith
 
-  module _ (capacity : ℕ) (within : rest ≤ capacity) (all : total (map (λ w. w - first) sizes) ≡ capacity) (ep : pool ≡ max 1 capacity) where
-    pub noted-top : (left : ℕ) → aboveIn (take (length sizes) room) pool ≤ left
-    noted-top left =
-        let z : above (length sizes) (remainderAt sizes first rest pool) pool ≡ 0 = rw ep (none-above sizes first rest capacity within all) in
-        omega (arith, noted-above pool)
-
-    pub noted-cut : (left t : ℕ) → left ≡ leftover sizes first rest pool → aboveIn (take (length sizes) room) t ≤ left
-        → ((s : ℕ) → s < t → left < aboveIn (take (length sizes) room) s) → CutBy (length sizes) (remainderAt sizes first rest pool) left t
-    noted-cut left t el low below =
-        let few : left ≤ above (length sizes) (remainderAt sizes first rest pool) 0 = rw (el, ep) (left-few sizes first rest capacity within all) in
-        cut-from (length sizes) (remainderAt sizes first rest pool) left t few
-        (omega (arith, noted-above t))
-        (λ s h. omega (arith, below s h, noted-above s))
+  pub cut-by : (left t : ℕ) → left ≡ leftover sizes first rest pool → above (length sizes) (remainderAt sizes first rest pool) t ≤ left
+      → ((s : ℕ) → s < t → left < above (length sizes) (remainderAt sizes first rest pool) s)
+      → CutBy (length sizes) (remainderAt sizes first rest pool) left t
+  cut-by left t el low below =
+      let few : left ≤ above (length sizes) (remainderAt sizes first rest pool) 0 = rw (el, ep) (left-few sizes first rest capacity within all) in
+      cut-from (length sizes) (remainderAt sizes first rest pool) left t few low below

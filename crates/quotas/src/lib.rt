@@ -5,10 +5,10 @@ ghost use lib.ListN.{length, take};
 ghost use lib.Dec.{eqb};
 ghost use Prim.Native.Nat.{ℕ, _-_, _*_, _≤_, _<_, min, max};
 ghost use Rattle.lists.specs.Lists.{oneIf, total, from};
-ghost use Rattle.definition.specs.Quotas.{sizeAt, wholeAt, remainderAt, leftover, seatsAt, seatsOf, quotasFor};
+ghost use Rattle.definition.specs.Quotas.{sizeAt, nonempty, wholeAt, remainderAt, leftover, seatsAt, seatsOf, quotasFor};
 ghost use Rattle.definition.specs.Outcome.{written, quotaCall, quotaAnswer, quotaOutput, RoomAfter};
 ghost use Rattle.quotas.specs.Answers.{quotaReport};
-ghost use Rattle.quotas.specs.Cuts.{aboveIn, above, CutBy, extraBy};
+ghost use Rattle.quotas.specs.Cuts.{Small, above, CutBy, extraBy};
 use levels::LIMIT;
 
 // The leaves that got a quota and the seats handed out in all, or why there are none. `quotaReport` gives document 01's
@@ -50,15 +50,14 @@ fn at_least_one(x: usize) -> usize
     if x < 1 { 1 } else { x }
 }
 
-// How many of the first n numbers of the list are above t.
-fn count_above(list: &[usize], n: usize, t: usize) -> usize
-    requires { ⌜ n ≤ length (now list) ⌝ }
-    ensures { λ r. ⌜ r ≡ aboveIn (take n (now (list .entry))) t ⌝ }
+// How many leaves are nonempty.
+fn count_nonempty(sizes: &[usize]) -> usize
+    ensures { λ r. ⌜ r ≡ nonempty (now (sizes .entry)) ⌝ }
 {
     let mut many = 0;
     let mut i = 0;
-    while i < n {
-        if t < list[i] {
+    while i < sizes.len() {
+        if 0 < sizes[i] {
             many += 1;
         }
         i += 1;
@@ -77,38 +76,48 @@ fn product(w: usize, first: usize, rest: usize) -> usize
     rest * (w - first)
 }
 
-// Writes each leaf's remainder to the room, and returns the leftover seats.
-fn note_remainders(
-    sizes: &[usize],
-    first: usize,
-    rest: usize,
-    pool: usize,
-    room: &mut [usize],
-) -> usize
-    requires { ⌜ ((j : ℕ) → sizeAt (now sizes) j ≤ 1048576) × (rest ≤ 1048576) × (0 < pool) × (length (now sizes) ≤ length (now room)) × (total (map (wholeAt (now sizes) first rest pool) (from 0 (length (now sizes)))) ≤ rest) ⌝ }
-    ensures { λ r. ⌜ (r ≡ leftover (now (sizes .entry)) first rest pool) × (now (room .exit) ≡ written (map (remainderAt (now (sizes .entry)) first rest pool) (from 0 (length (now (sizes .entry))))) (now (room .entry))) ⌝ }
+// The leftover seats: the rest less each leaf's share, rounded down.
+fn leftover_seats(sizes: &[usize], first: usize, rest: usize, pool: usize) -> usize
+    requires { ⌜ Small (now sizes) rest pool × (total (map (wholeAt (now sizes) first rest pool) (from 0 (length (now sizes)))) ≤ rest) ⌝ }
+    ensures { λ r. ⌜ r ≡ leftover (now (sizes .entry)) first rest pool ⌝ }
 {
     let mut left = rest;
     let mut i = 0;
     while i < sizes.len() {
         let p = product(sizes[i], first, rest);
         left -= p / pool;
-        room[i] = p % pool;
         i += 1;
     }
     left
 }
 
-// The least t with at most `left` of the first n numbers above it, by halving; at most `left` are above `top`.
-fn cut(room: &[usize], n: usize, left: usize, top: usize) -> usize
-    requires { ⌜ (n ≤ length (now room)) × (aboveIn (take n (now room)) top ≤ left) ⌝ }
-    ensures { λ t. ⌜ (aboveIn (take n (now (room .entry))) t ≤ left) × ((s : ℕ) → s < t → left < aboveIn (take n (now (room .entry))) s) ⌝ }
+// How many remainders are above t. They are formed anew in each pass, so that no list of them is needed.
+fn count_above(sizes: &[usize], first: usize, rest: usize, pool: usize, t: usize) -> usize
+    requires { ⌜ Small (now sizes) rest pool ⌝ }
+    ensures { λ r. ⌜ r ≡ above (length (now (sizes .entry))) (remainderAt (now (sizes .entry)) first rest pool) t ⌝ }
+{
+    let mut many = 0;
+    let mut i = 0;
+    while i < sizes.len() {
+        let p = product(sizes[i], first, rest);
+        if t < p % pool {
+            many += 1;
+        }
+        i += 1;
+    }
+    many
+}
+
+// The least t with at most `left` remainders above it, by halving; none is above the divisor.
+fn cut(sizes: &[usize], first: usize, rest: usize, pool: usize, left: usize) -> usize
+    requires { ⌜ Small (now sizes) rest pool × (above (length (now sizes)) (remainderAt (now sizes) first rest pool) pool ≤ left) ⌝ }
+    ensures { λ t. ⌜ (above (length (now (sizes .entry))) (remainderAt (now (sizes .entry)) first rest pool) t ≤ left) × ((s : ℕ) → s < t → left < above (length (now (sizes .entry))) (remainderAt (now (sizes .entry)) first rest pool) s) ⌝ }
 {
     let mut lo = 0;
-    let mut hi = top;
+    let mut hi = pool;
     while lo < hi {
         let mid = lo + (hi - lo) / 2;
-        if count_above(room, n, mid) <= left {
+        if count_above(sizes, first, rest, pool, mid) <= left {
             hi = mid;
         } else {
             lo = mid + 1;
@@ -142,20 +151,19 @@ fn seats_after(remainder: usize, cut: usize, left: usize) -> usize
     left
 }
 
-// Writes the quotas: each leaf's first seats, its share rounded down, and its leftover seat by the cut, which `taken`
-// remainders are above. Lower leaves come first, so of equal remainders they get the seats.
+// Writes each leaf's quota over its size: its first seats, its share rounded down, and its leftover seat by the cut, which
+// `taken` remainders are above. Lower leaves come first, so of equal remainders they get the seats.
 fn hand_out(
-    sizes: &[usize],
+    sizes: &mut [usize],
     first: usize,
     rest: usize,
     pool: usize,
     left: usize,
     cut: usize,
     taken: usize,
-    quotas: &mut [usize],
 )
-    requires { ⌜ ((j : ℕ) → sizeAt (now sizes) j ≤ 1048576) × (first ≤ 1) × (rest ≤ 1048576) × (0 < pool) × (length (now sizes) ≤ length (now quotas)) × (left ≡ leftover (now sizes) first rest pool) × (taken ≡ above (length (now sizes)) (remainderAt (now sizes) first rest pool) cut) × CutBy (length (now sizes)) (remainderAt (now sizes) first rest pool) left cut ⌝ }
-    ensures { λ _. ⌜ now (quotas .exit) ≡ written (map (seatsAt (now (sizes .entry)) first rest pool) (from 0 (length (now (sizes .entry))))) (now (quotas .entry)) ⌝ }
+    requires { ⌜ Small (now sizes) rest pool × (first ≤ 1) × (left ≡ leftover (now sizes) first rest pool) × (taken ≡ above (length (now sizes)) (remainderAt (now sizes) first rest pool) cut) × CutBy (length (now sizes)) (remainderAt (now sizes) first rest pool) left cut ⌝ }
+    ensures { λ _. ⌜ now (sizes .exit) ≡ map (seatsAt (now (sizes .entry)) first rest pool) (from 0 (length (now (sizes .entry)))) ⌝ }
 {
     let mut at_cut = left - taken;
     let mut i = 0;
@@ -163,46 +171,59 @@ fn hand_out(
         let w = sizes[i];
         let p = product(w, first, rest);
         let remainder = p % pool;
-        quotas[i] = smaller(first, w) + p / pool + extra_seat(remainder, cut, at_cut);
+        sizes[i] = smaller(first, w) + p / pool + extra_seat(remainder, cut, at_cut);
         at_cut = seats_after(remainder, cut, at_cut);
         i += 1;
     }
 }
 
 // Hands out the rest by the capacity that remains once each nonempty leaf has `first` seats.
-fn deal(
-    sizes: &[usize],
-    first: usize,
-    rest: usize,
-    capacity: usize,
-    quotas: &mut [usize],
-    room: &mut [usize],
-)
-    requires { ⌜ ((j : ℕ) → sizeAt (now sizes) j ≤ 1048576) × (first ≤ 1) × (rest ≤ capacity) × (capacity ≤ 1048576) × (length (now sizes) ≤ length (now quotas)) × (length (now sizes) ≤ length (now room)) × (total (map (λ w. w - first) (now sizes)) ≡ capacity) ⌝ }
-    ensures { λ _. ⌜ (now (quotas .exit) ≡ written (seatsOf (now (sizes .entry)) first rest capacity) (now (quotas .entry))) × (length (now (room .exit)) ≡ length (now (room .entry))) ⌝ }
+fn deal(sizes: &mut [usize], first: usize, rest: usize, capacity: usize)
+    requires { ⌜ ((j : ℕ) → sizeAt (now sizes) j ≤ 1048576) × (first ≤ 1) × (rest ≤ capacity) × (capacity ≤ 1048576) × (total (map (λ w. w - first) (now sizes)) ≡ capacity) ⌝ }
+    ensures { λ _. ⌜ now (sizes .exit) ≡ seatsOf (now (sizes .entry)) first rest capacity ⌝ }
 {
-    let n = sizes.len();
     let pool = at_least_one(capacity);
-    let left = note_remainders(sizes, first, rest, pool, room);
-    let t = cut(room, n, left, pool);
-    let taken = count_above(room, n, t);
-    hand_out(sizes, first, rest, pool, left, t, taken, quotas);
+    let left = leftover_seats(sizes, first, rest, pool);
+    let t = cut(sizes, first, rest, pool, left);
+    let taken = count_above(sizes, first, rest, pool, t);
+    hand_out(sizes, first, rest, pool, left, t, taken);
 }
 
-// The quotas for s seats, of leaves with `rows` rows in all.
-pub fn share(sizes: &[usize], rows: usize, s: usize, quotas: &mut [usize], room: &mut [usize])
-    requires { ⌜ (rows ≡ total (now sizes)) × (rows ≤ 1048576) × (s ≤ rows) × (length (now sizes) ≤ length (now quotas)) × (length (now sizes) ≤ length (now room)) ⌝ }
-    ensures { λ _. ⌜ (now (quotas .exit) ≡ written (quotasFor (now (sizes .entry)) s) (now (quotas .entry))) × (length (now (room .exit)) ≡ length (now (room .entry))) ⌝ }
+// The quotas for s seats, of leaves with `rows` rows in all, in the place of their sizes.
+fn share(sizes: &mut [usize], rows: usize, s: usize)
+    requires { ⌜ (rows ≡ total (now sizes)) × (rows ≤ 1048576) × (s ≤ rows) ⌝ }
+    ensures { λ _. ⌜ now (sizes .exit) ≡ quotasFor (now (sizes .entry)) s ⌝ }
 {
-    let d = count_above(sizes, sizes.len(), 0);
+    let d = count_nonempty(sizes);
     if d <= s {
-        deal(sizes, 1, s - d, rows - d, quotas, room);
+        deal(sizes, 1, s - d, rows - d);
     } else {
-        deal(sizes, 0, s, rows, quotas, room);
+        deal(sizes, 0, s, rows);
     }
 }
 
-// The quotas for `wanted` seats, held to the total. Document 01's refusals come in its order: 8, 11.
+// The same for leaves whose sizes are the first m numbers of the list. What stands past them stays.
+pub fn share_in_place(list: &mut [usize], m: usize, rows: usize, s: usize)
+    requires { ⌜ (m ≤ length (now list)) × (rows ≡ total (take m (now list))) × (rows ≤ 1048576) × (s ≤ rows) ⌝ }
+    ensures { λ _. ⌜ now (list .exit) ≡ written (quotasFor (take m (now (list .entry))) s) (now (list .entry)) ⌝ }
+{
+    share(&mut list[..m], rows, s);
+}
+
+// Copies the sizes to the front of the output, which is long enough.
+fn copy_sizes(sizes: &[usize], quotas: &mut [usize])
+    requires { ⌜ length (now sizes) ≤ length (now quotas) ⌝ }
+    ensures { λ _. ⌜ now (quotas .exit) ≡ written (now (sizes .entry)) (now (quotas .entry)) ⌝ }
+{
+    let mut i = 0;
+    while i < sizes.len() {
+        quotas[i] = sizes[i];
+        i += 1;
+    }
+}
+
+// The quotas for `wanted` seats, held to the total. Document 01's refusals come in its order: 8, 11. The sharing works in the
+// output alone: of the lent room only the length is looked at, and nothing is written to it.
 pub fn get_domain_coarse_quotas(
     sizes: &[usize],
     wanted: usize,
@@ -224,7 +245,8 @@ pub fn get_domain_coarse_quotas(
         return QuotaAnswer::ShortList;
     }
     let s = smaller(wanted, rows);
-    share(sizes, rows, s, quotas, room);
+    copy_sizes(sizes, quotas);
+    share_in_place(quotas, sizes.len(), rows, s);
     QuotaAnswer::Seated {
         leaves: sizes.len(),
         seats: s,

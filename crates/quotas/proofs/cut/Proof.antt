@@ -1,27 +1,28 @@
--- `quotas::cut` meets its contract, by halving: more than `left` numbers are above each number below `lo`, and at most `left`
+-- `quotas::cut` meets its contract, by halving: more than `left` remainders are above each number below `lo`, and at most `left`
 -- are above `hi`. Assumes nothing.
 use mathlib.Core.Path.{_≡_}
-use mathlib.Core.List.{List}
 use Prim.Native.Nat.{ℕ, _+_, _-_, _≤_, _<_}
 use native.Mathlib.Omega.{arith}
-use lib.ListN.{take}
+use lib.ListN.{length}
 use lib.Dec.{ltb}
 use borrow.Author.Tests.{ltb-true, lt-ltb}
+use Rattle.lists.specs.Lists.{from}
 use Rattle.lists.proofs.Count.{count-le}
-use Rattle.quotas.specs.Cuts.{aboveIn}
+use Rattle.definition.specs.Quotas.{remainderAt}
+use Rattle.quotas.specs.Cuts.{above}
 use Rattle.quotas.proofs.cut.Statement.{statement}
 use Rattle.quotas.proofs.cut.Tie as tie
 
 -- where more than `left` are above a number, more are above each up to it
-more-next : (xs : List ℕ) (left mid k : ℕ) → k ≡ aboveIn xs mid → left < k → (s : ℕ) → s < mid + 1 → left < aboveIn xs s
-more-next xs left mid k e h s l =
-    omega (arith, count-le (λ x. ltb mid x) (λ x. ltb s x) xs (λ x _ t. lt-ltb s x (omega (arith, ltb-true mid x t))))
+more-next : (n : ℕ) (r : ℕ → ℕ) (left mid k : ℕ) → k ≡ above n r mid → left < k → (s : ℕ) → s < mid + 1 → left < above n r s
+more-next n r left mid k e h s l =
+    omega (arith, count-le (λ j. ltb mid (r j)) (λ j. ltb s (r j)) (from 0 n) (λ j _ t. lt-ltb s (r j) (omega (arith, ltb-true mid (r j) t))))
 
 abbrev Inv-loop : tie.InvT-loop
-Inv-loop room n left top lo₀ hi₀ lo hi = (lo ≤ hi) × (hi ≤ top) × ((s : ℕ) → s < lo → left < aboveIn (take n room) s) × (aboveIn (take n room) hi ≤ left)
+Inv-loop sizes first rest pool left lo₀ hi₀ lo hi = (lo ≤ hi) × (hi ≤ pool) × ((s : ℕ) → s < lo → left < above (length sizes) (remainderAt sizes first rest pool) s) × (above (length sizes) (remainderAt sizes first rest pool) hi ≤ left)
 
 abbrev μ-loop : tie.MeasureT-loop
-μ-loop room n left top lo₀ hi₀ lo hi = hi - lo
+μ-loop sizes first rest pool left lo₀ hi₀ lo hi = hi - lo
 
 loop-holds : tie.Need-loop-holds Inv-loop μ-loop
 loop-holds c = (omega arith, omega arith, (λ s h. absurd (omega arith)), c .before .pre .1)
@@ -33,7 +34,7 @@ add-mid : tie.Need-add-mid Inv-loop μ-loop
 add-mid c = omega arith
 
 count-above-requires : tie.Need-count-above-requires Inv-loop μ-loop
-count-above-requires c κs = omega arith
+count-above-requires c κs = c .before .before .before .pre .0
 
 loop-less : tie.Need-loop-less Inv-loop μ-loop
 loop-less c = omega arith
@@ -51,9 +52,9 @@ loop-less-2 c = omega arith
 
 loop-again-2 : tie.Need-loop-again-2 Inv-loop μ-loop
 loop-again-2 c =
-    let s = c .before .before .before .before .before in
+    let a = c .before .before .before .before .before .args in
     let i = c .before .before .before .loop .inv in
-    (omega arith, omega arith, more-next (take (s .args .n) (s .args .room .now)) _ _ _ (c .before .count-above .ensures) (c .if1 .left), i .3)
+    (omega arith, omega arith, more-next (length (a .sizes .now)) (remainderAt (a .sizes .now) (a .first) (a .rest) (a .pool)) _ _ _ (c .before .count-above .ensures) (c .if1 .left), i .3)
 
 returns : tie.Need-returns Inv-loop μ-loop
 returns c =
