@@ -75,7 +75,7 @@ slice-read-result : tie.Need-slice-read-result Inv-loop μ-loop
 slice-read-result c =
     let s = c .before .before .before .before .before .before .before .before .before in
     let a = s .args in
-    let v = c .before .before .before .before .before .before .loop in let f = c .before .before .before .argsort .ensures in end-inside (a .d) (a .points .now) (a .axis) (s .pre .0) (a .rows .now) (s .pre .1) (s .pre .2) (v .rows) (v .m) (v .k) (v .inv .0) _ (f .0) (f .1)
+    let v = c .before .before .before .before .before .before .loop in let f = c .before .before .before .argsort .ensures in omega (arith, end-inside (a .d) (a .points .now) (a .axis) (s .pre .0) (a .rows .now) (s .pre .1) (s .pre .2) (v .rows) (v .m) (v .k) (v .inv .0) _ (f .0) (f .1))
 
 same-length : tie.Need-same-length Inv-loop μ-loop
 same-length c = search needs

@@ -2,6 +2,7 @@
 use borrow.Author.Needs.{needs}
 use mathlib.Core.Path.{sym, _∙_}
 use Prim.Native.Nat.{_-_}
+use native.Mathlib.Omega.{arith}
 use Rattle.definition.specs.Keys.{before}
 use Rattle.heap.specs.Rows.{keyOn}
 use Rattle.heap.proofs.Orders.{row-inside}
@@ -34,7 +35,9 @@ comes-before-requires : tie.Need-comes-before-requires Inv-loop μ-loop
 comes-before-requires c κs =
     let s = c .before .before .before .before .before in
     let a = s .args in
-    (row-inside (a .d) (a .points .now) (a .axis) _ (parted-row (c .before .before .loop .inv) (c .before .loop-test .taken) _ (s .pre .2)), s .pre .3)
+    let i = row-inside (a .d) (a .points .now) (a .axis) _ (parted-row (c .before .before .loop .inv) (c .before .loop-test .taken) _ (s .pre .2)) in
+    let m = s .pre .3 in
+    (omega arith, omega arith)
 
 add-work : tie.Need-add-work Inv-loop μ-loop
 add-work c = search needs
