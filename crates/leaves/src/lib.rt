@@ -88,8 +88,7 @@ pub fn leaves(
             write_halves(whole, plane.axis, plane.value, held, floats * tail);
             tail += 2;
         } else {
-            queue::copy_rows(work, start, count, internals, end);
-            queue::put_leaves(domains, k, end, count);
+            queue::pack_leaves(work, start, count, internals, end, domains, k);
             write_halves(whole, plane.axis, plane.value, boxes, floats * k);
             end += count;
             k += 2;

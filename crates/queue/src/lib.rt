@@ -42,11 +42,30 @@ pub fn put_halves(list: &mut [usize], at: usize, start: usize, count: usize)
 }
 
 // Writes start and count of two leaves to the domain rows from the k-th on. They take up `count` rows from `start` on.
-pub fn put_leaves(list: &mut [usize], k: usize, start: usize, count: usize)
+fn put_leaves(list: &mut [usize], k: usize, start: usize, count: usize)
     requires { ⌜ (rowNumbers * (k + 2) ≤ length (now list)) × (start + count < 2 ^ 64) ⌝ }
     ensures { λ _. ⌜ now (list .exit) ≡ twoOwn (now (list .entry)) k start count ⌝ }
 {
     let half = count / 2;
     put_pair(list, ROW_NUMBERS * k, start, half);
     put_pair(list, ROW_NUMBERS * (k + 1), start + half, count - half);
+}
+
+// Packs two leaves, the halves of the `count` rows from `start` on: their rows go to `internals` from `at` on, and start and count of
+// each to the domain rows from the k-th on.
+pub fn pack_leaves(
+    rows: &[usize],
+    start: usize,
+    count: usize,
+    internals: &mut [usize],
+    at: usize,
+    domains: &mut [usize],
+    k: usize,
+)
+    requires { ⌜ (start + count ≤ length (now rows)) × (at + count ≤ length (now internals)) × (rowNumbers * (k + 2) ≤ length (now domains)) ⌝ }
+    ensures internals { λ _. ⌜ now (internals .exit) ≡ put (now (internals .entry)) at (part (now (rows .entry)) start count) ⌝ }
+    ensures domains { λ _. ⌜ now (domains .exit) ≡ twoOwn (now (domains .entry)) k at count ⌝ }
+{
+    copy_rows(rows, start, count, internals, at);
+    put_leaves(domains, k, at, count);
 }

@@ -1,5 +1,5 @@
--- `leaves::leaves` meets its contract. The loop's invariant is `Run`, and that the lists keep their lengths; each turn makes at least one
--- of the cuts that are left. Assumes nothing.
+-- `leaves::leaves` meets its contract. The loop's invariant is `Run`, and that the lists keep their lengths; each turn brings down the
+-- number of cuts that are left. Assumes nothing.
 use mathlib.Core.Path.{refl, _∙_}
 use native.Mathlib.Omega.{arith}
 use lib.ListN.{length}
@@ -36,7 +36,8 @@ loop-holds c =
     let r = c .before .before .before .before in
     let a = r .before .before .before .before .before .before .before .before .before .before in
     let p = a .pre in (
-      run-first _ _ (p .0 .0) (p .0 .1) _ (p .0 .2) _ (p .0 .3) (p .0 .4) (a .args .work .now) _ (a .args .held .now) _ (p .1 .0 .0) (p .1 .0 .1) (r .put-root .ensures .0) (r .put-root .ensures .1) _ _ _ _ _ (p .1 .1 .0) (p .1 .1 .1) (p .1 .1 .2),
+      run-first _ _ (p .0 .0) (p .0 .1) _ (p .0 .2) _ (p .0 .3) (p .0 .4) (a .args .work .now) _ (a .args .held .now) _ (p .1 .0 .0) (p .1 .0 .1)
+          (r .put-root .ensures .0) (r .put-root .ensures .1) _ _ _ _ _ (p .1 .1 .0) (p .1 .1 .1) (p .1 .1 .2),
       record {
         same-w = refl;
         same-I = refl;
@@ -116,15 +117,19 @@ add-put-halves c = search needs
 
 put-halves-requires : tie.Need-put-halves-requires Inv-loop μ-loop
 put-halves-requires c κs =
-    let t = c .before .before .before .before .before .before .before .before .before .before in
+    let cut = c .before .before .before .before in
+    let read = cut .before .before in
+    let t = read .before .before .before .before in
     let i = t .before .loop .inv in
     let x = front (i .0) (t .loop-test .taken) in
     let u = known x in
-    (omega (arith, u .room-fit (c .before .if1 .taken), c .before .before .before .before .cut-stretch .kept .1 .1 .0, u .fit-w), omega (arith, u .inside, u .fit-w, i .1 .same-w, i .1 .cap-w))
+    (omega (arith, u .room-fit (c .before .if1 .taken), cut .cut-stretch .kept .1 .1 .0, u .fit-w), omega (arith, u .inside, u .fit-w, i .1 .same-w, i .1 .cap-w))
 
 mul-write-halves : tie.Need-mul-write-halves Inv-loop μ-loop
 mul-write-halves c =
-    let t = c .before .before .before .before .before .before .before .before .before .before .before .before .before .before in
+    let cut = c .before .before .before .before .before .before .before .before in
+    let read = cut .before .before in
+    let t = read .before .before .before .before in
     let i = t .before .loop .inv in
     let x = front (i .0) (t .loop-test .taken) in
     let u = known x in
@@ -132,53 +137,61 @@ mul-write-halves c =
 
 write-halves-requires : tie.Need-write-halves-requires Inv-loop μ-loop
 write-halves-requires c κs =
-    let t = c .before .before .before .before .before .before .before .before .before .before .before .before .before .before in
+    let cut = c .before .before .before .before .before .before .before .before in
+    let read = cut .before .before in
+    let t = read .before .before .before .before in
     let i = t .before .loop .inv in
     let x = front (i .0) (t .loop-test .taken) in
     let u = known x in
-    let b = c .before .before .before .before .before .before .before .before .before .before .read-box .ensures in
-    (rw (b .0) (axis-fit x _ (c .before .before .before .before .before .before .before .before .cut-stretch .ensures .1 .0)), rw (b .0) (i .0 .few), rw (b .0) (u .held-fit (c .before .before .before .before .before .if1 .taken)))
+    let e = read .read-box .ensures .0 in
+    (rw e (axis-fit x _ (cut .cut-stretch .ensures .1 .0)), rw e (i .0 .few), rw e (u .held-fit (c .before .before .before .before .before .if1 .taken)))
 
 add-tail : tie.Need-add-tail Inv-loop μ-loop
 add-tail c = search needs
 
 loop-less : tie.Need-loop-less Inv-loop μ-loop
 loop-less c =
-    let t = c .before .before .before .before .before .before .before .before .before .before .before .before .before .before .before .before .before in
+    let wrote = c .before .before in
+    let put = wrote .before .before .before .before in
+    let test = put .before .before in
+    let cut = test .before .before .before in
+    let read = cut .before .before in
+    let t = read .before .before .before .before in
     let i = t .before .loop .inv in
     let x = front (i .0) (t .loop-test .taken) in
-    let e = c .before .before .before .before .before .before .before .before .before .before .before .cut-stretch .ensures in
-    let b = c .before .before .before .before .before .before .before .before .before .before .before .before .before .read-box in
-    wait-less x _ (e .0) (c .before .before .before .before .before .before .before .before .before .before .before .cut-stretch .result .axis) (c .before .before .before .before .before .before .before .before .before .before .before .cut-stretch .result .value) (floatsOf (b .result)) (b .result .dimensions) (e .1 .0) (e .1 .1) (b .ensures .1) (b .ensures .0) (c .before .before .before .before .before .before .before .before .if1 .taken) _ (c .before .before .before .before .before .before .put-halves .ensures)
+    wait-less x _ (cut .cut-stretch .ensures .0) (cut .cut-stretch .result .axis) (cut .cut-stretch .result .value) (floatsOf (read .read-box .result)) (read .read-box .result .dimensions)
+    (cut .cut-stretch .ensures .1 .0) (cut .cut-stretch .ensures .1 .1) (read .read-box .ensures .1) (read .read-box .ensures .0) (test .if1 .taken) _ (put .put-halves .ensures)
 
 loop-again : tie.Need-loop-again Inv-loop μ-loop
 loop-again c =
-    let t = c .before .before .before .before .before .before .before .before .before .before .before .before .before .before .before .before .before in
+    let wrote = c .before .before in
+    let put = wrote .before .before .before .before in
+    let test = put .before .before in
+    let cut = test .before .before .before in
+    let read = cut .before .before in
+    let t = read .before .before .before .before in
     let i = t .before .loop .inv in
-    let x = front (i .0) (t .loop-test .taken) in
-    let e = c .before .before .before .before .before .before .before .before .before .before .before .cut-stretch .ensures in
-    let b = c .before .before .before .before .before .before .before .before .before .before .before .before .before .read-box in
-    (wait x _ (e .0) (c .before .before .before .before .before .before .before .before .before .before .before .cut-stretch .result .axis) (c .before .before .before .before .before .before .before .before .before .before .before .cut-stretch .result .value) (floatsOf (b .result)) (b .result .dimensions) (e .1 .0) (e .1 .1) (b .ensures .1) (b .ensures .0) (c .before .before .before .before .before .before .before .before .if1 .taken) _ (c .before .before .before .before .before .before .put-halves .ensures) _ (c .before .before .write-halves .ensures), kept-next (i .1) (c .before .before .before .before .before .before .put-halves .kept .0 ∙ c .before .before .before .before .before .before .before .before .before .before .before .cut-stretch .kept .1 .1 .0) refl refl (c .before .before .write-halves .kept .1 .1 .1 .0) refl)
+    let x = front (i .0) (t .loop-test .taken) in (
+      wait x _ (cut .cut-stretch .ensures .0) (cut .cut-stretch .result .axis) (cut .cut-stretch .result .value) (floatsOf (read .read-box .result)) (read .read-box .result .dimensions)
+          (cut .cut-stretch .ensures .1 .0) (cut .cut-stretch .ensures .1 .1) (read .read-box .ensures .1) (read .read-box .ensures .0) (test .if1 .taken) _ (put .put-halves .ensures) _ (wrote .write-halves .ensures),
+      kept-next (i .1) (put .put-halves .kept .0 ∙ cut .cut-stretch .kept .1 .1 .0) refl refl (wrote .write-halves .kept .1 .1 .1 .0) refl,
+    )
 
-copy-rows-requires : tie.Need-copy-rows-requires Inv-loop μ-loop
-copy-rows-requires c κs =
-    let t = c .before .before .before .before .before .before .before .before .before .before .before in
+pack-leaves-requires : tie.Need-pack-leaves-requires Inv-loop μ-loop
+pack-leaves-requires c κs =
+    let cut = c .before .before .before .before .before .before in
+    let read = cut .before .before in
+    let t = read .before .before .before .before in
     let i = t .before .loop .inv in
     let x = front (i .0) (t .loop-test .taken) in
     let u = known x in
-    (omega (arith, u .inside, u .fit-w, c .before .before .before .before .before .cut-stretch .kept .1 .1 .0), u .rows-fit)
-
-put-leaves-requires : tie.Need-put-leaves-requires Inv-loop μ-loop
-put-leaves-requires c κs =
-    let t = c .before .before .before .before .before .before .before .before .before .before .before .before .before .before .before in
-    let i = t .before .loop .inv in
-    let x = front (i .0) (t .loop-test .taken) in
-    let u = known x in
-    (u .leaves-fit, omega (arith, u .rows-fit, i .1 .same-I, i .1 .cap-I))
+    (omega (arith, u .inside, u .fit-w, cut .cut-stretch .kept .1 .1 .0), u .rows-fit, u .leaves-fit)
 
 mul-write-halves-2 : tie.Need-mul-write-halves-2 Inv-loop μ-loop
 mul-write-halves-2 c =
-    let t = c .before .before .before .before .before .before .before .before .before .before .before .before .before .before .before .before .before .before .before in
+    let cut = c .before .before .before .before .before .before .before .before .before .before .before .before in
+    let read = cut .before .before in
+    let t = read .before .before .before .before in
     let i = t .before .loop .inv in
     let x = front (i .0) (t .loop-test .taken) in
     let u = known x in
@@ -186,16 +199,18 @@ mul-write-halves-2 c =
 
 write-halves-requires-2 : tie.Need-write-halves-requires-2 Inv-loop μ-loop
 write-halves-requires-2 c κs =
-    let t = c .before .before .before .before .before .before .before .before .before .before .before .before .before .before .before .before .before .before .before in
+    let cut = c .before .before .before .before .before .before .before .before .before .before .before .before in
+    let read = cut .before .before in
+    let t = read .before .before .before .before in
     let i = t .before .loop .inv in
     let x = front (i .0) (t .loop-test .taken) in
     let u = known x in
-    let b = c .before .before .before .before .before .before .before .before .before .before .before .before .before .before .before .read-box .ensures in
-    (rw (b .0) (axis-fit x _ (c .before .before .before .before .before .before .before .before .before .before .before .before .before .cut-stretch .ensures .1 .0)), rw (b .0) (i .0 .few), rw (b .0) (u .boxes-fit))
+    let e = read .read-box .ensures .0 in
+    (rw e (axis-fit x _ (cut .cut-stretch .ensures .1 .0)), rw e (i .0 .few), rw e (u .boxes-fit))
 
 add-end : tie.Need-add-end Inv-loop μ-loop
 add-end c =
-    let t = c .before .before .before .before .before .before .before .before .before .before .before .before .before .before .before .before .before .before .before .before .before .before in
+    let t = c .before .before .before .before .before .before .before .before .before .before .before .before .before .before .before .before .before .before .before .before .before in
     let i = t .before .loop .inv in
     let x = front (i .0) (t .loop-test .taken) in
     let u = known x in
@@ -203,7 +218,7 @@ add-end c =
 
 add-k : tie.Need-add-k Inv-loop μ-loop
 add-k c =
-    let t = c .before .before .before .before .before .before .before .before .before .before .before .before .before .before .before .before .before .before .before .before .before .before in
+    let t = c .before .before .before .before .before .before .before .before .before .before .before .before .before .before .before .before .before .before .before .before .before in
     let i = t .before .loop .inv in
     let x = front (i .0) (t .loop-test .taken) in
     let u = known x in
@@ -211,21 +226,31 @@ add-k c =
 
 loop-less-2 : tie.Need-loop-less-2 Inv-loop μ-loop
 loop-less-2 c =
-    let t = c .before .before .before .before .before .before .before .before .before .before .before .before .before .before .before .before .before .before .before .before .before .before in
+    let wrote = c .before .before in
+    let packed = wrote .before .before .before .before .before .before in
+    let test = packed .before .before .before .before in
+    let cut = test .before .before .before in
+    let read = cut .before .before in
+    let t = read .before .before .before .before in
     let i = t .before .loop .inv in
     let x = front (i .0) (t .loop-test .taken) in
-    let e = c .before .before .before .before .before .before .before .before .before .before .before .before .before .before .before .before .cut-stretch .ensures in
-    let b = c .before .before .before .before .before .before .before .before .before .before .before .before .before .before .before .before .before .before .read-box in
-    done-less x _ (e .0) (c .before .before .before .before .before .before .before .before .before .before .before .before .before .before .before .before .cut-stretch .result .axis) (c .before .before .before .before .before .before .before .before .before .before .before .before .before .before .before .before .cut-stretch .result .value) (floatsOf (b .result)) (b .result .dimensions) (e .1 .0) (e .1 .1) (b .ensures .1) (b .ensures .0)
+    done-less x _ (cut .cut-stretch .ensures .0) (cut .cut-stretch .result .axis) (cut .cut-stretch .result .value) (floatsOf (read .read-box .result)) (read .read-box .result .dimensions)
+    (cut .cut-stretch .ensures .1 .0) (cut .cut-stretch .ensures .1 .1) (read .read-box .ensures .1) (read .read-box .ensures .0)
 
 loop-again-2 : tie.Need-loop-again-2 Inv-loop μ-loop
 loop-again-2 c =
-    let t = c .before .before .before .before .before .before .before .before .before .before .before .before .before .before .before .before .before .before .before .before .before .before in
+    let wrote = c .before .before in
+    let packed = wrote .before .before .before .before .before .before in
+    let test = packed .before .before .before .before in
+    let cut = test .before .before .before in
+    let read = cut .before .before in
+    let t = read .before .before .before .before in
     let i = t .before .loop .inv in
-    let x = front (i .0) (t .loop-test .taken) in
-    let e = c .before .before .before .before .before .before .before .before .before .before .before .before .before .before .before .before .cut-stretch .ensures in
-    let b = c .before .before .before .before .before .before .before .before .before .before .before .before .before .before .before .before .before .before .read-box in
-    (done x _ (e .0) (c .before .before .before .before .before .before .before .before .before .before .before .before .before .before .before .before .cut-stretch .result .axis) (c .before .before .before .before .before .before .before .before .before .before .before .before .before .before .before .before .cut-stretch .result .value) (floatsOf (b .result)) (b .result .dimensions) (e .1 .0) (e .1 .1) (b .ensures .1) (b .ensures .0) (c .before .before .before .before .before .before .before .before .before .before .before .before .before .if1 .left) _ _ _ (c .before .before .before .before .before .before .before .before .before .before .copy-rows .ensures) (c .before .before .before .before .before .before .put-leaves .ensures) (c .before .before .write-halves2 .ensures), kept-next (i .1) (c .before .before .before .before .before .before .before .before .before .before .before .before .before .before .before .before .cut-stretch .kept .1 .1 .0) (c .before .before .before .before .before .before .before .before .before .before .copy-rows .kept .1 .1 .1 .0) (c .before .before .before .before .before .before .put-leaves .kept .0) refl (c .before .before .write-halves2 .kept .1 .1 .1 .0))
+    let x = front (i .0) (t .loop-test .taken) in (
+      done x _ (cut .cut-stretch .ensures .0) (cut .cut-stretch .result .axis) (cut .cut-stretch .result .value) (floatsOf (read .read-box .result)) (read .read-box .result .dimensions)
+          (cut .cut-stretch .ensures .1 .0) (cut .cut-stretch .ensures .1 .1) (read .read-box .ensures .1) (read .read-box .ensures .0) (test .if1 .left) _ _ _ (packed .pack-leaves .ensures .0) (packed .pack-leaves .ensures .1) (wrote .write-halves2 .ensures),
+      kept-next (i .1) (cut .cut-stretch .kept .1 .1 .0) (packed .pack-leaves .kept .1 .1 .1 .0) (packed .pack-leaves .kept .1 .1 .1 .1 .1 .0) refl (wrote .write-halves2 .kept .1 .1 .1 .0),
+    )
 
 sub-result : tie.Need-sub-result Inv-loop μ-loop
 sub-result c = search needs
@@ -281,8 +306,7 @@ leaves-spec =
     add-tail
     loop-less
     loop-again
-    copy-rows-requires
-    put-leaves-requires
+    pack-leaves-requires
     mul-write-halves-2
     write-halves-requires-2
     add-end
