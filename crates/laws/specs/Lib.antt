@@ -1,0 +1,2 @@
+-- Definitions that the laws are stated with.
+pub mod Shape
