@@ -18,6 +18,7 @@ use Rattle.definition.specs.Tree.{Settings}
 use Rattle.definition.specs.Refusals.{wrongDimension}
 use Rattle.definition.specs.Stream.{Job, broken, brokenAt, Mark, little, field, coordinatesAt, whole, pointMark, pointSize, settingsMark, settingsSize, policyFits, settingsIn, streamPoints, readPoints, held, jobIn}
 use Rattle.definition.specs.Printout.{jobText, printout}
+use Rattle.job_laws.specs.Sizes.{decisive}
 use Rattle.job_laws.proofs.Lists.{drop-take}
 use Rattle.job_laws.proofs.Stream.{read-cut, read-full, read-more, right-dimension}
 
@@ -117,10 +118,6 @@ policy-take : (n : ℕ) (bs : List ℕ) → settingsSize ≤ n → policyFits (t
 unfolding policyFits
 policy-take n bs h = rw (field-take n bs 1 15 (omega arith), field-take n bs 4 16 (omega arith))
 
--- the bytes that decide
-abbrev pub decisive : ℕ
-decisive = settingsSize + suc streamPoints * pointSize 3
-
 pub front-decides : (n : ℕ) (bs : List ℕ) → decisive ≤ n → jobIn (take n bs) ≡ jobIn bs
 unfolding jobIn
 front-decides n bs h =
@@ -143,6 +140,10 @@ front-decides n bs h =
         ∙ points-take (settingsIn bs) streamPoints settingsSize (n - settingsSize) (drop settingsSize bs) [] most)
 
 -- the first 878 bytes decide what the program prints
-pub front-printed : (n : ℕ) (bs : List ℕ) → 878 ≤ n → printout (take n bs) ≡ printout bs
+pub front-printed : (n : ℕ) (bs : List ℕ) → decisive ≤ n → printout (take n bs) ≡ printout bs
 unfolding printout
 front-printed n bs h = ap jobText (front-decides n bs h)
+
+-- these are the first 878 bytes
+pub decisive-is : decisive ≡ 878
+decisive-is = refl

@@ -32,11 +32,8 @@ use Rattle.laws.proofs.Cuts.{leaves-all}
 use Rattle.laws.proofs.Steps.{fineOf, nextOf, queue-wait, queue-done, levels-last, levels-end, levels-more}
 use Rattle.laws.proofs.Shape.{leaves-boxes}
 use Rattle.job_laws.proofs.Shape.{levels-shaped}
-use Rattle.job_laws.proofs.Stream.{Kept, KeptBy, job-kept}
-
--- the output list's size that always suffices
-abbrev pub mostBytes : ℕ
-mostBytes = 131072
+use Rattle.job_laws.specs.Sizes.{Kept, KeptBy, mostBytes}
+use Rattle.job_laws.proofs.Stream.{job-kept}
 
 -- ---- numbers
 onto-long : (k n : ℕ) (after : List ℕ) → length (decimalOnto k n after) ≤ suc k + length after

@@ -13,6 +13,7 @@ use Rattle.lists.proofs.From.{length-map-from}
 use Rattle.lists.proofs.Tests.{clash, and-fst, and-snd}
 use Rattle.definition.specs.Tree.{Settings}
 use Rattle.definition.specs.Refusals.{wrongDimension}
+use Rattle.job_laws.specs.Sizes.{Kept, KeptBy}
 use Rattle.definition.specs.Stream.{Job, job, broken, brokenAt, tooLarge, field, coordinatesAt, whole, pointMark, pointSize, settingsMark, settingsSize, policyFits, settingsIn, streamPoints, streamNeighbours, readPoints, held, jobIn}
 
 pub length-coordinates : (d at : ℕ) (bs : List ℕ) → length (coordinatesAt d at bs) ≡ d
@@ -63,16 +64,7 @@ module _ (s : Settings) (bs : List ℕ) (cs : List Float) where
       go [] h e = absurd (omega arith)
       go (b ∷ bs) h e = rw e
 
--- ---- a job that is read has one to three axes, at most 32 points, and at most 16 neighbours
-pub record Kept (s : Settings) (cs : List Float) : Type 0 where
-  pub axes : 1 ≤ s .dimension
-  pub axes-few : s .dimension ≤ 3
-  pub points-few : length cs ≤ streamPoints * s .dimension
-  pub neighbours-few : s .neighbours ≤ streamNeighbours
-
-abbrev pub KeptBy : Job → Type 0
-KeptBy (job s cs) = Kept s cs
-KeptBy (broken r) = Unit {0}
+-- ---- what a job that is read keeps to
 
 -- before the neighbours are looked at
 abbrev Few : Job → Type 0
