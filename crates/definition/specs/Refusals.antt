@@ -1,7 +1,7 @@
 -- The refusals, each with its number and place, in the order in which each function tries them. Definitions only.
 use Prim.Native.Nat.{ℕ, zero, suc, _+_, _*_, _%_, _^_}
 use mathlib.Core.Bool.{Bool, false, not, _&&_, _||_, cond}
-use mathlib.Core.List.{List, [], _∷_}
+use mathlib.Core.List.{List, [], _∷_, _++_}
 use lib.ListN.{length}
 use lib.Dec.{leb, ltb, eqb}
 use lib.Ieee.{Float, lt, isNan}
@@ -86,22 +86,28 @@ quotaShort lent stated = ltb (lent .output) (stated .output) || ltb (lent .whole
 
 -- ---- the tests of each public function, in their order
 
--- The build over n rows: 1 to 9, 11, 10. `missing` says whether a point lacks a coordinate (then there are points, whatever
--- n is), `lacking` whether a lent list is short, and `judged` is the test of the coordinates.
-unfoldable pub buildTests : Settings → ℕ → Bool → Bool → Test → List Test
-buildTests s n missing lacking judged =
+-- the settings: 1 to 5
+abbrev pub settingsTests : Settings → List Test
+settingsTests s =
     on (wrongDimension (s .dimension)) 1
     ∷ on (eqb (s .leaf) 0) 2
     ∷ on (ltb (s .factor) 2) 3
     ∷ on (zeroThreshold (s .policy)) 4
     ∷ on (ltb mostNeighbours (s .neighbours)) 5
-    ∷ on (eqb n 0 && not missing) 6
+    ∷ []
+
+-- The points: 6 to 9, for n rows. `missing` says whether a point lacks a coordinate; then there are points, whatever n is.
+abbrev pub pointsTests : Settings → ℕ → Bool → List Test
+pointsTests s n missing =
+    on (eqb n 0 && not missing) 6
     ∷ on missing 7
     ∷ on (ltb mostPoints n) 8
     ∷ on (ltb (threshold (s .policy) n * s .factor ^ mostFine) n) 9
-    ∷ on lacking 11
-    ∷ judged
     ∷ []
+
+-- The build over n rows: 1 to 9, 11, 10. `lacking` says whether a lent list is short, and `judged` is the test of the coordinates.
+unfoldable pub buildTests : Settings → ℕ → Bool → Bool → Test → List Test
+buildTests s n missing lacking judged = settingsTests s ++ pointsTests s n missing ++ on lacking 11 ∷ judged ∷ []
 
 -- the build over all points, with lists of these lengths
 unfoldable pub buildVerdict : Settings → List Float → BuildSizes → Verdict

@@ -1,0 +1,196 @@
+-- How the steps fit together: sizes, quotas, what each leaf sends, and the sorted rows behind the active ones. Assumes nothing.
+use mathlib.Core.Path.{_≡_, sym, ap, _∙_}
+use mathlib.Core.List.{List, [], map, zipWith, map-map, append-assoc}
+use Prim.Native.Nat.{ℕ, _+_, _*_, _-_, _≤_, _<_}
+use native.Mathlib.Nat.{add-zero}
+use native.Mathlib.Omega.{arith}
+use lib.ListN.{length, getD, take, drop}
+use lib.Seq.{getD-take, length-take-le, drop-drop}
+use lib.Ieee.{Float}
+use borrow.Rule.Slice.PartMut.{putMid}
+use Rattle.lists.specs.Lists.{total, from, joined, keep, member, count, part, put}
+use Rattle.lists.specs.Ascends.{All, Ascends}
+use Rattle.lists.proofs.All.{all-at, joined-all}
+use Rattle.lists.proofs.Put.{length-part, part-lent, put-next, put-def, put-over, part-put-same}
+use Rattle.lists.proofs.From.{map-below-same, length-map-from, getD-map-below}
+use Rattle.lists.proofs.Joined.{length-joined}
+use Rattle.lists.proofs.Sums.{sum-below-same, sum-below-suc, sum-below-part, sum-below-at, total-index}
+use Rattle.lists.proofs.Times.{times, Once}
+use Rattle.lists.proofs.Ascends.{ascends-once}
+use Rattle.lists.proofs.Same.{Same, same-length, same-each, same-times, same-once}
+use Rattle.definition.specs.Quotas.{quotasFor}
+use Rattle.definition.specs.Sampling.{sentBy}
+use Rattle.definition.specs.Tree.{nextActive}
+use Rattle.quotas.specs.Fair.{Fair}
+use Rattle.definition.specs.Outcome.{written}
+use Rattle.quotas.proofs.Fairness.{fair-for, quotas-held, quotas-length}
+use Rattle.quotas.proofs.Written.{take-written}
+use Rattle.heap.specs.Heap.{Sorted}
+use Rattle.owners.specs.Own.{ownStart, ownCount, ownAt, readOwn}
+use Rattle.owners.proofs.Read.{read-length, read-at}
+use Rattle.coarse_points.specs.Sent.{sentUp, countsAt, sentAt, Sends, LeafFits, LeavesFit, Reordered}
+use Rattle.coarse_points.proofs.Sending.{sent-next, sent-zip, sent-many, sent-times, sorted-next, next-many}
+
+module _ (d : ℕ) (cs : List Float) (active I D : List ℕ) (first m : ℕ) (s : Sends d cs active I D first m) where
+  abbrev own : List (List ℕ)
+  own = readOwn I D first m
+
+  abbrev counts : List ℕ
+  counts = countsAt D first m
+
+  -- ---- the leaves' sizes
+  sizes-read : map length own ≡ counts
+  unfolding readOwn
+  sizes-read =
+      map-map length (λ l. ownAt I D (first + l)) (from 0 m)
+      ∙ map-below-same (λ l. length (ownAt I D (first + l))) (λ l. ownCount D (first + l)) m
+      (λ l h. length-part I (ownStart D (first + l)) (ownCount D (first + l)) (s .leaves .inside l h))
+
+  -- the leaves share out the active rows
+  pub all-rows : total (countsAt D first m) ≡ length active
+  all-rows = ap total (sym sizes-read) ∙ sym (length-joined own) ∙ same-length (joined own) active (s .leaves .shared)
+
+  count-few : (l : ℕ) → l < m → ownCount D (first + l) ≤ length active
+  count-few l h = omega (arith, all-rows, sum-below-at l m (λ l. ownCount D (first + l)) h)
+
+  own-all : (P : ℕ → Type 0) → All P active → (l : ℕ) → l < m → All P (ownAt I D (first + l))
+  own-all P h l k =
+      let a = joined-all P own (same-each P (joined own) active (s .leaves .shared) h) in
+      rw (read-at I D first m l k) at (all-at (λ z. All P z) own l [] a (omega (arith, read-length I D first m)))
+
+  own-once : Once (joined own)
+  own-once = same-once (joined own) active (s .leaves .shared) (ascends-once active (s .leaves .ascends))
+
+  -- ---- `size` seats, whose quotas stand at the front of the working list
+  module _ (size : ℕ) (held : size ≤ length active) (work : List ℕ) (long : m ≤ length work)
+      (e : take m work ≡ quotasFor (countsAt D first m) size) where
+    abbrev ws : List ℕ
+    ws = quotasFor counts size
+
+    seats : size ≤ total counts
+    seats = omega (arith, all-rows)
+
+    fair : Fair counts size ws
+    fair = fair-for counts size seats
+
+    many : length ws ≡ m
+    many = fair .entries ∙ length-map-from (λ l. ownCount D (first + l)) 0 m
+
+    read : (l : ℕ) → l < m → getD work l 0 ≡ getD ws l 0
+    read l h = sym (getD-take m work l 0 h) ∙ ap (λ (z : List ℕ). getD z l 0) e
+
+    within : (l : ℕ) → l < m → getD work l 0 ≤ ownCount D (first + l)
+    within l h = omega (arith, read l h, fair .within l, getD-map-below (λ l. ownCount D (first + l)) m l 0 h)
+
+    sum : total (map (λ l. getD work l 0) (from 0 m)) ≡ size
+    sum =
+        sum-below-same m (λ l. getD work l 0) (λ l. getD ws l 0) read
+        ∙ ap (λ (k : ℕ). total (map (λ l. getD ws l 0) (from 0 k))) (sym many) ∙ sym (total-index ws) ∙ fair .sum
+
+    -- what sampling asks
+    pub leaves-fit : (out : List ℕ) (at k : ℕ) → at + size ≤ length out → length active ≤ k → LeavesFit d cs I D first m work out at k
+    leaves-fit out at k f g = record {
+      each = λ l h. record {
+        axes = s .axes;
+        finite-all = s .finite-all;
+        row = omega (arith, s .leaves .rows);
+        stretch = s .leaves .inside l h;
+        ascend = s .ascend l h;
+        inside = own-all (λ i. i * d + d ≤ length cs) (s .inside) l h;
+        few = omega (arith, count-few l h, s .few);
+        floats = omega (arith, count-few l h);
+        within = within l h;
+      };
+      listed = long;
+      fits = omega (arith, sum);
+    }
+
+    -- ---- what is sent, and what becomes of it
+    abbrev sent : List ℕ
+    sent = sentAt d cs I D first work m
+
+    as-defined : sent ≡ joined (zipWith (sentBy d cs) own ws)
+    as-defined = sent-zip d cs I D first work m ws many read
+
+    pub sent-size : length (sentAt d cs I D first work m) ≡ size
+    sent-size = sent-many d cs I D first work m ∙ sum
+
+    sent-some : (r : ℕ) → times r sent ≤ times r active
+    sent-some r =
+        let w : (i : ℕ) → i < length own → getD ws i 0 ≤ getD (map length own) i 0 = λ i l. rw sizes-read (fair .within i) in
+        omega (arith, ap (times r) as-defined, sent-times d cs own ws w own-once r, same-times (joined own) active (s .leaves .shared) r)
+
+    up-is : keep (λ i. member i sent) active ≡ sentUp d cs active own size
+    unfolding sentUp nextActive
+    up-is = rw (as-defined, sizes-read, quotas-held counts size seats)
+
+    pub up-size : length (sentUp d cs active (readOwn I D first m) size) ≡ size
+    up-size = ap length (sym up-is) ∙ next-many active (s .leaves .ascends) sent sent-some ∙ sent-size
+
+    pub sorted-up : (ys : List ℕ) → Sorted (λ x y. x ≤ y) ys → Same ys (sentAt d cs I D first work m) → ys ≡ sentUp d cs active (readOwn I D first m) size
+    sorted-up ys o h = sorted-next active (s .leaves .ascends) sent sent-some ys o h ∙ up-is
+
+    -- written behind the active rows and sorted there
+    pub written-up : (l : List ℕ) (at : ℕ) (mid : List ℕ) (n : ℕ) (new : List ℕ) → at + size ≤ length l → mid ≡ put l at (sentAt d cs I D first work m)
+        → n ≡ length (sentAt d cs I D first work m) → Reordered mid at n new → new ≡ put l at (sentUp d cs active (readOwn I D first m) size)
+    written-up l at mid n new f g k o =
+        let e : part mid at n ≡ sent = ap (λ (z : List ℕ). part z at n) g ∙ part-put-same l at sent n (omega arith) (sym k) in
+        let same : Same (o .rows) sent = λ p. o .same p ∙ ap (count p) e in
+        o .is ∙ ap (λ (z : List ℕ). put z at (o .rows)) g
+        ∙ put-over l at sent (o .rows) (omega arith) (sym (same-length (o .rows) sent same))
+        ∙ ap (put l at) (sorted-up (o .rows) (o .sorted) same)
+
+-- ---- a part that was lent comes back
+pub mid-back : (l : List ℕ) (at n : ℕ) (ys : List ℕ) → length ys ≡ n → putMid at n l ys ≡ put l at ys
+mid-back l at n ys e = rw (← e, put-def l at ys, ← drop-drop (length ys) at l) (sym (append-assoc (take at l) ys (drop (length ys) (drop at l))))
+
+pub reordered : (l : List ℕ) (start e : ℕ) (ys : List ℕ) → start ≤ e → e ≤ length l → Sorted (λ x y. x ≤ y) ys → Same ys (take (e - start) (drop start l))
+    → Reordered l start (e - start) (putMid start (e - start) l ys)
+unfolding part
+reordered l start e ys h g o s = record {
+  rows = ys;
+  sorted = o;
+  same = s;
+  is = mid-back l start (e - start) ys (same-length ys (take (e - start) (drop start l)) s ∙ length-part l start (e - start) (omega arith));
+}
+
+-- ---- the quotas at the front of the working list
+pub quotas-front : (sizes mid new : List ℕ) (m size : ℕ) → m ≤ length mid → take m mid ≡ sizes → size ≤ total sizes
+    → new ≡ written (quotasFor (take m mid) size) mid → take m new ≡ quotasFor sizes size
+quotas-front sizes mid new m size h e g q =
+    let n : length (quotasFor (take m mid) size) ≡ m = quotas-length (take m mid) size (rw e g) ∙ length-take-le m mid h in
+    ap (take m) q ∙ take-written (quotasFor (take m mid) size) mid m n ∙ ap (λ (z : List ℕ). quotasFor z size) e
+
+-- ---- one leaf's stretch, as it is lent
+pub start-is : (D : List ℕ) (r : ℕ) → getD D (4 * r + 0) 0 ≡ ownStart D r
+start-is D r = ap (λ (k : ℕ). getD D k 0) (add-zero (4 * r))
+
+pub own-lent : (I D : List ℕ) (r : ℕ)
+    → take (getD D (4 * r + 0) 0 + ownCount D r - getD D (4 * r + 0) 0) (drop (getD D (4 * r + 0) 0) I) ≡ ownAt I D r
+own-lent I D r = part-lent I (getD D (4 * r + 0) 0) (ownCount D r) ∙ ap (λ (k : ℕ). part I k (ownCount D r)) (start-is D r)
+
+module _ (d : ℕ) (cs : List Float) (I D : List ℕ) (r quota k : ℕ) (f : LeafFits d cs I D r quota k) (rows : List ℕ) (e : rows ≡ ownAt I D r) where
+  pub lent-ascends : Ascends rows
+  lent-ascends = rw e (f .ascend)
+
+  pub lent-inside : All (λ i. i * d + d ≤ length cs) rows
+  lent-inside = rw e (f .inside)
+
+  pub lent-length : length rows ≡ ownCount D r
+  lent-length = ap length e ∙ length-part I (ownStart D r) (ownCount D r) (f .stretch)
+
+-- ---- the turn of the loop over the leaves
+module _ (d : ℕ) (cs : List Float) (I D : List ℕ) (first m : ℕ) (shares out : List ℕ) (at k : ℕ) (f : LeavesFit d cs I D first m shares out at k) where
+  pub turn-room : (l : ℕ) → l < m → at + length (sentAt d cs I D first shares l) + getD shares l 0 ≤ length out
+  turn-room l h =
+      omega (arith, sent-many d cs I D first shares l, sum-below-suc l (λ l. getD shares l 0), sum-below-part (l + 1) m (λ l. getD shares l 0) (omega arith), f .fits)
+
+  pub turn-end : (l : ℕ) → length (sentAt d cs I D first shares (l + 1)) ≡ length (sentAt d cs I D first shares l) + getD shares l 0
+  turn-end l = omega (arith, sent-many d cs I D first shares l, sent-many d cs I D first shares (l + 1), sum-below-suc l (λ l. getD shares l 0))
+
+  pub turn-list : (l e : ℕ) (now : List ℕ) → l < m → e ≡ at + length (sentAt d cs I D first shares l) → now ≡ put out at (sentAt d cs I D first shares l)
+      → put now e (sentBy d cs (ownAt I D (first + l)) (getD shares l 0)) ≡ put out at (sentAt d cs I D first shares (l + 1))
+  turn-list l e now h q g =
+      rw (g, q)
+      (put-next out at (sentAt d cs I D first shares l) (sentBy d cs (ownAt I D (first + l)) (getD shares l 0)) (omega (arith, turn-room l h))
+      ∙ ap (put out at) (sym (sent-next d cs I D first shares l)))

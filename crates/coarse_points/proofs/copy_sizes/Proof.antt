@@ -1,0 +1,86 @@
+-- `coarse_points::copy_sizes` meets its contract: the sizes so far stand at the front of the working list. Assumes nothing.
+use mathlib.Core.Path.{_≡_, refl, ap, _∙_}
+use mathlib.Core.List.{_++_, map}
+use Prim.Native.Nat.{ℕ, _+_, _-_, _≤_}
+use native.Mathlib.Omega.{arith}
+use lib.ListN.{length, take, drop, length-set}
+use lib.Seq.{take-at}
+use Rattle.lists.specs.Lists.{from}
+use Rattle.lists.proofs.From.{map-from-nil, front-below-suc, length-map-from}
+use Rattle.owners.specs.Own.{ownCount}
+use Rattle.coarse_points.proofs.copy_sizes.Statement.{statement}
+use Rattle.coarse_points.proofs.copy_sizes.Tie as tie
+
+abbrev Inv-loop : tie.InvT-loop
+Inv-loop domains first m work₀ l₀ work l = (l ≤ m) × (length work ≡ length work₀) × (work ≡ map (λ l. ownCount domains (first + l)) (from 0 l) ++ drop l work₀)
+
+abbrev μ-loop : tie.MeasureT-loop
+μ-loop domains first m work₀ l₀ work l = m - l
+
+loop-holds : tie.Need-loop-holds Inv-loop μ-loop
+loop-holds c = let a = c .args in (omega arith, refl, rw (map-from-nil (λ l. ownCount (a .domains .now) (a .first + l)) 0))
+
+add-work : tie.Need-add-work Inv-loop μ-loop
+add-work c = omega arith
+
+mul-work : tie.Need-mul-work Inv-loop μ-loop
+mul-work c = omega arith
+
+add-work-2 : tie.Need-add-work-2 Inv-loop μ-loop
+add-work-2 c = omega arith
+
+mul-work-2 : tie.Need-mul-work-2 Inv-loop μ-loop
+mul-work-2 c = omega arith
+
+shared-slice-read-work : tie.Need-shared-slice-read-work Inv-loop μ-loop
+shared-slice-read-work c = omega arith
+
+mul-work-3 : tie.Need-mul-work-3 Inv-loop μ-loop
+mul-work-3 c = omega arith
+
+slice-write-work : tie.Need-slice-write-work Inv-loop μ-loop
+slice-write-work c = omega arith
+
+add-l : tie.Need-add-l Inv-loop μ-loop
+add-l c = omega arith
+
+loop-less : tie.Need-loop-less Inv-loop μ-loop
+loop-less c = omega arith
+
+loop-again : tie.Need-loop-again Inv-loop μ-loop
+loop-again c =
+    let a = c .before .before .before .args in
+    let i = c .before .before .loop in
+    (omega arith, simp length-set (omega arith), rw (i .inv .2) (front-below-suc (λ l. ownCount (a .domains .now) (a .first + l)) (i .l) (a .work .now) _ 0 (omega arith) refl))
+
+same-length : tie.Need-same-length Inv-loop μ-loop
+same-length c = omega arith
+
+returns : tie.Need-returns Inv-loop μ-loop
+returns c =
+    let a = c .before .before .args in
+    let i = c .before .loop in
+    let f : ℕ → ℕ = λ l. ownCount (a .domains .now) (a .first + l) in
+    let e : i .l ≡ a .m = omega arith in
+    ap (take (a .m)) (i .inv .2 ∙ ap (λ (x : ℕ). map f (from 0 x) ++ drop x (a .work .now)) e)
+    ∙ take-at (map f (from 0 (a .m))) (drop (a .m) (a .work .now)) (a .m) (length-map-from f 0 (a .m))
+
+pub copy-sizes-spec : {M : Type 1} → statement M
+copy-sizes-spec =
+    tie.close
+    (tie.spec
+    Inv-loop
+    μ-loop
+    loop-holds
+    add-work
+    mul-work
+    add-work-2
+    mul-work-2
+    shared-slice-read-work
+    mul-work-3
+    slice-write-work
+    add-l
+    loop-less
+    loop-again
+    same-length
+    returns)

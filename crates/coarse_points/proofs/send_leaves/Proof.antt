@@ -1,0 +1,100 @@
+-- `coarse_points::send_leaves` meets its contract: what the leaves so far send stands from `at` to `end`. Assumes nothing.
+use mathlib.Core.Path.{_≡_, refl, sym, ap, _∙_, subst}
+use mathlib.Core.List.{List}
+use Prim.Native.Nat.{ℕ, _+_, _-_, _≤_, _<_}
+use native.Mathlib.Omega.{arith}
+use lib.ListN.{length, getD}
+use Rattle.lists.specs.Lists.{put}
+use Rattle.lists.proofs.Put.{put-nil}
+use Rattle.coarse_points.specs.Sent.{sentAt, LeafFits}
+use Rattle.coarse_points.proofs.Sending.{sent-first}
+use Rattle.coarse_points.proofs.Stages.{turn-room, turn-end, turn-list}
+use Rattle.coarse_points.proofs.send_leaves.Statement.{statement}
+use Rattle.coarse_points.proofs.send_leaves.Tie as tie
+
+abbrev Inv-loop : tie.InvT-loop
+Inv-loop points dimensions internals domains first m shares out₀ at least₀ end₀ l₀ out least end l = (l ≤ m) × (length out ≡ length out₀) × (length least ≡ length least₀) × (end ≡ at + length (sentAt dimensions points internals domains first shares l)) × (out ≡ put out₀ at (sentAt dimensions points internals domains first shares l))
+
+abbrev μ-loop : tie.MeasureT-loop
+μ-loop points dimensions internals domains first m shares out₀ at least₀ end₀ l₀ out least end l = m - l
+
+loop-holds : tie.Need-loop-holds Inv-loop μ-loop
+loop-holds c =
+    let a = c .before .before .before .before .before .before .args in
+    let e = sent-first (a .dimensions) (a .points .now) (a .internals .now) (a .domains .now) (a .first) (a .shares .now) in
+    (omega arith, refl, refl, omega (arith, ap length e), sym (ap (put (a .out .now) (a .at)) e ∙ put-nil (a .out .now) (a .at)))
+
+mul-quota : tie.Need-mul-quota Inv-loop μ-loop
+mul-quota c = omega arith
+
+shared-slice-read-quota : tie.Need-shared-slice-read-quota Inv-loop μ-loop
+shared-slice-read-quota c = omega (arith, c .before .before .before .before .before .before .before .before .before .pre .listed)
+
+add-send-leaf : tie.Need-add-send-leaf Inv-loop μ-loop
+add-send-leaf c =
+    let f = c .before .before .before .before .before .before .before .before .before .pre .each (c .before .before .loop .l) (omega arith) in
+    omega (arith, f .row)
+
+send-leaf-requires : tie.Need-send-leaf-requires Inv-loop μ-loop
+send-leaf-requires c κs =
+    let s = c .before .before .before .before .before .before .before .before .before .before .before in
+    let a = s .args in
+    let i = c .before .before .before .before .loop in
+    let f = s .pre .each (i .l) (omega arith) in
+    let r = turn-room _ _ _ _ _ _ _ _ _ _ (s .pre) (i .l) (omega arith) in (
+      subst (λ (k : ℕ). LeafFits (a .dimensions) (a .points .now) (a .internals .now) (a .domains .now) (a .first + i .l) (getD (a .shares .now) (i .l) 0) k) (sym (i .inv .2)) f,
+      omega (arith, r, i .inv .1, i .inv .3),
+    )
+
+add-end : tie.Need-add-end Inv-loop μ-loop
+add-end c =
+    let i = c .before .before .before .before .before .before .before .before .before .loop in
+    let r = turn-room _ _ _ _ _ _ _ _ _ _ (c .before .before .before .before .before .before .before .before .before .before .before .before .before .before .before .before .pre) (i .l) (omega arith) in
+    omega (arith, r, i .inv .3)
+
+add-l : tie.Need-add-l Inv-loop μ-loop
+add-l c = omega arith
+
+loop-less : tie.Need-loop-less Inv-loop μ-loop
+loop-less c = omega arith
+
+loop-again : tie.Need-loop-again Inv-loop μ-loop
+loop-again c =
+    let s = c .before .before .before .before .before .before .before .before .before .before .before .before .before .before .before .before in
+    let i = c .before .before .before .before .before .before .before .before .before .loop in
+    let h : i .l < s .args .m = omega arith in
+    let e = c .before .before .before .before .send-leaf .ensures ∙ turn-list _ _ _ _ _ _ _ _ _ _ (s .pre) (i .l) (i .end) (i .out) h (i .inv .3) (i .inv .4) in
+    (omega arith, omega arith, omega arith, omega (arith, turn-end _ _ _ _ _ _ _ _ _ _ (s .pre) (i .l), i .inv .3), e)
+
+same-length : tie.Need-same-length Inv-loop μ-loop
+same-length c = omega arith
+
+same-length-2 : tie.Need-same-length-2 Inv-loop μ-loop
+same-length-2 c = omega arith
+
+returns : tie.Need-returns Inv-loop μ-loop
+returns c =
+    let a = c .before .before .before .before .before .before .before .before .args in
+    let i = c .before .loop in
+    let e : i .l ≡ a .m = omega arith in
+    let q = ap (sentAt (a .dimensions) (a .points .now) (a .internals .now) (a .domains .now) (a .first) (a .shares .now)) e in
+    (i .inv .3 ∙ ap (λ (z : List ℕ). a .at + length z) q, i .inv .4 ∙ ap (put (a .out .now) (a .at)) q)
+
+pub send-leaves-spec : {M : Type 1} → statement M
+send-leaves-spec =
+    tie.close
+    (tie.spec
+    Inv-loop
+    μ-loop
+    loop-holds
+    mul-quota
+    shared-slice-read-quota
+    add-send-leaf
+    send-leaf-requires
+    add-end
+    add-l
+    loop-less
+    loop-again
+    same-length
+    same-length-2
+    returns)

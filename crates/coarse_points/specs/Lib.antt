@@ -1,0 +1,2 @@
+-- What the contracts of the next level's rows cite.
+pub mod Sent

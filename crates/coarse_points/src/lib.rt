@@ -1,0 +1,176 @@
+// The rows that the leaves of a level send up: the active rows of the next level.
+ghost use mathlib.Core.Path.{_≡_};
+ghost use mathlib.Core.Bool.{true};
+ghost use Prim.Native.Nat.{ℕ, _+_, _-_, _*_, _≤_, _<_};
+ghost use lib.ListN.{length, getD, take};
+ghost use lib.Ieee.Scale.{finite};
+ghost use Rattle.lists.specs.Lists.{total, part, put};
+ghost use Rattle.lists.specs.Ascends.{All, Ascends};
+ghost use Rattle.definition.specs.Quotas.{quotasFor};
+ghost use Rattle.definition.specs.Sampling.{sentBy};
+ghost use Rattle.owners.specs.Own.{ownAt, readOwn};
+ghost use Rattle.coarse_points.specs.Sent.{sentUp, countsAt, sentAt, Sends, LeafFits, LeavesFit, Reordered};
+
+// A domain row: four numbers, of which the first two say where the leaf's own rows start and how many they are.
+const ROW: usize = 4;
+
+const OWN_START: usize = 0;
+
+const OWN_COUNT: usize = 1;
+
+// Copies the sizes of the m leaves that the domain rows from `first` on name to the front of the working list.
+fn copy_sizes(domains: &[usize], first: usize, m: usize, work: &mut [usize])
+    requires { ⌜ (4 * (first + m) ≤ length (now domains)) × (m ≤ length (now work)) ⌝ }
+    ensures { λ _. ⌜ take m (now (work .exit)) ≡ countsAt (now (domains .entry)) first m ⌝ }
+{
+    let mut l = 0;
+    while l < m {
+        work[l] = domains[ROW * (first + l) + OWN_COUNT];
+        l += 1;
+    }
+}
+
+// The quotas of these leaves, which have `a` rows in all, at the front of the working list: `size` of the rows go up.
+fn leaf_quotas(domains: &[usize], first: usize, m: usize, a: usize, size: usize, work: &mut [usize])
+    requires { ⌜ (4 * (first + m) ≤ length (now domains)) × (m ≤ length (now work)) × (a ≡ total (countsAt (now domains) first m)) × (a ≤ 1048576) × (size ≤ a) ⌝ }
+    ensures { λ _. ⌜ take m (now (work .exit)) ≡ quotasFor (countsAt (now (domains .entry)) first m) size ⌝ }
+{
+    copy_sizes(domains, first, m, work);
+    quotas::share_in_place(work, m, a, size);
+}
+
+// Writes `quota` of the rows, chosen from the row nearest their centroid on, from `at` on: none where the quota is 0.
+fn sample_leaf(
+    points: &[f64],
+    dimensions: usize,
+    rows: &[usize],
+    quota: usize,
+    out: &mut [usize],
+    at: usize,
+    least: &mut [f64],
+)
+    requires rows { ⌜ Ascends (now rows) × All (λ i. i * dimensions + dimensions ≤ length (now points)) (now rows) ⌝ }
+    requires finite { ⌜ All (λ x. finite x ≡ true) (now points) ⌝ }
+    requires few { ⌜ (dimensions ≤ 3) × (quota ≤ length (now rows)) × (length (now rows) ≤ 1048576) ⌝ }
+    requires room { ⌜ (at + quota ≤ length (now out)) × (length (now rows) ≤ length (now least)) ⌝ }
+    ensures { λ _. ⌜ now (out .exit) ≡ put (now (out .entry)) at (sentBy dimensions (now (points .entry)) (now (rows .entry)) quota) ⌝ }
+{
+    if quota < 1 {
+        return;
+    }
+    let seed = common::sampling_seed(points, dimensions, rows);
+    common::sample_rows(points, dimensions, rows, quota, seed, out, at, least);
+}
+
+// Writes what the leaf at the domain row r sends up from `at` on: `quota` of its own rows.
+fn send_leaf(
+    points: &[f64],
+    dimensions: usize,
+    internals: &[usize],
+    domains: &[usize],
+    r: usize,
+    quota: usize,
+    out: &mut [usize],
+    at: usize,
+    least: &mut [f64],
+)
+    requires leaf { ⌜ LeafFits dimensions (now points) (now internals) (now domains) r quota (length (now least)) ⌝ }
+    requires room { ⌜ at + quota ≤ length (now out) ⌝ }
+    ensures { λ _. ⌜ now (out .exit) ≡ put (now (out .entry)) at (sentBy dimensions (now (points .entry)) (ownAt (now (internals .entry)) (now (domains .entry)) r) quota) ⌝ }
+{
+    let start = domains[ROW * r + OWN_START];
+    let stop = start + domains[ROW * r + OWN_COUNT];
+    sample_leaf(
+        points,
+        dimensions,
+        &internals[start..stop],
+        quota,
+        out,
+        at,
+        least,
+    );
+}
+
+// Writes what each of the m leaves sends up, leaf after leaf, from `at` on. The answer is where that ends.
+fn send_leaves(
+    points: &[f64],
+    dimensions: usize,
+    internals: &[usize],
+    domains: &[usize],
+    first: usize,
+    m: usize,
+    shares: &[usize],
+    out: &mut [usize],
+    at: usize,
+    least: &mut [f64],
+) -> usize
+    requires { ⌜ LeavesFit dimensions (now points) (now internals) (now domains) first m (now shares) (now out) at (length (now least)) ⌝ }
+    ensures { λ r. ⌜ (r ≡ at + length (sentAt dimensions (now (points .entry)) (now (internals .entry)) (now (domains .entry)) first (now (shares .entry)) m)) × (now (out .exit) ≡ put (now (out .entry)) at (sentAt dimensions (now (points .entry)) (now (internals .entry)) (now (domains .entry)) first (now (shares .entry)) m)) ⌝ }
+{
+    let mut end = at;
+    let mut l = 0;
+    while l < m {
+        let quota = shares[l];
+        send_leaf(
+            points,
+            dimensions,
+            internals,
+            domains,
+            first + l,
+            quota,
+            out,
+            end,
+            least,
+        );
+        end += quota;
+        l += 1;
+    }
+    end
+}
+
+// Sorts the numbers from `start` up to `end` in place.
+fn sort_stretch(list: &mut [usize], start: usize, end: usize)
+    requires { ⌜ (start ≤ end) × (end ≤ length (now list)) ⌝ }
+    ensures { λ _. ⌜ Reordered (now (list .entry)) start (end - start) (now (list .exit)) ⌝ }
+{
+    heap::sort(&mut list[start..end]);
+}
+
+// Of the m leaves that share out the `a` active rows from `from` on in the level points, each sends its quota of its own rows
+// up, `size` in all. These rows, sorted, are written right behind the active rows, and the answer is how many they are.
+pub fn coarse_points(
+    points: &[f64],
+    dimensions: usize,
+    size: usize,
+    internals: &[usize],
+    domains: &[usize],
+    first: usize,
+    m: usize,
+    level_points: &mut [usize],
+    from: usize,
+    a: usize,
+    work: &mut [usize],
+    least: &mut [f64],
+) -> usize
+    requires rows { ⌜ Sends dimensions (now points) (part (now «level_points») from a) (now internals) (now domains) first m ⌝ }
+    requires room { ⌜ (size ≤ a) × (from + a + size ≤ length (now «level_points»)) × (m ≤ length (now work)) × (a ≤ length (now least)) ⌝ }
+    ensures number { λ r. ⌜ (r ≡ length (sentUp dimensions (now (points .entry)) (part (now («level_points» .entry)) from a) (readOwn (now (internals .entry)) (now (domains .entry)) first m) size)) × (r ≡ size) ⌝ }
+    ensures list { λ _. ⌜ now («level_points» .exit) ≡ put (now («level_points» .entry)) (from + a) (sentUp dimensions (now (points .entry)) (part (now («level_points» .entry)) from a) (readOwn (now (internals .entry)) (now (domains .entry)) first m) size) ⌝ }
+{
+    leaf_quotas(domains, first, m, a, size, work);
+    let start = from + a;
+    let end = send_leaves(
+        points,
+        dimensions,
+        internals,
+        domains,
+        first,
+        m,
+        work,
+        level_points,
+        start,
+        least,
+    );
+    sort_stretch(level_points, start, end);
+    end - start
+}

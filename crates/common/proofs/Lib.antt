@@ -1,0 +1,10 @@
+-- Laws that the proofs of sampling cite.
+mod Orders
+mod Passes
+mod Roots
+mod Lists
+mod Alike
+mod Picking
+mod Choosing
+mod Nearest
+mod Refusing

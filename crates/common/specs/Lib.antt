@@ -1,0 +1,3 @@
+-- What the contracts of sampling cite beside the definition.
+pub mod Rounds
+pub mod Answers

@@ -1,0 +1,4 @@
+-- Laws of the cut.
+pub mod Axis
+pub mod Stretch
+pub mod Halves

@@ -1,0 +1,66 @@
+// The cut of a domain: its axis, its plane, and its rows in place in the working room.
+ghost use mathlib.Core.Path.{_≡_};
+ghost use Prim.Native.Nat.{_+_, _*_, _≤_, _<_};
+ghost use lib.ListN.{length};
+ghost use Rattle.lists.specs.Lists.{part};
+ghost use Rattle.lists.specs.Ascends.{All};
+ghost use Rattle.definition.specs.Points.{extent};
+ghost use Rattle.definition.specs.Cut.{longestAxis, plane};
+ghost use Rattle.order.specs.Rows.{GoodRows};
+ghost use Rattle.order.specs.Cuts.{Halved};
+
+// Where a domain is cut: the axis, and the coordinate of the right row that comes first.
+pub struct Plane {
+    pub axis: usize,
+    pub value: f64,
+}
+
+// The rounded extent of the rows on one axis.
+fn extent_on(points: &[f64], dimensions: usize, axis: usize, rows: &[usize]) -> f64
+    requires { ⌜ (axis < dimensions) × (0 < length (now rows)) × All (λ i. i * dimensions + dimensions ≤ length (now points)) (now rows) ⌝ }
+    ensures { λ r. ⌜ r ≡ extent dimensions (now (points .entry)) (now (rows .entry)) axis ⌝ }
+{
+    utils::upper_bound(points, dimensions, axis, rows)
+        - utils::lower_bound(points, dimensions, axis, rows)
+}
+
+// The first axis with the longest extent of the rows.
+pub fn longest_axis(points: &[f64], dimensions: usize, rows: &[usize]) -> usize
+    requires { ⌜ (0 < dimensions) × (0 < length (now rows)) × All (λ i. i * dimensions + dimensions ≤ length (now points)) (now rows) ⌝ }
+    ensures { λ r. ⌜ r ≡ longestAxis dimensions (now (points .entry)) (now (rows .entry)) ⌝ }
+{
+    let mut longest = 0;
+    let mut e = extent_on(points, dimensions, 0, rows);
+    let mut axis = 1;
+    while axis < dimensions {
+        let v = extent_on(points, dimensions, axis, rows);
+        if e < v {
+            longest = axis;
+            e = v;
+        }
+        axis += 1;
+    }
+    longest
+}
+
+// Cuts the `count` rows of `work` from `start` on in place: the left half comes first, then the right half. What stands in the
+// `count` entries from `spare` on is lost.
+pub fn cut_stretch(
+    points: &[f64],
+    dimensions: usize,
+    work: &mut [usize],
+    start: usize,
+    count: usize,
+    spare: usize,
+) -> Plane
+    requires { ⌜ (0 < dimensions) × (1 ≤ count) × GoodRows dimensions (now points) (part (now work) start count) ⌝ }
+    requires { ⌜ (start + count ≤ spare) × (spare + count ≤ length (now work)) ⌝ }
+    ensures work { λ _. ⌜ Halved dimensions (now (points .entry)) (longestAxis dimensions (now (points .entry)) (part (now (work .entry)) start count)) (now (work .entry)) start count spare (now (work .exit)) ⌝ }
+    ensures plane { λ r. ⌜ (r .axis ≡ longestAxis dimensions (now (points .entry)) (part (now (work .entry)) start count)) × (r .value ≡ plane dimensions (now (points .entry)) (part (now (work .entry)) start count)) ⌝ }
+{
+    let end = start + count;
+    let axis = longest_axis(points, dimensions, &work[start..end]);
+    let row = order::halves(points, dimensions, axis, work, start, count, spare);
+    let value = points[row * dimensions + axis];
+    Plane { axis, value }
+}

@@ -1,0 +1,4 @@
+-- Laws of sorting.
+pub mod Lists
+pub mod Heaps
+pub mod Orders

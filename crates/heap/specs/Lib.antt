@@ -1,0 +1,3 @@
+-- What the contracts of sorting cite.
+pub mod Rows
+pub mod Heap

@@ -1,0 +1,5 @@
+-- Laws of a level's leaves.
+pub mod Domains
+pub mod Boxes
+pub mod Turns
+pub mod Facts

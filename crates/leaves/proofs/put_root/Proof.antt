@@ -1,0 +1,46 @@
+-- `leaves::put_root` meets its contract. Assumes nothing.
+use mathlib.Core.Path.{refl}
+use borrow.Author.Needs.{needs}
+use Rattle.lists.proofs.Put.{part-whole}
+use Rattle.leaves.proofs.put_root.Statement.{statement}
+use Rattle.leaves.proofs.put_root.Tie as tie
+
+copy-rows-requires : tie.Need-copy-rows-requires
+copy-rows-requires c κs = search needs
+
+put-pair-requires : tie.Need-put-pair-requires
+put-pair-requires c κs = search needs
+
+get-pointarray-extents-requires : tie.Need-get-pointarray-extents-requires
+get-pointarray-extents-requires c κs = search needs
+
+write-box-requires : tie.Need-write-box-requires
+write-box-requires c κs = search needs
+
+same-length : tie.Need-same-length
+same-length c = search needs
+
+same-length-2 : tie.Need-same-length-2
+same-length-2 c = search needs
+
+returns : tie.Need-returns
+returns c =
+    let boxed = c .before .before in
+    let measured = boxed .before .before in
+    let second = measured .before .before .before in
+    let first = second .before .before .before .before in (
+      rw (first .copy-rows .ensures, part-whole _ _ refl) at (second .put-pair .ensures),
+      rw (measured .get-pointarray-extents .ensures .1) at (boxed .write-box .ensures),
+    )
+
+pub put-root-spec : {M : Type 1} → statement M
+put-root-spec =
+    tie.close
+    (tie.spec
+    copy-rows-requires
+    put-pair-requires
+    get-pointarray-extents-requires
+    write-box-requires
+    same-length
+    same-length-2
+    returns)

@@ -1,0 +1,98 @@
+// The leaves of a level: domains are cut in place in the working room, wait in a queue behind the rows, and are packed as leaves.
+ghost use mathlib.Core.Path.{_≡_};
+ghost use mathlib.Core.List.{[], _∷_, _++_, map};
+ghost use Prim.Native.Nat.{_+_, _*_, _≤_, _<_};
+ghost use lib.ListN.{length, set};
+ghost use Rattle.lists.specs.Lists.{put, joined};
+ghost use Rattle.lists.specs.Ascends.{All};
+ghost use Rattle.definition.specs.Packed.{rowNumbers, rowFloats};
+ghost use Rattle.definition.specs.Points.{extents};
+ghost use Rattle.definition.specs.Cut.{leavesOf};
+ghost use Rattle.queue.specs.Rows.{withOwn};
+ghost use Rattle.utils.specs.Boxes.{floatsOf};
+ghost use Rattle.order.specs.Rows.{GoodRows};
+
+// Writes the boxes of the two halves of a domain to a list, from `at` on. Each is the domain's box with one bound changed: on the
+// left the upper one, on the right the lower one.
+fn write_halves(whole: utils::Extents, axis: usize, plane: f64, out: &mut [f64], at: usize)
+    requires { ⌜ (axis < whole .dimensions) × (whole .dimensions ≤ 3) × (at + 2 * rowFloats (whole .dimensions) ≤ length (now out)) ⌝ }
+    ensures { λ _. ⌜ now (out .exit) ≡ put (now (out .entry)) at (set (floatsOf whole) (whole .dimensions + axis) plane ++ set (floatsOf whole) axis plane) ⌝ }
+{
+    let right = at + 2 * whole.dimensions;
+    utils::write_box(whole.with_upper(axis, plane), out, at);
+    utils::write_box(whole.with_lower(axis, plane), out, right);
+}
+
+// Puts the root domain into the working room: the active rows, then its stretch as the first of the queue, and its box.
+fn put_root(
+    points: &[f64],
+    dimensions: usize,
+    active: &[usize],
+    work: &mut [usize],
+    held: &mut [f64],
+)
+    requires { ⌜ (dimensions ≤ 3) × (0 < length (now active)) × All (λ i. i * dimensions + dimensions ≤ length (now points)) (now active) ⌝ }
+    requires { ⌜ (length (now active) + 2 ≤ length (now work)) × (rowFloats dimensions ≤ length (now held)) ⌝ }
+    ensures work { λ _. ⌜ now (work .exit) ≡ put (put (now (work .entry)) 0 (now (active .entry))) (length (now (active .entry))) (0 ∷ length (now (active .entry)) ∷ []) ⌝ }
+    ensures held { λ _. ⌜ now (held .exit) ≡ put (now (held .entry)) 0 (extents dimensions (now (points .entry)) (now (active .entry))) ⌝ }
+{
+    let n = active.len();
+    queue::copy_rows(active, 0, n, work, 0);
+    queue::put_pair(work, n, 0, n);
+    utils::write_box(
+        utils::get_pointarray_extents(points, dimensions, active),
+        held,
+        0,
+    );
+}
+
+// The leaves of the active rows. Their rows go to `internals` from `at` on, packed; start and count of each to the domain rows from
+// the `first` on, and their boxes to `boxes` from the `first` on. The answer is their number. The working room: `work` holds the
+// rows, then the queue (four numbers a row), then spare room (one a row); `held` the boxes of the queue (two a row).
+pub fn leaves(
+    points: &[f64],
+    dimensions: usize,
+    leaf: usize,
+    active: &[usize],
+    work: &mut [usize],
+    held: &mut [f64],
+    internals: &mut [usize],
+    at: usize,
+    domains: &mut [usize],
+    first: usize,
+    boxes: &mut [f64],
+) -> usize
+    requires { ⌜ (0 < dimensions) × (dimensions ≤ 3) × (1 ≤ leaf) × (1 ≤ length (now active)) × GoodRows dimensions (now points) (now active) ⌝ }
+    requires { ⌜ (6 * length (now active) ≤ length (now work)) × (rowFloats dimensions * (2 * length (now active)) ≤ length (now held)) ⌝ }
+    requires { ⌜ (at + length (now active) ≤ length (now internals)) × (rowNumbers * (first + 2 * length (now active)) ≤ length (now domains)) × (rowFloats dimensions * (first + 2 * length (now active)) ≤ length (now boxes)) ⌝ }
+    ensures number { λ r. ⌜ r ≡ length (leavesOf dimensions (now (points .entry)) leaf (now (active .entry))) ⌝ }
+    ensures internals { λ _. ⌜ now (internals .exit) ≡ put (now (internals .entry)) at (joined (map (λ q. q .rows) (leavesOf dimensions (now (points .entry)) leaf (now (active .entry))))) ⌝ }
+    ensures domains { λ _. ⌜ now (domains .exit) ≡ withOwn at (map (λ q. q .rows) (leavesOf dimensions (now (points .entry)) leaf (now (active .entry)))) first (now (domains .entry)) ⌝ }
+    ensures boxes { λ _. ⌜ now (boxes .exit) ≡ put (now (boxes .entry)) (rowFloats dimensions * first) (joined (map (λ q. q .box) (leavesOf dimensions (now (points .entry)) leaf (now (active .entry))))) ⌝ }
+{
+    let n = active.len();
+    let floats = 2 * dimensions;
+    put_root(points, dimensions, active, work, held);
+    let mut head: usize = 0;
+    let mut tail: usize = 1;
+    let mut end = at;
+    let mut k = first;
+    while head < tail {
+        let start = work[n + 2 * head];
+        let count = work[n + 2 * head + 1];
+        let whole = utils::read_box(held, floats * head, dimensions);
+        let plane = cut::cut_stretch(points, dimensions, work, start, count, 5 * n);
+        head += 1;
+        if leaf <= count / 2 {
+            queue::put_halves(work, n + 2 * tail, start, count);
+            write_halves(whole, plane.axis, plane.value, held, floats * tail);
+            tail += 2;
+        } else {
+            queue::pack_leaves(work, start, count, internals, end, domains, k);
+            write_halves(whole, plane.axis, plane.value, boxes, floats * k);
+            end += count;
+            k += 2;
+        }
+    }
+    k - first
+}

@@ -1,0 +1,4 @@
+-- The laws that belong to no one function.
+pub mod Powers
+pub mod Sizes
+pub mod Verdicts

@@ -1,0 +1,7 @@
+-- Laws of the cut.
+pub mod Lists
+pub mod Good
+pub mod Ranks
+pub mod Turns
+pub mod Cutting
+pub mod Results

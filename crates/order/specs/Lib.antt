@@ -1,0 +1,3 @@
+-- What the contracts of the cut cite.
+pub mod Rows
+pub mod Cuts

@@ -1,0 +1,79 @@
+-- The stages one after the other: owners, numbers, and what the leaves borrow. Assumes nothing.
+use mathlib.Core.Path.{_≡_, sym, ap, _∙_, subst}
+use mathlib.Core.Logic.{⊎-elim}
+use mathlib.Core.List.{List, map, List·Memᴰ}
+use Prim.Native.Nat.{ℕ, _+_, _-_, _*_, _%_, _≤_, _<_}
+use native.Mathlib.Omega.{arith}
+use native.Mathlib.Nat.{mul-comm, mul-assoc}
+use lib.ListN.{length, getD, length-map}
+use lib.Ieee.{Float}
+use Rattle.lists.specs.Lists.{joined, part, put}
+use Rattle.lists.proofs.Map.{map-joined}
+use Rattle.lists.proofs.Put.{length-part}
+use Rattle.owners.specs.Own.{readOwn, Owned}
+use Rattle.owners.proofs.Read.{read-length}
+use Rattle.pairs.specs.Pairs.{Owners, Collected}
+use Rattle.overlaps.specs.Codes.{Holds}
+use Rattle.overlaps.specs.Borrowed.{borrowedLists, withBorrowed, Stage}
+use Rattle.overlaps.proofs.Columns.{columns-map}
+use Rattle.overlaps.proofs.Borrows.{positionsOf, positions-rows, collected-holds}
+
+-- the room, as the stages count it
+pub twice : (a k : ℕ) → 2 * a * (k + 1) ≡ a * (2 * (k + 1))
+twice a k = rw (mul-comm 2 a) (mul-assoc a 2 (k + 1))
+
+module _ (d : ℕ) (cs : List Float) (neighbours : ℕ) (active I D : List ℕ) (first m : ℕ) (S : Stage d cs neighbours active I D first m)
+    (owner : List ℕ) (O : Owned active (readOwn I D first m) owner) (long : length active ≤ length owner) where
+  abbrev own : List (List ℕ)
+  own = readOwn I D first m
+
+  pub stage-owners : Owners (length active) owner
+  stage-owners =
+      let f = S .leaf-few in
+      record { few = S .few; room = long; small = λ i h. omega (arith, O .leaf i h, read-length I D first m) }
+
+  module _ (work : List ℕ) (r : ℕ) (c : Collected d cs neighbours active owner (length active) work r) (room : length active + 2 * length active * (neighbours + 1) ≤ length work) where
+    abbrev codes : List ℕ
+    codes = part work (length active) (r - length active)
+
+    pub stage-end : (length active ≤ r) × (r ≤ length work)
+    stage-end = (c .start, omega (arith, c .few, twice (length active) neighbours))
+
+    pub stage-length : length codes ≤ 2 * length active * (neighbours + 1)
+    stage-length =
+        let e = stage-end in
+        let s = e .0 in
+        let t = e .1 in
+        omega (arith, length-part work (length active) (r - length active) (omega arith), c .few, twice (length active) neighbours)
+
+    pub stage-inside : (z : ℕ) → List·Memᴰ z codes → z % 2097152 < length active
+    stage-inside z i =
+        let s = c .only z i in
+        let b = s .below in
+        let w = s .within in
+        let f = S .few in
+        ⊎-elim (λ e. rw e (omega arith)) (λ e. rw e (omega arith)) (s .is)
+
+    abbrev positions : List (List ℕ)
+    positions = positionsOf d cs neighbours active own
+
+    pub stage-holds : Holds m (length active) codes positions
+    stage-holds =
+        subst (λ (k : ℕ). Holds k (length active) codes positions) (read-length I D first m)
+        (collected-holds d cs neighbours active own (S .rows .ascends) owner O work r c)
+
+    abbrev lists : List (List ℕ)
+    lists = borrowedLists d cs neighbours active own
+
+    -- ---- what was written by positions, by rows
+    pub stage-number : (n : ℕ) → n ≡ length (joined positions) → n ≡ length (joined lists)
+    stage-number n e =
+        e ∙ sym (length-map (joined positions) (λ q. getD active q 0)) ∙ ap length (map-joined (λ q. getD active q 0) positions)
+        ∙ ap (λ (x : List (List ℕ)). length (joined x)) (positions-rows d cs neighbours active own)
+
+    pub stage-borrowed : (B new : List ℕ) (bat : ℕ) → new ≡ put B bat (joined (map (map (λ q. getD active q 0)) positions)) → new ≡ put B bat (joined lists)
+    stage-borrowed B new bat e = e ∙ ap (λ (x : List (List ℕ)). put B bat (joined x)) (positions-rows d cs neighbours active own)
+
+    pub stage-domains : (new : List ℕ) (bat : ℕ) → new ≡ withBorrowed bat positions first D → new ≡ withBorrowed bat lists first D
+    stage-domains new bat e =
+        e ∙ sym (columns-map (λ q. getD active q 0) bat positions first D) ∙ ap (λ (x : List (List ℕ)). withBorrowed bat x first D) (positions-rows d cs neighbours active own)

@@ -1,0 +1,3 @@
+-- What the contracts of the overlaps cite.
+pub mod Codes
+pub mod Borrowed

@@ -1,0 +1,4 @@
+-- Laws of the owners.
+pub mod Bisect
+pub mod Marks
+pub mod Read

@@ -1,0 +1,2 @@
+-- What the contracts of the owners cite.
+pub mod Own

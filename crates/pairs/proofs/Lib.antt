@@ -1,0 +1,4 @@
+-- Laws of the pairs.
+pub mod Lists
+pub mod Sends
+pub mod Collects

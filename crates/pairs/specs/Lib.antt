@@ -1,0 +1,2 @@
+-- What the contracts of the pairs cite.
+pub mod Pairs

@@ -1,0 +1,119 @@
+-- What is kept of a domain beside its rows, as a box: a column of w entries a domain, in a list that runs along with the queue, and
+-- in a list that runs along with the leaves. Assumes nothing.
+use mathlib.Core.Path.{_≡_, refl, sym, ap, ap₂, _∙_}
+use Prim.Native.Nat.{ℕ, zero, suc, _+_, _-_, _*_, _≤_, _<_}
+use native.Mathlib.Nat.{add-zero, add-suc, suc-add, zero-add, mul-zero, mul-suc, mul-add, mul-le-mul-left}
+use native.Mathlib.Numerals.{add-one}
+use native.Mathlib.Omega.{arith}
+use mathlib.Core.List.{List, [], _∷_, _++_, map, map-append, append-assoc, head-eq-of-cons-eq, tail-eq-of-cons-eq, nil≢cons}
+use lib.ListN.{length, length-append}
+use Rattle.lists.specs.Lists.{put, part, joined}
+use Rattle.lists.proofs.Put.{part-put-in, part-put-before, part-first, part-second, put-next-at, put-nil}
+use Rattle.queue.proofs.Kind.{Kind, halvesOf}
+
+-- the n columns of w entries each from the h-th on
+unfoldable pub columns : {A : Type 0} → ℕ → List A → ℕ → ℕ → List (List A)
+columns w l h zero = []
+columns w l h (suc n) = part l (w * h) w ∷ columns w l (suc h) n
+
+pub columns-append : {A : Type 0} (w : ℕ) (l : List A) (h n m : ℕ) → columns w l h (n + m) ≡ columns w l h n ++ columns w l (h + n) m
+unfolding columns
+columns-append w l h zero m = rw (zero-add m, add-zero h)
+columns-append w l h (suc n) m = rw (suc-add n m, columns-append w l (suc h) n m, suc-add h n, add-suc h n)
+
+module _ {A : Type 0} (w : ℕ) (l : List A) where
+  pub columns-next : (h t : ℕ) → h < t → columns w l h (t - h) ≡ part l (w * h) w ∷ columns w l (h + 1) (t - (h + 1))
+  unfolding columns
+  columns-next h t g =
+      let e : t - h ≡ suc (t - (h + 1)) = omega arith in
+      rw (e, add-one h)
+
+  -- what is written past the columns leaves them alone
+  pub columns-put : (k : ℕ) (xs : List A) (h n : ℕ) → k ≤ length l → w * (h + n) ≤ k → columns w (put l k xs) h n ≡ columns w l h n
+  unfolding columns
+  columns-put k xs h zero f g = refl
+  columns-put k xs h (suc n) f g =
+      let a : w * suc h ≤ w * (h + suc n) = mul-le-mul-left w (omega arith) in
+      let z : suc h + n ≡ h + suc n = omega arith in
+      let b : w * (suc h + n) ≤ k = rw z g in
+      rw (part-put-before l k xs (w * h) w f (omega (arith, mul-suc w h)), columns-put k xs (suc h) n f b)
+
+  -- two columns that are written at the end join them
+  columns-two : (t : ℕ) (a b : List A) → length a ≡ w → length b ≡ w → w * t ≤ length l → columns w (put l (w * t) (a ++ b)) t 2 ≡ a ∷ b ∷ []
+  unfolding columns
+  columns-two t a b ea eb f =
+      let n : length (a ++ b) ≡ w + w = length-append a b ∙ omega arith in
+      let p : part (put l (w * t) (a ++ b)) (w * t) w ≡ a =
+      ap (λ (z : ℕ). part (put l (w * t) (a ++ b)) z w) (sym (add-zero (w * t)))
+      ∙ part-put-in l (w * t) (a ++ b) 0 w f (omega arith) ∙ part-first a b w ea in
+      let q : part (put l (w * t) (a ++ b)) (w * suc t) w ≡ b =
+      ap (λ (z : ℕ). part (put l (w * t) (a ++ b)) z w) (mul-suc w t)
+      ∙ part-put-in l (w * t) (a ++ b) w w f (omega arith) ∙ part-second a b w w ea eb in
+      rw (p, q)
+
+  pub columns-join : (h t : ℕ) (a b : List A) → length a ≡ w → length b ≡ w → h ≤ t → w * t ≤ length l
+      → columns w (put l (w * t) (a ++ b)) h (t + 2 - h) ≡ columns w l h (t - h) ++ a ∷ b ∷ []
+  columns-join h t a b ea eb g f =
+      let m = t - h in
+      let e : t + 2 - h ≡ m + 2 = omega arith in
+      let d : h + m ≡ t = omega arith in
+      ap (columns w (put l (w * t) (a ++ b)) h) e
+      ∙ columns-append w (put l (w * t) (a ++ b)) h m 2
+      ∙ ap₂ (λ (x y : List (List A)). x ++ y) (columns-put (w * t) (a ++ b) h m f (rw d (omega arith))) (rw d (columns-two t a b ea eb f))
+
+-- ---- the boxes of what waits, and of the leaves: `box d` is written where the queue has d, and where d is a leaf
+pub record Boxes {D A : Type 0} {leaf : ℕ} (K : Kind D leaf) (box : D → List A) (w : ℕ) (final held out : List A) (ds : List D) (head tail k : ℕ) : Type 0 where
+  pub waiting : columns w held head (tail - head) ≡ map box ds
+  pub due : put out (w * k) (joined (map box (K .leaves ds))) ≡ final
+
+-- where the loop begins, with one domain that waits
+pub boxes-first : {D A : Type 0} {leaf : ℕ} (K : Kind D leaf) (box : D → List A) (w : ℕ) (held out : List A) (d : D) (k : ℕ)
+    → part held 0 w ≡ box d → Boxes K box w (put out (w * k) (joined (map box (K .leaves (d ∷ []))))) held out (d ∷ []) 0 1 k
+unfolding columns
+boxes-first K box w held out d k e = record { waiting = rw (mul-zero w, e); due = refl }
+
+module _ {D A : Type 0} {leaf : ℕ} {K : Kind D leaf} {box : D → List A} {w : ℕ} {final held out : List A} {head tail k : ℕ} where
+  -- a turn, with the domain d that stands first
+  module _ {d : D} {ds : List D} (h : head < tail) (b : Boxes K box w final held out (d ∷ ds) head tail k) where
+    abbrev l : List A
+    l = box (K .left d)
+
+    abbrev r : List A
+    r = box (K .right d)
+
+    split-held : part held (w * head) w ∷ columns w held (head + 1) (tail - (head + 1)) ≡ box d ∷ map box ds
+    split-held = sym (columns-next w held head tail h) ∙ b .waiting
+
+    pub boxes-now : part held (w * head) w ≡ box d
+    boxes-now = head-eq-of-cons-eq split-held
+
+    rest-held : columns w held (head + 1) (tail - (head + 1)) ≡ map box ds
+    rest-held = tail-eq-of-cons-eq split-held
+
+    module _ (wl : length l ≡ w) (wr : length r ≡ w) where
+      pub boxes-wait : (held₁ : List A) → K .leaves (d ∷ ds) ≡ K .leaves (ds ++ halvesOf K d) → w * tail ≤ length held → held₁ ≡ put held (w * tail) (l ++ r)
+          → Boxes K box w final held₁ out (ds ++ halvesOf K d) (head + 1) (tail + 2) k
+      boxes-wait held₁ e f p =
+          record {
+            waiting = rw p (columns-join w held (head + 1) tail l r wl wr (omega arith) f ∙ rw rest-held (sym (map-append box ds (halvesOf K d))));
+            due = rw (← e) (b .due);
+          }
+
+      pub boxes-done : (out₁ : List A) → K .leaves (d ∷ ds) ≡ K .left d ∷ K .right d ∷ K .leaves ds → w * k ≤ length out → out₁ ≡ put out (w * k) (l ++ r)
+          → Boxes K box w final held out₁ ds (head + 1) tail (k + 2)
+      unfolding joined
+      boxes-done out₁ e f p =
+          let rest = joined (map box (K .leaves ds)) in
+          let n : w * k + length (l ++ r) ≡ w * (k + 2) = rw (length-append l r, wl, wr, mul-add w k 2) (omega arith) in
+          record {
+            waiting = rest-held;
+            due =
+                rw p (put-next-at out (w * k) (l ++ r) rest (w * (k + 2)) f n
+                ∙ ap (put out (w * k)) (append-assoc l r rest) ∙ ap (λ (x : List D). put out (w * k) (joined (map box x))) (sym e) ∙ b .due);
+          }
+
+  -- where it ends
+  pub boxes-end : tail ≤ head → (ds : List D) → Boxes K box w final held out ds head tail k → out ≡ final
+  unfolding joined columns
+  boxes-end h [] b = sym (put-nil out (w * k)) ∙ (rw (K .leaves-none) at (b .due))
+  boxes-end h (d ∷ ds) b = let e : tail - head ≡ 0 = omega arith in absurd (nil≢cons (rw e at (b .waiting)))

@@ -1,0 +1,37 @@
+-- A kind of domain that the queue cuts, and the leaves of the domains that wait. Assumes nothing.
+use mathlib.Core.Path.{_≡_}
+use Prim.Native.Nat.{ℕ, _-_, _*_, _/_, _≤_, _<_}
+use mathlib.Core.List.{List, [], _∷_, _++_, map}
+use lib.ListN.{length}
+use Rattle.lists.specs.Ascends.{All}
+
+-- the domains that may wait: good ones that have rows
+abbrev pub Full : {D : Type 0} → (D → List ℕ) → (D → Type 0) → List D → Type 0
+Full rowsOf Good ds = All (λ d. (1 ≤ length (rowsOf d)) × Good d) ds
+
+-- A kind of domain, for a leaf threshold: its rows and its halves. The cut of a good domain halves its size, rounded down on the
+-- left, and its halves are good. `leaves` are the leaves of the domains that wait: where the first is large its halves wait at
+-- the end, and otherwise they are the next two leaves.
+pub record Kind (D : Type 0) (leaf : ℕ) : Type 1 where
+  pub rowsOf : D → List ℕ
+  pub left : D → D
+  pub right : D → D
+  pub Good : D → Type 0
+  pub left-size : (d : D) → Good d → length (rowsOf (left d)) ≡ length (rowsOf d) / 2
+  pub right-size : (d : D) → Good d → length (rowsOf (right d)) ≡ length (rowsOf d) - length (rowsOf d) / 2
+  pub left-good : (d : D) → Good d → Good (left d)
+  pub right-good : (d : D) → Good d → Good (right d)
+  pub leaves : List D → List D
+  pub leaves-none : leaves [] ≡ []
+  pub leaves-wait : (d : D) (ds : List D) → Full rowsOf Good (d ∷ ds) → 2 * leaf ≤ length (rowsOf d) → leaves (d ∷ ds) ≡ leaves (ds ++ left d ∷ right d ∷ [])
+  pub leaves-done : (d : D) (ds : List D) → Full rowsOf Good (d ∷ ds) → length (rowsOf d) < 2 * leaf → leaves (d ∷ ds) ≡ left d ∷ right d ∷ leaves ds
+
+-- how many rows a domain has; its halves; and the rows of the leaves of the domains that wait
+abbrev pub sizeOf : {D : Type 0} {leaf : ℕ} → Kind D leaf → D → ℕ
+sizeOf K d = length (K .rowsOf d)
+
+abbrev pub halvesOf : {D : Type 0} {leaf : ℕ} → Kind D leaf → D → List D
+halvesOf K d = K .left d ∷ K .right d ∷ []
+
+abbrev pub leafRows : {D : Type 0} {leaf : ℕ} → Kind D leaf → List D → List (List ℕ)
+leafRows K ds = map (K .rowsOf) (K .leaves ds)

@@ -1,0 +1,8 @@
+-- Laws of the queue.
+pub mod Lists
+pub mod Kind
+pub mod Stretches
+pub mod State
+pub mod Loop
+pub mod View
+pub mod Columns

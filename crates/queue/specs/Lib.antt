@@ -1,0 +1,2 @@
+-- What the queue's contracts cite.
+pub mod Rows

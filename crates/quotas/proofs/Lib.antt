@@ -1,0 +1,8 @@
+-- The laws that belong to no one function.
+pub mod Counts
+pub mod Written
+pub mod Seats
+pub mod Shares
+pub mod Fairness
+pub mod Verdicts
+pub mod Laws

@@ -1,0 +1,49 @@
+-- The outcome of a call of `get_domain_coarse_quotas`, refusal by refusal: answer, output and working room. Assumes nothing.
+use Prim.Native.Nat.{ℕ, _≤_, _<_}
+use mathlib.Core.Path.{_≡_, refl, ap, _∙_}
+use mathlib.Core.List.{List}
+use lib.ListN.{length}
+use borrow.Author.Tests.{lt-ltb, le-ltb}
+use Rattle.lists.specs.Lists.{total}
+use Rattle.definition.specs.Quotas.{heldSeats, quotas, quotasFor}
+use Rattle.definition.specs.Packed.{quotaStated}
+use Rattle.definition.specs.Refusals.{accepted, refused, verdict, mostPoints, quotaShort, quotaVerdict}
+use Rattle.definition.specs.Outcome.{Answer, Shared, numberOf, placeOf, valueOf, written, listAfter, RoomAfter, quotaCall, quotaAnswer, quotaOutput}
+use Rattle.levels.specs.Answers.{reports, refuses}
+use Rattle.quotas.specs.Answers.{noSeats}
+
+-- what an outcome says of the answer, of the output and of the working room
+abbrev pub Outcome : List ℕ → ℕ → List ℕ → List ℕ → Answer Shared → List ℕ → List ℕ → Type 0
+Outcome sizes s out room answer out′ room′ =
+    (answer ≡ quotaAnswer sizes s out room) × ((out′ ≡ quotaOutput sizes s out room) × RoomAfter (quotaCall sizes out room) room room′)
+
+module _ (sizes : List ℕ) (s : ℕ) (out room : List ℕ) where
+  -- a refusal: nothing is written
+  refusal : (k : ℕ) → quotaCall sizes out room ≡ refused (record { number = k; place = 0 }) → Outcome sizes s out room (refuses k noSeats) out room
+  unfolding quotaAnswer quotaOutput numberOf placeOf valueOf listAfter RoomAfter
+  refusal k e = (simp e, (simp e, simp e refl))
+
+  pub refused-8 : mostPoints < total sizes → Outcome sizes s out room (refuses 8 noSeats) out room
+  unfolding quotaVerdict verdict
+  refused-8 h = refusal 8 (simp (lt-ltb _ _ h))
+
+  pub refused-11-out : total sizes ≤ mostPoints → length out < length sizes → Outcome sizes s out room (refuses 11 noSeats) out room
+  unfolding quotaVerdict verdict quotaShort quotaStated
+  refused-11-out h l = refusal 11 (simp (le-ltb _ _ h, lt-ltb _ _ l))
+
+  pub refused-11-room : total sizes ≤ mostPoints → length sizes ≤ length out → length room < length sizes → Outcome sizes s out room (refuses 11 noSeats) out room
+  unfolding quotaVerdict verdict quotaShort quotaStated
+  refused-11-room h l m = refusal 11 (simp (le-ltb _ _ h, le-ltb _ _ l, lt-ltb _ _ m))
+
+  passed : total sizes ≤ mostPoints → length sizes ≤ length out → length sizes ≤ length room → quotaCall sizes out room ≡ accepted
+  unfolding quotaVerdict verdict quotaShort quotaStated
+  passed h l m = simp (le-ltb _ _ h, le-ltb _ _ l, le-ltb _ _ m)
+
+  -- an accepted call: the quotas stand at the front of the output
+  pub seated : (n t : ℕ) (out′ room′ : List ℕ) → total sizes ≤ mostPoints → length sizes ≤ length out → length sizes ≤ length room
+      → n ≡ length sizes → t ≡ heldSeats sizes s → out′ ≡ written (quotasFor sizes t) out → length room′ ≡ length room
+      → Outcome sizes s out room (reports (record { leaves = n; seats = t })) out′ room′
+  unfolding quotaAnswer quotaOutput numberOf placeOf valueOf listAfter RoomAfter quotas
+  seated n t out′ room′ h l m en et eo er =
+      let e = passed h l m in
+      (simp (e, en, et), (simp e (eo ∙ ap (λ (x : ℕ). written (quotasFor sizes x) out) et), simp e er))

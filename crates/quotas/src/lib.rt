@@ -1,0 +1,254 @@
+// The leaves' quotas: how many of its rows each leaf sends up to the next level, by largest remainder.
+ghost use mathlib.Core.Path.{_≡_};
+ghost use mathlib.Core.List.{map};
+ghost use lib.ListN.{length, take};
+ghost use lib.Dec.{eqb};
+ghost use Prim.Native.Nat.{ℕ, _-_, _*_, _≤_, _<_, min, max};
+ghost use Rattle.lists.specs.Lists.{oneIf, total, from};
+ghost use Rattle.definition.specs.Quotas.{sizeAt, nonempty, wholeAt, remainderAt, leftover, seatsAt, seatsOf, quotasFor};
+ghost use Rattle.definition.specs.Outcome.{written, quotaCall, quotaAnswer, quotaOutput, RoomAfter};
+ghost use Rattle.quotas.specs.Answers.{quotaReport};
+ghost use Rattle.quotas.specs.Cuts.{Small, above, CutBy, extraBy};
+use levels::LIMIT;
+
+// The leaves that got a quota and the seats handed out in all, or why there are none. `quotaReport` gives document 01's
+// number of each refusal.
+pub enum QuotaAnswer {
+    Seated { leaves: usize, seats: usize },
+    TooManyPoints,
+    ShortList,
+}
+
+// The sum of the sizes, or LIMIT + 1 where it is above LIMIT: no sum is formed above that.
+fn total_size(sizes: &[usize]) -> usize
+    ensures { λ r. ⌜ r ≡ min (total (now (sizes .entry))) 1048577 ⌝ }
+{
+    let mut sum = 0;
+    let mut i = 0;
+    while i < sizes.len() {
+        let w = sizes[i];
+        if LIMIT - sum < w {
+            return LIMIT + 1;
+        }
+        sum += w;
+        i += 1;
+    }
+    sum
+}
+
+// The smaller of the two.
+fn smaller(x: usize, y: usize) -> usize
+    ensures { λ r. ⌜ r ≡ min x y ⌝ }
+{
+    if x < y { x } else { y }
+}
+
+// The number, or 1 where it is 0.
+fn at_least_one(x: usize) -> usize
+    ensures { λ r. ⌜ r ≡ max 1 x ⌝ }
+{
+    if x < 1 { 1 } else { x }
+}
+
+// How many leaves are nonempty.
+fn count_nonempty(sizes: &[usize]) -> usize
+    ensures { λ r. ⌜ r ≡ nonempty (now (sizes .entry)) ⌝ }
+{
+    let mut many = 0;
+    let mut i = 0;
+    while i < sizes.len() {
+        if 0 < sizes[i] {
+            many += 1;
+        }
+        i += 1;
+    }
+    many
+}
+
+// The rest times the capacity of a leaf of w rows that has `first` seats.
+fn product(w: usize, first: usize, rest: usize) -> usize
+    requires { ⌜ (w ≤ 1048576) × (rest ≤ 1048576) ⌝ }
+    ensures { λ r. ⌜ r ≡ rest * (w - first) ⌝ }
+{
+    if w < first {
+        return 0;
+    }
+    rest * (w - first)
+}
+
+// The leftover seats: the rest less each leaf's share, rounded down.
+fn leftover_seats(sizes: &[usize], first: usize, rest: usize, pool: usize) -> usize
+    requires { ⌜ Small (now sizes) rest pool × (total (map (wholeAt (now sizes) first rest pool) (from 0 (length (now sizes)))) ≤ rest) ⌝ }
+    ensures { λ r. ⌜ r ≡ leftover (now (sizes .entry)) first rest pool ⌝ }
+{
+    let mut left = rest;
+    let mut i = 0;
+    while i < sizes.len() {
+        let p = product(sizes[i], first, rest);
+        left -= p / pool;
+        i += 1;
+    }
+    left
+}
+
+// How many remainders are above t. They are formed anew in each pass, so that no list of them is needed.
+fn count_above(sizes: &[usize], first: usize, rest: usize, pool: usize, t: usize) -> usize
+    requires { ⌜ Small (now sizes) rest pool ⌝ }
+    ensures { λ r. ⌜ r ≡ above (length (now (sizes .entry))) (remainderAt (now (sizes .entry)) first rest pool) t ⌝ }
+{
+    let mut many = 0;
+    let mut i = 0;
+    while i < sizes.len() {
+        let p = product(sizes[i], first, rest);
+        if t < p % pool {
+            many += 1;
+        }
+        i += 1;
+    }
+    many
+}
+
+// The least t with at most `left` remainders above it, by halving; none is above the divisor.
+fn cut(sizes: &[usize], first: usize, rest: usize, pool: usize, left: usize) -> usize
+    requires { ⌜ Small (now sizes) rest pool × (above (length (now sizes)) (remainderAt (now sizes) first rest pool) pool ≤ left) ⌝ }
+    ensures { λ t. ⌜ (above (length (now (sizes .entry))) (remainderAt (now (sizes .entry)) first rest pool) t ≤ left) × ((s : ℕ) → s < t → left < above (length (now (sizes .entry))) (remainderAt (now (sizes .entry)) first rest pool) s) ⌝ }
+{
+    let mut lo = 0;
+    let mut hi = pool;
+    while lo < hi {
+        let mid = lo + (hi - lo) / 2;
+        if count_above(sizes, first, rest, pool, mid) <= left {
+            hi = mid;
+        } else {
+            lo = mid + 1;
+        }
+    }
+    lo
+}
+
+// 1 if a remainder gets a leftover seat: it is above the cut, or equal to it while seats for these are left.
+fn extra_seat(remainder: usize, cut: usize, left: usize) -> usize
+    ensures { λ r. ⌜ r ≡ extraBy remainder cut left ⌝ }
+{
+    if cut < remainder {
+        return 1;
+    }
+    if remainder < cut {
+        return 0;
+    }
+    if 0 < left { 1 } else { 0 }
+}
+
+// The seats for remainders equal to the cut that are left after this remainder.
+fn seats_after(remainder: usize, cut: usize, left: usize) -> usize
+    ensures { λ r. ⌜ r ≡ left - oneIf (eqb remainder cut) ⌝ }
+{
+    if remainder == cut {
+        if 0 < left {
+            return left - 1;
+        }
+    }
+    left
+}
+
+// Writes each leaf's quota over its size: its first seats, its share rounded down, and its leftover seat by the cut, which
+// `taken` remainders are above. Lower leaves come first, so of equal remainders they get the seats.
+fn hand_out(
+    sizes: &mut [usize],
+    first: usize,
+    rest: usize,
+    pool: usize,
+    left: usize,
+    cut: usize,
+    taken: usize,
+)
+    requires { ⌜ Small (now sizes) rest pool × (first ≤ 1) × (left ≡ leftover (now sizes) first rest pool) × (taken ≡ above (length (now sizes)) (remainderAt (now sizes) first rest pool) cut) × CutBy (length (now sizes)) (remainderAt (now sizes) first rest pool) left cut ⌝ }
+    ensures { λ _. ⌜ now (sizes .exit) ≡ map (seatsAt (now (sizes .entry)) first rest pool) (from 0 (length (now (sizes .entry)))) ⌝ }
+{
+    let mut at_cut = left - taken;
+    let mut i = 0;
+    while i < sizes.len() {
+        let w = sizes[i];
+        let p = product(w, first, rest);
+        let remainder = p % pool;
+        sizes[i] = smaller(first, w) + p / pool + extra_seat(remainder, cut, at_cut);
+        at_cut = seats_after(remainder, cut, at_cut);
+        i += 1;
+    }
+}
+
+// Hands out the rest by the capacity that remains once each nonempty leaf has `first` seats.
+fn deal(sizes: &mut [usize], first: usize, rest: usize, capacity: usize)
+    requires { ⌜ ((j : ℕ) → sizeAt (now sizes) j ≤ 1048576) × (first ≤ 1) × (rest ≤ capacity) × (capacity ≤ 1048576) × (total (map (λ w. w - first) (now sizes)) ≡ capacity) ⌝ }
+    ensures { λ _. ⌜ now (sizes .exit) ≡ seatsOf (now (sizes .entry)) first rest capacity ⌝ }
+{
+    let pool = at_least_one(capacity);
+    let left = leftover_seats(sizes, first, rest, pool);
+    let t = cut(sizes, first, rest, pool, left);
+    let taken = count_above(sizes, first, rest, pool, t);
+    hand_out(sizes, first, rest, pool, left, t, taken);
+}
+
+// The quotas for s seats, of leaves with `rows` rows in all, in the place of their sizes.
+fn share(sizes: &mut [usize], rows: usize, s: usize)
+    requires { ⌜ (rows ≡ total (now sizes)) × (rows ≤ 1048576) × (s ≤ rows) ⌝ }
+    ensures { λ _. ⌜ now (sizes .exit) ≡ quotasFor (now (sizes .entry)) s ⌝ }
+{
+    let d = count_nonempty(sizes);
+    if d <= s {
+        deal(sizes, 1, s - d, rows - d);
+    } else {
+        deal(sizes, 0, s, rows);
+    }
+}
+
+// The same for leaves whose sizes are the first m numbers of the list. What stands past them stays.
+pub fn share_in_place(list: &mut [usize], m: usize, rows: usize, s: usize)
+    requires { ⌜ (m ≤ length (now list)) × (rows ≡ total (take m (now list))) × (rows ≤ 1048576) × (s ≤ rows) ⌝ }
+    ensures { λ _. ⌜ now (list .exit) ≡ written (quotasFor (take m (now (list .entry))) s) (now (list .entry)) ⌝ }
+{
+    share(&mut list[..m], rows, s);
+}
+
+// Copies the sizes to the front of the output, which is long enough.
+fn copy_sizes(sizes: &[usize], quotas: &mut [usize])
+    requires { ⌜ length (now sizes) ≤ length (now quotas) ⌝ }
+    ensures { λ _. ⌜ now (quotas .exit) ≡ written (now (sizes .entry)) (now (quotas .entry)) ⌝ }
+{
+    let mut i = 0;
+    while i < sizes.len() {
+        quotas[i] = sizes[i];
+        i += 1;
+    }
+}
+
+// The quotas for `wanted` seats, held to the total. Document 01's refusals come in its order: 8, 11. The sharing works in the
+// output alone: of the lent room only the length is looked at, and nothing is written to it.
+pub fn get_domain_coarse_quotas(
+    sizes: &[usize],
+    wanted: usize,
+    quotas: &mut [usize],
+    room: &mut [usize],
+) -> QuotaAnswer
+    ensures answer { λ r. ⌜ quotaReport r ≡ quotaAnswer (now (sizes .entry)) wanted (now (quotas .entry)) (now (room .entry)) ⌝ }
+    ensures output { λ _. ⌜ now (quotas .exit) ≡ quotaOutput (now (sizes .entry)) wanted (now (quotas .entry)) (now (room .entry)) ⌝ }
+    ensures room { λ _. ⌜ RoomAfter (quotaCall (now (sizes .entry)) (now (quotas .entry)) (now (room .entry))) (now (room .entry)) (now (room .exit)) ⌝ }
+{
+    let rows = total_size(sizes);
+    if LIMIT < rows {
+        return QuotaAnswer::TooManyPoints;
+    }
+    if quotas.len() < sizes.len() {
+        return QuotaAnswer::ShortList;
+    }
+    if room.len() < sizes.len() {
+        return QuotaAnswer::ShortList;
+    }
+    let s = smaller(wanted, rows);
+    copy_sizes(sizes, quotas);
+    share_in_place(quotas, sizes.len(), rows, s);
+    QuotaAnswer::Seated {
+        leaves: sizes.len(),
+        seats: s,
+    }
+}

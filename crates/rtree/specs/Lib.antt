@@ -1,0 +1,2 @@
+-- What the contracts of the scan cite.
+pub mod Near

@@ -1,0 +1,2 @@
+-- What the contracts of the helpers cite beside the definition.
+pub mod Boxes

@@ -1,0 +1,179 @@
+//! The library against a plain implementation of document 01: random jobs, refusals, and the sizes around each limit.
+mod plain;
+
+use rekvashu::{build, level_size, quotas, sample, square_root, DDMParams, Mender, Refusal, SizePolicy, Tree};
+
+/// A small generator with a fixed seed, so that each run sees the same jobs.
+struct Random(u64);
+
+impl Random {
+    fn next(&mut self) -> u64 {
+        self.0 ^= self.0 << 13;
+        self.0 ^= self.0 >> 7;
+        self.0 ^= self.0 << 17;
+        self.0
+    }
+
+    fn below(&mut self, n: u64) -> u64 {
+        self.next() % n
+    }
+
+    fn unit(&mut self) -> f64 {
+        (self.next() >> 11) as f64 / (1u64 << 53) as f64
+    }
+
+    /// A coordinate: smooth, on a lattice, or one of the values at the edges of the format.
+    fn coordinate(&mut self, kind: u64) -> f64 {
+        match kind {
+            0 => self.unit() * 2000.0 - 1000.0,
+            1 => self.below(5) as f64,
+            2 => [0.0, -0.0, 1.0, 5e-324, -5e-324, 1e308, -1e308, 2.2250738585072014e-308][self.below(8) as usize],
+            3 => self.unit() * 1e-310,
+            _ => (self.unit() - 0.5) * 10f64.powi(self.below(40) as i32 - 20),
+        }
+    }
+}
+
+fn settings(p: DDMParams) -> plain::Settings {
+    let policy = match p.coarse_threshold {
+        SizePolicy::Auto => plain::Policy::Auto,
+        SizePolicy::Fixed(c) => plain::Policy::Fixed(c),
+    };
+    plain::Settings { leaf: p.leaf_threshold, neighbours: p.overlap_knn, factor: p.coarse_reduction_factor, policy }
+}
+
+fn bits(xs: &[f64]) -> Vec<u64> {
+    xs.iter().map(|x| x.to_bits()).collect()
+}
+
+fn same_tree(tree: &Tree, levels: &[plain::Level]) -> bool {
+    tree.levels().count() == levels.len()
+        && tree.levels().zip(levels).all(|(ours, theirs)| {
+            ours.points() == &theirs.points[..]
+                && ours.leaves().count() == theirs.leaves.len()
+                && ours.leaves().zip(&theirs.leaves).all(|(a, b)| {
+                    let (lower, upper) = a.bounds();
+                    a.own() == &b.own[..]
+                        && a.borrowed() == &b.borrowed[..]
+                        && bits(lower) == bits(&b.lower)
+                        && bits(upper) == bits(&b.upper)
+                })
+        })
+}
+
+fn check(coords: &[f64], d: usize, p: DDMParams) {
+    match (build(coords, d, p), plain::build(coords, d, &settings(p))) {
+        (Ok(tree), Ok(levels)) => assert!(same_tree(&tree, &levels), "trees differ: {d} {p:?} {coords:?}"),
+        (Err(ours), Err((number, place))) => assert_eq!(ours, Refusal { number, place }, "{d} {p:?} {coords:?}"),
+        (ours, theirs) => panic!("{:?} against {:?}: {d} {p:?} {coords:?}", ours.err(), theirs.err()),
+    }
+}
+
+#[test]
+fn random_jobs() {
+    let mut random = Random(0x5eed_0001);
+    for _ in 0..20_000 {
+        let d = 1 + random.below(3) as usize;
+        let n = 1 + random.below(90) as usize;
+        let kind = random.below(5);
+        let coords: Vec<f64> = (0..n * d).map(|_| random.coordinate(kind)).collect();
+        let p = DDMParams {
+            leaf_threshold: 1 + random.below(12) as u32,
+            overlap_knn: random.below(12) as u32,
+            coarse_reduction_factor: 2 + random.below(5) as u32,
+            coarse_threshold: SizePolicy::Fixed(1 + random.below(30) as u32),
+        };
+        check(&coords, d, p);
+    }
+}
+
+#[test]
+fn larger_jobs() {
+    let mut random = Random(0x5eed_0002);
+    for n in [511, 512, 513, 1000, 1500] {
+        for d in 1..=3 {
+            let coords: Vec<f64> = (0..n * d).map(|_| random.coordinate(0)).collect();
+            check(&coords, d, DDMParams { leaf_threshold: 20, ..DDMParams::default() });
+        }
+    }
+}
+
+#[test]
+fn refusals() {
+    let mut random = Random(0x5eed_0003);
+    let odd = [0u32, 1, 2, 3, 64, 65, 4_294_967_295];
+    for _ in 0..4_000 {
+        let d = random.below(5) as usize;
+        let mut coords: Vec<f64> = (0..random.below(12)).map(|_| random.coordinate(1)).collect();
+        if !coords.is_empty() && random.below(3) == 0 {
+            let at = random.below(coords.len() as u64) as usize;
+            coords[at] = [f64::NAN, f64::INFINITY, f64::NEG_INFINITY][random.below(3) as usize];
+        }
+        let mut number = || odd[random.below(7) as usize];
+        let p = DDMParams {
+            leaf_threshold: number(),
+            overlap_knn: number(),
+            coarse_reduction_factor: number(),
+            coarse_threshold: SizePolicy::Fixed(number()),
+        };
+        check(&coords, d, p);
+    }
+}
+
+#[test]
+fn sizes_around_each_limit() {
+    let p = |c: u32, k: u32| DDMParams { leaf_threshold: 2, overlap_knn: k, coarse_reduction_factor: 2, coarse_threshold: SizePolicy::Fixed(c) };
+    for n in [1usize, 7, 8, 9, 31, 32, 33, 56, 57] {
+        for k in [0, 64, 65] {
+            let coords: Vec<f64> = (0..n).map(|i| ((i * 7919) % 101) as f64).collect();
+            check(&coords, 1, p(7, k));
+        }
+    }
+    assert_eq!(build(&vec![0.0; 1_048_577], 1, p(1, 0)).unwrap_err(), Refusal { number: 8, place: 0 });
+    // 1,048,576 points pass that test: the next refusal, 9, is the one that shows
+    assert_eq!(build(&vec![0.0; 1_048_576], 1, p(1, 0)).unwrap_err(), Refusal { number: 9, place: 0 });
+}
+
+#[test]
+fn other_functions() {
+    let mut random = Random(0x5eed_0004);
+    for _ in 0..2_000 {
+        let sizes: Vec<usize> = (0..random.below(9)).map(|_| random.below(7) as usize).collect();
+        let s = random.below(40) as usize;
+        assert_eq!(quotas(&sizes, s).unwrap(), plain::quotas(&sizes, s));
+        let (a, c, r) = (2 + random.below(3000) as usize, random.below(3000) as u32, random.below(5) as u32);
+        let size = level_size(a, c, r);
+        if c == 0 {
+            assert_eq!(size.unwrap_err().number, 4);
+        } else if a <= c as usize {
+            assert_eq!(size.unwrap_err().number, 14);
+        } else if r == 0 || r > 3 {
+            assert_eq!(size.unwrap_err().number, 9);
+        } else {
+            assert_eq!(size.unwrap(), plain::level_size(a, c as usize, r));
+        }
+        let n = 1 + random.below(30) as usize;
+        let kind = random.below(5);
+        let coords: Vec<f64> = (0..2 * n).map(|_| random.coordinate(kind)).collect();
+        let (wanted, seed) = (1 + random.below(n as u64) as usize, random.below(n as u64) as usize);
+        let rows: Vec<usize> = (0..n).collect();
+        let points = plain::Points { coords: &coords, d: 2 };
+        assert_eq!(sample(&coords, 2, wanted, seed).unwrap(), plain::sample(&points, &rows, wanted, seed));
+        let x = f64::from_bits(random.next());
+        match square_root(x) {
+            Ok(root) => assert_eq!(root.to_bits(), x.sqrt().to_bits()),
+            Err(refused) => assert!(refused.number == 15 && !(x >= 0.0)),
+        }
+    }
+    assert_eq!(sample(&[0.0, 1.0], 1, 0, 0).unwrap_err().number, 13);
+    assert_eq!(sample(&[0.0, 1.0], 1, 1, 2).unwrap_err().number, 13);
+}
+
+#[test]
+fn refusals_say_who_can_mend_them() {
+    let refused = build(&[0.0], 1, DDMParams { leaf_threshold: 0, ..DDMParams::default() }).unwrap_err();
+    assert_eq!(refused.mender(), Mender::Settings);
+    assert_eq!(refused.to_string(), "refused 2 at 0: the leaf threshold is 0; whoever sets the station can mend it");
+    let refused = build(&[0.0, f64::NAN], 1, DDMParams::default()).unwrap_err();
+    assert_eq!(refused.to_string(), "refused 10 at 1: a coordinate is infinite or not a number; whoever brings the points can mend it");
+}

@@ -1,0 +1,323 @@
+//! Document 01 in plain Rust, written from the paper alone: what the library's answers are compared with.
+#![allow(dead_code)]
+
+#[derive(Clone, Copy, Debug)]
+pub enum Policy {
+    Auto,
+    Fixed(u32),
+}
+
+#[derive(Clone, Copy, Debug)]
+pub struct Settings {
+    pub leaf: u32,
+    pub neighbours: u32,
+    pub factor: u32,
+    pub policy: Policy,
+}
+
+#[derive(Clone, Debug, PartialEq)]
+pub struct Leaf {
+    pub own: Vec<usize>,
+    pub borrowed: Vec<usize>,
+    pub lower: Vec<f64>,
+    pub upper: Vec<f64>,
+}
+
+#[derive(Clone, Debug, PartialEq)]
+pub struct Level {
+    pub points: Vec<usize>,
+    pub leaves: Vec<Leaf>,
+}
+
+pub struct Points<'a> {
+    pub coords: &'a [f64],
+    pub d: usize,
+}
+
+impl Points<'_> {
+    fn at(&self, i: usize, a: usize) -> f64 {
+        self.coords[i * self.d + a]
+    }
+
+    fn row(&self, i: usize) -> &[f64] {
+        &self.coords[i * self.d..(i + 1) * self.d]
+    }
+}
+
+pub fn distance_sq(p: &[f64], q: &[f64]) -> f64 {
+    let mut sum = 0.0;
+    for (x, y) in p.iter().zip(q) {
+        let t = x - y;
+        sum += t * t;
+    }
+    sum
+}
+
+// ---- refusals: the number and the place
+
+pub fn refusal(coords: &[f64], d: usize, s: &Settings) -> Option<(usize, usize)> {
+    if !(1..=3).contains(&d) {
+        return Some((1, 0));
+    }
+    if s.leaf == 0 {
+        return Some((2, 0));
+    }
+    if s.factor < 2 {
+        return Some((3, 0));
+    }
+    if let Policy::Fixed(0) = s.policy {
+        return Some((4, 0));
+    }
+    if s.neighbours > 64 {
+        return Some((5, 0));
+    }
+    if coords.is_empty() {
+        return Some((6, 0));
+    }
+    if coords.len() % d != 0 {
+        return Some((7, 0));
+    }
+    let n = coords.len() / d;
+    if n > 1_048_576 {
+        return Some((8, 0));
+    }
+    let c = threshold(s.policy, n) as u128;
+    if c * (s.factor as u128).pow(3) < n as u128 {
+        return Some((9, 0));
+    }
+    coords.iter().position(|x| !x.is_finite()).map(|at| (10, at))
+}
+
+// ---- level arithmetic
+
+pub fn threshold(policy: Policy, n: usize) -> usize {
+    match policy {
+        Policy::Auto => n.div_ceil(32).clamp(512, 4096),
+        Policy::Fixed(c) => c as usize,
+    }
+}
+
+pub fn reductions(n: usize, c: usize, f: u32) -> u32 {
+    let mut k = 0;
+    let mut product = c as u128;
+    while product < n as u128 {
+        product *= f as u128;
+        k += 1;
+    }
+    k
+}
+
+pub fn level_size(a: usize, c: usize, r: u32) -> usize {
+    let goal = c as u128 * (a as u128).pow(r - 1);
+    let mut m = (goal as f64).powf(1.0 / r as f64) as u128;
+    while m.pow(r) >= goal && m > 0 {
+        m -= 1;
+    }
+    while m.pow(r) < goal {
+        m += 1;
+    }
+    (m as usize).min(a - 1).max(1)
+}
+
+pub fn quotas(sizes: &[usize], s: usize) -> Vec<usize> {
+    let s = s.min(sizes.iter().sum());
+    let nonempty = sizes.iter().filter(|w| **w > 0).count();
+    let first = usize::from(s >= nonempty);
+    let mut out: Vec<usize> = sizes.iter().map(|w| first.min(*w)).collect();
+    let rest = s - out.iter().sum::<usize>();
+    let caps: Vec<usize> = sizes.iter().zip(&out).map(|(w, g)| w - g).collect();
+    let pool = caps.iter().sum::<usize>().max(1);
+    for (q, cap) in out.iter_mut().zip(&caps) {
+        *q += rest * cap / pool;
+    }
+    let left = s - out.iter().sum::<usize>();
+    let mut order: Vec<usize> = (0..sizes.len()).collect();
+    order.sort_by_key(|i| (std::cmp::Reverse(rest * caps[*i] % pool), *i));
+    for i in &order[..left] {
+        out[*i] += 1;
+    }
+    out
+}
+
+// ---- sampling
+
+pub fn seed(points: &Points, rows: &[usize]) -> usize {
+    let mut center = vec![0.0; points.d];
+    for (a, c) in center.iter_mut().enumerate() {
+        for i in rows {
+            *c += points.at(*i, a);
+        }
+        *c /= rows.len() as f64;
+    }
+    let mut best = 0;
+    let mut near = distance_sq(&center, points.row(rows[0])).sqrt();
+    for (t, i) in rows.iter().enumerate().skip(1) {
+        let far = distance_sq(&center, points.row(*i)).sqrt();
+        if far < near {
+            best = t;
+            near = far;
+        }
+    }
+    best
+}
+
+/// Farthest point sampling from the place `seed` of the list of rows.
+pub fn sample(points: &Points, rows: &[usize], wanted: usize, seed: usize) -> Vec<usize> {
+    let mut least = vec![f64::INFINITY; rows.len()];
+    let mut free = vec![true; rows.len()];
+    let mut out = vec![rows[seed]];
+    let mut last = seed;
+    free[seed] = false;
+    while out.len() < wanted {
+        let mut best: Option<usize> = None;
+        for t in 0..rows.len() {
+            let d = distance_sq(points.row(rows[last]), points.row(rows[t])).sqrt();
+            if d < least[t] {
+                least[t] = d;
+            }
+            if free[t] && best.map_or(true, |b| least[t] > least[b]) {
+                best = Some(t);
+            }
+        }
+        last = best.unwrap();
+        free[last] = false;
+        out.push(rows[last]);
+    }
+    out
+}
+
+// ---- one level
+
+struct Domain {
+    rows: Vec<usize>,
+    lower: Vec<f64>,
+    upper: Vec<f64>,
+}
+
+fn bounds(points: &Points, rows: &[usize]) -> (Vec<f64>, Vec<f64>) {
+    let mut lower = points.row(rows[0]).to_vec();
+    let mut upper = lower.clone();
+    for i in &rows[1..] {
+        for a in 0..points.d {
+            let x = points.at(*i, a);
+            if x < lower[a] {
+                lower[a] = x;
+            }
+            if x > upper[a] {
+                upper[a] = x;
+            }
+        }
+    }
+    (lower, upper)
+}
+
+fn cut(points: &Points, domain: &Domain) -> (Domain, Domain) {
+    let (low, high) = bounds(points, &domain.rows);
+    let mut axis = 0;
+    for a in 1..points.d {
+        if high[a] - low[a] > high[axis] - low[axis] {
+            axis = a;
+        }
+    }
+    let mut order = domain.rows.clone();
+    order.sort_by(|i, j| points.at(*i, axis).partial_cmp(&points.at(*j, axis)).unwrap().then(i.cmp(j)));
+    let mut right = order.split_off(order.len() / 2);
+    let plane = points.at(right[0], axis);
+    order.sort_unstable();
+    right.sort_unstable();
+    let mut left = Domain { rows: order, lower: domain.lower.clone(), upper: domain.upper.clone() };
+    let mut right = Domain { rows: right, lower: domain.lower.clone(), upper: domain.upper.clone() };
+    left.upper[axis] = plane;
+    right.lower[axis] = plane;
+    (left, right)
+}
+
+pub fn leaves(points: &Points, leaf: u32, active: &[usize]) -> Vec<Leaf> {
+    let (lower, upper) = bounds(points, active);
+    let mut queue = std::collections::VecDeque::from([Domain { rows: active.to_vec(), lower, upper }]);
+    let mut out = Vec::new();
+    while let Some(domain) = queue.pop_front() {
+        let (left, right) = cut(points, &domain);
+        for half in [left, right] {
+            if domain.rows.len() as u64 >= 2 * leaf as u64 {
+                queue.push_back(half);
+            } else {
+                out.push(Leaf { own: half.rows, borrowed: Vec::new(), lower: half.lower, upper: half.upper });
+            }
+        }
+    }
+    out
+}
+
+/// The `many` rows that are first by (squared distance, row), by a scan over the active rows.
+pub fn nearest(points: &Points, active: &[usize], row: usize, many: usize) -> Vec<usize> {
+    let mut kept: Vec<(f64, usize)> = Vec::with_capacity(many + 1);
+    for i in active {
+        let d = distance_sq(points.row(row), points.row(*i));
+        if kept.len() < many || d < kept[many - 1].0 {
+            let at = kept.partition_point(|k| k.0 <= d);
+            kept.insert(at, (d, *i));
+            kept.truncate(many);
+        }
+    }
+    kept.into_iter().map(|k| k.1).collect()
+}
+
+pub fn borrow(points: &Points, neighbours: u32, active: &[usize], leaves: &mut [Leaf]) {
+    let mut owner = std::collections::HashMap::new();
+    for (t, leaf) in leaves.iter().enumerate() {
+        for i in &leaf.own {
+            owner.insert(*i, t);
+        }
+    }
+    let mut pairs = Vec::new();
+    for i in active {
+        for j in nearest(points, active, *i, neighbours as usize + 1) {
+            if owner[i] != owner[&j] {
+                pairs.push((owner[i], j));
+                pairs.push((owner[&j], *i));
+            }
+        }
+    }
+    pairs.sort_unstable();
+    pairs.dedup();
+    for (t, i) in pairs {
+        leaves[t].borrowed.push(i);
+    }
+}
+
+pub fn send(points: &Points, leaves: &[Leaf], size: usize) -> Vec<usize> {
+    let sizes: Vec<usize> = leaves.iter().map(|l| l.own.len()).collect();
+    let mut next = Vec::new();
+    for (leaf, quota) in leaves.iter().zip(quotas(&sizes, size)) {
+        if quota > 0 {
+            next.extend(sample(points, &leaf.own, quota, seed(points, &leaf.own)));
+        }
+    }
+    next.sort_unstable();
+    next
+}
+
+pub fn build(coords: &[f64], d: usize, s: &Settings) -> Result<Vec<Level>, (usize, usize)> {
+    if let Some(refused) = refusal(coords, d, s) {
+        return Err(refused);
+    }
+    let points = Points { coords, d };
+    let n = coords.len() / d;
+    let c = threshold(s.policy, n);
+    let k = reductions(n, c, s.factor);
+    let mut active: Vec<usize> = (0..n).collect();
+    let mut levels = Vec::new();
+    while active.len() > c {
+        let mut leaves = leaves(&points, s.leaf, &active);
+        borrow(&points, s.neighbours, &active, &mut leaves);
+        let r = k.saturating_sub(levels.len() as u32).max(1);
+        let next = send(&points, &leaves, level_size(active.len(), c, r));
+        levels.push(Level { points: active, leaves });
+        active = next;
+    }
+    let zeros = vec![0.0; d];
+    let leaf = Leaf { own: active.clone(), borrowed: Vec::new(), lower: zeros.clone(), upper: zeros };
+    levels.push(Level { points: active, leaves: vec![leaf] });
+    Ok(levels)
+}
