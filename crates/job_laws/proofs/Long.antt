@@ -186,7 +186,8 @@ module _ (s : Settings) (cs : List Float) (axes : s .dimension ≤ 3) where
     leafFrom q =
         record { own = q .rows; borrowed = borrowedBy (map (nearOf (s .dimension) cs (s .neighbours) active) active) active (q .rows); box = q .box }
 
-    leaves-brief : (qs : List Domain) → All (λ (q : Domain). Small (q .rows)) qs → All (λ (q : Domain). length (q .box) ≡ 2 * s .dimension) qs → All Brief (map leafFrom qs)
+    leaves-brief : (qs : List Domain) → All (λ (q : Domain). Small (q .rows)) qs → All (λ (q : Domain). length (q .box) ≡ 2 * s .dimension) qs
+        → All Brief (map leafFrom qs)
     unfolding All borrowedBy
     leaves-brief [] h g = tt
     leaves-brief (q ∷ qs) h g =

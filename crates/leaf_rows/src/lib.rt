@@ -1,6 +1,6 @@
 // A leaf's rows: the stretch of the internal or of the borrowed list that its domain row names, and the test of the row.
 ghost use mathlib.Core.Path.{_≡_};
-ghost use Rattle.lists.specs.Lists.{part as stretch};
+ghost use Rattle.lists.specs.Lists.{part};
 ghost use Rattle.definition.specs.Refusals.{stretchVerdict};
 ghost use Rattle.definition.specs.Outcome.{rowsAsked, rowTest, valueOf, numberOf};
 ghost use Rattle.leaf_rows.specs.Asked.{whichOf, rowOf};
@@ -37,7 +37,7 @@ fn stretch_test(length: usize, start: usize, count: usize) -> u32
 
 // That stretch of the list itself, or an empty part where it ends past the list.
 fn stretch_of<'a>(list: &'a [usize], start: usize, count: usize) -> &'a [usize]
-    ensures { λ r. ⌜ now r ≡ valueOf (stretchVerdict start count (length (now (list .entry)))) (stretch (now (list .entry)) start count) [] ⌝ }
+    ensures { λ r. ⌜ now r ≡ valueOf (stretchVerdict start count (length (now (list .entry)))) (part (now (list .entry)) start count) [] ⌝ }
 {
     if 0 < stretch_test(list.len(), start, count) {
         return &list[..0];

@@ -40,7 +40,8 @@ module _ (at : ℕ) (bs : List ℕ) where
       point-is (a + 1) ∙ map-below-suc axis a ∙ ap (λ (l : List Float). l ++ axis a ∷ []) (sym (point-is a))
 
   -- one axis more is stored
-  pub point-step : (l m : List Float) (k a r : ℕ) (x : Float) → m ≡ put l k (coordinatesAt a 2 (drop at bs)) → k + a < length l → r ≡ field 8 (at + (2 + 8 * a)) bs → x ≡ ofBits binary64 r
+  pub point-step : (l m : List Float) (k a r : ℕ) (x : Float) → m ≡ put l k (coordinatesAt a 2 (drop at bs)) → k + a < length l
+      → r ≡ field 8 (at + (2 + 8 * a)) bs → x ≡ ofBits binary64 r
       → set m (k + a) x ≡ put l k (coordinatesAt (a + 1) 2 (drop at bs))
   unfolding axis
   point-step l m k a r x e h f g =
@@ -97,7 +98,8 @@ pub record Reading (s : tree.Settings) (bs : List ℕ) (cs : List Float) (at n :
   pub room : 96 ≤ length cs
   pub same : jobIn bs ≡ held (readPoints s (32 - n) at (drop at bs) (take (n * s .dimension) cs))
 
-pub begun : (s : tree.Settings) (bs : List ℕ) (cs : List Float) → settingsWhole bs ≡ true → s ≡ settingsIn bs → (s .dimension ≡ 0 → ⊥) → s .dimension ≤ 3 → 96 ≤ length cs → Reading s bs cs 20 0
+pub begun : (s : tree.Settings) (bs : List ℕ) (cs : List Float) → settingsWhole bs ≡ true → s ≡ settingsIn bs → (s .dimension ≡ 0 → ⊥)
+    → s .dimension ≤ 3 → 96 ≤ length cs → Reading s bs cs 20 0
 begun s bs cs w e h g r =
     record {
       few = omega arith;
@@ -123,9 +125,11 @@ module _ {s : tree.Settings} {bs : List ℕ} {cs : List Float} {at n : ℕ} (r :
   unfolding held
   full h e f =
       let z : 32 - n ≡ 0 = omega arith in
-      sym (r .same ∙ ap (λ (k : ℕ). held (readPoints s k at (drop at bs) (take (n * s .dimension) cs))) z ∙ ap held (read-full s (drop at bs) (take (n * s .dimension) cs) at (left h) e))
+      sym (r .same ∙ ap (λ (k : ℕ). held (readPoints s k at (drop at bs) (take (n * s .dimension) cs))) z ∙ ap held
+      (read-full s (drop at bs) (take (n * s .dimension) cs) at (left h) e))
 
-  pub more : at < length bs → whole pointMark (pointSize (s .dimension)) (drop at bs) ≡ true → (n ≡ 32 → ⊥) → (ds : List Float) → ds ≡ put cs (n * s .dimension) (coordinatesAt (s .dimension) 2 (drop at bs))
+  pub more : at < length bs → whole pointMark (pointSize (s .dimension)) (drop at bs) ≡ true → (n ≡ 32 → ⊥) → (ds : List Float)
+      → ds ≡ put cs (n * s .dimension) (coordinatesAt (s .dimension) 2 (drop at bs))
       → length ds ≡ length cs → Reading s bs ds (at + (2 + 8 * s .dimension)) (n + 1)
   more h e f ds p l =
       let d = s .dimension in

@@ -28,7 +28,8 @@ module _ {A : Type 0} (f : A → List ℕ) where
   module _ {l : List ℕ} {at : ℕ} (xs : List A) (h : Room l at (joined (map f xs))) (i : ℕ) where
     pub each-room : Room l at (joined (map f (take i xs)))
     each-room =
-        let e : joined (map f xs) ≡ joined (map f (take i xs)) ++ joined (map f (drop i xs)) = rw (← joined-append (map f (take i xs)) (map f (drop i xs)), ← map-append f (take i xs) (drop i xs), take-append-drop i xs) in
+        let e : joined (map f xs) ≡ joined (map f (take i xs)) ++ joined (map f (drop i xs)) = rw
+        (← joined-append (map f (take i xs)) (map f (drop i xs)), ← map-append f (take i xs) (drop i xs), take-append-drop i xs) in
         room-first _ _ (room-spelt e h)
 
   module _ {l : List ℕ} {at : ℕ} (xs : List A) (h : Room l at (joined (map f xs))) (i : ℕ) (d : A) (g : i < length xs) {r : ℕ} {m : List ℕ}

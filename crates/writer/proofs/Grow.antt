@@ -60,4 +60,5 @@ module _ (p : Packed) (j : ℕ) where
       ap (λ (l : List ℕ). fineLines 0 (map (leafAt p) l)) (from-suc j k)
       ∙ ap (fineLines 0) (map-snoc (leafAt p) (from j k) (j + k))
       ∙ fine-one 0 (map (leafAt p) (from j k)) (leafAt p (j + k))
-      ∙ ap (λ (i : ℕ). fineLines 0 (map (leafAt p) (from j k)) ++ domainLine i (leafAt p (j + k)) (boxText (leafAt p (j + k) .box))) (zero-add _ ∙ length-map (from j k) (leafAt p) ∙ length-from j k)
+      ∙ ap (λ (i : ℕ). fineLines 0 (map (leafAt p) (from j k)) ++ domainLine i (leafAt p (j + k)) (boxText (leafAt p (j + k) .box)))
+      (zero-add _ ∙ length-map (from j k) (leafAt p) ∙ length-from j k)

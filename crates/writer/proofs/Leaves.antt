@@ -26,4 +26,9 @@ module _ (fine : Bool) (i : ℕ) (p : Packed) (j : ℕ) where
       leafLine fine i p j ≡ domainLine i (leafOf (take (o + n - o) (drop o (p .own))) (take (b + m - b) (drop b (p .borrowed))) box) (boxPart fine box)
   unfolding leafLine leafAt
   leaf-line =
-      rw (lent-part (p .own) (getD (p .domains) (4 * j) 0) (getD (p .domains) (4 * j + 1) 0), lent-part (p .borrowed) (getD (p .domains) (4 * j + 2) 0) (getD (p .domains) (4 * j + 3) 0), lent-part (p .boxes) (p .wide * j) (p .wide))
+      rw (
+        lent-part (p .own) (getD (p .domains) (4 * j) 0) (getD (p .domains) (4 * j + 1) 0),
+        lent-part (p .borrowed)
+            (getD (p .domains) (4 * j + 2) 0) (getD (p .domains) (4 * j + 3) 0),
+        lent-part (p .boxes) (p .wide * j) (p .wide),
+      )

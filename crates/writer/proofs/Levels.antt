@@ -51,7 +51,9 @@ module _ (p : Packed) (points rows counts : List ℕ) where
   frontText t = fineTexts 0 (levelsAt p points rows counts t)
 
   pub fineAt : ℕ → List ℕ
-  fineAt t = fineLevelText t (take (total (take t rows) + getD rows t 0 - total (take t rows)) (drop (total (take t rows)) points)) p (total (take t counts)) (getD counts t 0)
+  fineAt t =
+      fineLevelText t (take (total (take t rows) + getD rows t 0 - total (take t rows)) (drop (total (take t rows)) points)) p (total (take t counts))
+      (getD counts t 0)
 
   one-more : (t : ℕ) → levelsAt p points rows counts (t + 1) ≡ levelsAt p points rows counts t ++ levelAt p points rows counts t ∷ []
   unfolding levelsAt
@@ -68,7 +70,8 @@ module _ (p : Packed) (points rows counts : List ℕ) where
   unfolding frontText levelsAt fineTexts from
   front-none = refl
 
-  line-at : (t : ℕ) → levelLine t (levelAt p points rows counts t) ≡ pointsLine t (take (total (take t rows) + getD rows t 0 - total (take t rows)) (drop (total (take t rows)) points))
+  line-at : (t : ℕ)
+      → levelLine t (levelAt p points rows counts t) ≡ pointsLine t (take (total (take t rows) + getD rows t 0 - total (take t rows)) (drop (total (take t rows)) points))
   unfolding levelLine levelAt
   line-at t = rw (lent-part points (total (take t rows)) (getD rows t 0))
 
@@ -77,7 +80,9 @@ module _ (p : Packed) (points rows counts : List ℕ) where
   front-grows t =
       ap (fineTexts 0) (one-more t)
       ∙ texts-one 0 (levelsAt p points rows counts t) (levelAt p points rows counts t)
-      ∙ ap (λ (k : ℕ). fineTexts 0 (levelsAt p points rows counts t) ++ (levelLine k (levelAt p points rows counts t) ++ fineLines 0 (levelAt p points rows counts t .leaves))) (zero-add _ ∙ how-many t)
+      ∙ ap (λ (k : ℕ). fineTexts 0
+      (levelsAt p points rows counts t) ++ (levelLine k (levelAt p points rows counts t) ++ fineLines 0 (levelAt p points rows counts t .leaves)))
+      (zero-add _ ∙ how-many t)
       ∙ ap (λ (l : List ℕ). fineTexts 0 (levelsAt p points rows counts t) ++ (l ++ fineLines 0 (levelAt p points rows counts t .leaves))) (line-at t)
 
   one-domain : (j : ℕ) → coarseLines (leavesAt p j 1) ≡ leafLine false 0 p j
@@ -92,8 +97,11 @@ module _ (p : Packed) (points rows counts : List ℕ) where
   levels-last t one =
       ap (levelsText 0) (one-more t)
       ∙ texts-last 0 (levelsAt p points rows counts t) (levelAt p points rows counts t)
-      ∙ ap (λ (k : ℕ). fineTexts 0 (levelsAt p points rows counts t) ++ (levelLine k (levelAt p points rows counts t) ++ coarseLines (levelAt p points rows counts t .leaves))) (zero-add _ ∙ how-many t)
-      ∙ ap₂ (λ (l : List ℕ) (k : List ℕ). fineTexts 0 (levelsAt p points rows counts t) ++ (l ++ k)) (line-at t) (ap (λ (k : ℕ). coarseLines (leavesAt p (total (take t counts)) k)) one ∙ one-domain (total (take t counts)))
+      ∙ ap (λ (k : ℕ). fineTexts 0
+      (levelsAt p points rows counts t) ++ (levelLine k (levelAt p points rows counts t) ++ coarseLines (levelAt p points rows counts t .leaves)))
+      (zero-add _ ∙ how-many t)
+      ∙ ap₂ (λ (l : List ℕ) (k : List ℕ). fineTexts 0 (levelsAt p points rows counts t) ++ (l ++ k)) (line-at t)
+      (ap (λ (k : ℕ). coarseLines (leavesAt p (total (take t counts)) k)) one ∙ one-domain (total (take t counts)))
 
   -- ---- the same in the code's terms: a and j are the sums of the counts so far
   module _ (t a j : ℕ) (ea : a ≡ total (take t rows)) (ej : j ≡ total (take t counts)) where

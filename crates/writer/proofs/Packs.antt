@@ -71,4 +71,5 @@ module _ (ls : List Level) (w : ℕ) (s : Shaped w 4 ls) (o b d q : List ℕ) (x
       stands lists (written (packedPoints ls) q) (rowCounts ls) (domainCounts ls) ls 0 0 standing (s .some)
       (omega (arith, s .few, per-long (λ l. length (l .points)) ls))
       (omega (arith, s .few, per-long (λ l. length (l .leaves)) ls))
-      (ap (λ (k : ℕ). getD (domainCounts ls) k 0) (sym (zero-add (length ls - 1))) ∙ per-level (λ l. length (l .leaves)) ls (s .few) (length ls - 1) (omega (arith, s .some)) ∙ s .last)
+      (ap (λ (k : ℕ). getD (domainCounts ls) k 0) (sym (zero-add (length ls - 1))) ∙ per-level (λ l. length (l .leaves)) ls (s .few) (length ls - 1)
+      (omega (arith, s .some)) ∙ s .last)

@@ -78,11 +78,28 @@ module _ (p : Packed) where
     own-end = omega (arith, s .owned .1, ap length own-here, length-append (f .own) (joined (map (λ g. g .own) fs) ++ s .own), length-drop a (p .own))
 
     lent-end : b + length (f .borrowed) ≤ length (p .borrowed)
-    lent-end = omega (arith, s .lent .1, ap length lent-here, length-append (f .borrowed) (joined (map (λ g. g .borrowed) fs) ++ s .borrowed), length-drop b (p .borrowed))
+    lent-end =
+        omega (
+          arith,
+          s .lent .1,
+          ap length lent-here,
+          length-append (f .borrowed) (joined (map (λ g. g .borrowed) fs) ++ s .borrowed),
+          length-drop b
+              (p .borrowed),
+        )
 
     box-end : p .wide * j + p .wide ≤ length (p .boxes)
     unfolding All
-    box-end = omega (arith, s .boxed .1, ap length box-here, s .wide .0, length-append (f .box) (joined (map (λ g. g .box) fs) ++ s .boxes), length-drop (p .wide * j) (p .boxes))
+    box-end =
+        omega (
+          arith,
+          s .boxed .1,
+          ap length box-here,
+          s .wide .0,
+          length-append (f .box) (joined (map (λ g. g .box) fs) ++ s .boxes),
+          length-drop
+              (p .wide * j) (p .boxes),
+        )
 
     row-end : 4 * j + 3 < length (p .domains)
     unfolding stretches
@@ -134,7 +151,8 @@ module _ (p : Packed) where
   leaves-are : (fs gs : List Leaf) (j a b : ℕ) → Leaves (fs ++ gs) j a b → leavesAt p j (length fs) ≡ fs
   unfolding leavesAt from
   leaves-are [] gs j a b s = refl
-  leaves-are (f ∷ fs) gs j a b s = ap₂ (λ (x : Leaf) (l : List Leaf). x ∷ l) (leaf-is f (fs ++ gs) j a b s) (leaves-are fs gs (suc j) _ _ (leaves-rest f (fs ++ gs) j a b s))
+  leaves-are (f ∷ fs) gs j a b s =
+      ap₂ (λ (x : Leaf) (l : List Leaf). x ∷ l) (leaf-is f (fs ++ gs) j a b s) (leaves-are fs gs (suc j) _ _ (leaves-rest f (fs ++ gs) j a b s))
 
   leaves-after : (fs gs : List Leaf) (j a b : ℕ) → Leaves (fs ++ gs) j a b → Leaves gs (j + length fs) (a + owns fs) (b + lends fs)
   unfolding owns lends
@@ -177,7 +195,14 @@ module _ (p : Packed) where
 
       pub level-is : levelAt p points rows counts t ≡ l
       unfolding levelAt
-      level-is = rw (rows-here, counts-here, part-there points (total (take t rows)) (l .points) _ points-here, leaves-are (l .leaves) (leavesIn ls) (total (take t counts)) a b leaves-here)
+      level-is =
+          rw (
+            rows-here,
+            counts-here,
+            part-there points (total (take t rows)) (l .points) _ points-here,
+            leaves-are (l .leaves) (leavesIn ls)
+                (total (take t counts)) a b leaves-here,
+          )
 
       rows-next : total (take (suc t) rows) ≡ total (take t rows) + length (l .points)
       rows-next = ap (λ (k : ℕ). total (take k rows)) (sym (add-one t)) ∙ total-step rows t ∙ ap (λ (k : ℕ). total (take t rows) + k) rows-here
@@ -209,7 +234,14 @@ module _ (p : Packed) where
     total-points [] t a b s h = rw (add-zero t) h
     total-points (l ∷ ls) t a b s h =
         rw (add-suc t (length ls), ← suc-add t (length ls))
-        (total-points ls (suc t) _ _ (standing-rest l ls t a b s) (omega (arith, rows-next l ls t a b s, h, ap length (points-here l ls t a b s), length-append (l .points) (packedPoints ls ++ s .past), length-drop (total (take t rows)) points)))
+        (total-points ls (suc t) _ _ (standing-rest l ls t a b s) (omega (
+          arith,
+          rows-next l ls t a b s,
+          h,
+          ap length (points-here l ls t a b s),
+          length-append (l .points) (packedPoints ls ++ s .past),
+          length-drop (total (take t rows)) points,
+        )))
 
     total-leaves : (ls : List Level) (t a b : ℕ) → Standing ls t a b → total (take (t + length ls) counts) ≡ total (take t counts) + length (leavesIn ls)
     unfolding leavesIn joined
@@ -229,6 +261,8 @@ module _ (p : Packed) where
           rowed = r;
           counted = c;
           within = rw e at (total-points ls 0 a b s (omega arith));
-          held = λ j h. rw (zero-add j) at (rw y at (leaves-hold (leavesIn ls) (total (take 0 counts)) a b (s .leaves) j (omega (arith, rw e at (total-leaves ls 0 a b s)))));
+          held =
+              λ j h. rw (zero-add j) at
+              (rw y at (leaves-hold (leavesIn ls) (total (take 0 counts)) a b (s .leaves) j (omega (arith, rw e at (total-leaves ls 0 a b s)))));
           coarse = one;
         }

@@ -52,8 +52,12 @@ loop-less c = search needs
 loop-again : tie.Need-loop-again Inv-loop μ-loop
 loop-again c =
     let start = c .before .before .before .before .before .before in
-    let turn = c .before .before .before in
-    (point-step (start .args .at) (start .args .input .now) _ _ (start .args .k) (turn .loop .a) _ _ (turn .loop .inv .0) (search needs) (c .before .little-at .ensures .0) (c .float-of .ensures), search needs, simp length-set (search needs))
+    let turn = c .before .before .before in (
+      point-step (start .args .at) (start .args .input .now) _ _ (start .args .k) (turn .loop .a) _ _ (turn .loop .inv .0) (search needs)
+          (c .before .little-at .ensures .0) (c .float-of .ensures),
+      search needs,
+      simp length-set (search needs),
+    )
 
 same-length : tie.Need-same-length Inv-loop μ-loop
 same-length c = search needs

@@ -25,7 +25,9 @@ little-at-requires c κs = search needs
 returns-3 : tie.Need-returns-3
 returns-3 c =
     let bs = c .before .before .before .before .before .before .args .input .now in
-    whole-fixed bs (c .before .before .before .before .if1 .left) (sym (c .before .before .before .marked-at .ensures) ∙ not-false _ (c .before .before .if2 .left)) _ (c .before .little-at .ensures .0) (c .if3 .taken)
+    whole-fixed bs (c .before .before .before .before .if1 .left)
+    (sym (c .before .before .before .marked-at .ensures) ∙ not-false _ (c .before .before .if2 .left)) _ (c .before .little-at .ensures .0)
+    (c .if3 .taken)
 
 little-at-requires-2 : tie.Need-little-at-requires-2
 little-at-requires-2 c κs = search needs
@@ -33,12 +35,16 @@ little-at-requires-2 c κs = search needs
 returns-4 : tie.Need-returns-4
 returns-4 c =
     let bs = c .before .before .before .before .before .before .before .before .args .input .now in
-    whole-auto bs (c .before .before .before .before .before .before .if1 .left) (sym (c .before .before .before .before .before .marked-at .ensures) ∙ not-false _ (c .before .before .before .before .if2 .left)) _ (c .before .before .before .little-at .ensures .0) (c .before .if4 .taken) _ (c .little-at2 .ensures .0)
+    whole-auto bs (c .before .before .before .before .before .before .if1 .left)
+    (sym (c .before .before .before .before .before .marked-at .ensures) ∙ not-false _ (c .before .before .before .before .if2 .left)) _
+    (c .before .before .before .little-at .ensures .0) (c .before .if4 .taken) _ (c .little-at2 .ensures .0)
 
 returns-5 : tie.Need-returns-5
 returns-5 c =
     let bs = c .before .before .before .before .before .before .before .args .input .now in
-    whole-other bs (c .before .before .before .before .before .if1 .left) (sym (c .before .before .before .before .marked-at .ensures) ∙ not-false _ (c .before .before .before .if2 .left)) _ (c .before .before .little-at .ensures .0) (c .before .if3 .left) (c .if4 .left)
+    whole-other bs (c .before .before .before .before .before .if1 .left)
+    (sym (c .before .before .before .before .marked-at .ensures) ∙ not-false _ (c .before .before .before .if2 .left)) _
+    (c .before .before .little-at .ensures .0) (c .before .if3 .left) (c .if4 .left)
 
 pub settings-whole-spec : {M : Type 1} → statement M
 settings-whole-spec =

@@ -58,7 +58,8 @@ write-decimal-write-byte-requires : (t : ℕ) → write-decimal-lts.Need-write-b
   write-decimal-below t,
   write-decimal.Post,
 ) (write-decimal-at t) write-decimal.Post
-write-decimal-write-byte-requires t c κs = room-spelt (decimal-one _ _ (c .before .if1 .taken) (c .before .before .digit-of .ensures)) (c .before .before .before .before .pre .1)
+write-decimal-write-byte-requires t c κs =
+    room-spelt (decimal-one _ _ (c .before .if1 .taken) (c .before .before .digit-of .ensures)) (c .before .before .before .before .pre .1)
 
 write-decimal-same-length : (t : ℕ) → write-decimal-lts.Need-same-length (
   digit-of-reads.Asked,
@@ -78,7 +79,9 @@ write-decimal-returns : (t : ℕ) → write-decimal-lts.Need-returns (
   write-decimal-below t,
   write-decimal.Post,
 ) (write-decimal-at t) write-decimal.Post
-write-decimal-returns t c = spelt (sym (decimal-one _ _ (c .before .before .before .before .if1 .taken) (c .before .before .before .before .before .digit-of .ensures))) (c .before .before .write-byte .ensures)
+write-decimal-returns t c =
+    spelt (sym (decimal-one _ _ (c .before .before .before .before .if1 .taken) (c .before .before .before .before .before .digit-of .ensures)))
+    (c .before .before .write-byte .ensures)
 
 write-decimal-write-decimal-requires : (t : ℕ) → write-decimal-lts.Need-write-decimal-requires (
   digit-of-reads.Asked,
@@ -103,7 +106,8 @@ write-decimal-write-byte-requires-2 : (t : ℕ) → write-decimal-lts.Need-write
 ) (write-decimal-at t) write-decimal.Post
 write-decimal-write-byte-requires-2 t c κs =
     let start = c .before .before .before .before .before .before .before .before in
-    let e = decimal-step _ _ (c .before .before .before .before .before .if1 .left) (start .fits .n .fits) (c .before .before .before .before .before .before .digit-of .ensures) in
+    let e = decimal-step _ _ (c .before .before .before .before .before .if1 .left) (start .fits .n .fits)
+    (c .before .before .before .before .before .before .digit-of .ensures) in
     room-next _ (c .before .before .before .write-decimal .ensures) (room-spelt e (start .pre .1))
 
 write-decimal-same-length-2 : (t : ℕ) → write-decimal-lts.Need-same-length-2 (
@@ -126,8 +130,10 @@ write-decimal-returns-2 : (t : ℕ) → write-decimal-lts.Need-returns-2 (
 ) (write-decimal-at t) write-decimal.Post
 write-decimal-returns-2 t c =
     let start = c .before .before .before .before .before .before .before .before .before .before .before in
-    let e = decimal-step _ _ (c .before .before .before .before .before .before .before .before .if1 .left) (start .fits .n .fits) (c .before .before .before .before .before .before .before .before .before .digit-of .ensures) in
-    spelt (sym e) (wrote-then (c .before .before .before .before .before .before .write-decimal .ensures) (room-spelt e (start .pre .1)) (c .before .before .write-byte2 .ensures))
+    let e = decimal-step _ _ (c .before .before .before .before .before .before .before .before .if1 .left) (start .fits .n .fits)
+    (c .before .before .before .before .before .before .before .before .before .digit-of .ensures) in
+    spelt (sym e) (wrote-then (c .before .before .before .before .before .before .write-decimal .ensures) (room-spelt e (start .pre .1))
+    (c .before .before .write-byte2 .ensures))
 
 pub +write-decimal-spec : {M : Type 1} → statement M
 +write-decimal-spec = close μ-write-decimal λ t. write-decimal-lts.spec (

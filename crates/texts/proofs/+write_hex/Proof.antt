@@ -108,8 +108,11 @@ write-hex-returns-2 : (t : ℕ) → write-hex-lts.Need-returns-2 (
   write-byte-reads.Learnt,
 ) (write-hex-at t) write-hex.Post
 write-hex-returns-2 t c =
-    let e = hex-step _ _ _ (c .before .before .before .before .before .before .before .before .before .if1 .left) (c .before .before .before .before .before .before .before .before .digit-of .ensures) in
-    spelt (sym e) (wrote-then (c .before .before .before .before .before .before .write-hex .ensures) (room-spelt e (c .before .before .before .before .before .before .before .before .before .before .before .pre .1)) (c .before .before .write-byte .ensures))
+    let e = hex-step _ _ _ (c .before .before .before .before .before .before .before .before .before .if1 .left)
+    (c .before .before .before .before .before .before .before .before .digit-of .ensures) in
+    spelt (sym e) (wrote-then (c .before .before .before .before .before .before .write-hex .ensures)
+    (room-spelt e (c .before .before .before .before .before .before .before .before .before .before .before .pre .1))
+    (c .before .before .write-byte .ensures))
 
 pub +write-hex-spec : {M : Type 1} → statement M
 +write-hex-spec = close μ-write-hex λ t. write-hex-lts.spec (

@@ -23,7 +23,9 @@ same-length c = search needs
 
 returns : tie.Need-returns
 returns c =
-    wrote-then (c .before .before .before .before .before .before .before .write-byte .ensures) (c .before .before .before .before .before .before .before .before .before .before .pre) (spelt (sym (bits-text _ _ (c .before .before .before .before .bits-of .ensures))) (c .before .before .write-hex .ensures))
+    wrote-then (c .before .before .before .before .before .before .before .write-byte .ensures)
+    (c .before .before .before .before .before .before .before .before .before .before .pre)
+    (spelt (sym (bits-text _ _ (c .before .before .before .before .bits-of .ensures))) (c .before .before .write-hex .ensures))
 
 pub write-bound-spec : {M : Type 1} → statement M
 write-bound-spec =

@@ -28,7 +28,9 @@ shared-slice-read-write-bound : tie.Need-shared-slice-read-write-bound Inv-loop 
 shared-slice-read-write-bound c = search needs
 
 write-bound-requires : tie.Need-write-bound-requires Inv-loop μ-loop
-write-bound-requires c κs = more-room boundText _ (room-spelt (bounds-text _) (c .before .before .before .before .before .before .pre)) _ nan (c .before .before .loop-test .taken) (c .before .before .before .loop .inv .0)
+write-bound-requires c κs =
+    more-room boundText _ (room-spelt (bounds-text _) (c .before .before .before .before .before .before .pre)) _ nan
+    (c .before .before .loop-test .taken) (c .before .before .before .loop .inv .0)
 
 add-i : tie.Need-add-i Inv-loop μ-loop
 add-i c = search needs
@@ -37,8 +39,13 @@ loop-less : tie.Need-loop-less Inv-loop μ-loop
 loop-less c = search needs
 
 loop-again : tie.Need-loop-again Inv-loop μ-loop
-loop-again c =
-    (each-more boundText _ (room-spelt (bounds-text _) (c .before .before .before .before .before .before .before .before .before .pre)) _ nan (c .before .before .before .before .before .loop-test .taken) (c .before .before .before .before .before .before .loop .inv .0) (c .before .before .write-bound .ensures), search needs, search needs)
+loop-again c = (
+  each-more boundText _ (room-spelt (bounds-text _) (c .before .before .before .before .before .before .before .before .before .pre)) _ nan
+      (c .before .before .before .before .before .loop-test .taken) (c .before .before .before .before .before .before .loop .inv .0)
+      (c .before .before .write-bound .ensures),
+  search needs,
+  search needs,
+)
 
 same-length : tie.Need-same-length Inv-loop μ-loop
 same-length c = search needs

@@ -18,7 +18,9 @@ same-length : tie.Need-same-length
 same-length c = search needs
 
 returns : tie.Need-returns
-returns c = wrote-then (c .before .before .before .before .before .before .write-byte .ensures) (c .before .before .before .before .before .before .before .before .before .pre) (c .before .before .write-decimal .ensures)
+returns c =
+    wrote-then (c .before .before .before .before .before .before .write-byte .ensures)
+    (c .before .before .before .before .before .before .before .before .before .pre) (c .before .before .write-decimal .ensures)
 
 pub write-row-spec : {M : Type 1} → statement M
 write-row-spec =

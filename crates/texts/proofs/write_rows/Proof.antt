@@ -39,7 +39,10 @@ shared-slice-read-write-row : tie.Need-shared-slice-read-write-row Inv-loop μ-l
 shared-slice-read-write-row c = search needs
 
 write-row-requires : tie.Need-write-row-requires Inv-loop μ-loop
-write-row-requires c κs = more-room rowText _ (room-spelt (rows-some _ (c .before .before .before .before .if1 .left)) (c .before .before .before .before .before .before .before .pre)) _ 0 (c .before .before .loop-test .taken) (c .before .before .before .loop .inv .0)
+write-row-requires c κs =
+    more-room rowText _
+    (room-spelt (rows-some _ (c .before .before .before .before .if1 .left)) (c .before .before .before .before .before .before .before .pre)) _ 0
+    (c .before .before .loop-test .taken) (c .before .before .before .loop .inv .0)
 
 add-i : tie.Need-add-i Inv-loop μ-loop
 add-i c = search needs
@@ -48,8 +51,14 @@ loop-less : tie.Need-loop-less Inv-loop μ-loop
 loop-less c = search needs
 
 loop-again : tie.Need-loop-again Inv-loop μ-loop
-loop-again c =
-    (each-more rowText _ (room-spelt (rows-some _ (c .before .before .before .before .before .before .before .if1 .left)) (c .before .before .before .before .before .before .before .before .before .before .pre)) _ 0 (c .before .before .before .before .before .loop-test .taken) (c .before .before .before .before .before .before .loop .inv .0) (c .before .before .write-row .ensures), search needs, search needs)
+loop-again c = (
+  each-more rowText _ (room-spelt (rows-some _ (c .before .before .before .before .before .before .before .if1 .left))
+      (c .before .before .before .before .before .before .before .before .before .before .pre)) _ 0 (c .before .before .before .before .before
+      .loop-test .taken) (c .before .before .before .before .before .before .loop .inv .0) (c .before .before .write-row .ensures),
+  search needs,
+  search
+      needs,
+)
 
 same-length-2 : tie.Need-same-length-2 Inv-loop μ-loop
 same-length-2 c = search needs

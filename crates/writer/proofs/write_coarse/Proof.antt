@@ -20,7 +20,10 @@ same-length c = search needs
 
 returns : tie.Need-returns
 unfolding coarseLevelText
-returns c = wrote-then (c .before .before .before .before .before .before .write-level .ensures) (c .before .before .before .before .before .before .before .before .before .before .before .before .before .before .pre .1) (c .before .before .write-leaf .ensures)
+returns c =
+    wrote-then (c .before .before .before .before .before .before .write-level .ensures)
+    (c .before .before .before .before .before .before .before .before .before .before .before .before .before .before .pre .1)
+    (c .before .before .write-leaf .ensures)
 
 pub write-coarse-spec : {M : Type 1} → statement M
 write-coarse-spec =

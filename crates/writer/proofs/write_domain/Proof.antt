@@ -73,7 +73,8 @@ write-box-requires c κs =
     let f = leafOf (a .own .now) (a .borrowed .now) (a .bounds .now) in
     let box = boxPart (a .fine) (a .bounds .now) in
     let w0 = begin (domainTexts (a .i) f box) (domain-texts (a .i) f box) (start .pre) in
-    let w1 = written w0 tt (c .before .before .before .before .before .before .before .before .before .before .before .before .before .before .before .before .before .before .write-numbered .ensures) in
+    let w1 = written w0 tt (c .before .before .before .before .before .before .before .before .before .before .before .before .before .before .before
+    .before .before .before .write-numbered .ensures) in
     let w2 = written w1 tt (c .before .before .before .before .before .before .before .before .before .before .before .before .before .write-listed .ensures) in
     let w3 = written w2 tt (c .before .before .before .before .before .before .before .before .write-listed2 .ensures) in
     let w4 = written w3 tt (c .before .before .before .write-text .ensures) in
@@ -87,8 +88,10 @@ write-byte-requires c κs =
     let f = leafOf (a .own .now) (a .borrowed .now) (a .bounds .now) in
     let box = boxPart (a .fine) (a .bounds .now) in
     let w0 = begin (domainTexts (a .i) f box) (domain-texts (a .i) f box) (start .pre) in
-    let w1 = written w0 tt (c .before .before .before .before .before .before .before .before .before .before .before .before .before .before .before .before .before .before .before .before .before .before .write-numbered .ensures) in
-    let w2 = written w1 tt (c .before .before .before .before .before .before .before .before .before .before .before .before .before .before .before .before .before .write-listed .ensures) in
+    let w1 = written w0 tt (c .before .before .before .before .before .before .before .before .before .before .before .before .before .before .before
+    .before .before .before .before .before .before .before .write-numbered .ensures) in
+    let w2 = written w1 tt (c .before .before .before .before .before .before .before .before .before .before .before .before .before .before .before
+    .before .before .write-listed .ensures) in
     let w3 = written w2 tt (c .before .before .before .before .before .before .before .before .before .before .before .before .write-listed2 .ensures) in
     let w4 = written w3 tt (c .before .before .before .before .before .before .before .write-text .ensures) in
     let w5 = written w4 tt (c .before .before .before .write-box .ensures) in
@@ -105,9 +108,12 @@ returns c =
     let f = leafOf (a .own .now) (a .borrowed .now) (a .bounds .now) in
     let box = boxPart (a .fine) (a .bounds .now) in
     let w0 = begin (domainTexts (a .i) f box) (domain-texts (a .i) f box) (start .pre) in
-    let w1 = written w0 tt (c .before .before .before .before .before .before .before .before .before .before .before .before .before .before .before .before .before .before .before .before .before .before .before .before .before .write-numbered .ensures) in
-    let w2 = written w1 tt (c .before .before .before .before .before .before .before .before .before .before .before .before .before .before .before .before .before .before .before .before .write-listed .ensures) in
-    let w3 = written w2 tt (c .before .before .before .before .before .before .before .before .before .before .before .before .before .before .before .write-listed2 .ensures) in
+    let w1 = written w0 tt (c .before .before .before .before .before .before .before .before .before .before .before .before .before .before .before
+    .before .before .before .before .before .before .before .before .before .before .write-numbered .ensures) in
+    let w2 = written w1 tt (c .before .before .before .before .before .before .before .before .before .before .before .before .before .before .before
+    .before .before .before .before .before .write-listed .ensures) in
+    let w3 = written w2 tt (c .before .before .before .before .before .before .before .before .before .before .before .before .before .before .before
+    .write-listed2 .ensures) in
     let w4 = written w3 tt (c .before .before .before .before .before .before .before .before .before .before .write-text .ensures) in
     let w5 = written w4 tt (c .before .before .before .before .before .before .write-box .ensures) in
     let w6 = written w5 tt (c .before .before .write-byte .ensures) in

@@ -20,7 +20,10 @@ same-length c = search needs
 
 returns : tie.Need-returns
 unfolding fineLevelText
-returns c = wrote-then (c .before .before .before .before .before .before .write-level .ensures) (c .before .before .before .before .before .before .before .before .before .before .before .before .before .before .pre .1) (c .before .before .write-leaves .ensures)
+returns c =
+    wrote-then (c .before .before .before .before .before .before .write-level .ensures)
+    (c .before .before .before .before .before .before .before .before .before .before .before .before .before .before .pre .1)
+    (c .before .before .write-leaves .ensures)
 
 pub write-fine-spec : {M : Type 1} → statement M
 write-fine-spec =

@@ -112,7 +112,8 @@ same-length c = search needs
 returns : tie.Need-returns
 returns c =
     let a = c .before .before .before .before .before .before .before .before .before .before .before .before .before .before .before .before .args in
-    spelt (sym (leaf-line (a .fine) (a .i) (packed (a .own .now) (a .borrowed .now) (a .domains .now) (a .boxes .now) (a .wide)) (a .j))) (c .before .before .write-domain .ensures)
+    spelt (sym (leaf-line (a .fine) (a .i) (packed (a .own .now) (a .borrowed .now) (a .domains .now) (a .boxes .now) (a .wide)) (a .j)))
+    (c .before .before .write-domain .ensures)
 
 pub write-leaf-spec : {M : Type 1} → statement M
 write-leaf-spec =

@@ -13,7 +13,8 @@ use Rattle.writer.proofs.write_leaves.Statement.{statement}
 use Rattle.writer.proofs.write_leaves.Tie as tie
 
 abbrev Inv-loop : tie.InvT-loop
-Inv-loop j m own borrowed domains boxes wide out₀ at next₀ i₀ out next i = Wrote out₀ at (fineText (packed own borrowed domains boxes wide) j i) next out × (i ≤ m) × (length out ≡ length out₀)
+Inv-loop j m own borrowed domains boxes wide out₀ at next₀ i₀ out next i =
+    Wrote out₀ at (fineText (packed own borrowed domains boxes wide) j i) next out × (i ≤ m) × (length out ≡ length out₀)
 
 abbrev μ-loop : tie.MeasureT-loop
 μ-loop j m own borrowed domains boxes wide out₀ at next₀ i₀ out next i = m - i
@@ -32,7 +33,8 @@ write-leaf-requires c κs =
     let a = start .args in
     let p = packed (a .own .now) (a .borrowed .now) (a .domains .now) (a .boxes .now) (a .wide) in (
       start .pre .0 _ (c .before .loop-test .taken),
-      grown-room (fineText p (a .j)) (λ k. leafLine true k p (a .j + k)) (fine-grows p (a .j)) (a .m) _ (c .before .loop-test .taken) (start .pre .1) (c .before .before .loop .inv .0),
+      grown-room (fineText p (a .j)) (λ k. leafLine true k p (a .j + k)) (fine-grows p (a .j)) (a .m) _ (c .before .loop-test .taken) (start .pre .1)
+          (c .before .before .loop .inv .0),
     )
 
 add-i : tie.Need-add-i Inv-loop μ-loop
@@ -46,7 +48,9 @@ loop-again c =
     let start = c .before .before .before .before .before .before .before .before .before .before .before in
     let a = start .args in
     let p = packed (a .own .now) (a .borrowed .now) (a .domains .now) (a .boxes .now) (a .wide) in (
-      grown (fineText p (a .j)) (λ k. leafLine true k p (a .j + k)) (fine-grows p (a .j)) (a .m) _ (c .before .before .before .before .loop-test .taken) (start .pre .1) (c .before .before .before .before .before .loop .inv .0) (c .before .before .write-leaf .ensures),
+      grown (fineText p (a .j)) (λ k. leafLine true k p (a .j + k)) (fine-grows p (a .j)) (a .m) _
+          (c .before .before .before .before .loop-test .taken) (start .pre .1) (c .before .before .before .before .before .loop .inv .0)
+          (c .before .before .write-leaf .ensures),
       search needs,
       search needs,
     )

@@ -31,8 +31,15 @@ loop-holds c =
     let start = c .before .before .before .before .before .before .before .before in
     let a = start .args in
     let p = packed (a .own .now) (a .borrowed .now) (a .domains .now) (a .boxes .now) (a .wide) in
-    let s = start .pre .0 in
-    (total-none (a .rows .now), total-none (a .counts .now), spelt (sym (front-none p (a .points .now) (a .rows .now) (a .counts .now))) (wrote-none _ _), search needs, refl, refl)
+    let s = start .pre .0 in (
+      total-none (a .rows .now),
+      total-none (a .counts .now),
+      spelt (sym (front-none p (a .points .now) (a .rows .now) (a .counts .now)))
+          (wrote-none _ _),
+      search needs,
+      refl,
+      refl,
+    )
 
 mul-e : tie.Need-mul-e Inv-loop μ-loop
 mul-e c = search needs
@@ -47,7 +54,12 @@ add-e c =
     let p = packed (a .own .now) (a .borrowed .now) (a .domains .now) (a .boxes .now) (a .wide) in
     let s = start .pre .0 in
     let v = c .before .before .loop in
-    omega (arith, rows-here p (a .points .now) (a .rows .now) (a .counts .now) (v .t) (v .a) (v .j) (v .inv .0) (v .inv .1) (a .levels) s (omega (arith, s .some, v .inv .3)), start .good)
+    omega (
+      arith,
+      rows-here p (a .points .now) (a .rows .now) (a .counts .now) (v .t) (v .a) (v .j) (v .inv .0) (v .inv .1) (a .levels) s
+          (omega (arith, s .some, v .inv .3)),
+      start .good,
+    )
 
 mul-m : tie.Need-mul-m Inv-loop μ-loop
 mul-m c = search needs
@@ -62,7 +74,12 @@ mul-write-fine c =
     let p = packed (a .own .now) (a .borrowed .now) (a .domains .now) (a .boxes .now) (a .wide) in
     let s = start .pre .0 in
     let v = c .before .before .before .loop in
-    omega (arith, rows-here p (a .points .now) (a .rows .now) (a .counts .now) (v .t) (v .a) (v .j) (v .inv .0) (v .inv .1) (a .levels) s (omega (arith, s .some, v .inv .3)), start .good)
+    omega (
+      arith,
+      rows-here p (a .points .now) (a .rows .now) (a .counts .now) (v .t) (v .a) (v .j) (v .inv .0) (v .inv .1) (a .levels) s
+          (omega (arith, s .some, v .inv .3)),
+      start .good,
+    )
 
 sub-write-fine : tie.Need-sub-write-fine Inv-loop μ-loop
 sub-write-fine c = search needs
@@ -87,8 +104,13 @@ write-fine-requires c κs =
     let s = start .pre .0 in
     let v = c .before .before .before .before .before .loop in
     let r = room-first _ _ (room-spelt (levels-whole p (a .points .now) (a .rows .now) (a .counts .now) (a .levels) (a .levels - 1) s refl) (start .pre .1)) in
-    let g = grown-room (frontText p (a .points .now) (a .rows .now) (a .counts .now)) (fineAt p (a .points .now) (a .rows .now) (a .counts .now)) (front-grows p (a .points .now) (a .rows .now) (a .counts .now)) (a .levels - 1) (v .t) (omega arith) r (v .inv .2) in
-    (held-here p (a .points .now) (a .rows .now) (a .counts .now) (v .t) (v .a) (v .j) (v .inv .0) (v .inv .1) (a .levels) s (omega (arith, s .some, v .inv .3)), room-spelt (fine-here p (a .points .now) (a .rows .now) (a .counts .now) (v .t) (v .a) (v .j) (v .inv .0) (v .inv .1)) g)
+    let g = grown-room (frontText p (a .points .now) (a .rows .now) (a .counts .now)) (fineAt p (a .points .now) (a .rows .now) (a .counts .now))
+    (front-grows p (a .points .now) (a .rows .now) (a .counts .now)) (a .levels - 1) (v .t) (omega arith) r (v .inv .2) in (
+      held-here p (a .points .now) (a .rows .now) (a .counts .now) (v .t) (v .a) (v .j) (v .inv .0) (v .inv .1) (a .levels) s
+          (omega (arith, s .some, v .inv .3)),
+      room-spelt
+          (fine-here p (a .points .now) (a .rows .now) (a .counts .now) (v .t) (v .a) (v .j) (v .inv .0) (v .inv .1)) g,
+    )
 
 add-j : tie.Need-add-j Inv-loop μ-loop
 add-j c =
@@ -97,7 +119,12 @@ add-j c =
     let p = packed (a .own .now) (a .borrowed .now) (a .domains .now) (a .boxes .now) (a .wide) in
     let s = start .pre .0 in
     let v = c .before .before .before .before .before .before .before .before .loop in
-    omega (arith, domains-here p (a .points .now) (a .rows .now) (a .counts .now) (v .t) (v .a) (v .j) (v .inv .0) (v .inv .1) (a .levels) s (omega (arith, s .some, v .inv .3)), start .good)
+    omega (
+      arith,
+      domains-here p (a .points .now) (a .rows .now) (a .counts .now) (v .t) (v .a) (v .j) (v .inv .0) (v .inv .1) (a .levels) s
+          (omega (arith, s .some, v .inv .3)),
+      start .good,
+    )
 
 add-t : tie.Need-add-t Inv-loop μ-loop
 add-t c = search needs
@@ -113,8 +140,18 @@ loop-again c =
     let s = start .pre .0 in
     let v = c .before .before .before .before .before .before .before .before .loop in
     let r = room-first _ _ (room-spelt (levels-whole p (a .points .now) (a .rows .now) (a .counts .now) (a .levels) (a .levels - 1) s refl) (start .pre .1)) in
-    let g = grown (frontText p (a .points .now) (a .rows .now) (a .counts .now)) (fineAt p (a .points .now) (a .rows .now) (a .counts .now)) (front-grows p (a .points .now) (a .rows .now) (a .counts .now)) (a .levels - 1) (v .t) (omega arith) r (v .inv .2) in
-    (ap (λ (k : ℕ). k + getD (a .rows .now) (v .t) 0) (v .inv .0) ∙ sym (total-step (a .rows .now) (v .t)), ap (λ (k : ℕ). k + getD (a .counts .now) (v .t) 0) (v .inv .1) ∙ sym (total-step (a .counts .now) (v .t)), g (spelt (sym (fine-here p (a .points .now) (a .rows .now) (a .counts .now) (v .t) (v .a) (v .j) (v .inv .0) (v .inv .1))) (c .before .before .write-fine .ensures)), search needs, v .inv .4, search needs)
+    let g = grown (frontText p (a .points .now) (a .rows .now) (a .counts .now)) (fineAt p (a .points .now) (a .rows .now) (a .counts .now))
+    (front-grows p (a .points .now) (a .rows .now) (a .counts .now)) (a .levels - 1) (v .t) (omega arith) r (v .inv .2) in (
+      ap (λ (k : ℕ). k + getD (a .rows .now) (v .t) 0) (v .inv .0) ∙ sym (total-step (a .rows .now) (v .t)),
+      ap (λ (k : ℕ). k + getD (a .counts .now)
+          (v .t) 0) (v .inv .1) ∙ sym (total-step (a .counts .now) (v .t)),
+      g (spelt
+          (sym (fine-here p (a .points .now) (a .rows .now) (a .counts .now) (v .t) (v .a) (v .j) (v .inv .0) (v .inv .1)))
+          (c .before .before .write-fine .ensures)),
+      search needs,
+      v .inv .4,
+      search needs,
+    )
 
 mul-e-2 : tie.Need-mul-e-2 Inv-loop μ-loop
 mul-e-2 c = search needs
@@ -177,8 +214,12 @@ write-coarse-requires c κs =
     let ea : v .a ≡ total (take (a .levels - 1) (a .rows .now)) = v .inv .0 ∙ ap (λ (k : ℕ). total (take k (a .rows .now))) e in
     let ej : v .j ≡ total (take (a .levels - 1) (a .counts .now)) = v .inv .1 ∙ ap (λ (k : ℕ). total (take k (a .counts .now))) e in
     let w = spelt (ap (frontText p (a .points .now) (a .rows .now) (a .counts .now)) e) (v .inv .2) in
-    let r = room-next _ w (room-spelt (levels-whole p (a .points .now) (a .rows .now) (a .counts .now) (a .levels) (a .levels - 1) s refl) (start .pre .1)) in
-    (rw add-zero at (held-here p (a .points .now) (a .rows .now) (a .counts .now) (a .levels - 1) (v .a) (v .j) ea ej (a .levels) s (omega (arith, s .some)) 0 (omega (arith, s .coarse))), room-spelt (coarse-here p (a .points .now) (a .rows .now) (a .counts .now) (a .levels - 1) (v .a) (v .j) ea ej) r)
+    let r = room-next _ w (room-spelt (levels-whole p (a .points .now) (a .rows .now) (a .counts .now) (a .levels) (a .levels - 1) s refl) (start .pre .1)) in (
+      rw add-zero at (held-here p (a .points .now) (a .rows .now) (a .counts .now) (a .levels - 1) (v .a) (v .j) ea ej (a .levels) s
+          (omega (arith, s .some)) 0 (omega (arith, s .coarse))),
+      room-spelt (coarse-here p (a .points .now) (a .rows .now) (a .counts .now) (a .levels - 1)
+          (v .a) (v .j) ea ej) r,
+    )
 
 same-length : tie.Need-same-length Inv-loop μ-loop
 same-length c = search needs
@@ -195,7 +236,9 @@ returns c =
     let ej : v .j ≡ total (take (a .levels - 1) (a .counts .now)) = v .inv .1 ∙ ap (λ (k : ℕ). total (take k (a .counts .now))) e in
     let w = spelt (ap (frontText p (a .points .now) (a .rows .now) (a .counts .now)) e) (v .inv .2) in
     let r = room-spelt (levels-whole p (a .points .now) (a .rows .now) (a .counts .now) (a .levels) (a .levels - 1) s refl) (start .pre .1) in
-    spelt (sym (levels-whole p (a .points .now) (a .rows .now) (a .counts .now) (a .levels) (a .levels - 1) s refl)) (wrote-then w r (spelt (sym (coarse-here p (a .points .now) (a .rows .now) (a .counts .now) (a .levels - 1) (v .a) (v .j) ea ej)) (c .before .before .write-coarse .ensures)))
+    spelt (sym (levels-whole p (a .points .now) (a .rows .now) (a .counts .now) (a .levels) (a .levels - 1) s refl)) (wrote-then w r (spelt
+    (sym (coarse-here p (a .points .now) (a .rows .now) (a .counts .now) (a .levels - 1) (v .a) (v .j) ea ej))
+    (c .before .before .write-coarse .ensures)))
 
 pub write-levels-spec : {M : Type 1} → statement M
 write-levels-spec =
