@@ -12,8 +12,9 @@ use Rattle.lists.proofs.From.{map-below-suc, map-from-nil, zip-from-at}
 use Rattle.lists.proofs.Joined.{joined-nil, joined-snoc, length-joined}
 use Rattle.lists.proofs.Sums.{sum-below-same}
 use Rattle.lists.proofs.Times.{times, Once, members-length, members-times}
-use Rattle.lists.proofs.Ascends.{ascends-keep, ascends-once, ascends-unique-count}
+use Rattle.lists.proofs.Ascends.{ascends-keep, ascends-once, ascends-unique-count, once-ascends}
 use Rattle.lists.proofs.Same.{Same, same-times, same-once}
+use Rattle.lists.proofs.Map.{zip-map}
 use Rattle.definition.specs.Quotas.{quotas}
 use Rattle.definition.specs.Sampling.{seedOf, sample, sentBy}
 use Rattle.definition.specs.Cut.{Domain}
@@ -25,7 +26,6 @@ use Rattle.heap.specs.Heap.{Sorted}
 use Rattle.owners.specs.Own.{ownAt, readOwn}
 use Rattle.owners.proofs.Read.{read-length, read-at}
 use Rattle.coarse_points.specs.Sent.{sentUp, sentAt}
-use Rattle.coarse_points.proofs.Lists.{zip-map, sorted-ascends}
 
 -- ---- one leaf
 module _ (d : ℕ) (cs : List Float) (rows : List ℕ) where
@@ -103,7 +103,7 @@ module _ (active : List ℕ) (up : Ascends active) (sent : List ℕ) (some : (r 
   pub sorted-next : (ys : List ℕ) → Sorted (λ x y. x ≤ y) ys → Same ys sent → ys ≡ keep (λ i. member i sent) active
   sorted-next ys s e =
       ascends-unique-count ys (keep (λ i. member i sent) active)
-      (sorted-ascends ys s (same-once ys sent e once))
+      (once-ascends ys (same-once ys sent e once) s)
       (ascends-keep (λ i. member i sent) active up)
       (λ r. same-times ys sent e r ∙ sym (members-times active (ascends-once active up) sent some r))
 

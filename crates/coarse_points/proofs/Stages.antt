@@ -1,17 +1,17 @@
 -- How the steps fit together: sizes, quotas, what each leaf sends, and the sorted rows behind the active ones. Assumes nothing.
 use mathlib.Core.Path.{_≡_, sym, ap, _∙_}
-use mathlib.Core.List.{List, [], map, zipWith, map-map, append-assoc}
+use mathlib.Core.List.{List, [], map, zipWith, map-map}
 use Prim.Native.Nat.{ℕ, _+_, _*_, _-_, _≤_, _<_}
 use native.Mathlib.Nat.{add-zero}
 use native.Mathlib.Omega.{arith}
 use lib.ListN.{length, getD, take, drop}
-use lib.Seq.{getD-take, length-take-le, drop-drop}
+use lib.Seq.{getD-take, length-take-le}
 use lib.Ieee.{Float}
 use borrow.Rule.Slice.PartMut.{putMid}
 use Rattle.lists.specs.Lists.{total, from, joined, keep, member, count, part, put}
 use Rattle.lists.specs.Ascends.{All, Ascends}
 use Rattle.lists.proofs.All.{all-at, joined-all}
-use Rattle.lists.proofs.Put.{length-part, part-lent, put-next, put-def, put-over, part-put-same}
+use Rattle.lists.proofs.Put.{length-part, part-lent, put-next, put-over, part-put-same, mid-back}
 use Rattle.lists.proofs.From.{map-below-same, length-map-from, getD-map-below}
 use Rattle.lists.proofs.Joined.{length-joined}
 use Rattle.lists.proofs.Sums.{sum-below-same, sum-below-suc, sum-below-part, sum-below-at, total-index}
@@ -141,9 +141,6 @@ module _ (d : ℕ) (cs : List Float) (active I D : List ℕ) (first m : ℕ) (s 
         ∙ ap (put l at) (sorted-up (o .rows) (o .sorted) same)
 
 -- ---- a part that was lent comes back
-pub mid-back : (l : List ℕ) (at n : ℕ) (ys : List ℕ) → length ys ≡ n → putMid at n l ys ≡ put l at ys
-mid-back l at n ys e = rw (← e, put-def l at ys, ← drop-drop (length ys) at l) (sym (append-assoc (take at l) ys (drop (length ys) (drop at l))))
-
 pub reordered : (l : List ℕ) (start e : ℕ) (ys : List ℕ) → start ≤ e → e ≤ length l → Sorted (λ x y. x ≤ y) ys → Same ys (take (e - start) (drop start l))
     → Reordered l start (e - start) (putMid start (e - start) l ys)
 unfolding part

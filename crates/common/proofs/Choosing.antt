@@ -18,10 +18,10 @@ use Rattle.lists.proofs.Tests.{clash}
 use Rattle.lists.proofs.All.{all-mem}
 use Rattle.lists.proofs.Map.{map-snoc}
 use Rattle.lists.proofs.Best.{best-snoc}
-use Rattle.lists.proofs.Put.{set-put, put-snoc}
-use Rattle.lists.proofs.Members.{mem-at, keep-at}
-use Rattle.lists.proofs.Times.{times, times-nil, mem-times, times-mem, others-count}
-use Rattle.lists.proofs.Ascends.{ascends-once}
+use Rattle.lists.proofs.Put.{set-put, put-snoc, put-set}
+use Rattle.lists.proofs.Members.{mem-at, keep-at, member-last, member-other}
+use Rattle.lists.proofs.Times.{times, times-nil, mem-times, times-mem, others-count, member-zero, times-more}
+use Rattle.lists.proofs.Ascends.{ascends-once, ascends-differ}
 use Rattle.definition.specs.Number.{squareRoot}
 use Rattle.definition.specs.Points.{rowsSq, rowsApart, leastOf}
 use Rattle.definition.specs.Sampling.{gap, pick, sampleMore, sample}
@@ -31,7 +31,6 @@ use Rattle.common.specs.Rounds.{lesser, minusOne, Kept, lessened, Chosen
 use Rattle.common.proofs.Orders.{one-not-good, lesser-one, lesser-inf}
 use Rattle.common.proofs.Passes.{row-fits, square-good}
 use Rattle.common.proofs.Alike.{Alike, alike-inf, alike-lt, alike-lesser}
-use Rattle.common.proofs.Lists.{member-last, member-other, member-zero, put-set, times-more, ascends-differ}
 use Rattle.common.proofs.Picking.{pick-is}
 
 module _ (d : ℕ) (cs : List Float) where

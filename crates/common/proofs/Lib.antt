@@ -2,7 +2,6 @@
 mod Orders
 mod Passes
 mod Roots
-mod Lists
 mod Alike
 mod Picking
 mod Choosing

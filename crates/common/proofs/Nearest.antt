@@ -14,6 +14,7 @@ use lib.Ieee.{Float, nan, lt}
 use lib.Ieee.Scale.{finite}
 use Rattle.lists.specs.Ascends.{All}
 use Rattle.lists.proofs.All.{all-of, all-mem}
+use Rattle.lists.proofs.Members.{split-at, each-before, each-behind}
 use Rattle.definition.specs.Number.{plusZero, plus, over, squareRoot}
 use Rattle.definition.specs.Keys.{keyed, nearestRow}
 use Rattle.definition.specs.Points.{pointAt, coordinate, column, distanceSq, distance}
@@ -23,7 +24,6 @@ use Rattle.root_laws.proofs.Order.{lt-irrefl, lt-asym, le-le, lt-le}
 use Rattle.root_laws.proofs.Values.{root-good, root-order}
 use Rattle.laws.proofs.Finite.{centroid-sq-good}
 use Rattle.common.proofs.Passes.{row-fits}
-use Rattle.common.proofs.Lists.{split-at, each-before, each-behind}
 use Rattle.common.proofs.Picking.{nearest-is}
 
 -- ---- the sum of a column, from row i on

@@ -12,10 +12,9 @@ use Rattle.lists.specs.Ascends.{All}
 use Rattle.lists.proofs.All.{all-of, all-map}
 use Rattle.lists.proofs.Best.{best-stays, best-is}
 use Rattle.lists.proofs.Count.{keep-append}
-use Rattle.lists.proofs.Members.{keep-mem}
+use Rattle.lists.proofs.Members.{keep-mem, split-at, each-before, each-behind}
 use Rattle.definition.specs.Keys.{Key, keyed, nearestRow, farthestRow}
 use Rattle.definition.specs.Sampling.{gap, pick}
-use Rattle.common.proofs.Lists.{split-at, each-before, each-behind}
 
 module _ (v : ℕ → Float) (better : Float → Float → Bool) where
   key : ℕ → Key

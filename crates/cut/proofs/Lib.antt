@@ -1,4 +1,3 @@
 -- Laws of the cut.
-pub mod Axis
 pub mod Stretch
 pub mod Halves

@@ -1,4 +1,3 @@
 -- Laws of sorting.
-pub mod Lists
 pub mod Heaps
 pub mod Orders

@@ -14,12 +14,12 @@ use lib.Ieee.{Float, ofBits, binary64}
 use borrow.Author.Tests.{le-leb}
 use Rattle.lists.proofs.Tests.{true-or-false, same-or, le-or-lt}
 use Rattle.lists.proofs.From.{map-below-same}
+use Rattle.lists.proofs.Take.{drop-take}
 use Rattle.definition.specs.Tree.{Settings}
 use Rattle.definition.specs.Refusals.{wrongDimension}
 use Rattle.definition.specs.Stream.{Job, broken, brokenAt, Mark, little, field, coordinatesAt, whole, pointMark, pointSize, settingsMark, settingsSize, policyFits, settingsIn, streamPoints, readPoints, held, jobIn}
 use Rattle.definition.specs.Printout.{jobText, printout}
 use Rattle.job_laws.specs.Sizes.{decisive}
-use Rattle.job_laws.proofs.Lists.{drop-take}
 use Rattle.job_laws.proofs.Stream.{read-cut, read-full, read-more, right-dimension}
 
 -- ---- a number, a record and a point that end within the first n bytes

@@ -18,6 +18,7 @@ use Rattle.lists.proofs.All.{all-keep, all-mem}
 use Rattle.lists.proofs.Count.{count-len, length-keep}
 use Rattle.lists.proofs.From.{all-from, length-from}
 use Rattle.lists.proofs.Joined.{length-joined}
+use Rattle.lists.proofs.Sums.{sum-most}
 use Rattle.definition.specs.Number.{plusZero}
 use Rattle.definition.specs.Levels.{threshold, reductions}
 use Rattle.definition.specs.Cut.{Domain, rootDomain, cutKeys, leftOf, rightOf, queueLeaves, leavesOf}
@@ -26,7 +27,6 @@ use Rattle.definition.specs.Tree.{Settings, Leaf, Level, coarseLevel, fineLevel
 use Rattle.definition.specs.Refusals.{Refusal, Verdict, accepted, refused}
 use Rattle.definition.specs.Stream.{Job, job, broken, streamPoints, jobIn}
 use Rattle.definition.specs.Printout.{ascii, digitOf, decimal, decimalOnto, hexOnto, rowsText, boxText, domainLine, fineLines, coarseLines, levelLine, levelsText, treeText, refusalText, builtText, jobText, printout}
-use Rattle.laws.proofs.Lists.{sum-most}
 use Rattle.laws.proofs.Halves.{first-rows, other-rows}
 use Rattle.laws.proofs.Cuts.{leaves-all}
 use Rattle.laws.proofs.Steps.{fineOf, nextOf, queue-wait, queue-done, levels-last, levels-end, levels-more}

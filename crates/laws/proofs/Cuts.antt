@@ -17,9 +17,9 @@ use Rattle.lists.proofs.From.{all-from}
 use Rattle.lists.proofs.Best.{best-in}
 use Rattle.lists.proofs.Times.{times, Once}
 use Rattle.lists.proofs.Joined.{count-joined}
+use Rattle.lists.proofs.Sums.{sum-nil, sum-cons, sum-two}
 use Rattle.definition.specs.Points.{coordinate, extent}
 use Rattle.definition.specs.Cut.{Domain, rootDomain, longestAxis, cutKeys, leftOf, rightOf, queueLeaves, leavesOf}
-use Rattle.laws.proofs.Lists.{sum-nil, sum-cons, sum-two}
 use Rattle.laws.proofs.Finite.{no-nan}
 use Rattle.laws.proofs.Halves.{Sortable, first-length, other-length, length-keyed, parts-times, first-ascends, other-ascends, sortable}
 use Rattle.laws.proofs.Steps.{queue-empty, queue-wait, queue-done}

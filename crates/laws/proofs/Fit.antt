@@ -9,8 +9,8 @@ use lib.Ieee.{Float}
 use Rattle.lists.specs.Lists.{total, joined, from}
 use Rattle.lists.specs.Ascends.{All}
 use Rattle.lists.proofs.All.{all-map, all-mem, all-joined}
-use Rattle.lists.proofs.Sums.{sum-const}
-use Rattle.lists.proofs.Joined.{length-joined}
+use Rattle.lists.proofs.Sums.{sum-const, sum-most}
+use Rattle.lists.proofs.Joined.{length-joined, sum-joined}
 use Rattle.lists.proofs.From.{length-from}
 use Rattle.definition.specs.Number.{plusZero}
 use Rattle.definition.specs.Levels.{threshold, reductions}
@@ -19,7 +19,6 @@ use Rattle.definition.specs.Overlaps.{nearOf, borrowedBy}
 use Rattle.definition.specs.Tree.{Settings, Leaf, Level, coarseLevel, fineLevel, nextActive, mostFine, levelsFrom, levelsOver, pointCount, levels}
 use Rattle.definition.specs.Packed.{leavesIn, packedPoints, packedOwn, packedDomains, packedBoxes, packedBorrowed, stretches, rowNumbers, rowFloats, mostRows, BuildSizes, buildStated}
 use Rattle.definition.specs.Refusals.{accepted, buildVerdict}
-use Rattle.laws.proofs.Lists.{sum-joined, sum-most}
 use Rattle.laws.proofs.Steps.{fineOf}
 use Rattle.laws.proofs.Cuts.{Good}
 use Rattle.laws.proofs.Shape.{leaves-most, leaves-sum, leaves-boxes}

@@ -11,13 +11,13 @@ use lib.ListN.{length, length-map}
 use lib.Ieee.{Float, isNan}
 use Rattle.lists.specs.Lists.{keep, count}
 use Rattle.lists.specs.Ascends.{All, Ascends}
-use Rattle.lists.proofs.Count.{count-map, count-sides, keep-map, length-keep}
+use Rattle.lists.proofs.Count.{count-map, count-sides, keep-map, length-keep, count-next}
 use Rattle.lists.proofs.Members.{keep-mem}
 use Rattle.lists.proofs.Ascends.{ascends-keep}
 use Rattle.lists.proofs.Times.{times, Once, times-one, times-cons, from-times, once-tail, once-head, times-mem}
 use Rattle.lists.proofs.Rank.{Compared, first-count, ahead}
+use Rattle.lists.proofs.Take.{single}
 use Rattle.definition.specs.Keys.{Key, keyed, before, rank, firstRows, otherRows, keyAt}
-use Rattle.laws.proofs.Lists.{single, count-next}
 use Rattle.laws.proofs.Order.{before-irr, before-trans, before-or}
 
 -- ---- keys of which each two compare

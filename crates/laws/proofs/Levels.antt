@@ -12,8 +12,8 @@ use Rattle.lists.proofs.Tests.{le-or-lt}
 use Rattle.lists.proofs.Count.{count-len, length-keep}
 use Rattle.lists.proofs.Times.{times, times-keep-le}
 use Rattle.lists.proofs.Ascends.{ascends-keep}
+use Rattle.lists.proofs.Sums.{sum-cons, sum-nil}
 use Rattle.definition.specs.Tree.{Settings, Level, coarseLevel, nextActive, levelsFrom}
-use Rattle.laws.proofs.Lists.{sum-cons, sum-nil}
 use Rattle.laws.proofs.Steps.{fineOf, nextOf, sentOf, levels-last, levels-end, levels-more}
 use Rattle.laws.proofs.Cuts.{Good, good-part}
 

@@ -1,5 +1,4 @@
 -- Laws of the definition of the build.
-pub mod Lists
 pub mod Order
 pub mod Finite
 pub mod Halves

@@ -15,17 +15,17 @@ use Rattle.lists.specs.Lists.{oneIf, count, anyOf, member, total, joined}
 use Rattle.lists.specs.Ascends.{All, Ascends}
 use Rattle.lists.proofs.Tests.{clash, and-fst, and-snd, eqb-comm}
 use Rattle.lists.proofs.All.{all-mem, all-map}
-use Rattle.lists.proofs.Count.{count-le, count-none, length-keep}
+use Rattle.lists.proofs.Count.{count-le, count-none, length-keep, count-or-le}
 use Rattle.lists.proofs.Members.{keep-mem, mem-member}
-use Rattle.lists.proofs.Times.{times, Once, from-times, once-keep}
+use Rattle.lists.proofs.Times.{times, Once, from-times, once-keep, members-few}
 use Rattle.lists.proofs.Ascends.{ascends-keep}
-use Rattle.lists.proofs.Sums.{sum-le, sum-add, sum-mul}
+use Rattle.lists.proofs.Sums.{sum-le, sum-add, sum-mul, count-any, any-sum, sum-swap, sum-most}
+use Rattle.lists.proofs.Joined.{holders-few}
 use Rattle.definition.specs.Points.{rowsSq}
 use Rattle.definition.specs.Keys.{keyed}
 use Rattle.definition.specs.Overlaps.{nearest, Near, nearOf, lends, borrowedBy}
 use Rattle.definition.specs.Cut.{Domain, leavesOf}
 use Rattle.definition.specs.Tree.{Leaf, fineLevel}
-use Rattle.laws.proofs.Lists.{count-or-le, count-any, any-sum, members-few, holders-few, sum-swap, sum-most}
 use Rattle.laws.proofs.Finite.{rows-known}
 use Rattle.laws.proofs.Halves.{Sortable, first-length, length-keyed, first-ascends, sortable}
 use Rattle.laws.proofs.Cuts.{Good, leaves-times}

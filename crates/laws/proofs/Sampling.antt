@@ -1,17 +1,17 @@
 -- Sampling takes as many rows as wanted, of the rows that it is given, none twice. Assumes nothing.
-use mathlib.Core.Path.{_≡_, refl, ap, subst}
+use mathlib.Core.Path.{_≡_, refl, ap}
 use mathlib.Core.Bool.{not}
 use mathlib.Core.List.{List, [], _∷_, _++_, map}
 use Prim.Native.Nat.{ℕ, zero, suc, _+_, _-_, _≤_, _<_}
 use native.Mathlib.Omega.{arith}
-use native.Mathlib.Decide.{decLt, ℕ-discrete}
+use native.Mathlib.Decide.{decLt}
 use lib.ListN.{length, length-append}
 use lib.Ieee.{Float, lt}
 use Rattle.lists.specs.Lists.{keep, member}
 use Rattle.lists.specs.Ascends.{All}
 use Rattle.lists.proofs.All.{all-map}
 use Rattle.lists.proofs.Best.{best-in}
-use Rattle.lists.proofs.Times.{times, Once, times-nil, times-one, times-other, times-append, from-times, member-some, times-keep-le, times-keep-out, others-count}
+use Rattle.lists.proofs.Times.{times, Once, times-nil, from-times, member-some, times-keep-le, times-keep-out, others-count, times-more}
 use Rattle.definition.specs.Keys.{Key, keyed, nearestRow, farthestRow}
 use Rattle.definition.specs.Sampling.{gap, pick, sampleMore, sample, fromCentroid, seedOf, sentBy}
 use Rattle.laws.proofs.Halves.{keyOf}
@@ -71,14 +71,6 @@ module _ (d : ℕ) (cs : List Float) (rows : List ℕ) where
           | no k ↦ omega arith
         ]
 
-    -- one more row, which is not chosen yet
-    own-more : (chosen : List ℕ) (x : ℕ) → ((r : ℕ) → times r chosen ≤ times r rows) → 0 < times x rows → times x chosen ≡ 0
-        → (r : ℕ) → times r (chosen ++ x ∷ []) ≤ times r rows
-    own-more chosen x own i n r = elim (ℕ-discrete x r) [
-      | yes e ↦ subst (λ (y : ℕ). times y (chosen ++ x ∷ []) ≤ times y rows) e (omega (arith, times-append x chosen (x ∷ []), times-one x [], times-nil x))
-      | no k ↦ omega (arith, times-append r chosen (x ∷ []), times-other r x [] k, times-nil r, own r)
-    ]
-
     -- what is taken are given rows, each at most once
     pub more-own : (more : ℕ) (chosen : List ℕ) → ((r : ℕ) → times r chosen ≤ times r rows) → length chosen + more ≤ length rows
         → (r : ℕ) → times r (sampleMore d cs rows more chosen) ≤ times r rows
@@ -86,13 +78,13 @@ module _ (d : ℕ) (cs : List Float) (rows : List ℕ) where
     more-own zero chosen own l = own
     more-own (suc more) chosen own l =
         let p = pick-new chosen own (omega arith) in
-        more-own more (chosen ++ pick d cs rows chosen ∷ []) (own-more chosen (pick d cs rows chosen) own (p .0) (p .1))
+        more-own more (chosen ++ pick d cs rows chosen ∷ []) (times-more rows chosen (pick d cs rows chosen) own (p .0) (p .1))
         (omega (arith, length-append chosen (pick d cs rows chosen ∷ [])))
 
     pub sample-own : (wanted seed : ℕ) → 1 ≤ wanted → wanted ≤ length rows → 0 < times seed rows → (r : ℕ) → times r (sample d cs rows wanted seed) ≤ times r rows
     unfolding sample
     sample-own wanted seed h l m =
-        more-own (wanted - 1) (seed ∷ []) (own-more [] seed (λ r. omega (arith, times-nil r)) m (times-nil seed)) (omega arith)
+        more-own (wanted - 1) (seed ∷ []) (times-more rows [] seed (λ r. omega (arith, times-nil r)) m (times-nil seed)) (omega arith)
 
     pub sample-once : (wanted seed : ℕ) → 1 ≤ wanted → wanted ≤ length rows → 0 < times seed rows → Once (sample d cs rows wanted seed)
     sample-once wanted seed h l m r = omega (arith, sample-own wanted seed h l m r, once r)

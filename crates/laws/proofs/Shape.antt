@@ -13,11 +13,10 @@ use Rattle.lists.specs.Ascends.{All}
 use Rattle.lists.proofs.Tests.{le-or-lt}
 use Rattle.lists.proofs.All.{all-append, map-all}
 use Rattle.lists.proofs.From.{length-from}
-use Rattle.lists.proofs.Sums.{total-nil, total-cons, total-append}
+use Rattle.lists.proofs.Sums.{total-nil, total-cons, total-append, sum-nil, sum-cons, sum-two}
 use Rattle.definition.specs.Points.{extents}
 use Rattle.definition.specs.Cut.{Domain, rootDomain, longestAxis, plane, leftOf, rightOf, queueLeaves, leavesOf}
 use Rattle.laws.specs.Shape.{shapeQueue, shape}
-use Rattle.laws.proofs.Lists.{sum-nil, sum-cons, sum-two}
 use Rattle.laws.proofs.Steps.{queue-wait, queue-done}
 use Rattle.laws.proofs.Cuts.{Good, sizesOf, left-good, right-good, left-length, right-length, leaves-all, queue-enough}
 

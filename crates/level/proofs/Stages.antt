@@ -3,7 +3,7 @@
 use mathlib.Core.Path.{_≡_, refl, sym, ap, subst, _∙_}
 use mathlib.Core.Logic.{⊎-elim}
 use mathlib.Core.Bool.{Bool, true, false}
-use mathlib.Core.List.{List, [], _∷_, map, map-map, zipWith}
+use mathlib.Core.List.{List, [], map, map-map}
 use Prim.Native.Nat.{ℕ, zero, suc, _+_, _*_, _≤_, _<_}
 use native.Mathlib.Omega.{arith}
 use native.Mathlib.Nat.{mul-le-mul}
@@ -20,6 +20,7 @@ use Rattle.lists.proofs.Count.{length-keep}
 use Rattle.lists.proofs.Joined.{length-joined}
 use Rattle.lists.proofs.From.{map-below-same}
 use Rattle.lists.proofs.Times.{times, times-keep-in, times-keep-out, once-keep, once-length}
+use Rattle.lists.proofs.Map.{zip-map}
 use Rattle.definition.specs.Cut.{Domain, leavesOf}
 use Rattle.definition.specs.Overlaps.{nearOf, borrowedBy}
 use Rattle.definition.specs.Quotas.{quotas}
@@ -38,13 +39,6 @@ use Rattle.level.specs.Fine.{leavesAt, nextAt, ownIn, borrowedIn, boxesI
 use Rattle.level.proofs.Columns.{own-length, own-names, own-read, borrowed-length, keeps-start, keeps-count, both-columns}
 
 -- ---- the definition's level, by its parts
-module _ {A B C E : Type 0} (f : B → C → E) (g : A → B) where
-  zip-map : (xs : List A) (ys : List C) → zipWith (λ x y. f (g x) y) xs ys ≡ zipWith f (map g xs) ys
-  unfolding zipWith
-  zip-map [] ys = refl
-  zip-map (x ∷ xs) [] = refl
-  zip-map (x ∷ xs) (y ∷ ys) = rw (zip-map xs ys)
-
 -- the own rows of each domain
 abbrev pub rowsIn : List Domain → List (List ℕ)
 rowsIn qs = map (λ q. q .rows) qs

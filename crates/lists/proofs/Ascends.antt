@@ -16,7 +16,8 @@ use Rattle.lists.proofs.All.{all-append, all-keep, all-take, all-at, al
 use Rattle.lists.proofs.Count.{count-len, count-lt, length-keep}
 use Rattle.lists.proofs.Members.{mem-keep, map-mem}
 use Rattle.lists.proofs.From.{from-mem}
-use Rattle.lists.proofs.Times.{times, Once, times-nil, times-one, times-other, mem-times, times-mem}
+use Rattle.lists.proofs.Times.{times, Once, times-nil, times-one, times-other, mem-times, times-mem, once-differ}
+use Rattle.lists.proofs.Tests.{same-or}
 
 -- ---- what is kept, stretches, and the numbers from a on
 pub ascends-keep : (p : ℕ → Bool) (l : List ℕ) → Ascends l → Ascends (keep p l)
@@ -156,3 +157,14 @@ ascends-short (x ∷ xs) ys h f =
     let p : ℕ → Bool = λ y. ltb x y in
     let k = ascends-short xs (keep p ys) (h .1) (λ z m. mem-keep p ys (f z (List·Memᴰ·tail m)) (lt-ltb x z (all-mem (λ y. x < y) xs (h .0) z m))) in
     omega (arith, k, length-keep p ys, count-lt p (λ y. true) ys (λ y m e. refl) x (f x (List·Memᴰ·head refl)) (le-ltb x x (omega arith)) refl, count-len (λ y. true) ys)
+
+-- a list without repeats whose numbers do not descend
+pub once-ascends : (l : List ℕ) → Once l → ((i j : ℕ) → i < j → j < length l → getD l i 0 ≤ getD l j 0) → Ascends l
+once-ascends l o s = ascends-by-index l (λ i j h g. less (s i j h g) (once-differ l o i j h g))
+  where
+    less : {x y : ℕ} → x ≤ y → (x ≡ y → ⊥) → x < y
+    less {x} {y} a n = elim (same-or x y) [ inl e ↦ absurd (n e) | inr m ↦ omega arith ]
+
+-- ---- ascending numbers at two places differ
+pub ascends-differ : (l : List ℕ) (a b : ℕ) → Ascends l → a < length l → b < length l → (a ≡ b → ⊥) → getD l a 0 ≡ getD l b 0 → ⊥
+ascends-differ l a b s h k n e = n (ascends-same l a b s h k e)

@@ -1,9 +1,10 @@
 -- The best of some elements: it is one of them, none of them is better, and one more element. Assumes nothing.
-use mathlib.Core.Path.{_≡_, refl, ap, _∙_}
+use mathlib.Core.Path.{_≡_, refl, ap, _∙_, sym}
 use mathlib.Core.Bool.{Bool, true, false, cond}
 use mathlib.Core.List.{List, [], _∷_, _++_, map, List·Memᴰ, List·Memᴰ·head, List·Memᴰ·tail}
-use Prim.Native.Nat.{ℕ, _+_, _<_}
+use Prim.Native.Nat.{ℕ, _+_, _<_, _-_, _≤_}
 use native.Mathlib.Numerals.{add-one}
+use native.Mathlib.Omega.{arith}
 use lib.ListN.{length, getD, take}
 use lib.Seq.{take-suc}
 use Rattle.lists.specs.Lists.{best, from}
@@ -107,3 +108,22 @@ module _ (better : ℕ → ℕ → Bool) where
 
   pub best-from-no : (x a n : ℕ) → better (a + n) (best better x (from a n)) ≡ false → best better x (from a (n + 1)) ≡ best better x (from a n)
   best-from-no x a n e = best-from-suc x a n ∙ cond-false _ (a + n) (best better x (from a n)) e
+
+-- ---- the best of the numbers below a, and below a + 1
+module _ (better : ℕ → ℕ → Bool) where
+  pub best-below-first : 0 ≡ best better 0 (from 1 (1 - 1))
+  unfolding best from
+  best-below-first = refl
+
+  module _ (a x : ℕ) (h : 1 ≤ a) (e : x ≡ best better 0 (from 1 (a - 1))) where
+    at-a : 1 + (a - 1) ≡ a
+    at-a = omega arith
+
+    more : a + 1 - 1 ≡ a - 1 + 1
+    more = omega arith
+
+    pub best-below-yes : better a x ≡ true → a ≡ best better 0 (from 1 (a + 1 - 1))
+    best-below-yes t = let z : better (1 + (a - 1)) (best better 0 (from 1 (a - 1))) ≡ true = rw (at-a, ← e) t in rw more (sym (best-from-yes better 0 1 (a - 1) z ∙ at-a))
+
+    pub best-below-no : better a x ≡ false → x ≡ best better 0 (from 1 (a + 1 - 1))
+    best-below-no t = let z : better (1 + (a - 1)) (best better 0 (from 1 (a - 1))) ≡ false = rw (at-a, ← e) t in rw more (e ∙ sym (best-from-no better 0 1 (a - 1) z))

@@ -4,10 +4,13 @@ use Prim.Native.Nat.{ℕ, zero, suc, _+_, _≤_, _<_, zero-le}
 use native.Mathlib.Nat.{not-suc-le-zero, le-of-suc-le-suc, zero-add, add-zero, add-assoc, le-refl}
 use native.Mathlib.Numerals.{add-one}
 use native.Mathlib.Omega.{arith}
+use native.Mathlib.Decide.{decLt, ℕ-discrete}
 use mathlib.Core.Bool.{Bool, true, false, not, _&&_, _||_}
 use mathlib.Core.List.{List, [], _∷_, _++_, map, append-nil, List·Memᴰ, List·Memᴰ·head, List·Memᴰ·tail}
 use lib.ListN.{length, getD, set, take, drop, take-append-drop}
 use lib.Seq.{take-suc}
+use lib.Dec.{ltb, eqb}
+use borrow.Author.Tests.{lt-ltb, le-ltb, eq-eqb, ne-eqb}
 use Rattle.lists.specs.Lists.{oneIf, consIf, keep, count}
 
 -- ---- one test
@@ -253,3 +256,28 @@ module _ {A B : Type 0} (f : A → B) where
   unfolding keep
   keep-map p [] = refl
   keep-map p (x ∷ xs) = rw (keep-map p xs) (map-consIf (p (f x)) x (keep (λ y. p (f y)) xs))
+
+-- ---- of the elements with a number below m + 1, some have one below m, and the others have m
+one-next : (a m : ℕ) → oneIf (ltb a (suc m)) ≡ oneIf (ltb a m) + oneIf (eqb a m)
+one-next a m = go (decLt a m) (ℕ-discrete a m)
+  where
+    go : Dec (a < m) → Dec (a ≡ m) → oneIf (ltb a (suc m)) ≡ oneIf (ltb a m) + oneIf (eqb a m)
+    go (yes h) (yes e) = absurd (omega arith)
+    go (yes h) (no e) = rw (lt-ltb a (suc m) (omega arith), lt-ltb a m h, ne-eqb a m e)
+    go (no h) (yes e) = rw (lt-ltb a (suc m) (omega arith), le-ltb a m (omega arith), eq-eqb a m e)
+    go (no h) (no e) = rw (le-ltb a (suc m) (omega arith), le-ltb a m (omega arith), ne-eqb a m e)
+
+pub count-next : {A : Type 0} (f : A → ℕ) (m : ℕ) (l : List A) → count (λ x. ltb (f x) (suc m)) l ≡ count (λ x. ltb (f x) m) l + count (λ x. eqb (f x) m) l
+unfolding count
+count-next f m [] = refl
+count-next f m (x ∷ l) = omega (arith, one-next (f x) m, count-next f m l)
+
+-- ---- counts under one test or another
+pub one-or-le : (a b : Bool) → oneIf (a || b) ≤ oneIf a + oneIf b
+one-or-le true b = omega arith
+one-or-le false b = omega arith
+
+pub count-or-le : {A : Type 0} (p q : A → Bool) (l : List A) → count (λ x. p x || q x) l ≤ count p l + count q l
+unfolding count
+count-or-le p q [] = omega arith
+count-or-le p q (x ∷ l) = omega (arith, one-or-le (p x) (q x), count-or-le p q l)

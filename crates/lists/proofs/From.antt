@@ -6,15 +6,15 @@ use native.Mathlib.Omega.{arith}
 use native.Mathlib.Nat.{add-zero, zero-add, not-suc-le-zero, eq-or-lt-of-le}
 use native.Mathlib.Numerals.{add-one}
 use mathlib.Core.Bool.{Bool, true, false}
-use mathlib.Core.List.{List, [], _∷_, _++_, map, zipWith, append-assoc, List·Memᴰ, List·Memᴰ·head, List·Memᴰ·tail, List·Memᴰ·not-nil, List·Memᴰ·cases-cons}
-use lib.ListN.{length, getD, set, drop, length-append, length-map, length-drop}
-use lib.Seq.{ext-getD, getD-set-same, getD-set-other, drop-cons, set-at}
+use mathlib.Core.List.{List, [], _∷_, _++_, map, zipWith, append-assoc, List·Memᴰ, List·Memᴰ·head, List·Memᴰ·tail, List·Memᴰ·not-nil, List·Memᴰ·cases-cons, append-nil}
+use lib.ListN.{length, getD, set, drop, length-append, length-map, length-drop, take}
+use lib.Seq.{ext-getD, getD-set-same, getD-set-other, drop-cons, set-at, take-suc-set, drop-length, getD-append-add, getD-drop}
 use lib.Dec.{eqb}
 use borrow.Author.Tests.{eqb-true, eqb-false}
 use Rattle.lists.specs.Lists.{oneIf, keep, count, from, part, put}
 use Rattle.lists.specs.Ascends.{All}
 use Rattle.lists.proofs.All.{all-of}
-use Rattle.lists.proofs.Count.{count-snoc, count-same, count-map, keep-in, keep-out}
+use Rattle.lists.proofs.Count.{count-snoc, count-same, count-map, keep-in, keep-out, count-nil}
 use Rattle.lists.proofs.Map.{map-snoc, map-same, getD-map-in}
 use Rattle.lists.proofs.Put.{put-snoc, length-part, getD-part}
 
@@ -77,6 +77,14 @@ pub below-suc : (n : ℕ) → from 0 (n + 1) ≡ from 0 n ++ n ∷ []
 below-suc n = ap (from 0) (add-one n) ∙ below-snoc n
 
 -- ---- how many of the numbers below n pass a test, and which
+pub count-below-nil : (p : ℕ → Bool) → count p (from 0 0) ≡ 0
+unfolding from
+count-below-nil p = count-nil p
+
+pub count-below-snoc : (n : ℕ) (p : ℕ → Bool) → count p (from 0 (suc n)) ≡ count p (from 0 n) + oneIf (p n)
+count-below-snoc n p = ap (count p) (below-snoc n) ∙ count-snoc p (from 0 n) n
+
+-- the same with the code's n + 1
 pub count-below-suc : (p : ℕ → Bool) (n : ℕ) → count p (from 0 (n + 1)) ≡ count p (from 0 n) + oneIf (p n)
 count-below-suc p n = ap (count p) (below-suc n) ∙ count-snoc p (from 0 n) n
 
@@ -197,3 +205,29 @@ zip-from-at f g x z (y ∷ ys) (w ∷ ws) j e h =
   where
     shift : (i : ℕ) → suc j + i ≡ j + suc i
     shift i = omega arith
+
+-- ---- one more value, or number, at the front of a list
+pub fill-more : {A : Type 0} (f : ℕ → A) (m : List A) (k : ℕ) (v : A) → k < length m → v ≡ f k → take k m ≡ map f (from 0 k) → take (k + 1) (set m k v) ≡ map f (from 0 (k + 1))
+fill-more f m k v h e p = rw (add-one, take-suc-set m k v h, p, e, map-below-snoc f k)
+
+pub numbered-more : (l m : List ℕ) (i : ℕ) → i < length l → m ≡ put l 0 (from 0 i) → set m i i ≡ put l 0 (from 0 (i + 1))
+numbered-more l m i h e =
+    ap (λ (x : List ℕ). set x i i) e
+    ∙ put-snoc l 0 (from 0 i) i i (omega (arith, length-from 0 i)) h
+    ∙ ap (put l 0) (sym (below-suc i))
+
+-- ---- values written one after the other, from the front on
+module _ {A : Type 0} where
+  -- what is read next is still what stood there, and at the end all are written
+  front-next : (f : ℕ → A) (n : ℕ) (old : List A) (z : A) → getD (map f (from 0 n) ++ drop n old) n z ≡ getD old n z
+  front-next f n old z =
+      let e : length (map f (from 0 n)) ≡ n = length-map-from f 0 n in
+      let g : length (map f (from 0 n)) + 0 ≡ n = omega arith in
+      ap (λ (k : ℕ). getD (map f (from 0 n) ++ drop n old) k z) (sym g)
+      ∙ getD-append-add (map f (from 0 n)) (drop n old) 0 z ∙ getD-drop n old 0 z ∙ ap (λ (k : ℕ). getD old k z) (add-zero n)
+
+  pub front-read : (f : ℕ → A) (n : ℕ) (old now : List A) (z : A) → now ≡ map f (from 0 n) ++ drop n old → getD now n z ≡ getD old n z
+  front-read f n old now z e = ap (λ (l : List A). getD l n z) e ∙ front-next f n old z
+
+  pub front-whole : (f : ℕ → A) (n : ℕ) (old : List A) → n ≡ length old → map f (from 0 n) ++ drop n old ≡ map f (from 0 (length old))
+  front-whole f n old e = rw (e, drop-length old, append-nil)

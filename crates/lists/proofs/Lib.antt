@@ -1,6 +1,7 @@
 -- Laws on lists.
 pub mod Tests
 pub mod All
+pub mod Take
 pub mod Put
 pub mod Map
 pub mod Count
@@ -11,6 +12,7 @@ pub mod Ascends
 pub mod Rank
 pub mod Sums
 pub mod Joined
+pub mod Columns
 pub mod Same
 pub mod Least
 pub mod Best

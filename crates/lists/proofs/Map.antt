@@ -2,7 +2,7 @@
 use mathlib.Core.Path.{_≡_, refl, ap, _∙_}
 use Prim.Native.Nat.{ℕ, zero, suc, _<_}
 use native.Mathlib.Nat.{not-suc-le-zero, le-of-suc-le-suc}
-use mathlib.Core.List.{List, [], _∷_, _++_, map, map-append, List·Memᴰ, List·Memᴰ·head, List·Memᴰ·tail}
+use mathlib.Core.List.{List, [], _∷_, _++_, map, map-append, List·Memᴰ, List·Memᴰ·head, List·Memᴰ·tail, zipWith}
 use lib.ListN.{length, getD, set, take, drop}
 use Rattle.lists.specs.Lists.{anyOf, joined, part}
 use mathlib.Core.Bool.{Bool, _||_}
@@ -53,3 +53,11 @@ module _ {A B : Type 0} (f : A → B) where
 pub map-same : {A B : Type 0} (f g : A → B) (l : List A) → ((x : A) → List·Memᴰ x l → f x ≡ g x) → map f l ≡ map g l
 map-same f g [] h = refl
 map-same f g (x ∷ l) h = rw (h x (List·Memᴰ·head refl), map-same f g l (λ y m. h y (List·Memᴰ·tail m)))
+
+-- ---- two lists taken together, of which the first is an image
+module _ {A B C E : Type 0} (f : B → C → E) (g : A → B) where
+  pub zip-map : (xs : List A) (ys : List C) → zipWith (λ x y. f (g x) y) xs ys ≡ zipWith f (map g xs) ys
+  unfolding zipWith
+  zip-map [] ys = refl
+  zip-map (x ∷ xs) [] = refl
+  zip-map (x ∷ xs) (y ∷ ys) = rw (zip-map xs ys)

@@ -1,16 +1,17 @@
 -- Membership as a test and as a fact; members of two lists together, of `keep`, `map`, `joined` and stretches. Assumes nothing.
-use mathlib.Core.Path.{_≡_, refl, sym, ap, subst}
+use mathlib.Core.Path.{_≡_, refl, sym, ap, subst, _∙_}
 use mathlib.Core.Logic.{⊎-elim}
-use Prim.Native.Nat.{ℕ, zero, suc, _<_}
+use Prim.Native.Nat.{ℕ, zero, suc, _+_, _<_}
 use native.Mathlib.Omega.{arith}
 use native.Mathlib.Nat.{not-suc-le-zero}
 use mathlib.Core.Bool.{Bool, true, false, _||_, true≢false}
 use mathlib.Core.List.{List, [], _∷_, _++_, map, List·Memᴰ, List·Memᴰ·head, List·Memᴰ·tail, List·Memᴰ·not-nil, List·Memᴰ·cases-cons, List·Memᴰ·append-cases}
-use lib.ListN.{length, getD, take, drop, take-append-drop}
+use lib.ListN.{length, getD, take, drop, take-append-drop, length-take, length-drop}
 use lib.Dec.{eqb}
-use borrow.Author.Tests.{eqb-true, eq-eqb}
+use lib.Seq.{drop-cons, getD-take, getD-drop}
+use borrow.Author.Tests.{eqb-true, eq-eqb, ne-eqb}
 use Rattle.lists.specs.Lists.{consIf, keep, anyOf, member, joined, part}
-use Rattle.lists.proofs.Tests.{clash, or-cases, or-left, or-right, or-assoc, fails, same-test}
+use Rattle.lists.proofs.Tests.{clash, or-cases, or-left, or-right, or-assoc, fails, same-test, or-false, or-true}
 
 module _ {A : Type 0} where
   -- ---- two lists together
@@ -140,3 +141,31 @@ member-not l z h m = clash (mem-member l z m) h
 pub member-same : (xs ys : List ℕ) (z : ℕ) → (List·Memᴰ z xs → List·Memᴰ z ys) → (List·Memᴰ z ys → List·Memᴰ z xs) → member z xs ≡ member z ys
 member-same xs ys z f g =
     same-test (member z xs) (member z ys) (λ e. mem-member ys z (f (member-mem xs z e))) (λ e. mem-member xs z (g (member-mem ys z e)))
+
+-- ---- a list about its element at i
+module _ {A : Type 0} (l : List A) (i : ℕ) (d : A) (h : i < length l) where
+  pub split-at : l ≡ take i l ++ getD l i d ∷ drop (suc i) l
+  split-at = sym (take-append-drop i l) ∙ ap (λ (t : List A). take i l ++ t) (drop-cons l i d h)
+
+  -- what holds of each element before it, and of each behind it
+  pub each-before : (P : A → Type 0) → ((j : ℕ) → j < i → P (getD l j d)) → (x : A) → List·Memᴰ x (take i l) → P x
+  each-before P f x m =
+      let r = mem-index (take i l) d m in
+      let b : r .0 < i = omega (arith, r .1, length-take i l) in
+      subst P (sym (getD-take i l (r .0) d b) ∙ r .2) (f (r .0) b)
+
+  pub each-behind : (P : A → Type 0) → ((j : ℕ) → i < j → j < length l → P (getD l j d)) → (x : A) → List·Memᴰ x (drop (suc i) l) → P x
+  each-behind P f x m =
+      let r = mem-index (drop (suc i) l) d m in
+      subst P (sym (getD-drop (suc i) l (r .0) d) ∙ r .2) (f (suc i + r .0) (omega arith) (omega (arith, r .1, length-drop (suc i) l)))
+
+-- ---- one number more at the end
+pub member-snoc : (z : ℕ) (xs : List ℕ) (x : ℕ) → member z (xs ++ x ∷ []) ≡ member z xs || eqb x z
+unfolding member anyOf
+member-snoc z xs x = any-append (λ y. eqb y z) xs (x ∷ []) ∙ ap (λ (b : Bool). member z xs || b) (or-false (eqb x z))
+
+pub member-last : (xs : List ℕ) (x : ℕ) → member x (xs ++ x ∷ []) ≡ true
+member-last xs x = member-snoc x xs x ∙ rw (eq-eqb x x refl) (or-true (member x xs))
+
+pub member-other : (z : ℕ) (xs : List ℕ) (x : ℕ) → (x ≡ z → ⊥) → member z (xs ++ x ∷ []) ≡ member z xs
+member-other z xs x n = member-snoc z xs x ∙ rw (ne-eqb x z n) (or-false (member z xs))

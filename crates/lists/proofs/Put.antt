@@ -1,13 +1,15 @@
 -- Laws of `put` and `part`. Assumes nothing.
-use mathlib.Core.Path.{_≡_, refl, sym, ap, _∙_}
+use mathlib.Core.Path.{_≡_, refl, sym, ap, _∙_, ap₂}
 use Prim.Native.Nat.{ℕ, zero, suc, _+_, _-_, _≤_, _<_}
 use native.Mathlib.Nat.{not-suc-le-zero, suc-add, zero-add, add-zero, add-assoc}
 use native.Mathlib.Numerals.{add-one}
 use native.Mathlib.Omega.{arith}
-use mathlib.Core.List.{List, [], _∷_, _++_, append-assoc, append-nil}
-use lib.ListN.{length, getD, set, take, drop, length-append, length-drop, take-append-drop, List·getD-append}
-use lib.Seq.{length-take-le, drop-append-add, take-append-le, drop-append-le, getD-drop, getD-take, drop-drop, take-at, drop-at, set-split, take-add, take-length, take-take, take-suc, take-append-add}
+use mathlib.Core.List.{List, [], _∷_, _++_, append-assoc, append-nil, map}
+use lib.ListN.{length, getD, set, take, drop, length-append, length-drop, take-append-drop, List·getD-append, length-set}
+use lib.Seq.{length-take-le, drop-append-add, take-append-le, drop-append-le, getD-drop, getD-take, drop-drop, take-at, drop-at, set-split, take-add, take-length, take-take, take-suc, take-append-add, drop-cons, take-set-le, drop-set-lt, take-suc-set, take-append-seam, drop-append-seam}
+use borrow.Rule.Slice.PartMut.{putMid}
 use Rattle.lists.specs.Lists.{put, part}
+use Rattle.lists.proofs.Take.{drop-take}
 
 module _ {A : Type 0} where
   -- ---- the two steps by which some laws below go: a stretch at the front, and one past the first element
@@ -146,6 +148,15 @@ module _ {A : Type 0} where
   unfolding part
   part-snoc l at n d h = rw (take-suc (drop at l) n d (simp length-drop (omega arith)), getD-drop)
 
+  pub part-cons : (l : List A) (at n : ℕ) (d : A) → at < length l → part l at (suc n) ≡ getD l at d ∷ part l (suc at) n
+  unfolding part
+  part-cons l at n d h = rw (drop-cons l at d h)
+
+  -- the rest of a front
+  pub part-drop : (l : List A) (at n : ℕ) → part l at (n - at) ≡ drop at (take n l)
+  unfolding part
+  part-drop l at n = sym (drop-take at n l)
+
   pub getD-part : (l : List A) (at n i : ℕ) (d : A) → i < n → getD (part l at n) i d ≡ getD l (at + i) d
   unfolding part
   getD-part l at n i d h = rw (getD-take n (drop at l) i d h, getD-drop)
@@ -269,3 +280,81 @@ module _ {A : Type 0} where
       let k = length-part l at i (omega arith) in
       rw (e, getD-put-after l to (part l at i) (at + i) d (omega arith) (omega arith))
       (copy-more l to l at i d (omega arith) (omega arith))
+
+  -- ---- two stores next to each other, one in front of a stretch, and one that a stretch is written over
+  pub set-two : (l : List A) (k : ℕ) (a b : A) → k + 2 ≤ length l → set (set l k a) (k + 1) b ≡ put l k (a ∷ b ∷ [])
+  set-two l k a b h =
+      set-put (set l k a) (k + 1) b (simp length-set (omega arith))
+      ∙ ap (λ (r : List A). put r (k + 1) (b ∷ [])) (set-put l k a (omega arith))
+      ∙ put-next-at l k (a ∷ []) (b ∷ []) (k + 1) (omega arith) refl
+
+  pub put-before : (l : List A) (k : ℕ) (x : A) (xs : List A) → k + 1 + length xs ≤ length l → set (put l (k + 1) xs) k x ≡ put l k (x ∷ xs)
+  put-before l k x xs h =
+      set-put (put l (k + 1) xs) k x (omega (arith, length-put l (k + 1) xs h))
+      ∙ sym (put-comm l k (x ∷ []) (k + 1) xs (omega arith) (omega arith))
+      ∙ put-next-at l k (x ∷ []) xs (k + 1) (omega arith) refl
+
+  pub put-set : (l : List A) (at : ℕ) (x : A) (xs : List A) → 0 < length xs → put (set l at x) at xs ≡ put l at xs
+  unfolding put
+  put-set l at x xs h = rw (take-set-le at l at x (omega arith), drop-set-lt (at + length xs) l at x (omega arith))
+
+  -- ---- an element of a stretch that was written, where its index is known by an equation
+  pub getD-put-at : (l : List A) (k : ℕ) (xs : List A) (j i : ℕ) (d : A) → k ≤ length l → j ≡ k + i → i < length xs → getD (put l k xs) j d ≡ getD xs i d
+  getD-put-at l k xs j i d h e g = ap (λ (z : ℕ). getD (put l k xs) z d) e ∙ getD-put-in l k xs i d h g
+
+  -- what is written to the front of a list
+  pub front-put : (l xs : List A) (n : ℕ) → n ≡ length xs → take n (put l 0 xs) ≡ xs
+  front-put l xs n e = ap (λ (k : ℕ). take k (put l 0 xs)) (e ∙ sym (zero-add (length xs))) ∙ take-put-end l 0 xs (omega arith)
+
+  -- a stretch that grows at its end
+  pub part-grown : (l new xs : List A) (a n r : ℕ) → a ≤ n → n + length xs ≤ length l → r ≡ n + length xs → new ≡ put l n xs → part new a (r - a) ≡ part l a (n - a) ++ xs
+  part-grown l new xs a n r h g e f =
+      let u : r - a ≡ (n - a) + length xs = omega arith in
+      let v : a + (n - a) ≡ n = omega arith in
+      ap (part new a) u ∙ sym (part-append new a (n - a) (length xs))
+      ∙ rw (v, f, part-put-before l n xs a (n - a) (omega arith) (omega arith), part-put-same l n xs (length xs) (omega arith) refl)
+
+  -- ---- a part that was lent, `&mut l[at..at + n]`, comes back as ys
+  pub mid-back : (l : List A) (at n : ℕ) (ys : List A) → length ys ≡ n → putMid at n l ys ≡ put l at ys
+  mid-back l at n ys e = rw (← e, put-def l at ys, ← drop-drop (length ys) at l) (sym (append-assoc (take at l) ys (drop (length ys) (drop at l))))
+
+  pub part-back : (l : List A) (at n : ℕ) (ys : List A) → length ys ≡ n → putMid at (at + n - at) l ys ≡ put l at ys
+  part-back l at n ys e = mid-back l at (at + n - at) ys (omega arith)
+
+  -- ---- one element more of a stretch that is read or written one after the other
+  pub read-more : (l m : List A) (at k : ℕ) (d : A) → k < length m → at + k < length l → take k m ≡ part l at k → take (k + 1) (set m k (getD l (at + k) d)) ≡ part l at (k + 1)
+  read-more l m at k d h g e = rw (add-one, take-suc-set m k (getD l (at + k) d) h, e, part-snoc l at k d g)
+
+  pub write-more : (l m : List A) (at k : ℕ) (d : A) → k < length m → at + k < length l → set (put l at (take k m)) (at + k) (getD m k d) ≡ put l at (take (k + 1) m)
+  write-more l m at k d h g =
+      put-snoc l at (take k m) (getD m k d) (at + k) (ap (λ (n : ℕ). at + n) (length-take-le k m (omega arith))) g
+      ∙ rw (add-one, take-suc m k d h)
+
+  -- ---- what stands from an index on, and past it
+  module _ (l : List A) (at : ℕ) (xs ys : List A) (e : drop at l ≡ xs ++ ys) where
+    pub part-there : part l at (length xs) ≡ xs
+    unfolding part
+    part-there = ap (take (length xs)) e ∙ take-append-seam xs ys
+
+    pub drop-past : drop (at + length xs) l ≡ ys
+    drop-past = sym (drop-drop (length xs) at l) ∙ ap (drop (length xs)) e ∙ drop-append-seam xs ys
+
+  -- ---- an element put in at an index
+  unfoldable pub spliced : List A → ℕ → A → List A
+  spliced l r x = take r l ++ x ∷ drop r l
+
+  -- the first n + 1 after x went in at r
+  pub put-spliced : (l : List A) (r n : ℕ) (x : A) → r ≤ n → n < length l → take (n + 1) (put l r (x ∷ part l r (n - r))) ≡ spliced (take n l) r x
+  unfolding spliced
+  put-spliced l r n x h g =
+      let z : length (part l r (n - r)) ≡ n - r = length-part l r (n - r) (omega arith) in
+      let e : n + 1 ≡ r + length (x ∷ part l r (n - r)) = omega arith in
+      ap (λ (k : ℕ). take k (put l r (x ∷ part l r (n - r)))) e
+      ∙ take-put-end l r (x ∷ part l r (n - r)) (omega arith)
+      ∙ ap₂ (λ (a b : List A). a ++ x ∷ b) (sym (take-take r n l h)) (part-drop l r n)
+
+pub map-spliced : {A B : Type 0} (f : A → B) (l : List A) (r : ℕ) (x : A) → map f (spliced l r x) ≡ spliced (map f l) r (f x)
+unfolding spliced
+map-spliced f l zero x = refl
+map-spliced f [] (suc r) x = refl
+map-spliced {A} {B} f (y ∷ l) (suc r) x = ap (λ (t : List B). f y ∷ t) (map-spliced f l r x)

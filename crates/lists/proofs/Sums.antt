@@ -4,11 +4,12 @@ use Prim.Native.Nat.{ℕ, zero, suc, _+_, _-_, _*_, _≤_, _<_, zero-le}
 use native.Mathlib.Nat.{zero-add, mul-zero, mul-add, suc-mul, not-suc-le-zero, le-of-suc-le-suc}
 use native.Mathlib.Numerals.{add-one}
 use native.Mathlib.Omega.{arith}
-use mathlib.Core.Bool.{Bool}
+use mathlib.Core.Bool.{Bool, false}
 use mathlib.Core.List.{List, [], _∷_, _++_, map, map-append, List·Memᴰ, List·Memᴰ·head, List·Memᴰ·tail}
 use lib.ListN.{length, getD, set, take, drop, take-append-drop}
-use Rattle.lists.specs.Lists.{oneIf, count, total, from}
+use Rattle.lists.specs.Lists.{oneIf, count, total, from, anyOf}
 use Rattle.lists.proofs.From.{from-mem, length-from, list-at, from-append, map-below-suc, map-below-snoc}
+use Rattle.lists.proofs.Count.{one-or-le, count-or-le, count-none}
 
 -- ---- the sums of two lists
 pub total-nil : total [] ≡ 0
@@ -146,3 +147,83 @@ sum-below-at i n f h = omega (arith, sum-below-part (suc i) n f h, sum-below-sno
 -- ---- a list's sum is the sum over its indices
 pub total-index : (xs : List ℕ) → total xs ≡ total (map (λ i. getD xs i 0) (from 0 (length xs)))
 total-index xs = ap total (list-at xs 0)
+
+-- ---- sums of values over two lists
+module _ {A : Type 0} (f : A → ℕ) where
+  pub sum-nil : total (map f []) ≡ 0
+  unfolding total
+  sum-nil = refl
+
+  pub sum-cons : (x : A) (xs : List A) → total (map f (x ∷ xs)) ≡ f x + total (map f xs)
+  unfolding total
+  sum-cons x xs = refl
+
+  pub sum-append : (xs ys : List A) → total (map f (xs ++ ys)) ≡ total (map f xs) + total (map f ys)
+  sum-append xs ys = ap total (map-append f xs ys) ∙ total-append (map f xs) (map f ys)
+
+  -- two more at the end
+  pub sum-two : (xs : List A) (x y : A) → total (map f (xs ++ x ∷ y ∷ [])) ≡ total (map f xs) + (f x + f y)
+  sum-two xs x y = omega (arith, sum-append xs (x ∷ y ∷ []), sum-cons x (y ∷ []), sum-cons y [], sum-nil)
+
+-- ---- sums of sums, in either order
+pub sum-swap : {A B : Type 0} (f : A → B → ℕ) (xs : List A) (ys : List B)
+    → total (map (λ x. total (map (f x) ys)) xs) ≡ total (map (λ y. total (map (λ x. f x y) xs)) ys)
+unfolding total
+sum-swap f [] ys = sym (sum-none (λ y. 0) ys (λ y m. refl))
+sum-swap f (x ∷ xs) ys = omega (arith, sum-swap f xs ys, sum-add (f x) (λ y. total (map (λ x. f x y) xs)) ys)
+
+-- a sum whose terms are at most k
+pub sum-most : {A : Type 0} (f : A → ℕ) (k : ℕ) (l : List A) → ((x : A) → List·Memᴰ x l → f x ≤ k) → total (map f l) ≤ length l * k
+sum-most f k l h = omega (arith, sum-le f (λ x. k) l h, sum-const k l)
+
+-- ---- counts under some test of a list
+pub count-any : {A B : Type 0} (p : B → A → Bool) (es : List B) (l : List A) → count (λ x. anyOf (λ e. p e x) es) l ≤ total (map (λ e. count (p e) l) es)
+unfolding anyOf total
+count-any p [] l = omega (arith, count-none (λ x. false) l (λ x m. refl))
+count-any p (e ∷ es) l = omega (arith, count-or-le (p e) (λ x. anyOf (λ e. p e x) es) l, count-any p es l)
+
+pub any-sum : {A : Type 0} (p : A → Bool) (l : List A) → oneIf (anyOf p l) ≤ total (map (λ x. oneIf (p x)) l)
+unfolding anyOf total
+any-sum p [] = omega arith
+any-sum p (x ∷ l) = omega (arith, one-or-le (p x) (anyOf p l), any-sum p l)
+
+-- ---- counts over the numbers below n, compared test by test
+module _ (n : ℕ) (p q : ℕ → Bool) where
+  pub count-below-le : ((j : ℕ) → j < n → oneIf (p j) ≤ oneIf (q j)) → count p (from 0 n) ≤ count q (from 0 n)
+  count-below-le h =
+      omega (arith, count-sum p (from 0 n), count-sum q (from 0 n), sum-below-le n (λ j. oneIf (p j)) (λ j. oneIf (q j)) h)
+
+  -- ---- one test against two
+  module _ (r : ℕ → Bool) where
+    pub count-below-two : ((j : ℕ) → j < n → oneIf (r j) ≡ oneIf (p j) + oneIf (q j)) → count r (from 0 n) ≡ count p (from 0 n) + count q (from 0 n)
+    count-below-two h =
+        omega (
+          arith,
+          count-sum p (from 0 n),
+          count-sum q (from 0 n),
+          count-sum r (from 0 n),
+          sum-add (λ j. oneIf (p j)) (λ j. oneIf (q j)) (from 0 n),
+          sum-below-same n (λ j. oneIf (r j)) (λ j. oneIf (p j) + oneIf (q j)) h,
+        )
+
+    pub count-below-two-le : ((j : ℕ) → j < n → oneIf (p j) + oneIf (q j) ≤ oneIf (r j)) → count p (from 0 n) + count q (from 0 n) ≤ count r (from 0 n)
+    count-below-two-le h =
+        omega (
+          arith,
+          count-sum p (from 0 n),
+          count-sum q (from 0 n),
+          count-sum r (from 0 n),
+          sum-add (λ j. oneIf (p j)) (λ j. oneIf (q j)) (from 0 n),
+          sum-below-le n (λ j. oneIf (p j) + oneIf (q j)) (λ j. oneIf (r j)) h,
+        )
+
+    pub count-below-le-two : ((j : ℕ) → j < n → oneIf (r j) ≤ oneIf (p j) + oneIf (q j)) → count r (from 0 n) ≤ count p (from 0 n) + count q (from 0 n)
+    count-below-le-two h =
+        omega (
+          arith,
+          count-sum p (from 0 n),
+          count-sum q (from 0 n),
+          count-sum r (from 0 n),
+          sum-add (λ j. oneIf (p j)) (λ j. oneIf (q j)) (from 0 n),
+          sum-below-le n (λ j. oneIf (r j)) (λ j. oneIf (p j) + oneIf (q j)) h,
+        )

@@ -7,13 +7,14 @@ use native.Mathlib.Omega.{arith}
 use native.Mathlib.Decide.{decLt, ℕ-discrete}
 use borrow.Author.Tests.{eqb-true, eq-eqb, ne-eqb}
 use lib.Dec.{eqb}
-use lib.ListN.{length}
+use lib.ListN.{length, getD, take, drop, length-drop}
+use lib.Seq.{getD-take, getD-drop, length-take-le}
 use Rattle.lists.specs.Lists.{oneIf, consIf, keep, count, member}
 use Rattle.lists.specs.Ascends.{All}
 use Rattle.lists.proofs.Tests.{clash, eqb-comm}
 use Rattle.lists.proofs.All.{all-of, all-mem}
-use Rattle.lists.proofs.Count.{count-append, count-none, count-or, count-same, count-not, count-len, length-keep}
-use Rattle.lists.proofs.Members.{mem-member, not-member, member-cons}
+use Rattle.lists.proofs.Count.{count-append, count-none, count-or, count-same, count-not, count-len, length-keep, count-or-le, count-halves}
+use Rattle.lists.proofs.Members.{mem-member, not-member, member-cons, none-any, mem-at}
 
 -- how often r stands in xs
 abbrev pub times : ℕ → List ℕ → ℕ
@@ -153,3 +154,35 @@ once-length xs ys o h =
     let a = once-short xs ys o (λ r. omega (arith, h r)) in
     let b = once-short ys xs (λ r. omega (arith, h r, o r)) (λ r. omega (arith, h r)) in
     omega arith
+
+-- of a list without repeats, no more are members of ys than ys has elements
+pub members-few : (xs : List ℕ) → Once xs → (ys : List ℕ) → count (λ i. member i ys) xs ≤ length ys
+members-few xs o [] = omega (arith, count-none (λ i. member i []) xs (λ i m. member-none i [] (times-nil i)))
+members-few xs o (y ∷ ys) =
+    let a = count-same (λ i. member i (y ∷ ys)) (λ i. eqb y i || member i ys) xs (λ i m. member-cons i y ys) in
+    let b = count-or-le (λ i. eqb y i) (λ i. member i ys) xs in
+    let c : count (λ i. eqb y i) xs ≡ times y xs = count-same (λ i. eqb y i) (λ i. eqb i y) xs (λ i m. eqb-comm y i) in
+    omega (arith, members-few xs o ys, o y)
+
+-- a number that is no member stands nowhere
+pub member-zero : (x : ℕ) (l : List ℕ) → member x l ≡ false → times x l ≡ 0
+unfolding member
+member-zero x l h = count-none (λ y. eqb y x) l (λ y m. none-any (λ y. eqb y x) l h m)
+
+-- it is one of xs, and not yet in ys, whose numbers stand in xs as often
+pub times-more : (xs ys : List ℕ) (x : ℕ) → ((r : ℕ) → times r ys ≤ times r xs) → 0 < times x xs → times x ys ≡ 0 → (r : ℕ) → times r (ys ++ x ∷ []) ≤ times r xs
+times-more xs ys x h m n r = elim (ℕ-discrete x r) [
+  | yes e ↦ subst (λ (y : ℕ). times y (ys ++ x ∷ []) ≤ times y xs) e (omega (arith, times-append x ys (x ∷ []), times-one x [], times-nil x))
+  | no k ↦ omega (arith, times-append r ys (x ∷ []), times-other r x [] k, times-nil r, h r)
+]
+
+-- a list without repeats holds different numbers at different indices
+pub once-differ : (l : List ℕ) → Once l → (i j : ℕ) → i < j → j < length l → getD l i 0 ≡ getD l j 0 → ⊥
+once-differ l o i j h g e =
+    let x = getD l j 0 in
+    let n : length (take j l) ≡ j = length-take-le j l (omega arith) in
+    let a : List·Memᴰ x (take j l) = rw (← e, ← getD-take j l i 0 h) (mem-at (take j l) i 0 (omega arith)) in
+    let z : j + 0 ≡ j = omega arith in
+    let b : getD (drop j l) 0 0 ≡ x = getD-drop j l 0 0 ∙ ap (λ (m : ℕ). getD l m 0) z in
+    let c : List·Memᴰ x (drop j l) = subst (λ (y : ℕ). List·Memᴰ y (drop j l)) b (mem-at (drop j l) 0 0 (omega (arith, length-drop j l))) in
+    omega (arith, o x, count-halves (λ y. eqb y x) j l, mem-times (take j l) x a, mem-times (drop j l) x c)

@@ -15,7 +15,7 @@ use Rattle.lists.proofs.Tests.{same-or}
 use Rattle.lists.proofs.All.{all-mem}
 use Rattle.lists.proofs.Count.{length-keep, length-both}
 use Rattle.lists.proofs.Members.{mem-at}
-use Rattle.lists.proofs.Put.{set-put, length-put, length-part, put-over, put-comm, put-inside, part-put-same, part-put-before, part-lent}
+use Rattle.lists.proofs.Put.{set-put, length-put, length-part, put-over, put-comm, put-inside, part-put-same, part-put-before, part-lent, front-put, part-back}
 use Rattle.lists.proofs.Times.{Once}
 use Rattle.lists.proofs.Same.{Same, same-length}
 use Rattle.definition.specs.Keys.{firstRows, otherRows}
@@ -23,7 +23,6 @@ use Rattle.heap.specs.Rows.{FiniteOn, NoLater}
 use Rattle.heap.specs.Heap.{Sorted}
 use Rattle.order.specs.Rows.{GoodRows}
 use Rattle.order.specs.Cuts.{keysOn, onSide, MiddleRow, Halved, Room, Spent, Ranked, Round, Narrows}
-use Rattle.order.proofs.Lists.{front-put, part-back}
 use Rattle.order.proofs.Good.{good-keep, good-once, good-finite, good-inside}
 use Rattle.order.proofs.Ranks.{aheadOf, ranked-low, ranked-high, sides, ranked-sorted, ranked-middle, middle-ranked, lefts-are, rights-are}
 use Rattle.order.proofs.Turns.{back-most, back-end}

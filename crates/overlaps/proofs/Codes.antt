@@ -1,7 +1,7 @@
 -- Lists of numbers, one block for each leaf: they ascend, their members, their rows, and where each block starts. Assumes nothing.
 use mathlib.Core.Path.{_≡_, refl, sym, ap, ap₂, _∙_, subst}
 use mathlib.Core.Logic.{⊎-elim}
-use mathlib.Core.List.{List, [], _∷_, _++_, map, map-map, List·Memᴰ, List·Memᴰ·not-nil, List·Memᴰ·append-cases}
+use mathlib.Core.List.{List, [], _∷_, _++_, map, map-map, List·Memᴰ, List·Memᴰ·not-nil, List·Memᴰ·append-cases, map-append}
 use Prim.Native.Nat.{ℕ, zero, suc, _+_, _*_, _%_, _≤_, _<_}
 use native.Mathlib.Omega.{arith}
 use native.Mathlib.Nat.{not-suc-le-zero, add-zero}
@@ -67,10 +67,6 @@ mem-codes l (ps ∷ ls) (suc i) q h m =
     shifted l i = omega arith
 
 -- ---- rows and lengths
-map-append : {A B : Type 0} (f : A → B) (xs ys : List A) → map f (xs ++ ys) ≡ map f xs ++ map f ys
-map-append f [] ys = refl
-map-append f (x ∷ xs) ys = rw (map-append f xs ys)
-
 pub rows-codes : (active : List ℕ) (l : ℕ) (ls : List (List ℕ)) → Small ls → rowsOf active (codesFrom l ls) ≡ joined (map (map (λ q. getD active q 0)) ls)
 unfolding codesFrom rowsOf joined All
 rows-codes active l [] h = refl

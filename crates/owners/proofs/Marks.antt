@@ -13,26 +13,14 @@ use lib.ListN.{length, getD, set}
 use lib.Seq.{getD-set-same, getD-set-other}
 use Rattle.lists.specs.Lists.{anyOf, member, part}
 use Rattle.lists.specs.Ascends.{Ascends}
-use Rattle.lists.proofs.Tests.{same-test, cond-true, cond-false}
+use Rattle.lists.proofs.Tests.{same-test, cond-true, cond-false, or-false, or-true}
 use Rattle.lists.proofs.Put.{part-snoc}
-use Rattle.lists.proofs.Members.{mem-at, member-mem, mem-member, not-member, any-append}
+use Rattle.lists.proofs.Members.{mem-at, member-mem, mem-member, not-member, member-snoc}
 use Rattle.lists.proofs.Ascends.{ascends-same}
 use Rattle.owners.specs.Own.{ownAt, readOwn, Leaves, Written, Owned}
 use Rattle.owners.proofs.Read.{read-length, read-at, shared-active, shared-held, shared-apart}
 
 -- ---- one row more
-or-false : (b : Bool) → b || false ≡ b
-or-false true = refl
-or-false false = refl
-
-or-true : (b : Bool) → b || true ≡ true
-or-true true = refl
-or-true false = refl
-
-member-snoc : (row : ℕ) (xs : List ℕ) (x : ℕ) → member row (xs ++ x ∷ []) ≡ member row xs || eqb x row
-unfolding member anyOf
-member-snoc row xs x = any-append (λ z. eqb z row) xs (x ∷ []) ∙ ap (λ (b : Bool). anyOf (λ z. eqb z row) xs || b) (or-false (eqb x row))
-
 module _ (active : List ℕ) (up : Ascends active) (internals : List ℕ) (start count leaf : ℕ) (old : List ℕ) (fits : start + count ≤ length internals) where
   pub stretch-none : Written active (part internals start 0) leaf old old
   unfolding member anyOf part

@@ -10,13 +10,12 @@ use lib.Ieee.{Float}
 use Rattle.lists.specs.Lists.{put, part}
 use Rattle.lists.specs.Ascends.{Ascends}
 use Rattle.lists.proofs.All.{all-at}
-use Rattle.lists.proofs.Put.{length-put, part-nil, getD-put-before}
+use Rattle.lists.proofs.Put.{length-put, part-nil, getD-put-before, part-grown}
 use Rattle.lists.proofs.Members.{mem-left, mem-right}
 use Rattle.definition.specs.Overlaps.{nearest}
 use Rattle.rtree.specs.Near.{Found}
 use Rattle.rtree.proofs.Takes.{found-taken, taken-found}
 use Rattle.pairs.specs.Pairs.{code, sentBy, Owners, Room, Taken, Sends, Collected}
-use Rattle.pairs.proofs.Lists.{part-grown}
 use Rattle.pairs.proofs.Sends.{sent-length, sent-mem, mem-sent}
 
 module _ (d : ℕ) (cs : List Float) (neighbours : ℕ) (active : List ℕ) (up : Ascends active) (old : List ℕ) where

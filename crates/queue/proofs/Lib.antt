@@ -1,5 +1,4 @@
 -- Laws of the queue.
-pub mod Lists
 pub mod Kind
 pub mod Stretches
 pub mod State

@@ -7,9 +7,9 @@ use mathlib.Core.List.{List, [], _∷_, _++_}
 use lib.ListN.{length, getD, length-append}
 use Rattle.lists.specs.Lists.{put, part, joined, total}
 use Rattle.lists.proofs.Put.{length-put}
+use Rattle.lists.proofs.Sums.{sum-append}
 use Rattle.definition.specs.Packed.{rowNumbers}
 use Rattle.queue.specs.Rows.{twoHalves, twoOwn, withOwn}
-use Rattle.queue.proofs.Lists.{sum-append}
 use Rattle.queue.proofs.Kind.{Kind, halvesOf, leafRows}
 use Rattle.queue.proofs.Stretches.{Stretch, halvesAt, waiting, waiting-next, waiting-join, waiting-length, waiting-none, waiting-first}
 use Rattle.queue.proofs.State.{Holds, State, cutsFor, cuts-length, state-first, state-end, state-wait, state-done}

@@ -9,9 +9,9 @@ use Rattle.lists.specs.Lists.{put, part, joined, total}
 use Rattle.lists.specs.Ascends.{All}
 use Rattle.lists.proofs.All.{all-append}
 use Rattle.lists.proofs.Put.{length-put, length-part, put-next-at, put-nil, part-whole}
+use Rattle.lists.proofs.Sums.{sum-append}
 use Rattle.definition.specs.Packed.{rowNumbers}
 use Rattle.queue.specs.Rows.{twoOwn, withOwn}
-use Rattle.queue.proofs.Lists.{sum-append}
 use Rattle.queue.proofs.Kind.{Kind, Full, sizeOf, halvesOf, leafRows}
 use Rattle.queue.proofs.Stretches.{Stretch, rowsAt, halvesAt, Inside, Clear, Apart, apart-halves}
 use Rattle.queue.proofs.Stretches.{after-length, after-both, after-left, after-right, after-other}

@@ -11,9 +11,8 @@ use lib.ListN.{length, getD, length-append}
 use Rattle.lists.specs.Lists.{put, part}
 use Rattle.lists.specs.Ascends.{All}
 use Rattle.lists.proofs.All.{all-append, all-imp}
-use Rattle.lists.proofs.Put.{length-put, part-put-same, part-put-after, part-put-before, part-part, part-first, part-second, getD-put-before}
+use Rattle.lists.proofs.Put.{length-put, part-put-same, part-put-after, part-put-before, part-part, part-first, part-second, getD-put-before, getD-put-at}
 use Rattle.queue.specs.Rows.{twoHalves}
-use Rattle.queue.proofs.Lists.{getD-put-at}
 
 pub record Stretch : Type 0 where
   pub start : ℕ

@@ -1,5 +1,4 @@
 -- The laws that belong to no one function.
-pub mod Counts
 pub mod Written
 pub mod Seats
 pub mod Shares

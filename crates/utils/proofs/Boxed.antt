@@ -8,11 +8,12 @@ use lib.Seq.{length-take-le}
 use lib.Ieee.{Float}
 use Rattle.lists.specs.Lists.{part, put, from}
 use Rattle.lists.proofs.Put.{part-append, put-next-at}
+use Rattle.lists.proofs.Take.{set-front, set-second, take-replicate, replicate-append}
+use Rattle.lists.proofs.From.{fill-more}
 use Rattle.definition.specs.Number.{plusZero}
 use Rattle.definition.specs.Points.{lowerBound, upperBound, extents}
 use Rattle.utils.specs.Boxes.{floatsOf}
 use Rattle.utils.specs.declared.boxes.Extents.{Extents}
-use Rattle.utils.proofs.Lists.{set-front, set-second, fill-more, take-replicate, replicate-append}
 
 -- a box of these bounds
 abbrev pub boxOf : List Float → List Float → ℕ → Extents

@@ -10,9 +10,9 @@ use lib.Ieee.{Float, nan}
 use Rattle.lists.specs.Lists.{part, put}
 use Rattle.lists.specs.Ascends.{All}
 use Rattle.lists.proofs.All.{all-at}
+use Rattle.lists.proofs.Put.{write-more}
 use Rattle.definition.specs.Number.{plus, less, times}
 use Rattle.definition.specs.Points.{distanceSq}
-use Rattle.utils.proofs.Lists.{write-more}
 
 -- one axis more of a squared distance
 pub distance-more : (p q : ℕ → Float) (k : ℕ) (s : Float) → s ≡ distanceSq k p q → plus s (times (less (p k) (q k)) (less (p k) (q k))) ≡ distanceSq (k + 1) p q

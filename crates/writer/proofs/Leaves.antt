@@ -1,18 +1,11 @@
 -- A domain's line, from its domain row. Assumes nothing.
-use mathlib.Core.Path.{_≡_, sym, ap}
+use mathlib.Core.Path.{_≡_}
 use mathlib.Core.Bool.{Bool}
 use Prim.Native.Nat.{ℕ, _+_, _-_, _*_}
-use native.Mathlib.Nat.{add-sub-cancel-left}
-use mathlib.Core.List.{List}
 use lib.ListN.{getD, take, drop}
-use Rattle.lists.specs.Lists.{part}
+use Rattle.lists.proofs.Put.{part-lent}
 use Rattle.definition.specs.Printout.{domainLine}
 use Rattle.writer.specs.Unpack.{Packed, leafOf, leafAt, leafLine, boxPart}
-
--- a part of a list, as the code lends it
-pub lent-part : {A : Type 0} (l : List A) (at n : ℕ) → part l at n ≡ take (at + n - at) (drop at l)
-unfolding part
-lent-part l at n = ap (λ (k : ℕ). take k (drop at l)) (sym (add-sub-cancel-left at n))
 
 module _ (fine : Bool) (i : ℕ) (p : Packed) (j : ℕ) where
   pub leaf-line :
@@ -27,8 +20,8 @@ module _ (fine : Bool) (i : ℕ) (p : Packed) (j : ℕ) where
   unfolding leafLine leafAt
   leaf-line =
       rw (
-        lent-part (p .own) (getD (p .domains) (4 * j) 0) (getD (p .domains) (4 * j + 1) 0),
-        lent-part (p .borrowed)
+        ← part-lent (p .own) (getD (p .domains) (4 * j) 0) (getD (p .domains) (4 * j + 1) 0),
+        ← part-lent (p .borrowed)
             (getD (p .domains) (4 * j + 2) 0) (getD (p .domains) (4 * j + 3) 0),
-        lent-part (p .boxes) (p .wide * j) (p .wide),
+        ← part-lent (p .boxes) (p .wide * j) (p .wide),
       )

@@ -13,7 +13,7 @@ use Rattle.writer.specs.Unpack.{Packed, Holds, Stands, leavesAt, leafLin
 use Rattle.lists.proofs.Sums.{total-below}
 use Rattle.lists.proofs.From.{from-suc, length-from}
 use Rattle.lists.proofs.Map.{map-snoc}
-use Rattle.writer.proofs.Leaves.{lent-part}
+use Rattle.lists.proofs.Put.{part-lent}
 
 pub total-none : (xs : List ℕ) → 0 ≡ total (take 0 xs)
 unfolding total
@@ -73,7 +73,7 @@ module _ (p : Packed) (points rows counts : List ℕ) where
   line-at : (t : ℕ)
       → levelLine t (levelAt p points rows counts t) ≡ pointsLine t (take (total (take t rows) + getD rows t 0 - total (take t rows)) (drop (total (take t rows)) points))
   unfolding levelLine levelAt
-  line-at t = rw (lent-part points (total (take t rows)) (getD rows t 0))
+  line-at t = rw (← part-lent points (total (take t rows)) (getD rows t 0))
 
   pub front-grows : (t : ℕ) → frontText (t + 1) ≡ frontText t ++ fineAt t
   unfolding frontText fineAt fineLevelText levelAt

@@ -6,7 +6,7 @@ use native.Mathlib.Numerals.{add-one}
 use native.Mathlib.Omega.{arith}
 use mathlib.Core.List.{List, [], _∷_, _++_, append-assoc, map}
 use lib.ListN.{length, getD, take, drop, length-append, length-drop}
-use lib.Seq.{drop-drop, getD-drop, take-append-seam, drop-append-seam}
+use lib.Seq.{drop-drop, getD-drop}
 use lib.Ieee.{Float}
 use Rattle.lists.specs.Lists.{part}
 use Rattle.lists.specs.Lists.{joined, total, from}
@@ -15,19 +15,8 @@ use Rattle.definition.specs.Packed.{leavesIn, stretches, packedPoints}
 use Rattle.lists.specs.Ascends.{All}
 use Rattle.writer.specs.Unpack.{Packed, Holds, Stands, leafAt, leavesAt, levelAt, levelsAt}
 use Rattle.lists.proofs.Sums.{total-step}
+use Rattle.lists.proofs.Put.{part-there, drop-past}
 use Rattle.writer.proofs.Levels.{total-none}
-
--- what stands at a place, and past it
-module _ {A : Type 0} (l : List A) (at : ℕ) (xs ys : List A) (e : drop at l ≡ xs ++ ys) where
-  pub part-there : part l at (length xs) ≡ xs
-  unfolding part
-  part-there = ap (take (length xs)) e ∙ take-append-seam xs ys
-
-  pub drop-past : drop (at + length xs) l ≡ ys
-  drop-past = sym (drop-drop (length xs) at l) ∙ ap (drop (length xs)) e ∙ drop-append-seam xs ys
-
-  pub end-there : 0 < length xs → at + length xs ≤ length l
-  end-there h = omega (arith, ap length e, length-append xs ys, length-drop at l)
 
 module _ (p : Packed) where
   -- the leaves fs stand from the domain row number j on, their internals from a and their borrowed rows from b on

@@ -8,9 +8,9 @@ use native.Mathlib.Omega.{arith}
 use lib.Ieee.{lt}
 use borrow.Author.Needs.{needs}
 use Rattle.lists.specs.Lists.{best, from}
+use Rattle.lists.proofs.Best.{best-below-first, best-below-yes, best-below-no}
 use Rattle.definition.specs.Points.{extent}
 use Rattle.definition.specs.Cut.{longestAxis}
-use Rattle.cut.proofs.Axis.{below-first, below-yes, below-no}
 use Rattle.cut.proofs.longest_axis.Statement.{statement}
 use Rattle.cut.proofs.longest_axis.Tie as tie
 
@@ -25,7 +25,7 @@ extent-on-requires : tie.Need-extent-on-requires Inv-loop μ-loop
 extent-on-requires c κs = search needs
 
 loop-holds : tie.Need-loop-holds Inv-loop μ-loop
-loop-holds c = (search needs, search needs, below-first _, c .extent-on .ensures)
+loop-holds c = (search needs, search needs, best-below-first _, c .extent-on .ensures)
 
 extent-on-requires-2 : tie.Need-extent-on-requires-2 Inv-loop μ-loop
 extent-on-requires-2 c κs = search needs
@@ -44,8 +44,8 @@ loop-again c =
     let i = s .loop .inv in
     let v = c .before .extent-on2 .ensures in
     ⊎-elim
-    (λ w. (omega arith, omega arith, w .1 ∙ below-yes better (s .loop .axis) (s .loop .longest) (i .0) (i .2) (rw (v, i .3) at (w .0 .taken)), w .2 ∙ v ∙ rw (w .1)))
-    (λ w. (omega arith, omega arith, w .1 ∙ below-no better (s .loop .axis) (s .loop .longest) (i .0) (i .2) (rw (v, i .3) at (w .0 .left)), w .2 ∙ i .3 ∙ rw (w .1)))
+    (λ w. (omega arith, omega arith, w .1 ∙ best-below-yes better (s .loop .axis) (s .loop .longest) (i .0) (i .2) (rw (v, i .3) at (w .0 .taken)), w .2 ∙ v ∙ rw (w .1)))
+    (λ w. (omega arith, omega arith, w .1 ∙ best-below-no better (s .loop .axis) (s .loop .longest) (i .0) (i .2) (rw (v, i .3) at (w .0 .left)), w .2 ∙ i .3 ∙ rw (w .1)))
     (c .if1 .came)
 
 returns : tie.Need-returns Inv-loop μ-loop

@@ -1,8 +1,8 @@
 -- `queue::put_pair` meets its contract. Assumes nothing.
 use native.Mathlib.Omega.{arith}
 use lib.ListN.{length-set}
-use Rattle.queue.proofs.Lists.{set-two}
 use borrow.Author.Needs.{needs}
+use Rattle.lists.proofs.Put.{set-two}
 use Rattle.queue.proofs.put_pair.Statement.{statement}
 use Rattle.queue.proofs.put_pair.Tie as tie
 

@@ -8,11 +8,9 @@ use native.Mathlib.Omega.{arith}
 use lib.ListN.{length, drop, length-set}
 use lib.Dec.{eqb}
 use Rattle.lists.specs.Lists.{oneIf, from}
-use Rattle.lists.proofs.From.{count-below-suc, map-from-nil, front-below-suc}
+use Rattle.lists.proofs.From.{count-below-suc, map-from-nil, front-below-suc, count-below-nil, front-read, front-whole}
 use Rattle.definition.specs.Quotas.{remainderAt, seatsAt}
 use Rattle.quotas.specs.Cuts.{ties}
-use Rattle.quotas.proofs.Counts.{count-below-nil}
-use Rattle.quotas.proofs.Written.{front-read, front-whole}
 use Rattle.quotas.proofs.Seats.{by-le}
 use Rattle.quotas.proofs.Shares.{seats-by-cut, share-small}
 use Rattle.quotas.proofs.hand_out.Statement.{statement}

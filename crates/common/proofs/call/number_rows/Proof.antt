@@ -6,7 +6,7 @@ use native.Mathlib.Omega.{arith}
 use lib.ListN.{length, length-set}
 use Rattle.lists.specs.Lists.{put, from}
 use Rattle.lists.proofs.Put.{put-nil}
-use Rattle.common.proofs.Lists.{numbered-more}
+use Rattle.lists.proofs.From.{numbered-more}
 use Rattle.common.proofs.call.number_rows.Statement.{statement}
 use Rattle.common.proofs.call.number_rows.Tie as tie
 

@@ -5,7 +5,7 @@ use native.Mathlib.Omega.{arith}
 use lib.ListN.{length, take, length-set}
 use lib.Ieee.{nan}
 use Rattle.lists.specs.Lists.{part}
-use Rattle.utils.proofs.Lists.{read-more}
+use Rattle.lists.proofs.Put.{read-more}
 use Rattle.utils.proofs.Turns.{all-read}
 use Rattle.utils.proofs.boxes.read_bounds.Statement.{statement}
 use Rattle.utils.proofs.boxes.read_bounds.Tie as tie

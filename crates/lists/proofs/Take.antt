@@ -1,17 +1,26 @@
--- Laws of lists. Assumes nothing.
+-- Laws of `take`, `drop`, `set` and `replicate`. Assumes nothing.
 use mathlib.Core.Path.{_≡_, refl, sym, ap, _∙_}
-use mathlib.Core.List.{List, [], _∷_, _++_, map}
-use Prim.Native.Nat.{ℕ, zero, suc, _+_, _≤_, _<_}
-use native.Mathlib.Nat.{suc-add, zero-add, not-suc-le-zero}
-use native.Mathlib.Numerals.{add-one}
+use Prim.Native.Nat.{ℕ, zero, suc, _+_, _-_, _≤_, _<_}
+use native.Mathlib.Nat.{suc-add, zero-add, sub-zero, suc-sub-suc, not-suc-le-zero}
 use native.Mathlib.Omega.{arith}
-use lib.ListN.{length, getD, set, take, replicate}
-use lib.Seq.{take-suc, take-suc-set, length-take-le, set-append-left, take-set-lt}
-use Rattle.lists.specs.Lists.{part, put, from}
-use Rattle.lists.proofs.Put.{put-snoc, part-snoc}
-use Rattle.lists.proofs.From.{map-below-snoc}
+use mathlib.Core.List.{List, [], _∷_, _++_}
+use lib.ListN.{length, set, take, drop, replicate}
+use lib.Seq.{take-nil, length-take-le, set-append-left, take-set-lt}
 
 module _ {A : Type 0} where
+  -- ---- a list of length 1 is one element
+  pub single : (l : List A) → length l ≡ 1 → (x : A) × (l ≡ x ∷ [])
+  single [] e = absurd (omega arith)
+  single (x ∷ []) e = (x, refl)
+  single (x ∷ y ∷ l) e = absurd (omega arith)
+
+  -- ---- a list's first elements without some of them
+  pub drop-take : (at n : ℕ) (l : List A) → drop at (take n l) ≡ take (n - at) (drop at l)
+  drop-take zero n l = rw (sub-zero n)
+  drop-take (suc at) zero l = let e : 0 - suc at ≡ 0 = omega arith in rw e
+  drop-take (suc at) (suc n) [] = sym (take-nil (suc n - suc at))
+  drop-take (suc at) (suc n) (x ∷ l) = rw (suc-sub-suc n at) (drop-take at n l)
+
   -- ---- a store in the second of two lists
   set-past : (xs ys : List A) (i : ℕ) (v : A) → set (xs ++ ys) (length xs + i) v ≡ xs ++ set ys i v
   set-past [] ys i v = rw zero-add
@@ -30,18 +39,6 @@ module _ {A : Type 0} where
   set-second xs ys n i v h k =
       ap (λ (r : List A). take n xs ++ r) (take-set-lt n ys i v k)
       ∙ sym (set-right (take n xs) (take n ys) n i v (length-take-le n xs h))
-
-  -- ---- one element more of a stretch that is read, filled or written one after the other
-  pub read-more : (l m : List A) (at k : ℕ) (d : A) → k < length m → at + k < length l → take k m ≡ part l at k → take (k + 1) (set m k (getD l (at + k) d)) ≡ part l at (k + 1)
-  read-more l m at k d h g e = rw (add-one, take-suc-set m k (getD l (at + k) d) h, e, part-snoc l at k d g)
-
-  pub fill-more : (f : ℕ → A) (m : List A) (k : ℕ) (v : A) → k < length m → v ≡ f k → take k m ≡ map f (from 0 k) → take (k + 1) (set m k v) ≡ map f (from 0 (k + 1))
-  fill-more f m k v h e p = rw (add-one, take-suc-set m k v h, p, e, map-below-snoc f k)
-
-  pub write-more : (l m : List A) (at k : ℕ) (d : A) → k < length m → at + k < length l → set (put l at (take k m)) (at + k) (getD m k d) ≡ put l at (take (k + 1) m)
-  write-more l m at k d h g =
-      put-snoc l at (take k m) (getD m k d) (at + k) (ap (λ (n : ℕ). at + n) (length-take-le k m (omega arith))) g
-      ∙ rw (add-one, take-suc m k d h)
 
   -- ---- a list of one value
   pub take-replicate : (n m : ℕ) (z : A) → n ≤ m → take n (replicate m z) ≡ replicate n z
