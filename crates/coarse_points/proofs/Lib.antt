@@ -2,3 +2,4 @@
 pub mod Lists
 pub mod Sending
 pub mod Stages
+pub mod Given

@@ -20,7 +20,7 @@ use Rattle.definition.specs.Cut.{Domain}
 use Rattle.definition.specs.Tree.{sentLists, nextActive}
 use Rattle.laws.proofs.Cuts.{rowsOf, sizesOf}
 use Rattle.laws.proofs.Sampling.{sent-length}
-use Rattle.laws.proofs.Next.{sents, sents-times, sents-length}
+use Rattle.laws.proofs.Next.{sents, sents-times}
 use Rattle.heap.specs.Heap.{Sorted}
 use Rattle.owners.specs.Own.{ownAt, readOwn}
 use Rattle.owners.proofs.Read.{read-length, read-at}
@@ -86,7 +86,7 @@ module _ (d : ℕ) (cs : List Float) where
   sent-up-leaves active qs size =
       rw (map-map length (λ (q : Domain). q .rows) qs, ← zip-map (sentBy d cs) (λ (q : Domain). q .rows) qs (quotas (map (λ (q : Domain). length (q .rows)) qs) size))
 
-  -- quotas within the leaves' sizes: own rows, none twice, as many as the quotas add up to
+  -- quotas within the leaves' sizes: own rows, none twice
   module _ (own : List (List ℕ)) (ws : List ℕ) (within : (i : ℕ) → i < length own → getD ws i 0 ≤ getD (map length own) i 0) where
     pub sent-times : Once (joined own) → (r : ℕ) → times r (joined (zipWith (sentBy d cs) own ws)) ≤ times r (joined own)
     sent-times o r =
@@ -94,9 +94,6 @@ module _ (d : ℕ) (cs : List Float) where
         let s : sizesOf (map wrap own) ≡ map length own = map-map (λ (q : Domain). length (q .rows)) wrap own in
         let k = sents-times d cs (map wrap own) ws (λ z. rw e (o z)) (λ i l. rw s (within i (omega (arith, length-map own wrap)))) r in
         rw (as-sents own ws) (omega (arith, ap (times r) e))
-
-  pub sent-total : (own : List (List ℕ)) (ws : List ℕ) → length ws ≡ length own → length (joined (zipWith (sentBy d cs) own ws)) ≡ total ws
-  sent-total own ws e = ap (λ (z : List (List ℕ)). length (joined z)) (as-sents own ws) ∙ sents-length d cs (map wrap own) ws (e ∙ sym (length-map own wrap))
 
 -- ---- sorted, they are the active rows that were sent
 module _ (active : List ℕ) (up : Ascends active) (sent : List ℕ) (some : (r : ℕ) → times r sent ≤ times r active) where

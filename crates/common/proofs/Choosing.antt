@@ -26,7 +26,7 @@ use Rattle.definition.specs.Number.{squareRoot}
 use Rattle.definition.specs.Points.{rowsSq, rowsApart, leastOf}
 use Rattle.definition.specs.Sampling.{gap, pick, sampleMore, sample}
 use Rattle.root_laws.specs.Sorts.{good}
-use Rattle.utils.proofs.Finite.{rows-apart-good}
+use Rattle.laws.proofs.Finite.{rows-apart-good}
 use Rattle.common.specs.Rounds.{lesser, minusOne, Kept, lessened, Chosen}
 use Rattle.common.proofs.Orders.{one-not-good, lesser-one, lesser-inf}
 use Rattle.common.proofs.Passes.{row-fits, square-good}

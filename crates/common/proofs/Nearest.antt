@@ -21,7 +21,7 @@ use Rattle.definition.specs.Sampling.{sumFrom, centroid, fromCentroid, seedOf}
 use Rattle.root_laws.specs.Sorts.{good}
 use Rattle.root_laws.proofs.Order.{lt-irrefl, lt-asym, le-le, lt-le}
 use Rattle.root_laws.proofs.Values.{root-good, root-order}
-use Rattle.utils.proofs.Finite.{centroid-sq-good}
+use Rattle.laws.proofs.Finite.{centroid-sq-good}
 use Rattle.common.proofs.Passes.{row-fits}
 use Rattle.common.proofs.Lists.{split-at, each-before, each-behind}
 use Rattle.common.proofs.Picking.{nearest-is}

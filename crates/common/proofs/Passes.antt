@@ -16,7 +16,7 @@ use Rattle.lists.proofs.All.{all-at, all-mem}
 use Rattle.lists.proofs.From.{noted-more}
 use Rattle.definition.specs.Points.{rowsSq}
 use Rattle.root_laws.specs.Sorts.{good}
-use Rattle.utils.proofs.Finite.{rows-sq-good}
+use Rattle.laws.proofs.Finite.{rows-sq-good}
 use Rattle.common.specs.Rounds.{lesser, lessened, minusOne, Kept, Held, Peaked}
 use Rattle.common.proofs.Orders.{kept-irr, kept-le, kept-asym, kept-least, lesser-kept}
 

@@ -20,7 +20,7 @@ use Rattle.lists.proofs.Joined.{count-joined}
 use Rattle.definition.specs.Points.{coordinate, extent}
 use Rattle.definition.specs.Cut.{Domain, rootDomain, longestAxis, cutKeys, leftOf, rightOf, queueLeaves, leavesOf}
 use Rattle.laws.proofs.Lists.{sum-nil, sum-cons, sum-two}
-use Rattle.laws.proofs.Distances.{no-nan}
+use Rattle.laws.proofs.Finite.{no-nan}
 use Rattle.laws.proofs.Halves.{Sortable, first-length, other-length, length-keyed, parts-times, first-ascends, other-ascends, sortable}
 use Rattle.laws.proofs.Steps.{queue-empty, queue-wait, queue-done}
 

@@ -1,7 +1,7 @@
 -- Laws of the definition of the build.
 pub mod Lists
 pub mod Order
-pub mod Distances
+pub mod Finite
 pub mod Halves
 pub mod Steps
 pub mod Cuts

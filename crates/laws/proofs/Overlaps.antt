@@ -26,7 +26,7 @@ use Rattle.definition.specs.Overlaps.{nearest, Near, nearOf, lends, borrowedBy}
 use Rattle.definition.specs.Cut.{Domain, leavesOf}
 use Rattle.definition.specs.Tree.{Leaf, fineLevel}
 use Rattle.laws.proofs.Lists.{count-or-le, count-any, any-sum, members-few, holders-few, sum-swap, sum-most}
-use Rattle.laws.proofs.Distances.{rows-known}
+use Rattle.laws.proofs.Finite.{rows-known}
 use Rattle.laws.proofs.Halves.{Sortable, first-length, length-keyed, first-ascends, sortable}
 use Rattle.laws.proofs.Cuts.{Good, leaves-times}
 

@@ -1,13 +1,13 @@
 -- A round of the search for the middle row, its end, and the cut of a stretch, step by step. Assumes nothing.
 use mathlib.Core.Path.{_≡_, refl, sym, ap, ap₂, _∙_, subst}
 use mathlib.Core.Logic.{⊎-elim}
-use mathlib.Core.Bool.{Bool, not}
+use mathlib.Core.Bool.{Bool, true, false, not}
 use mathlib.Core.List.{List, [], _∷_, _++_, List·Memᴰ, List·Memᴰ·eq-of-singleton}
-use Prim.Native.Nat.{ℕ, suc, _+_, _-_, _*_, _/_, _≤_, _<_}
-use native.Mathlib.Nat.{add-zero, zero-add}
+use Prim.Native.Nat.{ℕ, _+_, _-_, _*_, _/_, _≤_, _<_}
+use native.Mathlib.Nat.{add-zero}
 use native.Mathlib.Omega.{arith}
-use lib.ListN.{length, getD, set, take, drop, length-set, length-drop, length-append, List·getD-append}
-use lib.Seq.{getD-take, length-take-le, take-length, take-at}
+use lib.ListN.{length, getD, set, take, drop, length-set, length-append, List·getD-append}
+use lib.Seq.{getD-take, length-take-le, take-length}
 use lib.Ieee.{Float}
 use Rattle.lists.specs.Lists.{keep, count, part, put}
 use Rattle.lists.specs.Ascends.{All, Ascends}
@@ -15,95 +15,110 @@ use Rattle.lists.proofs.Tests.{same-or}
 use Rattle.lists.proofs.All.{all-mem}
 use Rattle.lists.proofs.Count.{length-keep, length-both}
 use Rattle.lists.proofs.Members.{mem-at}
-use Rattle.lists.proofs.Put.{set-put, length-put, length-part, take-put-end, put-def, put-within, put-over, put-comm, put-inside, part-put-same, part-put-before, part-lent}
+use Rattle.lists.proofs.Put.{set-put, length-put, length-part, put-over, put-comm, put-inside, part-put-same, part-put-before, part-lent}
+use Rattle.lists.proofs.Times.{Once}
 use Rattle.lists.proofs.Same.{Same, same-length}
-use Rattle.definition.specs.Keys.{before, firstRows, otherRows}
-use Rattle.heap.specs.Rows.{keyOn, FiniteOn, NoLater}
+use Rattle.definition.specs.Keys.{firstRows, otherRows}
+use Rattle.heap.specs.Rows.{FiniteOn, NoLater}
 use Rattle.heap.specs.Heap.{Sorted}
 use Rattle.order.specs.Rows.{GoodRows}
-use Rattle.order.specs.Cuts.{keysOn, MiddleRow, Halved, Spent, Ranked, Narrows}
+use Rattle.order.specs.Cuts.{keysOn, onSide, MiddleRow, Halved, Room, Spent, Ranked, Round, Narrows}
 use Rattle.order.proofs.Lists.{front-put, part-back}
 use Rattle.order.proofs.Good.{good-keep, good-once, good-finite, good-inside}
 use Rattle.order.proofs.Ranks.{aheadOf, ranked-low, ranked-high, sides, ranked-sorted, ranked-middle, middle-ranked, lefts-are, rights-are}
 use Rattle.order.proofs.Turns.{back-most, back-end}
 use borrow.Rule.Slice.PartMut.{putMid}
 
-module _ (d : ℕ) (cs : List Float) (axis : ℕ) (A : axis < d) where
+module _ {d : ℕ} {cs : List Float} {axis : ℕ} where
   -- ---- a round: p is one of the first m rows, and c of them come before it
-  module _ (l : List ℕ) (m k at : ℕ) (M : m ≤ length l) (K : k < m) (T : at < m) (good : GoodRows d cs (take m l)) where
+  module _ {l : List ℕ} {m k at : ℕ} (r : Round d cs axis l m k at) where
     abbrev rows : List ℕ
     rows = take m l
 
     abbrev p : ℕ
     p = getD l at 0
 
-    long : length rows ≡ m
-    long = length-take-le m l M
+    pub round-front : length rows ≡ m
+    round-front = length-take-le m l (r .fits)
+
+    once : Once rows
+    once = good-once rows (r .good)
 
     p-mem : List·Memᴰ p rows
-    p-mem = rw (← getD-take m l at 0 T) (mem-at rows at 0 (omega (arith, long)))
+    p-mem = rw (← getD-take m l at 0 (r .there)) (mem-at rows at 0 (omega (arith, round-front, r .there)))
 
     pub round-finite : FiniteOn d cs axis rows
-    round-finite = good-finite axis A rows good
+    round-finite = good-finite axis (r .axis-in) rows (r .good)
 
     pub round-inside : p * d + axis < length cs
-    round-inside = good-inside axis A rows good p p-mem
+    round-inside = good-inside axis (r .axis-in) rows (r .good) p p-mem
+
+    -- what is kept fits
+    short : (q : ℕ → Bool) → length (keep q rows) ≤ length l
+    short q = omega (arith, length-both q rows, round-front, r .fits)
+
+    kept-fits : (q : ℕ → Bool) (after : List ℕ) (n : ℕ) → n ≡ length (keep q rows) → after ≡ put l 0 (keep q rows) → n ≤ length after
+    kept-fits q after n u v = omega (arith, ap length v, length-put l 0 (keep q rows) (omega (arith, short q)), short q)
+
+    kept-front :
+        (q : ℕ → Bool) (after : List ℕ) (n : ℕ) → n ≡ length (keep q rows) → after ≡ put l 0 (keep q rows) → take n after ≡ keep q rows
+    kept-front q after n u v = ap (take n) v ∙ front-put l (keep q rows) n u
 
     module _ (c : ℕ) (e : c ≡ aheadOf d cs axis rows p) where
       -- p is the row itself
       pub round-found : c ≡ k → Narrows d cs axis l m k (set l 0 p) 1 0
       unfolding Ascends All
       round-found q = record {
-        fits = omega (arith, length-set l 0 p);
+        fits = omega (arith, length-set l 0 p, r .fits, r .there);
         below = omega arith;
-        good = rw one (record { ascends = (tt, tt); inside = (all-mem (λ i. i * d + d ≤ length cs) rows (good .inside) p p-mem, tt); finite-all = good .finite-all });
-        leads = λ x r.
-            let z : x ≡ p = List·Memᴰ·eq-of-singleton (subst (λ (s : List ℕ). List·Memᴰ x s) one (r .inside)) in
-            rw z (record { inside = p-mem; ahead = sym e ∙ q });
+        good =
+            rw one
+            (record { ascends = (tt, tt); inside = (all-mem (λ i. i * d + d ≤ length cs) rows (r .good .inside) p p-mem, tt); finite-all = r .good .finite-all });
+        leads = λ x z.
+            let y : x ≡ p = List·Memᴰ·eq-of-singleton (subst (λ (s : List ℕ). List·Memᴰ x s) one (z .inside)) in
+            rw y (record { inside = p-mem; ahead = sym e ∙ q });
       }
         where
           one : take 1 (set l 0 p) ≡ p ∷ []
-          one = ap (take 1) (set-put l 0 p (omega arith)) ∙ front-put l (p ∷ []) 1 refl
+          one = ap (take 1) (set-put l 0 p (omega (arith, r .fits, r .there))) ∙ front-put l (p ∷ []) 1 refl
 
       -- the row is among those before p
-      pub round-low : k < c → (after : List ℕ) (n : ℕ) → n ≡ length (keep (λ i. before (keyOn d cs axis i) (keyOn d cs axis p)) rows)
-          → after ≡ put l 0 (keep (λ i. before (keyOn d cs axis i) (keyOn d cs axis p)) rows) → Narrows d cs axis l m k after n k
+      pub round-low : k < c → (after : List ℕ) (n : ℕ) → n ≡ length (keep (onSide d cs axis p true) rows)
+          → after ≡ put l 0 (keep (onSide d cs axis p true) rows) → Narrows d cs axis l m k after n k
       round-low h after n u v =
-          let low : ℕ → Bool = λ i. before (keyOn d cs axis i) (keyOn d cs axis p) in
-          let f : take n after ≡ keep low rows = ap (take n) v ∙ front-put l (keep low rows) n u in
-          let s = length-keep low rows in
-          let b = length-both low rows in
+          let low : ℕ → Bool = onSide d cs axis p true in
+          let f = kept-front low after n u v in
           record {
-            fits = omega (arith, ap length v, length-put l 0 (keep low rows) (omega (arith, long)), long);
-            below = omega arith;
-            good = rw f (good-keep low rows good);
-            leads = λ x r. ranked-low d cs axis rows p x k (rw f at r);
+            fits = kept-fits low after n u v;
+            below = omega (arith, length-keep low rows);
+            good = rw f (good-keep low rows (r .good));
+            leads = λ x z. ranked-low d cs axis rows p x k (rw f at z);
           }
 
       -- the row is among those after p
-      pub round-high : (c ≡ k → ⊥) → c ≤ k → (after : List ℕ) (n : ℕ) → n ≡ length (keep (λ i. before (keyOn d cs axis p) (keyOn d cs axis i)) rows)
-          → after ≡ put l 0 (keep (λ i. before (keyOn d cs axis p) (keyOn d cs axis i)) rows) → Narrows d cs axis l m k after n (k - c - 1)
+      pub round-high : (c ≡ k → ⊥) → c ≤ k → (after : List ℕ) (n : ℕ) → n ≡ length (keep (onSide d cs axis p false) rows)
+          → after ≡ put l 0 (keep (onSide d cs axis p false) rows) → Narrows d cs axis l m k after n (k - c - 1)
       round-high ne h after n u v =
-          let high : ℕ → Bool = λ i. before (keyOn d cs axis p) (keyOn d cs axis i) in
-          let f : take n after ≡ keep high rows = ap (take n) v ∙ front-put l (keep high rows) n u in
-          let s = sides d cs axis rows round-finite (good-once rows good) p p-mem in
+          let high : ℕ → Bool = onSide d cs axis p false in
+          let f = kept-front high after n u v in
+          let s = sides d cs axis rows round-finite once p p-mem in
+          let less : c < k = past ne in
+          let back : aheadOf d cs axis rows p + 1 + (k - c - 1) ≡ k = omega arith in
           record {
-            fits = omega (arith, ap length v, length-put l 0 (keep high rows) (omega (arith, long)), long);
-            below = past ne (omega (arith, long));
-            good = rw f (good-keep high rows good);
-            leads = λ x r.
-                subst (λ (z : ℕ). Ranked d cs axis rows x z) (back ne)
-                (ranked-high d cs axis rows round-finite (good-once rows good) p p-mem x (k - c - 1) (rw f at r));
+            fits = kept-fits high after n u v;
+            below = omega (arith, round-front, r .below);
+            good = rw f (good-keep high rows (r .good));
+            leads = λ x z.
+                subst (λ (y : ℕ). Ranked d cs axis rows x y) back
+                (ranked-high d cs axis rows round-finite once p p-mem x (k - c - 1) (rw f at z));
           }
         where
-          past : (c ≡ k → ⊥) → c + 1 + n ≡ m → k - c - 1 < n
-          past ne z = ⊎-elim (λ (y : c ≡ k). absurd (ne y)) (λ w. omega arith) (same-or c k)
-
-          back : (c ≡ k → ⊥) → aheadOf d cs axis rows p + 1 + (k - c - 1) ≡ k
-          back ne = ⊎-elim (λ (y : c ≡ k). absurd (ne y)) (λ w. omega arith) (same-or c k)
+          past : (c ≡ k → ⊥) → c < k
+          past ne = ⊎-elim (λ (y : c ≡ k). absurd (ne y)) (λ w. omega arith) (same-or c k)
 
   -- ---- the rounds
-  pub search-first : (l : List ℕ) → 1 ≤ length l → GoodRows d cs l → Narrows d cs axis l (length l) (length l / 2) l (length l) (length l / 2)
+  pub search-first :
+      (l : List ℕ) → 1 ≤ length l → GoodRows d cs l → Narrows d cs axis l (length l) (length l / 2) l (length l) (length l / 2)
   search-first l h g = record { fits = omega arith; below = omega arith; good = rw (take-length l) g; leads = λ q r. r }
 
   pub search-more : {l : List ℕ} {m k : ℕ} {l₁ : List ℕ} {n j : ℕ} {l₂ : List ℕ} {o i : ℕ}
@@ -111,7 +126,8 @@ module _ (d : ℕ) (cs : List Float) (axis : ℕ) (A : axis < d) where
   search-more a b = record { fits = b .fits; below = b .below; good = b .good; leads = λ q r. a .leads q (b .leads q r) }
 
   -- ---- their end: the rows that are left are sorted
-  module _ (l : List ℕ) (some : 1 ≤ length l) (g : GoodRows d cs l) (l₁ : List ℕ) (n j : ℕ) (N : Narrows d cs axis l (length l) (length l / 2) l₁ n j) where
+  module _ {l l₁ : List ℕ} {n j : ℕ} (A : axis < d) (some : 1 ≤ length l) (g : GoodRows d cs l)
+      (N : Narrows d cs axis l (length l) (length l / 2) l₁ n j) where
     pub end-finite : FiniteOn d cs axis (take n l₁)
     end-finite = good-finite axis A (take n l₁) (N .good)
 
@@ -119,65 +135,80 @@ module _ (d : ℕ) (cs : List Float) (axis : ℕ) (A : axis < d) where
     end-front = length-take-le n l₁ (N .fits)
 
     module _ (s : List ℕ) (sorted : Sorted (NoLater d cs axis) s) (same : Same s (take n l₁)) where
+      j-in : j < length s
+      j-in = omega (arith, same-length s (take n l₁) same, end-front, N .below)
+
       pub end-inside : j < length (s ++ drop n l₁)
-      end-inside = omega (arith, length-append s (drop n l₁), same-length s (take n l₁) same, end-front, N .below)
+      end-inside = omega (arith, length-append s (drop n l₁), j-in)
 
       pub end-middle : MiddleRow d cs axis l (getD (s ++ drop n l₁) j 0)
       end-middle =
-          let e : getD (s ++ drop n l₁) j 0 ≡ getD s j 0 =
-          List·getD-append s (drop n l₁) 0 j (omega (arith, same-length s (take n l₁) same, end-front, N .below)) in
-          let r = N .leads (getD s j 0) (ranked-sorted d cs axis s (take n l₁) sorted same (good-once (take n l₁) (N .good)) j (omega (arith, end-front, N .below))) in
-          rw e (ranked-middle d cs axis l (good-finite axis A l g) (good-once l g) some (getD s j 0) (rw (take-length l) at r))
+          let r =
+          ranked-sorted d cs axis s (take n l₁) sorted same (good-once (take n l₁) (N .good)) j (omega (arith, end-front, N .below)) in
+          let q = N .leads (getD s j 0) r in
+          rw (List·getD-append s (drop n l₁) 0 j j-in)
+          (ranked-middle d cs axis l (good-finite axis A l g) (good-once l g) some (getD s j 0) (rw (take-length l) at q))
 
   -- ---- a stretch of a list with room behind it
-  module _ (w : List ℕ) (start count spare : ℕ) (some : 1 ≤ count) (apart : start + count ≤ spare) (fit : spare + count ≤ length w) (good : GoodRows d cs (part w start count)) where
+  module _ {w : List ℕ} {start count spare : ℕ} (r : Room d cs axis w start count spare) where
     abbrev own : List ℕ
     own = part w start count
 
     own-length : length own ≡ count
-    own-length = length-part w start count (omega arith)
+    own-length = length-part w start count (omega (arith, r .apart, r .fit))
+
+    own-finite : FiniteOn d cs axis own
+    own-finite = good-finite axis (r .axis-in) own (r .good)
 
     -- the search in the spare room
     module _ (w₁ : List ℕ) (e : w₁ ≡ put w spare own) where
       lent : take (spare + count - spare) (drop spare w₁) ≡ own
-      lent = part-lent w₁ spare count ∙ ap (λ (z : List ℕ). part z spare count) e ∙ part-put-same w spare own count (omega arith) own-length
+      lent =
+          part-lent w₁ spare count ∙ ap (λ (z : List ℕ). part z spare count) e
+          ∙ part-put-same w spare own count (omega (arith, r .fit)) own-length
 
       pub lent-good : GoodRows d cs (take (spare + count - spare) (drop spare w₁))
-      lent-good = rw lent good
+      lent-good = rw lent (r .good)
 
       pub lent-some : 1 ≤ length (take (spare + count - spare) (drop spare w₁))
-      lent-some = rw lent (omega (arith, own-length))
+      lent-some = rw lent (omega (arith, own-length, r .some))
 
-      pub room-length : length w₁ ≡ length w
-      room-length = ap length e ∙ length-put w spare own (omega (arith, own-length))
-
-      pub lent-back : (ys : List ℕ) (m : ℕ) → length ys ≡ length (take (spare + count - spare) (drop spare w₁)) → MiddleRow d cs axis (take (spare + count - spare) (drop spare w₁)) m
+      pub lent-back : (ys : List ℕ) (m : ℕ) → length ys ≡ length (take (spare + count - spare) (drop spare w₁))
+          → MiddleRow d cs axis (take (spare + count - spare) (drop spare w₁)) m
           → Spent w spare count (putMid spare (spare + count - spare) w₁ ys) × MiddleRow d cs axis own m
       lent-back ys m n M =
           let k : length ys ≡ count = n ∙ ap length lent ∙ own-length in (
-            record { rest = ys; long = k; is = part-back w₁ spare count ys k ∙ ap (λ (z : List ℕ). put z spare ys) e ∙ put-over w spare own ys (omega arith) (own-length ∙ sym k) },
+            record {
+              rest = ys;
+              long = k;
+              is =
+                  part-back w₁ spare count ys k ∙ ap (λ (z : List ℕ). put z spare ys) e
+                  ∙ put-over w spare own ys (omega (arith, r .fit)) (own-length ∙ sym k);
+            },
             rw lent at M,
           )
 
     -- the rows are parted around the middle row, and the spare room is copied back
-    module _ (m : ℕ) (M : MiddleRow d cs axis own m) (w₁ : List ℕ) (S : Spent w spare count w₁) where
+    module _ {m : ℕ} (M : MiddleRow d cs axis own m) {w₁ : List ℕ} (S : Spent w spare count w₁) where
       abbrev low : ℕ → Bool
-      low i = before (keyOn d cs axis i) (keyOn d cs axis m)
+      low = onSide d cs axis m true
 
-      pub spent-length : length w₁ ≡ length w
-      spent-length = ap length (S .is) ∙ length-put w spare (S .rest) (omega (arith, S .long))
+      spent-length : length w₁ ≡ length w
+      spent-length = ap length (S .is) ∙ length-put w spare (S .rest) (omega (arith, S .long, r .fit))
 
       spent-own : part w₁ start count ≡ own
-      spent-own = ap (λ (z : List ℕ). part z start count) (S .is) ∙ part-put-before w spare (S .rest) start count (omega arith) apart
+      spent-own =
+          ap (λ (z : List ℕ). part z start count) (S .is)
+          ∙ part-put-before w spare (S .rest) start count (omega (arith, r .fit)) (r .apart)
 
       pub spent-finite : FiniteOn d cs axis (part w₁ start count)
-      spent-finite = rw spent-own (good-finite axis A own good)
+      spent-finite = rw spent-own own-finite
 
       pub spent-room : spare + count ≤ length w₁
-      spent-room = omega (arith, spent-length)
+      spent-room = omega (arith, spent-length, r .fit)
 
       pub middle-inside : m * d + axis < length cs
-      middle-inside = good-inside axis A own good m (M .inside)
+      middle-inside = good-inside axis (r .axis-in) own (r .good) m (M .inside)
 
       -- the two sides
       abbrev L : List ℕ
@@ -186,43 +217,44 @@ module _ (d : ℕ) (cs : List Float) (axis : ℕ) (A : axis < d) where
       abbrev R : List ℕ
       R = keep (λ i. not (low i)) own
 
-      L-size : length L + length R ≡ count
-      L-size = length-both low own ∙ own-length
+      both-size : length L + length R ≡ count
+      both-size = length-both low own ∙ own-length
 
       ranked : Ranked d cs axis own m (count / 2)
       ranked = subst (λ (k : ℕ). Ranked d cs axis own m (k / 2)) own-length (middle-ranked d cs axis own m M)
 
       L-is : L ≡ firstRows (count / 2) (keysOn d cs axis own)
-      L-is = lefts-are d cs axis own (good-finite axis A own good) (good-once own good) (count / 2) m ranked
+      L-is = lefts-are d cs axis own own-finite (good-once own (r .good)) (count / 2) m ranked
 
       R-is : R ≡ otherRows (count / 2) (keysOn d cs axis own)
-      R-is = rights-are d cs axis own (good-finite axis A own good) (good-once own good) (count / 2) m ranked
+      R-is = rights-are d cs axis own own-finite (good-once own (r .good)) (count / 2) m ranked
 
-      module _ (lo : ℕ) (w₂ : List ℕ) (u : lo ≡ length (keep low (part w₁ start count)))
+      module _ {lo : ℕ} {w₂ : List ℕ} (u : lo ≡ length (keep low (part w₁ start count)))
           (v : w₂ ≡ put (put w₁ start (keep low (part w₁ start count))) spare (keep (λ i. not (low i)) (part w₁ start count))) where
         pub low-most : lo ≤ count
-        low-most = back-most low w₁ start count spare apart spent-room lo u
+        low-most = back-most low w₁ start count spare (r .apart) spent-room lo u
 
         pub parted-length : length w₂ ≡ length w
         parted-length =
             let a : w₂ ≡ put (put w₁ start L) spare R = rw spent-own at v in
-            let b = length-put w₁ start L (omega (arith, L-size, spent-room)) in
-            ap length a ∙ length-put (put w₁ start L) spare R (omega (arith, L-size, spent-room, b)) ∙ b ∙ spent-length
+            let b = length-put w₁ start L (omega (arith, both-size, spent-room, r .apart)) in
+            ap length a ∙ length-put (put w₁ start L) spare R (omega (arith, both-size, spent-room, b)) ∙ b ∙ spent-length
 
         pub halved : (w₃ : List ℕ) → w₃ ≡ put w₂ (start + lo) (part w₂ spare (count - lo)) → Halved d cs axis w start count spare w₃
         halved w₃ x =
-            let a = back-end low w₁ start count spare apart spent-room lo u w₂ w₃ v x in
+            let a = back-end low w₁ start count spare (r .apart) spent-room lo u w₂ w₃ v x in
             let b : w₃ ≡ put (put w₁ start (L ++ R)) spare R = rw spent-own at a in
-            let n : length (L ++ R) ≡ count = length-append L R ∙ L-size in
-            let z = length-put w start (L ++ R) (omega arith) in
+            let n : length (L ++ R) ≡ count = length-append L R ∙ both-size in
+            let z = length-put w start (L ++ R) (omega (arith, r .apart, r .fit)) in
             let c : put w₁ start (L ++ R) ≡ put (put w start (L ++ R)) spare (S .rest) =
-            ap (λ (y : List ℕ). put y start (L ++ R)) (S .is) ∙ sym (put-comm w start (L ++ R) spare (S .rest) (omega arith) (omega arith)) in
+            ap (λ (y : List ℕ). put y start (L ++ R)) (S .is)
+            ∙ sym (put-comm w start (L ++ R) spare (S .rest) (omega (arith, r .apart)) (omega (arith, r .fit))) in
             let f : put (put (put w start (L ++ R)) spare (S .rest)) spare R ≡ put (put w start (L ++ R)) spare (put (S .rest) 0 R) =
             ap (λ (k : ℕ). put (put (put w start (L ++ R)) spare (S .rest)) k R) (sym (add-zero spare))
-            ∙ put-inside (put w start (L ++ R)) spare (S .rest) 0 R (omega arith) (omega (arith, L-size, S .long)) in
+            ∙ put-inside (put w start (L ++ R)) spare (S .rest) 0 R (omega (arith, r .fit)) (omega (arith, both-size, S .long)) in
             record {
               rest = put (S .rest) 0 R;
-              long = length-put (S .rest) 0 R (omega (arith, L-size, S .long)) ∙ S .long;
+              long = length-put (S .rest) 0 R (omega (arith, both-size, S .long)) ∙ S .long;
               is =
                   b ∙ ap (λ (y : List ℕ). put y spare R) c ∙ f
                   ∙ ap₂ (λ (g h : List ℕ). put (put w start (g ++ h)) spare (put (S .rest) 0 R)) L-is R-is;

@@ -9,7 +9,6 @@ use lib.Dec.{T}
 use lib.Ieee.{Float}
 use lib.Ieee.Scale.{finite}
 use Rattle.lists.specs.Lists.{keep, part}
-use Rattle.lists.specs.Ascends.{All}
 use Rattle.lists.proofs.All.{all-keep, all-take, all-part, all-imp, all-mem}
 use Rattle.lists.proofs.Ascends.{ascends-keep, ascends-take, ascends-part, ascends-once}
 use Rattle.lists.proofs.Times.{Once, to-times}
@@ -24,15 +23,27 @@ module _ {d : ℕ} {cs : List Float} where
   -- ---- what is kept, and a stretch
   pub good-keep : (p : ℕ → Bool) (l : List ℕ) → GoodRows d cs l → GoodRows d cs (keep p l)
   good-keep p l g =
-      record { ascends = ascends-keep p l (g .ascends); inside = all-keep (λ i. i * d + d ≤ length cs) p l (g .inside); finite-all = g .finite-all }
+      record {
+        ascends = ascends-keep p l (g .ascends);
+        inside = all-keep (λ i. i * d + d ≤ length cs) p l (g .inside);
+        finite-all = g .finite-all;
+      }
 
   pub good-take : (n : ℕ) (l : List ℕ) → GoodRows d cs l → GoodRows d cs (take n l)
   good-take n l g =
-      record { ascends = ascends-take n l (g .ascends); inside = all-take (λ i. i * d + d ≤ length cs) n l (g .inside); finite-all = g .finite-all }
+      record {
+        ascends = ascends-take n l (g .ascends);
+        inside = all-take (λ i. i * d + d ≤ length cs) n l (g .inside);
+        finite-all = g .finite-all;
+      }
 
   pub good-part : (l : List ℕ) (at n : ℕ) → GoodRows d cs l → GoodRows d cs (part l at n)
   good-part l at n g =
-      record { ascends = ascends-part l at n (g .ascends); inside = all-part (λ i. i * d + d ≤ length cs) l at n (g .inside); finite-all = g .finite-all }
+      record {
+        ascends = ascends-part l at n (g .ascends);
+        inside = all-part (λ i. i * d + d ≤ length cs) l at n (g .inside);
+        finite-all = g .finite-all;
+      }
 
   -- ---- the halves by any value
   pub good-first : (v : ℕ → Float) (m : ℕ) (l : List ℕ) → GoodRows d cs l → GoodRows d cs (firstRows m (keyed v l))
@@ -47,7 +58,8 @@ module _ {d : ℕ} {cs : List Float} where
 
   pub good-finite : (axis : ℕ) → axis < d → (l : List ℕ) → GoodRows d cs l → FiniteOn d cs axis l
   good-finite axis h l g =
-      all-imp (λ i. i * d + d ≤ length cs) (λ i. T (finite (coordinate d cs i axis))) l (λ i e. g .finite-all (i * d + axis) (omega arith)) (g .inside)
+      all-imp (λ i. i * d + d ≤ length cs) (λ i. T (finite (coordinate d cs i axis))) l (λ i e. g .finite-all (i * d + axis) (omega arith))
+      (g .inside)
 
   pub good-inside : (axis : ℕ) → axis < d → (l : List ℕ) → GoodRows d cs l → (i : ℕ) → List·Memᴰ i l → i * d + axis < length cs
   good-inside axis h l g i m = let e = all-mem (λ i. i * d + d ≤ length cs) l (g .inside) i m in omega arith
@@ -56,7 +68,8 @@ module _ {d : ℕ} {cs : List Float} where
   pub good-good : (l : List ℕ) → GoodRows d cs l → Good d cs l
   good-good l g = record {
     once = good-once l g;
-    finite-at = λ r m a h. true-of (finite (coordinate d cs r a)) (to-times (λ i. T (finite (coordinate d cs i a))) l (good-finite a h l g) r m);
+    finite-at =
+        λ r m a h. true-of (finite (coordinate d cs r a)) (to-times (λ i. T (finite (coordinate d cs i a))) l (good-finite a h l g) r m);
   }
     where
       true-of : (b : Bool) → T b → b ≡ true

@@ -1,13 +1,13 @@
 -- Laws on lists that the cut rests on. Assumes nothing.
 use mathlib.Core.Path.{_≡_, sym, ap, _∙_}
-use mathlib.Core.List.{List, _++_, append-assoc}
-use Prim.Native.Nat.{ℕ, _+_, _-_, _≤_}
+use mathlib.Core.List.{List, append-assoc}
+use Prim.Native.Nat.{ℕ, _+_, _-_}
 use native.Mathlib.Nat.{zero-add}
 use native.Mathlib.Omega.{arith}
 use lib.ListN.{length, take, drop}
 use lib.Seq.{drop-drop}
 use borrow.Rule.Slice.PartMut.{putMid}
-use Rattle.lists.specs.Lists.{put, part}
+use Rattle.lists.specs.Lists.{put}
 use Rattle.lists.proofs.Put.{put-def, take-put-end}
 
 -- what is written to the front of a list

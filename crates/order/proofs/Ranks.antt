@@ -1,10 +1,10 @@
 -- How many rows come before a row: among those on one side of another row, among sorted rows; and the halves by the middle row.
 -- Assumes nothing.
 use mathlib.Core.Path.{_≡_, refl, sym, ap, _∙_, subst}
-use mathlib.Core.Logic.{_⊎_, inl, inr, ⊎-elim}
+use mathlib.Core.Logic.{⊎-elim}
 use mathlib.Core.Bool.{Bool, true, false, not, _&&_, _||_}
-use mathlib.Core.List.{List, [], _∷_, _++_, List·Memᴰ, List·Memᴰ·head}
-use Prim.Native.Nat.{ℕ, zero, suc, _+_, _-_, _*_, _/_, _≤_, _<_}
+use mathlib.Core.List.{List, [], _∷_, List·Memᴰ, List·Memᴰ·head}
+use Prim.Native.Nat.{ℕ, _+_, _/_, _<_}
 use native.Mathlib.Omega.{arith}
 use borrow.Author.Tests.{eq-eqb, ne-eqb, eqb-true, lt-ltb, le-ltb}
 use lib.Dec.{T, ltb, eqb}
@@ -13,22 +13,21 @@ use lib.Seq.{getD-take, getD-drop, length-take-le}
 use lib.Ieee.{Float}
 use lib.Ieee.Scale.{finite}
 use Rattle.lists.specs.Lists.{keep, count}
-use Rattle.lists.specs.Ascends.{All}
-use Rattle.lists.proofs.Tests.{clash, same-or, same-test, and-of, and-snd, true-or-false}
-use Rattle.lists.proofs.All.{all-mem, all-at, mem-by-index}
-use Rattle.lists.proofs.Count.{count-same, count-or, count-all, count-none, count-keep, count-halves, count-le, length-keep, keep-same}
+use Rattle.lists.proofs.Tests.{clash, same-or, same-test, and-of, and-snd}
+use Rattle.lists.proofs.All.{all-mem, mem-by-index}
+use Rattle.lists.proofs.Count.{count-same, count-or, count-all, count-none, count-keep, count-halves, keep-same}
 use Rattle.lists.proofs.Members.{keep-mem, mem-at, map-mem}
-use Rattle.lists.proofs.Times.{times, Once, mem-times, times-mem}
-use Rattle.lists.proofs.Same.{Same, same-mem, same-once, same-each, same-length}
+use Rattle.lists.proofs.Times.{Once, mem-times, times-mem}
+use Rattle.lists.proofs.Same.{Same, same-mem, same-once, same-length}
 use Rattle.lists.proofs.Rank.{ahead-lt}
 use Rattle.definition.specs.Points.{coordinate}
 use Rattle.definition.specs.Keys.{Key, keyed, before, rank, firstRows, otherRows, keyAt}
 use Rattle.laws.proofs.Order.{before-irr, before-trans}
-use Rattle.laws.proofs.Halves.{keyOf, rank-keyed, length-keyed, first-rows, other-rows, sortable, Middle, key-at}
+use Rattle.laws.proofs.Halves.{rank-keyed, length-keyed, first-rows, other-rows, sortable, Middle, key-at}
 use Rattle.heap.specs.Rows.{keyOn, FiniteOn, NoLater}
 use Rattle.heap.specs.Heap.{Sorted}
 use Rattle.heap.proofs.Orders.{row-or, not-both, sorted-before, finite-known}
-use Rattle.order.specs.Cuts.{keysOn, MiddleRow, Ranked}
+use Rattle.order.specs.Cuts.{MiddleRow, Ranked}
 
 module _ (d : ℕ) (cs : List Float) (axis : ℕ) where
   abbrev Finite : ℕ → Type 0
@@ -54,7 +53,8 @@ module _ (d : ℕ) (cs : List Float) (axis : ℕ) where
       record {
         inside = m .0;
         ahead =
-            count-same (λ x. before (key x) (key q)) (λ x. before (key x) (key p) && before (key x) (key q)) rows (λ x n. both-before x p q (m .1))
+            count-same (λ x. before (key x) (key q)) (λ x. before (key x) (key p) && before (key x) (key q)) rows
+            (λ x n. both-before x p q (m .1))
             ∙ sym (count-keep (λ x. before (key x) (key q)) (λ x. before (key x) (key p)) rows)
             ∙ r .ahead;
       }
@@ -85,7 +85,9 @@ module _ (d : ℕ) (cs : List Float) (axis : ℕ) where
           let high : ℕ → Bool = λ x. before (key p) (key x) && t x in
           let a = count-same t (λ x. (low x || eqb x p) || high x) rows three in
           let b = count-or (λ x. low x || eqb x p) high rows (λ x m e. apart x (eqb x p) refl e) in
-          let c = count-or low (λ x. eqb x p) rows (λ x m e. ne-eqb x p (λ q. clash (subst (λ (z : ℕ). before (key z) (key p) ≡ true) q e) (before-irr (key p)))) in
+          let c =
+          count-or low (λ x. eqb x p) rows
+          (λ x m e. ne-eqb x p (λ q. clash (subst (λ (z : ℕ). before (key z) (key p) ≡ true) q e) (before-irr (key p)))) in
           let u : count (λ x. eqb x p) rows ≡ 1 = omega (arith, o p, mem-times rows p P) in
           let v = count-keep t (λ x. before (key p) (key x)) rows in
           omega arith
@@ -105,7 +107,8 @@ module _ (d : ℕ) (cs : List Float) (axis : ℕ) where
         let c = count-all (λ x. true) (keep (λ x. before (key p) (key x)) rows) (λ x m. refl) in
         omega arith
 
-    pub ranked-high : (q k : ℕ) → Ranked d cs axis (keep (λ i. before (key p) (key i)) rows) q k → Ranked d cs axis rows q (aheadOf rows p + 1 + k)
+    pub ranked-high :
+        (q k : ℕ) → Ranked d cs axis (keep (λ i. before (key p) (key i)) rows) q k → Ranked d cs axis rows q (aheadOf rows p + 1 + k)
     ranked-high q k r =
         let m = keep-mem (λ i. before (key p) (key i)) rows (r .inside) in
         record {
@@ -134,11 +137,17 @@ module _ (d : ℕ) (cs : List Float) (axis : ℕ) where
     sorted-ahead =
         let p : ℕ → Bool = λ i. before (key i) (key (getD l k 0)) in
         let n : length (take k l) ≡ k = length-take-le k l (omega arith) in
-        let a = count-all p (take k l) (mem-by-index (λ i. p i ≡ true) (take k l) 0 (λ i h. rw (getD-take k l i 0 (omega arith)) (before-k i (omega arith)))) in
-        let b = count-none p (drop k l) (mem-by-index (λ i. p i ≡ false) (drop k l) 0 (λ j h. rw (getD-drop k l j 0) (after-k j (omega (arith, length-drop k l))))) in
+        let a =
+        count-all p (take k l)
+        (mem-by-index (λ i. p i ≡ true) (take k l) 0 (λ i h. rw (getD-take k l i 0 (omega arith)) (before-k i (omega arith)))) in
+        let b =
+        count-none p (drop k l)
+        (mem-by-index (λ i. p i ≡ false) (drop k l) 0 (λ j h. rw (getD-drop k l j 0) (after-k j (omega (arith, length-drop k l))))) in
         omega (arith, count-halves p k l)
 
-  pub ranked-sorted : (l rows : List ℕ) → Sorted (NoLater d cs axis) l → Same l rows → Once rows → (k : ℕ) → k < length rows → Ranked d cs axis rows (getD l k 0) k
+  pub ranked-sorted :
+      (l rows : List ℕ) → Sorted (NoLater d cs axis) l → Same l rows → Once rows → (k : ℕ) → k < length rows →
+      Ranked d cs axis rows (getD l k 0) k
   ranked-sorted l rows s e o k h =
       let K : k < length l = omega (arith, same-length l rows e) in
       record {
@@ -161,7 +170,8 @@ module _ (d : ℕ) (cs : List Float) (axis : ℕ) where
     rank-q = rank-is q ∙ r .ahead
 
     row-lt : (x y : ℕ) → List·Memᴰ x rows → before (key x) (key y) ≡ true → aheadOf rows x < aheadOf rows y
-    row-lt x y n h = ahead-lt (λ a b. before (key a) (key b)) (λ a. before-irr (key a)) (λ a b c. before-trans (key a) (key b) (key c)) rows x y n h
+    row-lt x y n h =
+        ahead-lt (λ a b. before (key a) (key b)) (λ a. before-irr (key a)) (λ a b c. before-trans (key a) (key b) (key c)) rows x y n h
 
     -- a row comes before q exactly where fewer than m come before it
     pub by-rank : (i : ℕ) → List·Memᴰ i rows → before (key i) (key q) ≡ ltb (rank (keyed v rows) (key i)) m
@@ -180,7 +190,8 @@ module _ (d : ℕ) (cs : List Float) (axis : ℕ) where
 
     pub rights-are : keep (λ i. not (before (key i) (key q))) rows ≡ otherRows m (keyed v rows)
     rights-are =
-        keep-same (λ i. not (before (key i) (key q))) (λ i. not (ltb (rank (keyed v rows) (key i)) m)) rows (λ i n. ap not (by-rank i n)) ∙ sym (other-rows v m rows)
+        keep-same (λ i. not (before (key i) (key q))) (λ i. not (ltb (rank (keyed v rows) (key i)) m)) rows (λ i n. ap not (by-rank i n))
+        ∙ sym (other-rows v m rows)
 
     -- and no other row has m before it
     one-row : (i : ℕ) → List·Memᴰ i rows → aheadOf rows i ≡ m → i ≡ q
@@ -206,12 +217,18 @@ module _ (d : ℕ) (cs : List Float) (axis : ℕ) where
             M .alone ∙ ap (λ (p : Key). p ∷ []) (t .2 ∙ ap key e)
 
   -- the row with half of the rows before it is the middle row
-  pub ranked-middle : (rows : List ℕ) → FiniteOn d cs axis rows → Once rows → 0 < length rows → (q : ℕ) → Ranked d cs axis rows q (length rows / 2) → MiddleRow d cs axis rows q
+  pub ranked-middle :
+      (rows : List ℕ) → FiniteOn d cs axis rows → Once rows → 0 < length rows → (q : ℕ) → Ranked d cs axis rows q (length rows / 2) →
+      MiddleRow d cs axis rows q
   ranked-middle rows f o h q r = record { inside = r .inside; first = alone rows f o (length rows / 2) q r (omega arith) }
 
   pub middle-ranked : (rows : List ℕ) (q : ℕ) → MiddleRow d cs axis rows q → Ranked d cs axis rows q (length rows / 2)
   unfolding keyAt
   middle-ranked rows q M =
       let w : ℕ → Float = λ i. coordinate d cs i axis in
-      let n = keep-mem (λ p. eqb (rank (keyed w rows) p) (length rows / 2)) (keyed w rows) {x = key q} (rw (M .first) (List·Memᴰ·head refl)) in
-      record { inside = M .inside; ahead = sym (rank-keyed w rows (key q)) ∙ eqb-true (rank (keyed w rows) (key q)) (length rows / 2) (n .1) }
+      let n =
+      keep-mem (λ p. eqb (rank (keyed w rows) p) (length rows / 2)) (keyed w rows) {x = key q} (rw (M .first) (List·Memᴰ·head refl)) in
+      record {
+        inside = M .inside;
+        ahead = sym (rank-keyed w rows (key q)) ∙ eqb-true (rank (keyed w rows) (key q)) (length rows / 2) (n .1);
+      }

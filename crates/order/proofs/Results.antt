@@ -1,6 +1,6 @@
 -- What a caller asks of a stretch that was cut: where the halves stand, that all else stays, and the plane. Assumes nothing.
-use mathlib.Core.Path.{_≡_, refl, sym, ap, _∙_}
-use mathlib.Core.List.{List, [], _∷_, _++_}
+use mathlib.Core.Path.{_≡_, sym, ap, _∙_}
+use mathlib.Core.List.{List, _++_}
 use Prim.Native.Nat.{ℕ, _+_, _-_, _/_, _≤_, _<_}
 use native.Mathlib.Nat.{add-zero}
 use native.Mathlib.Omega.{arith}
@@ -60,10 +60,15 @@ module _ (d : ℕ) (cs : List Float) (axis : ℕ) (A : axis < d) (w : List ℕ) 
     inner-length = length-put w start (firsts ++ others) (omega (arith, both-length))
 
     pub halved-length : length after ≡ length w
-    halved-length = ap length (H .is) ∙ length-put (put w start (firsts ++ others)) spare (H .rest) (omega (arith, H .long, inner-length)) ∙ inner-length
+    halved-length =
+        ap length (H .is)
+        ∙ length-put (put w start (firsts ++ others)) spare (H .rest) (omega (arith, H .long, inner-length))
+        ∙ inner-length
 
     below : (s n : ℕ) → s + n ≤ spare → part after s n ≡ part (put w start (firsts ++ others)) s n
-    below s n h = ap (λ (z : List ℕ). part z s n) (H .is) ∙ part-put-before (put w start (firsts ++ others)) spare (H .rest) s n (omega (arith, inner-length)) h
+    below s n h =
+        ap (λ (z : List ℕ). part z s n) (H .is)
+        ∙ part-put-before (put w start (firsts ++ others)) spare (H .rest) s n (omega (arith, inner-length)) h
 
     -- the stretch holds the left half and then the right half
     pub halved-stretch : part after start count ≡ firsts ++ others

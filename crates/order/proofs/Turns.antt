@@ -115,7 +115,14 @@ module _ {p : ℕ → Bool} {l : List ℕ} {n : ℕ} {m : List ℕ} {k i : ℕ} 
     pub kept-out : p (getD m i 0) ≡ false → Kept p l n m k (i + 1)
     kept-out t =
         let a = keep-no p l i 0 inside (rw here at t) in
-        record { fit = s .fit; most = omega arith; less = omega (arith, s .less); same = s .same; passed = rw a (s .passed); now = rw a (s .now) }
+        record {
+          fit = s .fit;
+          most = omega arith;
+          less = omega (arith, s .less);
+          same = s .same;
+          passed = rw a (s .passed);
+          now = rw a (s .now);
+        }
 
 -- ---- a stretch is parted: those that pass move to its front, the others to the spare room. m is l after i rows, of which lo passed.
 pub record Parted (p : ℕ → Bool) (l : List ℕ) (start n spare : ℕ) (m : List ℕ) (lo hi i : ℕ) : Type 0 where
@@ -128,7 +135,8 @@ pub record Parted (p : ℕ → Bool) (l : List ℕ) (start n spare : ℕ) (m : L
   pub to-right : hi ≡ length (keep (λ x. not (p x)) (part l start i))
   pub now : m ≡ put (put l start (keep p (part l start i))) spare (keep (λ x. not (p x)) (part l start i))
 
-pub parted-first : (p : ℕ → Bool) (l : List ℕ) (start n spare : ℕ) → start + n ≤ spare → spare + n ≤ length l → Parted p l start n spare l 0 0 0
+pub parted-first :
+    (p : ℕ → Bool) (l : List ℕ) (start n spare : ℕ) → start + n ≤ spare → spare + n ≤ length l → Parted p l start n spare l 0 0 0
 unfolding keep
 parted-first p l start n spare a f = record {
   apart = a;
@@ -142,7 +150,9 @@ parted-first p l start n spare a f = record {
 }
 
 module _ {p : ℕ → Bool} {l : List ℕ} {start n spare : ℕ} {m : List ℕ} {lo hi i : ℕ} (s : Parted p l start n spare m lo hi i) where
-  pub parted-end : n ≤ i → (lo ≡ length (keep p (part l start n))) × (m ≡ put (put l start (keep p (part l start n))) spare (keep (λ x. not (p x)) (part l start n)))
+  pub parted-end :
+      n ≤ i →
+      (lo ≡ length (keep p (part l start n))) × (m ≡ put (put l start (keep p (part l start n))) spare (keep (λ x. not (p x)) (part l start n)))
   parted-end h = let e : n ≡ i = omega (arith, s .most) in rw e (s .to-left, s .now)
 
   module _ (h : i < n) where
@@ -173,7 +183,8 @@ module _ {p : ℕ → Bool} {l : List ℕ} {start n spare : ℕ} {m : List ℕ} 
         let e : getD (part l start n) i 0 ≡ getD m (start + i) 0 = getD-part l start n i 0 h ∙ sym row-read in
         subst P e (all-at P (part l start n) i 0 f (rw (length-part l start n stretch) h))
 
-    pub parted-left : p (getD m (start + i) 0) ≡ true → Parted p l start n spare (set m (start + lo) (getD m (start + i) 0)) (lo + 1) hi (i + 1)
+    pub parted-left :
+        p (getD m (start + i) 0) ≡ true → Parted p l start n spare (set m (start + lo) (getD m (start + i) 0)) (lo + 1) hi (i + 1)
     parted-left t =
         let v = getD l (start + i) 0 in
         let e : p v ≡ true = rw row-read at t in
@@ -196,7 +207,8 @@ module _ {p : ℕ → Bool} {l : List ℕ} {start n spare : ℕ} {m : List ℕ} 
           now = rw (row-read, s .to-left, s .now, a, b) c;
         }
 
-    pub parted-right : p (getD m (start + i) 0) ≡ false → Parted p l start n spare (set m (spare + hi) (getD m (start + i) 0)) lo (hi + 1) (i + 1)
+    pub parted-right :
+        p (getD m (start + i) 0) ≡ false → Parted p l start n spare (set m (spare + hi) (getD m (start + i) 0)) lo (hi + 1) (i + 1)
     parted-right t =
         let v = getD l (start + i) 0 in
         let e : p v ≡ false = rw row-read at t in
@@ -216,13 +228,15 @@ module _ {p : ℕ → Bool} {l : List ℕ} {start n spare : ℕ} {m : List ℕ} 
         }
 
 -- ---- the spare room copied back behind those that passed; lo is how many
-module _ (p : ℕ → Bool) (l : List ℕ) (start n spare : ℕ) (apart : start + n ≤ spare) (fit : spare + n ≤ length l) (lo : ℕ) (e : lo ≡ length (keep p (part l start n))) where
+module _ (p : ℕ → Bool) (l : List ℕ) (start n spare : ℕ) (apart : start + n ≤ spare) (fit : spare + n ≤ length l) (lo : ℕ)
+    (e : lo ≡ length (keep p (part l start n))) where
   pub back-most : lo ≤ n
   back-most = omega (arith, both-sizes p l start n (omega arith) n (omega arith))
 
   pub back-end : (m o : List ℕ) → m ≡ put (put l start (keep p (part l start n))) spare (keep (λ x. not (p x)) (part l start n))
       → o ≡ put m (start + lo) (part m spare (n - lo))
-      → o ≡ put (put l start (keep p (part l start n) ++ keep (λ x. not (p x)) (part l start n))) spare (keep (λ x. not (p x)) (part l start n))
+      → o ≡ put (put l start (keep p (part l start n) ++ keep (λ x. not (p x)) (part l start n))) spare
+      (keep (λ x. not (p x)) (part l start n))
   back-end m o q f =
       let A = keep p (part l start n) in
       let B = keep (λ x. not (p x)) (part l start n) in

@@ -32,6 +32,14 @@ pub record Halved (d : ℕ) (cs : List Float) (axis : ℕ) (work : List ℕ) (st
       spare
       rest
 
+-- what the cut of a stretch asks: good rows, and as much room behind it
+pub record Room (d : ℕ) (cs : List Float) (axis : ℕ) (work : List ℕ) (start count spare : ℕ) : Type 0 where
+  pub axis-in : axis < d
+  pub some : 1 ≤ count
+  pub apart : start + count ≤ spare
+  pub fit : spare + count ≤ length work
+  pub good : GoodRows d cs (part work start count)
+
 -- `after` is `work` where the `count` entries from `spare` on hold anything
 pub record Spent (work : List ℕ) (spare count : ℕ) (after : List ℕ) : Type 0 where
   pub rest : List ℕ
@@ -48,6 +56,14 @@ pub record Ranked (d : ℕ) (cs : List Float) (axis : ℕ) (rows : List ℕ) (q 
 -- whether row i comes before row p, or after it
 abbrev pub onSide : ℕ → List Float → ℕ → ℕ → Bool → ℕ → Bool
 onSide d cs axis p low i = cond low (before (keyOn d cs axis i) (keyOn d cs axis p)) (before (keyOn d cs axis p) (keyOn d cs axis i))
+
+-- what a round of the search asks: the row with k others before it is looked for among the first m rows, by the row at the index `at`
+pub record Round (d : ℕ) (cs : List Float) (axis : ℕ) (rows : List ℕ) (m k at : ℕ) : Type 0 where
+  pub axis-in : axis < d
+  pub fits : m ≤ length rows
+  pub below : k < m
+  pub there : at < m
+  pub good : GoodRows d cs (take m rows)
 
 -- The row with j others before it among the first n of `after` is the row with k others before it among the first m of `rows`.
 pub record Narrows (d : ℕ) (cs : List Float) (axis : ℕ) (rows : List ℕ) (m k : ℕ) (after : List ℕ) (n j : ℕ) : Type 0 where

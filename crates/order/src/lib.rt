@@ -1,21 +1,20 @@
 // The middle row of a list of rows, and the stable halves around it.
 ghost use mathlib.Core.Path.{_≡_};
 ghost use mathlib.Core.Logic.{_⊎_};
-ghost use mathlib.Core.Bool.{not};
-ghost use Prim.Native.Nat.{ℕ, _+_, _*_, _≤_, _<_};
+ghost use mathlib.Core.Bool.{true, not};
+ghost use Prim.Native.Nat.{_+_, _*_, _≤_, _<_};
 ghost use lib.ListN.{length, take};
 ghost use Rattle.lists.specs.Lists.{count, keep, part, put};
-ghost use Rattle.definition.specs.Keys.{before};
-ghost use Rattle.heap.specs.Rows.{keyOn, FiniteOn};
+ghost use Rattle.heap.specs.Rows.{FiniteOn};
 ghost use Rattle.order.specs.Rows.{GoodRows};
-ghost use Rattle.order.specs.Cuts.{MiddleRow, Halved, Spent, onSide, Narrows};
+ghost use Rattle.order.specs.Cuts.{MiddleRow, Halved, Room, Spent, onSide, Round, Narrows};
 
 // ---- the middle row
 
 // How many of the rows come before row p.
 fn count_before(points: &[f64], d: usize, axis: usize, rows: &[usize], p: usize) -> usize
     requires { ⌜ FiniteOn d (now points) axis (now rows) × (p * d + axis < length (now points)) ⌝ }
-    ensures { λ r. ⌜ r ≡ count (λ i. before (keyOn d (now (points .entry)) axis i) (keyOn d (now (points .entry)) axis p)) (now (rows .entry)) ⌝ }
+    ensures { λ r. ⌜ r ≡ count (onSide d (now (points .entry)) axis p true) (now (rows .entry)) ⌝ }
 {
     let mut n: usize = 0;
     let mut t: usize = 0;
@@ -83,7 +82,7 @@ fn narrow(
     k: usize,
     at: usize,
 ) -> Search
-    requires { ⌜ (axis < d) × (m ≤ length (now rows)) × (k < m) × (at < m) × GoodRows d (now points) (take m (now rows)) ⌝ }
+    requires { ⌜ Round d (now points) axis (now rows) m k at ⌝ }
     ensures { λ r. ⌜ Narrows d (now (points .entry)) axis (now (rows .entry)) m k (now (rows .exit)) (r .count) (r .rank) ⌝ }
 {
     let p = rows[at];
@@ -149,7 +148,7 @@ fn middle_of(
     count: usize,
     spare: usize,
 ) -> usize
-    requires { ⌜ (axis < d) × (1 ≤ count) × (start + count ≤ spare) × (spare + count ≤ length (now work)) × GoodRows d (now points) (part (now work) start count) ⌝ }
+    requires { ⌜ Room d (now points) axis (now work) start count spare ⌝ }
     ensures work { λ _. ⌜ Spent (now (work .entry)) spare count (now (work .exit)) ⌝ }
     ensures row { λ r. ⌜ MiddleRow d (now (points .entry)) axis (part (now (work .entry)) start count) r ⌝ }
 {
@@ -170,9 +169,13 @@ fn part_rows(
     count: usize,
     spare: usize,
 ) -> usize
-    requires { ⌜ (start + count ≤ spare) × (spare + count ≤ length (now work)) × FiniteOn d (now points) axis (part (now work) start count) × (m * d + axis < length (now points)) ⌝ }
-    ensures number { λ r. ⌜ r ≡ length (keep (λ i. before (keyOn d (now (points .entry)) axis i) (keyOn d (now (points .entry)) axis m)) (part (now (work .entry)) start count)) ⌝ }
-    ensures work { λ _. ⌜ now (work .exit) ≡ put (put (now (work .entry)) start (keep (λ i. before (keyOn d (now (points .entry)) axis i) (keyOn d (now (points .entry)) axis m)) (part (now (work .entry)) start count))) spare (keep (λ i. not (before (keyOn d (now (points .entry)) axis i) (keyOn d (now (points .entry)) axis m))) (part (now (work .entry)) start count)) ⌝ }
+    requires { ⌜ (start + count ≤ spare) × (spare + count ≤ length (now work)) × FiniteOn d (now points) axis (part (now work) start count)
+        × (m * d + axis < length (now points)) ⌝ }
+    ensures number { λ r. ⌜ r ≡ length (keep (onSide d (now (points .entry)) axis m true) (part (now (work .entry)) start count)) ⌝ }
+    ensures work { λ _. ⌜ now (work .exit) ≡ put
+        (put (now (work .entry)) start (keep (onSide d (now (points .entry)) axis m true) (part (now (work .entry)) start count)))
+        spare
+        (keep (λ i. not (onSide d (now (points .entry)) axis m true i)) (part (now (work .entry)) start count)) ⌝ }
 {
     let mut lo: usize = 0;
     let mut hi: usize = 0;
@@ -203,7 +206,8 @@ pub fn halves(
     count: usize,
     spare: usize,
 ) -> usize
-    requires { ⌜ (axis < d) × (1 ≤ count) × (start + count ≤ spare) × (spare + count ≤ length (now work)) × GoodRows d (now points) (part (now work) start count) ⌝ }
+    requires { ⌜ (axis < d) × (1 ≤ count) × (start + count ≤ spare) × (spare + count ≤ length (now work))
+        × GoodRows d (now points) (part (now work) start count) ⌝ }
     ensures work { λ _. ⌜ Halved d (now (points .entry)) axis (now (work .entry)) start count spare (now (work .exit)) ⌝ }
     ensures row { λ r. ⌜ MiddleRow d (now (points .entry)) axis (part (now (work .entry)) start count) r ⌝ }
 {

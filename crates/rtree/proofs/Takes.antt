@@ -23,7 +23,7 @@ use Rattle.definition.specs.Points.{rowsSq}
 use Rattle.definition.specs.Keys.{Key, keyed, before, rank, firstRows}
 use Rattle.definition.specs.Overlaps.{nearest}
 use Rattle.laws.proofs.Order.{before-irr, before-trans, before-or}
-use Rattle.laws.proofs.Distances.{rows-known}
+use Rattle.laws.proofs.Finite.{rows-known}
 use Rattle.order.specs.Rows.{GoodRows}
 use Rattle.rtree.specs.Near.{Spot, apart, keyOf, sooner, Found}
 use Rattle.rtree.proofs.Placed.{sortedOf, first-kept, count-sorted, all-sorted, ordered-take, ordered-sorted}

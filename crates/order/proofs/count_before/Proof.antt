@@ -4,15 +4,15 @@ use mathlib.Core.Path.{sym, _∙_}
 use Prim.Native.Nat.{_-_}
 use lib.ListN.{length}
 use Rattle.lists.proofs.All.{all-at}
-use Rattle.definition.specs.Keys.{before}
-use Rattle.heap.specs.Rows.{keyOn}
+use mathlib.Core.Bool.{true}
+use Rattle.order.specs.Cuts.{onSide}
 use Rattle.heap.proofs.Orders.{row-inside}
 use Rattle.order.proofs.Turns.{Counted, counted-first, counted-in, counted-out, counted-end}
 use Rattle.order.proofs.count_before.Statement.{statement}
 use Rattle.order.proofs.count_before.Tie as tie
 
 abbrev Inv-loop : tie.InvT-loop
-Inv-loop points d axis rows p n₀ t₀ n t = Counted (λ i. before (keyOn d points axis i) (keyOn d points axis p)) rows n t
+Inv-loop points d axis rows p n₀ t₀ n t = Counted (onSide d points axis p true) rows n t
 
 abbrev μ-loop : tie.MeasureT-loop
 μ-loop points d axis rows p n₀ t₀ n t = length rows - t
@@ -42,13 +42,17 @@ loop-less : tie.Need-loop-less Inv-loop μ-loop
 loop-less c = search needs
 
 loop-again : tie.Need-loop-again Inv-loop μ-loop
-loop-again c = counted-in (c .before .before .before .before .loop .inv) (c .before .before .before .loop-test .taken) (sym (c .before .comes-before .ensures) ∙ c .if1 .taken)
+loop-again c =
+    counted-in (c .before .before .before .before .loop .inv) (c .before .before .before .loop-test .taken)
+    (sym (c .before .comes-before .ensures) ∙ c .if1 .taken)
 
 loop-less-2 : tie.Need-loop-less-2 Inv-loop μ-loop
 loop-less-2 c = search needs
 
 loop-again-2 : tie.Need-loop-again-2 Inv-loop μ-loop
-loop-again-2 c = counted-out (c .before .before .before .before .loop .inv) (c .before .before .before .loop-test .taken) (sym (c .before .comes-before .ensures) ∙ c .if1 .left)
+loop-again-2 c =
+    counted-out (c .before .before .before .before .loop .inv) (c .before .before .before .loop-test .taken)
+    (sym (c .before .comes-before .ensures) ∙ c .if1 .left)
 
 returns : tie.Need-returns Inv-loop μ-loop
 returns c = counted-end (c .before .loop .inv) (c .loop-test .left)

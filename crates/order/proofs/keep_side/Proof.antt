@@ -45,13 +45,17 @@ loop-less : tie.Need-loop-less Inv-loop μ-loop
 loop-less c = search needs
 
 loop-again : tie.Need-loop-again Inv-loop μ-loop
-loop-again c = kept-in (c .before .before .before .before .loop .inv) (c .before .before .before .loop-test .taken) (sym (c .before .beside .ensures) ∙ c .if1 .taken)
+loop-again c =
+    kept-in (c .before .before .before .before .loop .inv) (c .before .before .before .loop-test .taken)
+    (sym (c .before .beside .ensures) ∙ c .if1 .taken)
 
 loop-less-2 : tie.Need-loop-less-2 Inv-loop μ-loop
 loop-less-2 c = search needs
 
 loop-again-2 : tie.Need-loop-again-2 Inv-loop μ-loop
-loop-again-2 c = kept-out (c .before .before .before .before .loop .inv) (c .before .before .before .loop-test .taken) (sym (c .before .beside .ensures) ∙ c .if1 .left)
+loop-again-2 c =
+    kept-out (c .before .before .before .before .loop .inv) (c .before .before .before .loop-test .taken)
+    (sym (c .before .beside .ensures) ∙ c .if1 .left)
 
 same-length : tie.Need-same-length Inv-loop μ-loop
 same-length c = search needs

@@ -12,16 +12,14 @@ use Rattle.order.proofs.middle.Statement.{statement}
 use Rattle.order.proofs.middle.Tie as tie
 
 abbrev Inv-loop : tie.InvT-loop
-Inv-loop points d axis rows₀ m₀ k₀ rounds₀ rows m k rounds = Narrows d points axis rows₀ (length rows₀) (length rows₀ / 2) rows m k × (length rows ≡ length rows₀) × (rounds ≤ 64)
+Inv-loop points d axis rows₀ m₀ k₀ rounds₀ rows m k rounds =
+    Narrows d points axis rows₀ (length rows₀) (length rows₀ / 2) rows m k × (length rows ≡ length rows₀) × (rounds ≤ 64)
 
 abbrev μ-loop : tie.MeasureT-loop
 μ-loop points d axis rows₀ m₀ k₀ rounds₀ rows m k rounds = rounds
 
 loop-holds : tie.Need-loop-holds Inv-loop μ-loop
-loop-holds c =
-    let s = c .before .before in
-    let a = s .args in
-    (search-first (a .d) (a .points .now) (a .axis) (s .pre .0) (a .rows .now) (s .pre .1) (s .pre .2), refl, omega arith)
+loop-holds c = let p = c .before .before .pre in (search-first _ (p .1) (p .2), refl, omega arith)
 
 sub-at : tie.Need-sub-at Inv-loop μ-loop
 sub-at c = search needs
@@ -37,54 +35,55 @@ rem-at c = search needs
 
 narrow-requires : tie.Need-narrow-requires Inv-loop μ-loop
 narrow-requires c κs =
-    let s = c .before .before .before .before .before .before in
-    let a = s .args in
-    let v = c .before .before .before .loop .inv .0 in (s .pre .0, v .fits, v .below, mod-lt _ (omega arith), v .good)
+    let v = c .before .before .before .loop .inv .0 in
+    record {
+      axis-in = c .before .before .before .before .before .before .pre .0;
+      fits = v .fits;
+      below = v .below;
+      there = mod-lt _ (omega arith);
+      good = v .good;
+    }
 
 sub-rounds : tie.Need-sub-rounds Inv-loop μ-loop
 sub-rounds c = search needs
 
 loop-less : tie.Need-loop-less Inv-loop μ-loop
-loop-less c = omega (arith, ltb-true 0 (c .before .before .before .before .before .before .loop .rounds) (c .before .before .before .before .if1 .taken))
+loop-less c =
+    omega
+    (arith, ltb-true 0 (c .before .before .before .before .before .before .loop .rounds) (c .before .before .before .before .if1 .taken))
 
 loop-again : tie.Need-loop-again Inv-loop μ-loop
 loop-again c =
-    let s = c .before .before .before .before .before .before .before .before .before in
-    let a = s .args in
-    (search-more (a .d) (a .points .now) (a .axis) (s .pre .0) (c .before .before .before .before .before .before .loop .inv .0) (c .before .before .narrow .ensures), search needs, search needs)
+    (search-more (c .before .before .before .before .before .before .loop .inv .0) (c .before .before .narrow .ensures), search needs, search needs)
 
 slice-relend-prefix-argsort : tie.Need-slice-relend-prefix-argsort Inv-loop μ-loop
 slice-relend-prefix-argsort c = c .before .loop .inv .0 .fits
 
 slice-aggregate-argsort : tie.Need-slice-aggregate-argsort Inv-loop μ-loop
 slice-aggregate-argsort c =
-    let s = c .before .before .before .before .before in
-    let a = s .args in
-    let v = c .before .before .loop in sym (end-front (a .d) (a .points .now) (a .axis) (s .pre .0) (a .rows .now) (s .pre .1) (s .pre .2) (v .rows) (v .m) (v .k) (v .inv .0))
+    let p = c .before .before .before .before .before .pre in sym (end-front (p .0) (p .1) (p .2) (c .before .before .loop .inv .0))
 
 argsort-requires : tie.Need-argsort-requires Inv-loop μ-loop
 argsort-requires c κs =
-    let s = c .before .before .before .before .before in
-    let a = s .args in
-    let v = c .before .before .loop in end-finite (a .d) (a .points .now) (a .axis) (s .pre .0) (a .rows .now) (s .pre .1) (s .pre .2) (v .rows) (v .m) (v .k) (v .inv .0)
+    let p = c .before .before .before .before .before .pre in end-finite (p .0) (p .1) (p .2) (c .before .before .loop .inv .0)
 
 mul-result : tie.Need-mul-result Inv-loop μ-loop
 mul-result c = search needs
 
 slice-read-result : tie.Need-slice-read-result Inv-loop μ-loop
 slice-read-result c =
-    let s = c .before .before .before .before .before .before .before .before .before in
-    let a = s .args in
-    let v = c .before .before .before .before .before .before .loop in let f = c .before .before .before .argsort .ensures in omega (arith, end-inside (a .d) (a .points .now) (a .axis) (s .pre .0) (a .rows .now) (s .pre .1) (s .pre .2) (v .rows) (v .m) (v .k) (v .inv .0) _ (f .0) (f .1))
+    let p = c .before .before .before .before .before .before .before .before .before .pre in
+    let f = c .before .before .before .argsort .ensures in
+    omega (arith, end-inside (p .0) (p .1) (p .2) (c .before .before .before .before .before .before .loop .inv .0) _ (f .0) (f .1))
 
 same-length : tie.Need-same-length Inv-loop μ-loop
 same-length c = search needs
 
 returns : tie.Need-returns Inv-loop μ-loop
 returns c =
-    let s = c .before .before .before .before .before .before .before .before .before in
-    let a = s .args in
-    let v = c .before .before .before .before .before .before .loop in let f = c .before .before .before .argsort .ensures in end-middle (a .d) (a .points .now) (a .axis) (s .pre .0) (a .rows .now) (s .pre .1) (s .pre .2) (v .rows) (v .m) (v .k) (v .inv .0) _ (f .0) (f .1)
+    let p = c .before .before .before .before .before .before .before .before .before .pre in
+    let f = c .before .before .before .argsort .ensures in
+    end-middle (p .0) (p .1) (p .2) (c .before .before .before .before .before .before .loop .inv .0) _ (f .0) (f .1)
 
 pub middle-spec : {M : Type 1} → statement M
 middle-spec =

@@ -7,10 +7,7 @@ use Rattle.order.proofs.middle_of.Statement.{statement}
 use Rattle.order.proofs.middle_of.Tie as tie
 
 copy-requires : tie.Need-copy-requires
-copy-requires c κs =
-    let s = c .before .before .before in
-    let a = s .args in
-    (omega arith, s .pre .3, inl (s .pre .2))
+copy-requires c κs = let r = c .before .before .before .pre in (omega (arith, r .apart, r .fit), r .fit, inl (r .apart))
 
 add-end : tie.Need-add-end
 add-end c = search needs
@@ -29,18 +26,18 @@ part-middle-end c = search needs
 
 middle-requires : tie.Need-middle-requires
 middle-requires c κs =
-    let s = c .before .before .before .before .before .before .before in
-    let a = s .args in
-    (s .pre .0, lent-some (a .d) (a .points .now) (a .axis) (s .pre .0) (a .work .now) (a .start) (a .count) (a .spare) (s .pre .1) (s .pre .2) (s .pre .3) (s .pre .4) _ (c .before .before .before .copy .ensures), lent-good (a .d) (a .points .now) (a .axis) (s .pre .0) (a .work .now) (a .start) (a .count) (a .spare) (s .pre .1) (s .pre .2) (s .pre .3) (s .pre .4) _ (c .before .before .before .copy .ensures))
+    let r = c .before .before .before .before .before .before .before .pre in
+    let e = c .before .before .before .copy .ensures in
+    (r .axis-in, lent-some r _ e, lent-good r _ e)
 
 same-length : tie.Need-same-length
 same-length c = search needs
 
 returns : tie.Need-returns
 returns c =
-    let s = c .before .before .before .before .before .before .before .before .before .before in
-    let a = s .args in
-    lent-back (a .d) (a .points .now) (a .axis) (s .pre .0) (a .work .now) (a .start) (a .count) (a .spare) (s .pre .1) (s .pre .2) (s .pre .3) (s .pre .4) _ (c .before .before .before .before .before .before .copy .ensures) (c .before .before .middle .last .1 .1 .1 .0) _ (c .before .before .middle .kept .1 .1 .1 .0) (c .before .before .middle .ensures)
+    let m = c .before .before .middle in
+    lent-back (c .before .before .before .before .before .before .before .before .before .before .pre) _
+    (c .before .before .before .before .before .before .copy .ensures) (m .last .1 .1 .1 .0) _ (m .kept .1 .1 .1 .0) (m .ensures)
 
 pub middle-of-spec : {M : Type 1} → statement M
 middle-of-spec =

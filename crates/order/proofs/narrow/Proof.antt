@@ -1,8 +1,7 @@
 -- `order::narrow` meets its contract. Assumes nothing.
 use borrow.Author.Needs.{needs}
 use mathlib.Core.Path.{sym}
-use lib.Seq.{length-take-le}
-use Rattle.order.proofs.Cutting.{round-finite, round-inside, round-found, round-low, round-high}
+use Rattle.order.proofs.Cutting.{round-front, round-finite, round-inside, round-found, round-low, round-high}
 use Rattle.order.proofs.narrow.Statement.{statement}
 use Rattle.order.proofs.narrow.Tie as tie
 
@@ -16,16 +15,10 @@ slice-reshare-prefix-count-before : tie.Need-slice-reshare-prefix-count-before
 slice-reshare-prefix-count-before c = search needs
 
 slice-aggregate-count-before : tie.Need-slice-aggregate-count-before
-slice-aggregate-count-before c =
-    let s = c .before .before .before .before in
-    let a = s .args in
-    sym (length-take-le (a .m) (a .rows .now) (s .pre .1))
+slice-aggregate-count-before c = sym (round-front (c .before .before .before .before .pre))
 
 count-before-requires : tie.Need-count-before-requires
-count-before-requires c κs =
-    let s = c .before .before .before .before in
-    let a = s .args in
-    (round-finite (a .d) (a .points .now) (a .axis) (s .pre .0) (a .rows .now) (a .m) (a .k) (a .at) (s .pre .1) (s .pre .2) (s .pre .3) (s .pre .4), round-inside (a .d) (a .points .now) (a .axis) (s .pre .0) (a .rows .now) (a .m) (a .k) (a .at) (s .pre .1) (s .pre .2) (s .pre .3) (s .pre .4))
+count-before-requires c κs = let r = c .before .before .before .before .pre in (round-finite r, round-inside r)
 
 slice-write-rows : tie.Need-slice-write-rows
 slice-write-rows c = search needs
@@ -34,31 +27,25 @@ same-length : tie.Need-same-length
 same-length c = search needs
 
 returns : tie.Need-returns
-returns c =
-    let s = c .before .before .before .before .before .before in
-    let a = s .args in
-    round-found (a .d) (a .points .now) (a .axis) (s .pre .0) (a .rows .now) (a .m) (a .k) (a .at) (s .pre .1) (s .pre .2) (s .pre .3) (s .pre .4) _ (c .before .count-before .ensures) (c .if1 .taken)
+returns c = round-found (c .before .before .before .before .before .before .pre) _ (c .before .count-before .ensures) (c .if1 .taken)
 
 keep-side-requires : tie.Need-keep-side-requires
 keep-side-requires c κs =
-    let s = c .before .before .before .before .before .before .before .before in
-    let a = s .args in
-    (s .pre .1, round-finite (a .d) (a .points .now) (a .axis) (s .pre .0) (a .rows .now) (a .m) (a .k) (a .at) (s .pre .1) (s .pre .2) (s .pre .3) (s .pre .4), round-inside (a .d) (a .points .now) (a .axis) (s .pre .0) (a .rows .now) (a .m) (a .k) (a .at) (s .pre .1) (s .pre .2) (s .pre .3) (s .pre .4))
+    let r = c .before .before .before .before .before .before .before .before .pre in (r .fits, round-finite r, round-inside r)
 
 same-length-2 : tie.Need-same-length-2
 same-length-2 c = search needs
 
 returns-2 : tie.Need-returns-2
 returns-2 c =
-    let s = c .before .before .before .before .before .before .before .before .before .before .before in
-    let a = s .args in
-    round-low (a .d) (a .points .now) (a .axis) (s .pre .0) (a .rows .now) (a .m) (a .k) (a .at) (s .pre .1) (s .pre .2) (s .pre .3) (s .pre .4) _ (c .before .before .before .before .before .before .count-before .ensures) (c .before .before .before .before .if2 .taken) _ _ (c .before .before .keep-side .ensures .0) (c .before .before .keep-side .ensures .1)
+    let n = c .before .before .before .before .before .before .count-before .ensures in
+    let k = c .before .before .keep-side .ensures in
+    round-low (c .before .before .before .before .before .before .before .before .before .before .before .pre) _ n
+    (c .before .before .before .before .if2 .taken) _ _ (k .0) (k .1)
 
 keep-side-requires-2 : tie.Need-keep-side-requires-2
 keep-side-requires-2 c κs =
-    let s = c .before .before .before .before .before .before .before .before in
-    let a = s .args in
-    (s .pre .1, round-finite (a .d) (a .points .now) (a .axis) (s .pre .0) (a .rows .now) (a .m) (a .k) (a .at) (s .pre .1) (s .pre .2) (s .pre .3) (s .pre .4), round-inside (a .d) (a .points .now) (a .axis) (s .pre .0) (a .rows .now) (a .m) (a .k) (a .at) (s .pre .1) (s .pre .2) (s .pre .3) (s .pre .4))
+    let r = c .before .before .before .before .before .before .before .before .pre in (r .fits, round-finite r, round-inside r)
 
 sub-t14 : tie.Need-sub-t14
 sub-t14 c = search needs
@@ -68,9 +55,10 @@ same-length-3 c = search needs
 
 returns-3 : tie.Need-returns-3
 returns-3 c =
-    let s = c .before .before .before .before .before .before .before .before .before .before .before in
-    let a = s .args in
-    round-high (a .d) (a .points .now) (a .axis) (s .pre .0) (a .rows .now) (a .m) (a .k) (a .at) (s .pre .1) (s .pre .2) (s .pre .3) (s .pre .4) _ (c .before .before .before .before .before .before .count-before .ensures) (c .before .before .before .before .before .if1 .left) (c .before .before .before .before .if2 .left) _ _ (c .before .before .keep-side2 .ensures .0) (c .before .before .keep-side2 .ensures .1)
+    let n = c .before .before .before .before .before .before .count-before .ensures in
+    let k = c .before .before .keep-side2 .ensures in
+    round-high (c .before .before .before .before .before .before .before .before .before .before .before .pre) _ n
+    (c .before .before .before .before .before .if1 .left) (c .before .before .before .before .if2 .left) _ _ (k .0) (k .1)
 
 pub narrow-spec : {M : Type 1} → statement M
 narrow-spec =

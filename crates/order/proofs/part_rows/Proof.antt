@@ -3,15 +3,16 @@ use borrow.Author.Needs.{needs}
 use mathlib.Core.Path.{sym, _∙_}
 use Prim.Native.Nat.{_-_}
 use native.Mathlib.Omega.{arith}
-use Rattle.definition.specs.Keys.{before}
-use Rattle.heap.specs.Rows.{keyOn}
+use mathlib.Core.Bool.{true}
+use Rattle.order.specs.Cuts.{onSide}
 use Rattle.heap.proofs.Orders.{row-inside}
 use Rattle.order.proofs.Turns.{Parted, parted-first, parted-row, parted-left, parted-right, parted-end}
 use Rattle.order.proofs.part_rows.Statement.{statement}
 use Rattle.order.proofs.part_rows.Tie as tie
 
 abbrev Inv-loop : tie.InvT-loop
-Inv-loop points d axis m work₀ start count spare lo₀ hi₀ i₀ work lo hi i = Parted (λ j. before (keyOn d points axis j) (keyOn d points axis m)) work₀ start count spare work lo hi i
+Inv-loop points d axis m work₀ start count spare lo₀ hi₀ i₀ work lo hi i =
+    Parted (onSide d points axis m true) work₀ start count spare work lo hi i
 
 abbrev μ-loop : tie.MeasureT-loop
 μ-loop points d axis m work₀ start count spare lo₀ hi₀ i₀ work lo hi i = count - i
@@ -35,7 +36,9 @@ comes-before-requires : tie.Need-comes-before-requires Inv-loop μ-loop
 comes-before-requires c κs =
     let s = c .before .before .before .before .before in
     let a = s .args in
-    let i = row-inside (a .d) (a .points .now) (a .axis) _ (parted-row (c .before .before .loop .inv) (c .before .loop-test .taken) _ (s .pre .2)) in
+    let i =
+    row-inside (a .d) (a .points .now) (a .axis) _
+    (parted-row (c .before .before .loop .inv) (c .before .loop-test .taken) _ (s .pre .2)) in
     let m = s .pre .3 in
     (omega arith, omega arith)
 
@@ -55,7 +58,9 @@ loop-less : tie.Need-loop-less Inv-loop μ-loop
 loop-less c = search needs
 
 loop-again : tie.Need-loop-again Inv-loop μ-loop
-loop-again c = parted-left (c .before .before .before .before .loop .inv) (c .before .before .before .loop-test .taken) (sym (c .before .comes-before .ensures) ∙ c .if1 .taken)
+loop-again c =
+    parted-left (c .before .before .before .before .loop .inv) (c .before .before .before .loop-test .taken)
+    (sym (c .before .comes-before .ensures) ∙ c .if1 .taken)
 
 add-work-2 : tie.Need-add-work-2 Inv-loop μ-loop
 add-work-2 c = search needs
@@ -73,7 +78,9 @@ loop-less-2 : tie.Need-loop-less-2 Inv-loop μ-loop
 loop-less-2 c = search needs
 
 loop-again-2 : tie.Need-loop-again-2 Inv-loop μ-loop
-loop-again-2 c = parted-right (c .before .before .before .before .loop .inv) (c .before .before .before .loop-test .taken) (sym (c .before .comes-before .ensures) ∙ c .if1 .left)
+loop-again-2 c =
+    parted-right (c .before .before .before .before .loop .inv) (c .before .before .before .loop-test .taken)
+    (sym (c .before .comes-before .ensures) ∙ c .if1 .left)
 
 same-length : tie.Need-same-length Inv-loop μ-loop
 same-length c = search needs

@@ -9,11 +9,12 @@ use borrow.Author.Tests.{ne-eqb}
 use lib.Dec.{T, ltb, ltb→lt}
 use lib.IntN.{pos}
 use lib.ListN.{length}
-use lib.Ieee.{Float, nan, inf, fin, Format, prec, emax, low, up, down, unlike, binary64, odd, units, round, sub, neg, div, ofInt, ofBits}
+use lib.Ieee.{Float, nan, inf, fin, Format, prec, emax, low, up, down, unlike, binary64, odd, units, round, sub, neg, div, ofInt, ofBits, isNan}
 use lib.Ieee.Fits.{round-is}
 use lib.Ieee.Scale.{finite}
 use lib.Ieee.Positive.{positive, positive-of-value}
 use lib.Ieee.Back.{round-whole}
+use Rattle.lists.proofs.Tests.{clash}
 use Rattle.lists.proofs.Members.{mem-at, map-mem}
 use Rattle.definition.specs.Number.{plusZero, plus, less, times, over}
 use Rattle.definition.specs.Points.{coordinate, column, distanceSq, distance, rowsSq, rowsApart}
@@ -134,3 +135,22 @@ module _ (d : ℕ) (cs : List Float) (f : (x : Float) → List·Memᴰ x cs → 
       unfolding fromCentroid distance
       from-centroid-good i h =
           root-good (distanceSq d (centroid d cs rows) (coordinate d cs i)) (centroid-sq-good i h)
+
+-- ---- no NaN, as a test
+pub no-nan : (x : Float) → finite x ≡ true → isNan x ≡ false
+unfolding isNan
+no-nan nan h = clash h refl
+no-nan (inf s) h = refl
+no-nan (fin s m e) h = refl
+
+good-known : (x : Float) → good x ≡ true → isNan x ≡ false
+unfolding isNan
+good-known nan h = clash h refl
+good-known (inf s) h = refl
+good-known (fin s m e) h = refl
+
+-- the squared distance of two rows with finite coordinates
+pub rows-known : (d : ℕ) (cs : List Float) (i j : ℕ) → ((a : ℕ) → a < d → finite (coordinate d cs i a) ≡ true) → ((a : ℕ) → a < d → finite (coordinate d cs j a) ≡ true)
+    → isNan (rowsSq d cs i j) ≡ false
+unfolding rowsSq
+rows-known d cs i j f g = good-known (rowsSq d cs i j) (finite-sq-good d (coordinate d cs i) (coordinate d cs j) f g)
