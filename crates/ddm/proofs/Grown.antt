@@ -13,7 +13,7 @@ use lib.Ieee.Scale.{finite}
 use Rattle.lists.specs.Lists.{put, part, from}
 use Rattle.lists.specs.Ascends.{All}
 use Rattle.lists.proofs.Tests.{le-or-lt}
-use Rattle.lists.proofs.Put.{put-zero, length-put, part-put-same}
+use Rattle.lists.proofs.Put.{put-zero, length-put, part-put-same, put-again}
 use Rattle.lists.proofs.From.{length-from, all-from}
 use Rattle.lists.proofs.Ascends.{ascends-from}
 use Rattle.definition.specs.Levels.{threshold, reductions}
@@ -25,7 +25,6 @@ use Rattle.laws.proofs.Accepted.{Accepted}
 use Rattle.levels.proofs.Sizes.{ends}
 use Rattle.level.specs.Fine.{Given}
 use Rattle.tree.specs.After.{levelSettings, levelsAfter, Space}
-use Rattle.tree.proofs.Lists.{put-again}
 use Rattle.tree.proofs.Fine.{first-points, levels-few}
 use Rattle.order.specs.Rows.{GoodRows}
 use Rattle.ddm.proofs.Counts.{per-level}

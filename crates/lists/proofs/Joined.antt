@@ -1,7 +1,7 @@
 -- Lists one after the other: their length and counts, one more list, and each list found again as a stretch. Assumes nothing.
 use mathlib.Core.Path.{_≡_, refl, sym, ap, _∙_}
 use Prim.Native.Nat.{ℕ, zero, suc, _+_, _*_, _≤_, _<_}
-use native.Mathlib.Nat.{zero-add, add-assoc, mul-suc, not-suc-le-zero}
+use native.Mathlib.Nat.{zero-add, add-assoc, mul-suc, not-suc-le-zero, mul-zero}
 use native.Mathlib.Numerals.{add-one}
 use native.Mathlib.Omega.{arith}
 use native.Mathlib.Decide.{decLt}
@@ -94,6 +94,11 @@ module _ {A : Type 0} where
   even-lengths n [] h (suc k) g = absurd (not-suc-le-zero g)
   even-lengths n (l ∷ ls) h zero g = omega arith
   even-lengths n (l ∷ ls) h (suc k) g = omega (arith, mul-suc n k, h .0, even-lengths n ls (h .1) k (omega arith))
+
+  pub joined-even : (w : ℕ) (ls : List (List A)) → All (λ l. length l ≡ w) ls → length (joined ls) ≡ w * length ls
+  unfolding joined All
+  joined-even w [] h = sym (mul-zero w)
+  joined-even w (l ∷ ls) h = length-append l (joined ls) ∙ omega (arith, h .0, joined-even w ls (h .1), mul-suc w (length ls))
 
 -- ---- the lists f x of a list's elements, one after the other
 module _ {A B : Type 0} (f : A → List B) where

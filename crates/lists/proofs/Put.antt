@@ -5,7 +5,7 @@ use native.Mathlib.Nat.{not-suc-le-zero, suc-add, zero-add, add-zero, add-assoc}
 use native.Mathlib.Numerals.{add-one}
 use native.Mathlib.Omega.{arith}
 use mathlib.Core.List.{List, [], _∷_, _++_, append-assoc, append-nil, map}
-use lib.ListN.{length, getD, set, take, drop, length-append, length-drop, take-append-drop, List·getD-append, length-set}
+use lib.ListN.{length, getD, set, take, drop, length-append, length-drop, take-append-drop, List·getD-append, length-set, replicate, length-replicate, replicate-append-replicate}
 use lib.Seq.{length-take-le, drop-append-add, take-append-le, drop-append-le, getD-drop, getD-take, drop-drop, take-at, drop-at, set-split, take-add, take-length, take-take, take-suc, take-append-add, drop-cons, take-set-le, drop-set-lt, take-suc-set, take-append-seam, drop-append-seam}
 use borrow.Rule.Slice.PartMut.{putMid}
 use Rattle.lists.specs.Lists.{put, part}
@@ -329,6 +329,17 @@ module _ {A : Type 0} where
   write-more l m at k d h g =
       put-snoc l at (take k m) (getD m k d) (at + k) (ap (λ (n : ℕ). at + n) (length-take-le k m (omega arith))) g
       ∙ rw (add-one, take-suc m k d h)
+
+  -- one element more of a stretch of one value
+  pub put-same-more : (l : List A) (at i : ℕ) (x : A) → at + i < length l → set (put l at (replicate i x)) (at + i) x ≡ put l at (replicate (i + 1) x)
+  put-same-more l at i x h =
+      put-snoc l at (replicate i x) x (at + i) (omega (arith, length-replicate i x)) h ∙ ap (put l at) (replicate-append-replicate i 1 x)
+
+  -- more, over a front of it that is written already
+  pub put-again : (l : List A) (at : ℕ) (xs ys : List A) → at + length xs ≤ length l → put (put l at xs) at (xs ++ ys) ≡ put l at (xs ++ ys)
+  put-again l at xs ys h =
+      sym (put-next (put l at xs) at xs ys (omega (arith, length-put l at xs h)))
+      ∙ ap (λ (z : List A). put z (at + length xs) ys) (put-over l at xs xs (omega arith) refl) ∙ put-next l at xs ys (omega arith)
 
   -- ---- what stands from an index on, and past it
   module _ (l : List A) (at : ℕ) (xs ys : List A) (e : drop at l ≡ xs ++ ys) where

@@ -45,7 +45,3 @@ module _ {A : Type 0} where
   take-replicate zero m z h = refl
   take-replicate (suc n) zero z h = absurd (not-suc-le-zero h)
   take-replicate (suc n) (suc m) z h = ap (λ (r : List A). z ∷ r) (take-replicate n m z (omega arith))
-
-  pub replicate-append : (n m : ℕ) (z : A) → replicate n z ++ replicate m z ≡ replicate (n + m) z
-  replicate-append zero m z = rw zero-add
-  replicate-append (suc n) m z = rw suc-add (ap (λ (r : List A). z ∷ r) (replicate-append n m z))

@@ -15,7 +15,7 @@ use Rattle.lists.specs.Ascends.{All}
 use Rattle.lists.proofs.Tests.{and-fst, and-snd, le-or-lt}
 use Rattle.lists.proofs.All.{all-map}
 use Rattle.lists.proofs.Put.{set-put, put-next-at}
-use Rattle.lists.proofs.Joined.{length-joined}
+use Rattle.lists.proofs.Joined.{length-joined, joined-even}
 use Rattle.definition.specs.Levels.{levelSize}
 use Rattle.definition.specs.Quotas.{quotas}
 use Rattle.definition.specs.Cut.{Domain, leavesOf}
@@ -33,7 +33,6 @@ use Rattle.order.specs.Rows.{GoodRows}
 use Rattle.order.proofs.Good.{good-good, good-keep}
 use Rattle.level.specs.Fine.{leavesAt, nextAt, ownIn, borrowedIn, boxesIn, Given}
 use Rattle.level.proofs.Stages.{level-own, level-box, level-number, number-most, own-whole}
-use Rattle.tree.proofs.Lists.{joined-even}
 use Rattle.tree.proofs.Packing.{points-cons}
 
 next-good : {d : ℕ} {cs : List Float} (active : List ℕ) (sent : List (List ℕ)) → GoodRows d cs active → GoodRows d cs (nextActive active sent)

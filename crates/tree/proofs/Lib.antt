@@ -1,5 +1,4 @@
 -- Laws of the levels.
-pub mod Lists
 pub mod Spaces
 pub mod Packing
 pub mod Fine

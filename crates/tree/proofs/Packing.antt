@@ -7,13 +7,12 @@ use native.Mathlib.Nat.{add-zero, add-assoc, mul-add}
 use lib.ListN.{length, length-append}
 use lib.Ieee.{Float}
 use Rattle.lists.specs.Lists.{put, part, joined}
-use Rattle.lists.proofs.Put.{put-next-at, put-part, length-part}
+use Rattle.lists.proofs.Put.{put-next-at, put-part, length-part, put-again}
 use Rattle.lists.proofs.Joined.{joined-cons, joined-map-append}
 use Rattle.definition.specs.Tree.{Leaf, Level}
 use Rattle.definition.specs.Packed.{leavesIn, packedPoints, packedOwn, packedBorrowed, packedBoxes, stretches}
 use Rattle.laws.proofs.Fit.{length-stretches}
 use Rattle.level.specs.Fine.{ownIn, borrowedIn, boxesIn}
-use Rattle.tree.proofs.Lists.{put-again}
 
 module _ (l : Level) (ls : List Level) where
   pub leaves-cons : leavesIn (l ∷ ls) ≡ l .leaves ++ leavesIn ls

@@ -3,12 +3,12 @@ use mathlib.Core.Path.{_≡_, refl, sym, ap, ap₂, subst, _∙_}
 use mathlib.Core.List.{List, _++_, map}
 use Prim.Native.Nat.{ℕ, _+_, _*_, _≤_, _<_}
 use native.Mathlib.Omega.{arith}
-use lib.ListN.{length, set, take, replicate, length-map, length-set}
+use lib.ListN.{length, set, take, replicate, length-map, length-set, replicate-append-replicate}
 use lib.Seq.{length-take-le}
 use lib.Ieee.{Float}
 use Rattle.lists.specs.Lists.{part, put, from}
 use Rattle.lists.proofs.Put.{part-append, put-next-at}
-use Rattle.lists.proofs.Take.{set-front, set-second, take-replicate, replicate-append}
+use Rattle.lists.proofs.Take.{set-front, set-second, take-replicate}
 use Rattle.lists.proofs.From.{fill-more}
 use Rattle.definition.specs.Number.{plusZero}
 use Rattle.definition.specs.Points.{lowerBound, upperBound, extents}
@@ -41,7 +41,7 @@ pub zeros-are : (d : ℕ) → d ≤ 3 → floatsOf (boxOf (replicate 3 plusZero)
 unfolding floatsOf
 zeros-are d h =
     rw (take-replicate d 3 plusZero h)
-    (replicate-append d d plusZero ∙ ap (λ (n : ℕ). replicate n plusZero) (double d))
+    (replicate-append-replicate d d plusZero ∙ ap (λ (n : ℕ). replicate n plusZero) (double d))
 
 -- a box read, and one written
 pub box-read : (s l u : List Float) (at d : ℕ) → take d l ≡ part s at d → take d u ≡ part s (at + d) d → floatsOf (boxOf l u d) ≡ part s at (2 * d)

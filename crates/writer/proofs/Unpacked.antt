@@ -8,8 +8,7 @@ use mathlib.Core.List.{List, [], _∷_, _++_, append-assoc, map}
 use lib.ListN.{length, getD, take, drop, length-append, length-drop}
 use lib.Seq.{drop-drop, getD-drop}
 use lib.Ieee.{Float}
-use Rattle.lists.specs.Lists.{part}
-use Rattle.lists.specs.Lists.{joined, total, from}
+use Rattle.lists.specs.Lists.{part, joined, total, from}
 use Rattle.definition.specs.Tree.{Leaf, Level}
 use Rattle.definition.specs.Packed.{leavesIn, stretches, packedPoints}
 use Rattle.lists.specs.Ascends.{All}

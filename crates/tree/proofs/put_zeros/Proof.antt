@@ -5,9 +5,8 @@ use native.Mathlib.Omega.{arith}
 use borrow.Author.Needs.{needs}
 use lib.ListN.{length, set, replicate, length-set, length-replicate}
 use Rattle.lists.specs.Lists.{put}
-use Rattle.lists.proofs.Put.{put-nil, length-put}
+use Rattle.lists.proofs.Put.{put-nil, length-put, put-same-more}
 use Rattle.definition.specs.Number.{plusZero}
-use Rattle.tree.proofs.Lists.{put-same-more}
 use Rattle.tree.proofs.put_zeros.Statement.{statement}
 use Rattle.tree.proofs.put_zeros.Tie as tie
 use Rattle.tree.proofs.put_zeros.Reads as reads
