@@ -1,4 +1,4 @@
-// The build: a multilevel domain tree over points, written to lists that the caller lends.
+// The library: the build of a multilevel domain tree over points, written to lists that the caller lends, and the other calls.
 ghost use mathlib.Core.Path.{_≡_};
 ghost use Prim.Native.Nat.{_≤_};
 ghost use lib.ListN.{length};
@@ -11,7 +11,22 @@ ghost use Rattle.config.specs.Params.{settingsOf};
 ghost use Rattle.ddm.specs.Build.{treeAnswer, listsOf};
 use checks::Checked;
 use checks::Lent;
-use config::DDMParams;
+
+// The settings, and the other calls, each with its answer.
+pub use common::SampleAnswer;
+pub use common::farthest_point_sampling;
+pub use config::DDMParams;
+pub use config::SizePolicy;
+pub use leaf_rows::DomainRow;
+pub use leaf_rows::Which;
+pub use leaf_rows::row_test;
+pub use leaf_rows::rows_of;
+pub use levels::LevelSize;
+pub use levels::get_num_level_coarse_points;
+pub use numbers::RootAnswer;
+pub use numbers::square_root;
+pub use quotas::QuotaAnswer;
+pub use quotas::get_domain_coarse_quotas;
 
 // What a build answers: the number of a refusal (0 for none) and its place; how many levels the tree has, and how many rows and
 // domains each of them has.

@@ -1,0 +1,6 @@
+-- Laws and the theorem.
+pub mod Unpack
+pub mod Shares
+pub mod Levels
+pub mod Fine
+pub mod Demand
