@@ -1,0 +1,2 @@
+-- Laws and the theorem.
+pub mod Unpack

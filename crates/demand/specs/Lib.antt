@@ -1,0 +1,3 @@
+-- What a build hands back, and demand 3 of it.
+pub mod Handed
+pub mod Demand3
