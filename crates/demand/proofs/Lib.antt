@@ -1,2 +1,4 @@
 -- Laws and the theorem.
 pub mod Unpack
+pub mod Shares
+pub mod Levels
