@@ -2,3 +2,5 @@
 pub mod Unpack
 pub mod Shares
 pub mod Levels
+pub mod Fine
+pub mod Demand
