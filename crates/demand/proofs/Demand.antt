@@ -1,7 +1,7 @@
 -- DEMAND 3: what an accepted build hands back has it. Assumes nothing.
-use mathlib.Core.Path.{_≡_, refl, sym, ap, ap₂, _∙_, subst}
+use mathlib.Core.Path.{_≡_, sym, ap, ap₂, _∙_, subst}
 use mathlib.Core.Logic.{⊎-elim}
-use mathlib.Core.List.{List, [], _∷_, map}
+use mathlib.Core.List.{List, [], map}
 use Prim.Native.Nat.{ℕ, suc, _+_, _-_, _*_, _^_, _≤_, _<_}
 use native.Mathlib.Omega.{arith}
 use native.Mathlib.Nat.{zero-add, pow-zero, mul-one}
@@ -16,7 +16,7 @@ use Rattle.definition.specs.Number.{plusZero}
 use Rattle.definition.specs.Cut.{Domain, leavesOf}
 use Rattle.definition.specs.Overlaps.{nearOf, borrowedBy}
 use Rattle.definition.specs.Tree.{Settings, Leaf, Level, coarseLevel, fineLevel, mostFine, levelsOver, pointCount, levels}
-use Rattle.definition.specs.Packed.{Counts, rowFloats, leavesIn, packedPoints, packedOwn, packedDomains, packedBoxes, packedBorrowed, countsOf}
+use Rattle.definition.specs.Packed.{Counts, rowFloats, leavesIn, packedPoints, packedOwn, packedDomains, packedBoxes, packedBorrowed}
 use Rattle.definition.specs.Refusals.{accepted}
 use Rattle.definition.specs.Outcome.{Answer, TreeLists, lentSizes, written, listAfter, valueOf, treeListsAfter, buildCall, buildAnswer, buildLists}
 use Rattle.laws.proofs.Cuts.{Good}
@@ -25,8 +25,8 @@ use Rattle.laws.proofs.Fit.{packed-fit}
 use Rattle.laws.proofs.Steps.{fineOf, nextOf}
 use Rattle.laws.proofs.Next.{noDomain}
 use Rattle.levels.proofs.Sizes.{reductions-few, reductions-reach}
-use Rattle.demand.specs.Handed.{Handed, levelCount, rowsOn, leavesOn, HasNext, listed, domainRow, ownOf, borrowedOf, boxOf}
-use Rattle.demand.specs.Demand3.{Counted, coarseAt, reductionCount, FineLevel, CoarseLevel, Demand3Over, Demand3, handedBack}
+use Rattle.demand.specs.Handed.{Handed, levelCount, rowsOn, leavesOn, HasNext, listed}
+use Rattle.demand.specs.Demand3.{Counted, coarseAt, reductionCount, CoarseLevel, Demand3Over, Demand3, handedBack}
 use Rattle.demand.proofs.Unpack.{noLevel, noLeaf, Packs, levels-are, rows-on, leaves-on, listed-is, own-count-is, borrowed-count-is, own-is, borrowed-is, box-is}
 use Rattle.demand.proofs.Levels.{Levelled, levelled, IsFine, first-active, some-levels, fine-at, coarse-at}
 use Rattle.demand.proofs.Fine.{Holds, fine-level}

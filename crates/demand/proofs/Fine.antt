@@ -11,12 +11,12 @@ use lib.Ieee.{Float}
 use Rattle.lists.specs.Lists.{total, from, joined}
 use Rattle.lists.proofs.Map.{getD-map-in}
 use Rattle.lists.proofs.From.{map-from-at, zip-from-at}
-use Rattle.lists.proofs.Times.{times, Once, mem-times, times-mem}
+use Rattle.lists.proofs.Times.{times, Once, times-mem}
 use Rattle.definition.specs.Quotas.{quotas}
 use Rattle.definition.specs.Cut.{Domain, leavesOf}
 use Rattle.definition.specs.Overlaps.{Near, nearOf, borrowedBy}
 use Rattle.definition.specs.Sampling.{sentBy}
-use Rattle.definition.specs.Tree.{Settings, sentLists, nextActive}
+use Rattle.definition.specs.Tree.{Settings, sentLists}
 use Rattle.laws.proofs.Cuts.{Good, rowsOf, sizesOf, leaves-times}
 use Rattle.laws.proofs.Sampling.{sent-length, sent-own}
 use Rattle.laws.proofs.Overlaps.{borrowed-foreign, borrowed-once}
@@ -24,7 +24,7 @@ use Rattle.laws.proofs.Steps.{nextOf}
 use Rattle.laws.proofs.Levels.{next-times}
 use Rattle.laws.proofs.Next.{Dealt, noDomain, rows-at, own-once, next-sent, next-at}
 use Rattle.demand.specs.Handed.{Handed, leavesOn, listed, ownOf, borrowedOf, boxOf, ownLists, leafSizes, leafBoxes}
-use Rattle.demand.specs.Demand3.{coarseAt, reductionCount, sizeAfter, shareOf, WholePart, OneMore, sentOf, sentUp, active, size, filled, FineLevel}
+use Rattle.demand.specs.Demand3.{coarseAt, reductionCount, shareOf, WholePart, OneMore, sentOf, sentUp, active, size, filled, FineLevel}
 use Rattle.demand.proofs.Shares.{shared}
 use Rattle.demand.proofs.Levels.{size-fewer, leaves-total, level-dealt, next-size}
 

@@ -1,6 +1,6 @@
 -- The levels of an accepted call: each level whose active rows outnumber c is a fine level over them, and the next one lists what it
 -- sends up. They end: with the reductions made, c rows or fewer are left. Assumes nothing.
-use mathlib.Core.Path.{_≡_, refl, sym, ap, _∙_, subst}
+use mathlib.Core.Path.{_≡_, refl, subst}
 use mathlib.Core.Logic.{⊎-elim}
 use mathlib.Core.List.{List, [], _∷_}
 use Prim.Native.Nat.{ℕ, zero, suc, _+_, _-_, _≤_, _<_}

@@ -6,7 +6,7 @@ use Prim.Native.Nat.{ℕ, zero, suc, _+_, _-_, _*_, _≤_, _<_}
 use native.Mathlib.Omega.{arith}
 use native.Mathlib.Nat.{zero-add, add-zero, add-assoc}
 use mathlib.Core.Logic.{⊎-elim}
-use lib.ListN.{length, getD, take, length-append, length-map, length-take, List·getD-append, List·getD-eq-default}
+use lib.ListN.{length, getD, take, length-map, length-take, List·getD-append, List·getD-eq-default}
 use lib.Seq.{getD-append-add, getD-take, take-take, take-append-le}
 use lib.Ieee.{Float}
 use Rattle.lists.specs.Lists.{total, joined, part}

@@ -1,0 +1,2 @@
+-- Right and wrong lists.
+pub mod Shuts
