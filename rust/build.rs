@@ -1,5 +1,5 @@
-//! Finds the static library that `rt staticlib ddm_c` writes: target/staticlib of the repository, or the folder that
-//! REKVASHU_LIB names.
+//! Finds the static library that `rt staticlib ddm_c` writes (and, for the figures, that of ddm_stages): target/staticlib of the
+//! repository, or the folder that REKVASHU_LIB names.
 use std::path::PathBuf;
 
 fn main() {

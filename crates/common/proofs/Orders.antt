@@ -2,16 +2,16 @@
 use mathlib.Core.Path.{_≡_, refl}
 use mathlib.Core.Logic.{inl, inr}
 use mathlib.Core.Bool.{Bool, true, false, cond}
-use Prim.Native.Nat.{ℕ, zero, suc, _+_, _*_, _^_}
+use Prim.Native.Nat.{_+_, _*_}
 use native.Mathlib.Omega.{arith}
 use borrow.Author.Tests.{lt-ltb}
-use lib.Dec.{ltb}
 use lib.IntN.{negsuc}
-use lib.Ieee.{Float, inf, Format, prec, emax, low, binary64, up, down, odd, units, round, lt, neg, mul, ofBits, fits}
-use lib.Ieee.Fits.{down-pos, mul-fits, round-is}
+use lib.Ieee.{Float, inf, binary64, up, down, lt, neg, mul, ofBits, fits}
+use lib.Ieee.Fits.{down-pos, mul-fits}
 use Rattle.lists.proofs.Tests.{clash}
 use Rattle.definition.specs.Number.{times}
 use Rattle.root_laws.specs.Sorts.{notNegative, good}
+use Rattle.root_laws.proofs.Operations.{round-nn}
 use Rattle.root_laws.proofs.Order.{Good, top, num, view, both, lt-irrefl, lt-asym, le-le}
 use Rattle.common.specs.Rounds.{lesser, minusOne, Kept}
 
@@ -96,24 +96,6 @@ lesser-inf x g = inf-of (view x g)
 
 -- ---- a value a little below a square
 
-odd-positive : (d q k l : ℕ) → notNegative (odd d false q k l) ≡ true
-unfolding odd
-odd-positive d zero k l = refl
-odd-positive d (suc q) k l = refl
-
-either-positive : (b : Bool) (x y : Float) → notNegative x ≡ true → notNegative y ≡ true → notNegative (cond b x y) ≡ true
-either-positive true x y h k = h
-either-positive false x y h k = k
-
-units-positive : (f : Format) (q k : ℕ) → notNegative (units f false q k) ≡ true
-unfolding units
-units-positive f q k =
-    either-positive (ltb (q * 2 ^ k) (2 ^ (low f + suc (emax f)))) (odd (suc (prec f)) false q k (low f)) (inf false)
-    (odd-positive (suc (prec f)) q k (low f)) refl
-
-round-positive : (f : Format) (a b : ℕ) → notNegative (round f false a b) ≡ true
-round-positive f a b = rw (round-is f false a b) (units-positive f _ _)
-
 -- the literal 0.999999999999999
 abbrev pub nearOne : Float
 nearOne = ofBits binary64 0x3fef_ffff_ffff_fff7
@@ -121,7 +103,7 @@ nearOne = ofBits binary64 0x3fef_ffff_ffff_fff7
 near-of : {x : Float} → Good x → notNegative (times x nearOne) ≡ true
 unfolding mul ofBits
 near-of top = refl
-near-of (num m e) = round-positive binary64 (m * up e * (0x1f_ffff_ffff_fff7 * up (negsuc 52))) (down e * down (negsuc 52))
+near-of (num m e) = round-nn binary64 (m * up e * (0x1f_ffff_ffff_fff7 * up (negsuc 52))) (down e * down (negsuc 52))
 
 pub near-good : (x : Float) → good x ≡ true → good (times x nearOne) ≡ true
 near-good x g =

@@ -1,16 +1,15 @@
 -- From finite coordinates no NaN arises: a squared distance, a distance, and a distance from a centroid is +0, a positive
 -- number or +infinity, and a centroid's coordinate is a number (an infinity where the sum overflows). Assumes nothing.
 use mathlib.Core.Path.{_≡_, refl, sym}
-use mathlib.Core.Bool.{Bool, true, false, cond, true≢false}
+use mathlib.Core.Bool.{true, false, true≢false}
 use mathlib.Core.List.{List, [], _∷_, List·Memᴰ, List·Memᴰ·head, List·Memᴰ·tail}
 use Prim.Native.Nat.{ℕ, zero, suc, _+_, _*_, _^_, _≤_, _<_}
 use native.Mathlib.Omega.{arith}
 use borrow.Author.Tests.{ne-eqb}
-use lib.Dec.{T, ltb, ltb→lt}
+use lib.Dec.{T, ltb→lt}
 use lib.IntN.{pos}
 use lib.ListN.{length}
-use lib.Ieee.{Float, nan, inf, fin, Format, prec, emax, low, up, down, unlike, binary64, odd, units, round, sub, neg, div, ofInt, ofBits, isNan}
-use lib.Ieee.Fits.{round-is}
+use lib.Ieee.{Float, nan, inf, fin, up, down, unlike, binary64, round, sub, neg, div, ofInt, ofBits, isNan}
 use lib.Ieee.Scale.{finite}
 use lib.Ieee.Positive.{positive, positive-of-value}
 use lib.Ieee.Back.{round-whole}
@@ -20,7 +19,7 @@ use Rattle.definition.specs.Number.{plusZero, plus, less, times, over}
 use Rattle.definition.specs.Points.{coordinate, column, distanceSq, distance, rowsSq, rowsApart}
 use Rattle.definition.specs.Sampling.{sumFrom, centroid, fromCentroid}
 use Rattle.root_laws.specs.Sorts.{isNumber, good}
-use Rattle.root_laws.proofs.Operations.{square-good, add-good, zero-good, sub-number, finite-number}
+use Rattle.root_laws.proofs.Operations.{round-number, square-good, add-good, zero-good, sub-number, finite-number}
 use Rattle.root_laws.proofs.Values.{root-good}
 
 -- ---- distances
@@ -44,24 +43,6 @@ unfolding distance
 distance-good d p q f g = root-good (distanceSq d p q) (distance-sq-good d p q f g)
 
 -- ---- sums and quotients
-
-odd-number : (d : ℕ) (s : Bool) (q k l : ℕ) → isNumber (odd d s q k l) ≡ true
-unfolding odd
-odd-number d s zero k l = refl
-odd-number d s (suc q) k l = refl
-
-cond-number : (b : Bool) (x y : Float) → isNumber x ≡ true → isNumber y ≡ true → isNumber (cond b x y) ≡ true
-cond-number true x y h k = h
-cond-number false x y h k = k
-
-units-number : (f : Format) (s : Bool) (q k : ℕ) → isNumber (units f s q k) ≡ true
-unfolding units
-units-number f s q k =
-    cond-number (ltb (q * 2 ^ k) (2 ^ (low f + suc (emax f)))) (odd (suc (prec f)) s q k (low f)) (inf s)
-    (odd-number (suc (prec f)) s q k (low f)) refl
-
-round-number : (f : Format) (s : Bool) (a b : ℕ) → isNumber (round f s a b) ≡ true
-round-number f s a b = rw (round-is f s a b) (units-number f s _ _)
 
 -- a number and a finite one
 pub add-number : (x y : Float) → isNumber x ≡ true → finite y ≡ true → isNumber (plus x y) ≡ true

@@ -3,6 +3,7 @@ use mathlib.Core.Path.{_≡_, refl, sym}
 use mathlib.Core.Bool.{Bool, true, false, not, _&&_, Bool·beq, cond, true≢false}
 use Prim.Native.Nat.{ℕ, zero, suc, _+_, _-_, _*_, _^_}
 use lib.Dec.{ltb}
+use lib.IntN.{ℤ}
 use lib.Ieee.{Float, nan, inf, fin, Format, prec, emax, low, unlike, up, down, binary64, odd, units, round, sum, add, sub, neg, mul, ofBits, fits}
 use lib.Ieee.Fits.{round-is, add-fits, mul-fits}
 use lib.Ieee.Scale.{finite}
@@ -10,51 +11,42 @@ use Rattle.definition.specs.Number.{plusZero, plus, less, times}
 use Rattle.root_laws.specs.Sorts.{isNumber, notNegative, good}
 use Rattle.root_laws.proofs.Order.{Good, top, num, view, both}
 
--- ---- no rounding gives a NaN
-odd-number : (d : ℕ) (s : Bool) (q k l : ℕ) → isNumber (odd d s q k l) ≡ true
-unfolding odd
-odd-number d s zero k l = refl
-odd-number d s (suc q) k l = refl
+-- ---- a test that passes every value of the sign s passes what is rounded with that sign
+cond-passes : (P : Float → Bool) (b : Bool) (x y : Float) → P x ≡ true → P y ≡ true → P (cond b x y) ≡ true
+cond-passes P true x y h k = h
+cond-passes P false x y h k = k
 
-cond-number : (b : Bool) (x y : Float) → isNumber x ≡ true → isNumber y ≡ true → isNumber (cond b x y) ≡ true
-cond-number true x y h k = h
-cond-number false x y h k = k
+module _ (P : Float → Bool) (s : Bool) (i : P (inf s) ≡ true) (n : (m : ℕ) (e : ℤ) → P (fin s m e) ≡ true) where
+  odd-passes : (d q k l : ℕ) → P (odd d s q k l) ≡ true
+  unfolding odd
+  odd-passes d zero k l = n _ _
+  odd-passes d (suc q) k l = n _ _
 
-units-number : (f : Format) (s : Bool) (q k : ℕ) → isNumber (units f s q k) ≡ true
-unfolding units
-units-number f s q k =
-    cond-number (ltb (q * 2 ^ k) (2 ^ (low f + suc (emax f)))) (odd (suc (prec f)) s q k (low f)) (inf s)
-    (odd-number (suc (prec f)) s q k (low f)) refl
+  units-passes : (f : Format) (q k : ℕ) → P (units f s q k) ≡ true
+  unfolding units
+  units-passes f q k =
+      cond-passes P (ltb (q * 2 ^ k) (2 ^ (low f + suc (emax f)))) (odd (suc (prec f)) s q k (low f)) (inf s)
+      (odd-passes (suc (prec f)) q k (low f)) i
 
-round-number : (f : Format) (s : Bool) (a b : ℕ) → isNumber (round f s a b) ≡ true
-round-number f s a b = rw (round-is f s a b) (units-number f s _ _)
+  rounded : (f : Format) (a b : ℕ) → P (round f s a b) ≡ true
+  rounded f a b = rw (round-is f s a b) (units-passes f _ _)
+
+-- no rounding gives a NaN
+pub round-number : (f : Format) (s : Bool) (a b : ℕ) → isNumber (round f s a b) ≡ true
+round-number f s a b = rounded isNumber s refl (λ m e. refl) f a b
+
+-- nor, without a sign, a negative value
+pub round-nn : (f : Format) (a b : ℕ) → notNegative (round f false a b) ≡ true
+round-nn f a b = rounded notNegative false refl (λ m e. refl) f a b
 
 sum-number : (f : Format) (s : Bool) (a : ℕ) (t : Bool) (b c : ℕ) → isNumber (sum f s a t b c) ≡ true
 unfolding sum
 sum-number f s a t b c =
-    cond-number (Bool·beq s t) (round f s (a + b) c)
+    cond-passes isNumber (Bool·beq s t) (round f s (a + b) c)
     (cond (ltb a b) (round f t (b - a) c) (round f (s && ltb b a) (a - b) c)) (round-number f s (a + b) c)
-    (cond-number (ltb a b) (round f t (b - a) c) (round f (s && ltb b a) (a - b) c) (round-number f t (b - a) c) (round-number f (s && ltb b a) (a - b) c))
+    (cond-passes isNumber (ltb a b) (round f t (b - a) c) (round f (s && ltb b a) (a - b) c) (round-number f t (b - a) c) (round-number f (s && ltb b a) (a - b) c))
 
 -- ---- which operations give a value that is not negative
-odd-nn : (d q k l : ℕ) → notNegative (odd d false q k l) ≡ true
-unfolding odd
-odd-nn d zero k l = refl
-odd-nn d (suc q) k l = refl
-
-cond-nn : (b : Bool) (x y : Float) → notNegative x ≡ true → notNegative y ≡ true → notNegative (cond b x y) ≡ true
-cond-nn true x y h k = h
-cond-nn false x y h k = k
-
-units-nn : (f : Format) (q k : ℕ) → notNegative (units f false q k) ≡ true
-unfolding units
-units-nn f q k =
-    cond-nn (ltb (q * 2 ^ k) (2 ^ (low f + suc (emax f)))) (odd (suc (prec f)) false q k (low f)) (inf false)
-    (odd-nn (suc (prec f)) q k (low f)) refl
-
-round-nn : (f : Format) (a b : ℕ) → notNegative (round f false a b) ≡ true
-round-nn f a b = rw (round-is f false a b) (units-nn f _ _)
-
 unlike-self : (s : Bool) → unlike s s ≡ false
 unlike-self true = refl
 unlike-self false = refl

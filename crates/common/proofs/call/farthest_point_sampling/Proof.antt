@@ -22,28 +22,40 @@ enum-known-answer-2 c = search needs
 div-rows : tie.Need-div-rows
 div-rows c = let s = c .before .before .before .before .before .before .before .before in
     let g = s .args in
-    let v = accepted-call (g .dimensions) (g .points .now) (g .wanted) (g .seed) (length (g .out .now)) (length (g .floats .now)) (length (g .wholes .now)) _ _ (c .before .before .before .sampling-verdict .ensures) (c .before .answer2 .given .1) in
+    let v =
+    accepted-call (g .dimensions) (g .points .now) (g .wanted) (g .seed) (length (g .out .now)) (length (g .floats .now))
+    (length (g .wholes .now)) _ _ (c .before .before .before .sampling-verdict .ensures)
+    (c .before .answer2 .given .1) in
     let a = v .2 in
     a .axes .0
 
 number-rows-requires : tie.Need-number-rows-requires
 number-rows-requires c κs = let s = c .before .before .before .before .before .before .before .before .before in
     let g = s .args in
-    let v = accepted-call (g .dimensions) (g .points .now) (g .wanted) (g .seed) (length (g .out .now)) (length (g .floats .now)) (length (g .wholes .now)) _ _ (c .before .before .before .before .sampling-verdict .ensures) (c .before .before .answer2 .given .1) in
+    let v =
+    accepted-call (g .dimensions) (g .points .now) (g .wanted) (g .seed) (length (g .out .now)) (length (g .floats .now))
+    (length (g .wholes .now)) _ _ (c .before .before .before .before .sampling-verdict .ensures)
+    (c .before .before .answer2 .given .1) in
     let a = v .2 in
     a .wholes
 
 slice-reshare-prefix-sample-rows : tie.Need-slice-reshare-prefix-sample-rows
 slice-reshare-prefix-sample-rows c = let s = c .before .before .before .before .before .before .before .before .before .before .before .before in
     let g = s .args in
-    let v = accepted-call (g .dimensions) (g .points .now) (g .wanted) (g .seed) (length (g .out .now)) (length (g .floats .now)) (length (g .wholes .now)) _ _ (c .before .before .before .before .before .before .before .sampling-verdict .ensures) (c .before .before .before .before .before .answer2 .given .1) in
+    let v =
+    accepted-call (g .dimensions) (g .points .now) (g .wanted) (g .seed) (length (g .out .now)) (length (g .floats .now))
+    (length (g .wholes .now)) _ _ (c .before .before .before .before .before .before .before .sampling-verdict .ensures)
+    (c .before .before .before .before .before .answer2 .given .1) in
     let a = v .2 in
     omega (arith, a .wholes, c .before .before .number-rows .kept .0)
 
 slice-aggregate-sample-rows : tie.Need-slice-aggregate-sample-rows
 slice-aggregate-sample-rows c = let s = c .before .before .before .before .before .before .before .before .before .before .before .before .before in
     let g = s .args in
-    let v = accepted-call (g .dimensions) (g .points .now) (g .wanted) (g .seed) (length (g .out .now)) (length (g .floats .now)) (length (g .wholes .now)) _ _ (c .before .before .before .before .before .before .before .before .sampling-verdict .ensures) (c .before .before .before .before .before .before .answer2 .given .1) in
+    let v =
+    accepted-call (g .dimensions) (g .points .now) (g .wanted) (g .seed) (length (g .out .now)) (length (g .floats .now))
+    (length (g .wholes .now)) _ _ (c .before .before .before .before .before .before .before .before .sampling-verdict .ensures)
+    (c .before .before .before .before .before .before .answer2 .given .1) in
     let a = v .2 in
     let n = length (s .args .points .now) / s .args .dimensions in
     sym (ap length (numbered n (s .args .wholes .now) _ (c .before .before .before .number-rows .ensures)) ∙ length-from 0 n)
@@ -51,7 +63,10 @@ slice-aggregate-sample-rows c = let s = c .before .before .before .before .befor
 sample-rows-requires : tie.Need-sample-rows-requires
 sample-rows-requires c κs = let s = c .before .before .before .before .before .before .before .before .before .before .before .before .before .before .before in
     let g = s .args in
-    let v = accepted-call (g .dimensions) (g .points .now) (g .wanted) (g .seed) (length (g .out .now)) (length (g .floats .now)) (length (g .wholes .now)) _ _ (c .before .before .before .before .before .before .before .before .before .before .sampling-verdict .ensures) (c .before .before .before .before .before .before .before .before .answer2 .given .1) in
+    let v =
+    accepted-call (g .dimensions) (g .points .now) (g .wanted) (g .seed) (length (g .out .now)) (length (g .floats .now))
+    (length (g .wholes .now)) _ _ (c .before .before .before .before .before .before .before .before .before .before .sampling-verdict .ensures)
+    (c .before .before .before .before .before .before .before .before .answer2 .given .1) in
     let a = v .2 in
     call-ready _ _ _ _ _ _ _ _ a (v .1) _ (numbered _ _ _ (c .before .before .before .before .before .number-rows .ensures))
 
@@ -70,7 +85,10 @@ same-length-3 c = search needs
 returns-2 : tie.Need-returns-2
 returns-2 c = let s = c .before .before .before .before .before .before .before .before .before .before .before .before .before .before .before .before .before .before .before .before in
     let g = s .args in
-    let v = accepted-call (g .dimensions) (g .points .now) (g .wanted) (g .seed) (length (g .out .now)) (length (g .floats .now)) (length (g .wholes .now)) _ _ (c .before .before .before .before .before .before .before .before .before .before .before .before .before .before .before .sampling-verdict .ensures) (c .before .before .before .before .before .before .before .before .before .before .before .before .before .answer2 .given .1) in
+    let v =
+    accepted-call (g .dimensions) (g .points .now) (g .wanted) (g .seed) (length (g .out .now)) (length (g .floats .now))
+    (length (g .wholes .now)) _ _ (c .before .before .before .before .before .before .before .before .before .before .before .before .before .before .before .sampling-verdict .ensures)
+    (c .before .before .before .before .before .before .before .before .before .before .before .before .before .answer2 .given .1) in
     let a = v .2 in
     let nr = c .before .before .before .before .before .before .before .before .before .before .number-rows in
     let sr = c .before .before .before .before .sample-rows in

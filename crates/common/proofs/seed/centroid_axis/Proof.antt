@@ -27,19 +27,35 @@ shared-slice-read-row c = omega arith
 
 mul-sum : tie.Need-mul-sum Inv-loop μ-loop
 mul-sum c = let s = c .before .before .before in
-    omega (arith, s .pre .1, row-fits (s .args .dimensions) (s .args .points .now) (s .args .rows .now) (s .pre .0) (c .before .before .loop .i) (c .before .loop-test .taken))
+    omega (
+      arith,
+      s .pre .1,
+      row-fits (s .args .dimensions) (s .args .points .now) (s .args .rows .now) (s .pre .0) (c .before .before .loop .i) (c .before .loop-test .taken),
+    )
 
 add-sum : tie.Need-add-sum Inv-loop μ-loop
 add-sum c = let s = c .before .before .before in
-    omega (arith, s .pre .1, row-fits (s .args .dimensions) (s .args .points .now) (s .args .rows .now) (s .pre .0) (c .before .before .loop .i) (c .before .loop-test .taken))
+    omega (
+      arith,
+      s .pre .1,
+      row-fits (s .args .dimensions) (s .args .points .now) (s .args .rows .now) (s .pre .0) (c .before .before .loop .i) (c .before .loop-test .taken),
+    )
 
 mul-sum-2 : tie.Need-mul-sum-2 Inv-loop μ-loop
 mul-sum-2 c = let s = c .before .before .before in
-    omega (arith, s .pre .1, row-fits (s .args .dimensions) (s .args .points .now) (s .args .rows .now) (s .pre .0) (c .before .before .loop .i) (c .before .loop-test .taken))
+    omega (
+      arith,
+      s .pre .1,
+      row-fits (s .args .dimensions) (s .args .points .now) (s .args .rows .now) (s .pre .0) (c .before .before .loop .i) (c .before .loop-test .taken),
+    )
 
 shared-slice-read-sum : tie.Need-shared-slice-read-sum Inv-loop μ-loop
 shared-slice-read-sum c = let s = c .before .before .before .before in
-    omega (arith, s .pre .1, row-fits (s .args .dimensions) (s .args .points .now) (s .args .rows .now) (s .pre .0) (c .before .before .before .loop .i) (c .before .before .loop-test .taken))
+    omega (
+      arith,
+      s .pre .1,
+      row-fits (s .args .dimensions) (s .args .points .now) (s .args .rows .now) (s .pre .0) (c .before .before .before .loop .i) (c .before .before .loop-test .taken),
+    )
 
 add-i : tie.Need-add-i Inv-loop μ-loop
 add-i c = omega arith

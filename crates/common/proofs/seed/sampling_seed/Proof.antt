@@ -31,11 +31,17 @@ slice-aggregate-distance-sq-at c = search needs
 
 mul-distance-sq-at : tie.Need-mul-distance-sq-at Inv-loop μ-loop
 mul-distance-sq-at c = let s = c .before .before .before .before .before in
-    omega (arith, row-fits (s .args .dimensions) (s .args .points .now) (s .args .rows .now) (s .pre .0) 0 (s .pre .1 .1 .1), s .good)
+    omega (
+      arith,
+      s .good,
+      row-fits (s .args .dimensions) (s .args .points .now) (s .args .rows .now) (s .pre .0) 0 (s .pre .1 .1 .1),
+    )
 
 distance-sq-at-requires : tie.Need-distance-sq-at-requires Inv-loop μ-loop
-distance-sq-at-requires c κs = let s = c .before .before .before .before .before in
-    (omega (arith, s .pre .1 .1 .0, c .before .before .get-centroid .ok), row-fits (s .args .dimensions) (s .args .points .now) (s .args .rows .now) (s .pre .0) 0 (s .pre .1 .1 .1))
+distance-sq-at-requires c κs = let s = c .before .before .before .before .before in (
+  omega (arith, s .pre .1 .1 .0, c .before .before .get-centroid .ok),
+  row-fits (s .args .dimensions) (s .args .points .now) (s .args .rows .now) (s .pre .0) 0 (s .pre .1 .1 .1),
+)
 
 root-requires : tie.Need-root-requires Inv-loop μ-loop
 root-requires c κs = search needs
@@ -61,11 +67,17 @@ slice-aggregate-distance-sq-at-2 c = search needs
 
 mul-distance-sq-at-2 : tie.Need-mul-distance-sq-at-2 Inv-loop μ-loop
 mul-distance-sq-at-2 c = let s = c .before .before .before .before .before .before .before .before .before .before .before in
-    omega (arith, row-fits (s .args .dimensions) (s .args .points .now) (s .args .rows .now) (s .pre .0) (c .before .before .before .loop .i) (c .before .before .loop-test .taken), s .good)
+    omega (
+      arith,
+      s .good,
+      row-fits (s .args .dimensions) (s .args .points .now) (s .args .rows .now) (s .pre .0) (c .before .before .before .loop .i) (c .before .before .loop-test .taken),
+    )
 
 distance-sq-at-requires-2 : tie.Need-distance-sq-at-requires-2 Inv-loop μ-loop
-distance-sq-at-requires-2 c κs = let s = c .before .before .before .before .before .before .before .before .before .before .before in
-    (omega (arith, s .pre .1 .1 .0, c .before .before .before .before .before .before .before .before .get-centroid .ok), row-fits (s .args .dimensions) (s .args .points .now) (s .args .rows .now) (s .pre .0) (c .before .before .before .loop .i) (c .before .before .loop-test .taken))
+distance-sq-at-requires-2 c κs = let s = c .before .before .before .before .before .before .before .before .before .before .before in (
+  omega (arith, s .pre .1 .1 .0, c .before .before .before .before .before .before .before .before .get-centroid .ok),
+  row-fits (s .args .dimensions) (s .args .points .now) (s .args .rows .now) (s .pre .0) (c .before .before .before .loop .i) (c .before .before .loop-test .taken),
+)
 
 root-requires-2 : tie.Need-root-requires-2 Inv-loop μ-loop
 root-requires-2 c κs = search needs

@@ -1,0 +1,131 @@
+-- What an accepted call has for its levels, and what they come to. Assumes nothing.
+use mathlib.Core.Path.{_≡_, refl, sym, ap, subst, _∙_}
+use mathlib.Core.Bool.{Bool, true}
+use mathlib.Core.Logic.{⊎-elim}
+use mathlib.Core.List.{List, [], _∷_, _++_, map}
+use Prim.Native.Nat.{ℕ, zero, suc, _+_, _-_, _*_, _/_, _≤_, _<_}
+use native.Mathlib.Omega.{arith}
+use native.Mathlib.Nat.{mul-le-mul-right, mul-assoc, suc-mul}
+use lib.Dec.{T}
+use lib.ListN.{length, getD, replicate}
+use lib.Ieee.{Float, nan}
+use lib.Ieee.Scale.{finite}
+use Rattle.lists.specs.Lists.{put, part, from}
+use Rattle.lists.specs.Ascends.{All}
+use Rattle.lists.proofs.Tests.{le-or-lt}
+use Rattle.lists.proofs.Put.{put-zero, length-put, part-put-same}
+use Rattle.lists.proofs.From.{length-from, all-from}
+use Rattle.lists.proofs.Ascends.{ascends-from}
+use Rattle.definition.specs.Levels.{threshold, reductions}
+use Rattle.definition.specs.Tree.{Settings, Level, coarseLevel, mostFine, levelsFrom, levelsOver, levels, pointCount}
+use Rattle.definition.specs.Packed.{BuildSizes, buildStated, packedPoints, countsOf}
+use Rattle.definition.specs.Outcome.{TreeLists, lentSizes}
+use Rattle.laws.proofs.Steps.{fineOf, nextOf, levels-last, levels-end, levels-more}
+use Rattle.laws.proofs.Accepted.{Accepted}
+use Rattle.levels.proofs.Sizes.{ends}
+use Rattle.level.specs.Fine.{Given}
+use Rattle.tree.specs.After.{levelSettings, levelsAfter, Space}
+use Rattle.tree.proofs.Lists.{put-again}
+use Rattle.tree.proofs.Fine.{first-points, levels-few}
+use Rattle.order.specs.Rows.{GoodRows}
+use Rattle.ddm.proofs.Counts.{per-level}
+
+-- ---- the levels depend on three of the settings
+module _ (s : Settings) (cs : List Float) (c k : ℕ) where
+  pub same-levels : (fuel built : ℕ) (active : List ℕ)
+      → levelsFrom s cs c k fuel built active ≡ levelsFrom (levelSettings (s .dimension) (s .leaf) (s .neighbours)) cs c k fuel built active
+  same-levels zero built active =
+      levels-last s cs c k built active ∙ sym (levels-last (levelSettings (s .dimension) (s .leaf) (s .neighbours)) cs c k built active)
+  same-levels (suc fuel) built active =
+      let r = levelSettings (s .dimension) (s .leaf) (s .neighbours) in
+      ⊎-elim
+      (λ (few : length active ≤ c). levels-end s cs c k fuel built active few ∙ sym (levels-end r cs c k fuel built active few))
+      (λ (many : c < length active). levels-more s cs c k fuel built active many
+      ∙ ap (λ (ls : List Level). fineOf s cs active ∷ ls) (same-levels fuel (suc built) (nextOf s cs c k built active))
+      ∙ sym (levels-more r cs c k fuel built active many))
+      (le-or-lt (length active) c)
+
+-- the levels over all points
+pub tree-is : (s : Settings) (cs : List Float) (n c k : ℕ) → n ≡ pointCount (s .dimension) cs → c ≡ threshold (s .policy) n → k ≡ reductions n c (s .factor)
+    → levels s cs ≡ levelsAfter (s .dimension) cs (s .leaf) (s .neighbours) c k 0 (from 0 n)
+unfolding levels levelsOver
+tree-is s cs n c k en ec ek = rw (← en, length-from 0 n, ← ec, ← ek) (same-levels s cs c k mostFine 0 (from 0 n))
+
+-- ---- what an accepted call has
+module _ (s : Settings) (cs : List Float) (old : TreeLists) (floats : List Float) (wholes : List ℕ) (a : Accepted s cs (lentSizes old floats wholes)) where
+  abbrev d : ℕ
+  d = s .dimension
+
+  abbrev n : ℕ
+  n = pointCount (s .dimension) cs
+
+  -- its points are rows to build a level over
+  pub all-rows : Given (s .dimension) cs (s .leaf) (s .neighbours) (from 0 (pointCount (s .dimension) cs))
+  all-rows = record {
+    axes = a .passes-all .axes;
+    axes-few = a .passes-all .axes-few;
+    leaf-some = a .passes-all .leaf-some;
+    near = a .passes-all .neighbours-few;
+    rows-some = omega (arith, length-from 0 n, a .passes-all .rows-some);
+    rows-few = omega (arith, length-from 0 n, a .passes-all .rows-few);
+    good = record {
+      ascends = ascends-from 0 n;
+      inside = all-from (λ i. i * d + d ≤ length cs) 0 n (λ i l h. within i h);
+      finite-all = λ i h. of-true (finite (getD cs i nan)) (a .finite-all i h);
+    };
+  }
+    where
+      of-true : (b : Bool) → b ≡ true → T b
+      of-true b e = subst T (sym e) tt
+
+      within : (i : ℕ) → i < 0 + n → i * d + d ≤ length cs
+      within i h =
+          let le : suc i ≤ n = omega arith in
+          omega (arith, mul-le-mul-right d le, suc-mul i d, a .whole)
+
+  -- room for the levels
+  pub all-space : (P : List ℕ) → length P ≡ length (old .points)
+      → Space (s .dimension) (s .neighbours) (pointCount (s .dimension) cs) mostFine P (old .internals) (old .domains) (old .boxes) (old .borrowed) wholes floats 0 0 0
+  unfolding buildStated
+  all-space P e = record {
+    points = omega (arith, a .enough .points, e);
+    internals = omega (arith, a .enough .internals);
+    domains = omega (arith, a .enough .domains);
+    boxes = rows (a .enough .boxes);
+    borrowed = omega (arith, a .enough .borrowed, three n (s .neighbours + 1));
+    wholes = omega (arith, a .enough .wholes);
+    floats = omega (arith, a .enough .floats);
+  }
+    where
+      six : (n : ℕ) → 0 + 3 * (2 * n) + 1 ≡ 6 * n + 1
+      six n = omega arith
+
+      three : (n q : ℕ) → 3 * (2 * n * q) ≡ 6 * n * q
+      three n q = sym (mul-assoc 3 (2 * n) q) ∙ ap (λ (m : ℕ). m * q) (twice n)
+        where
+          twice : (n : ℕ) → 3 * (2 * n) ≡ 6 * n
+          twice n = omega arith
+
+      rows : {L : ℕ} → 2 * d * (6 * n + 1) ≤ L → 2 * d * (0 + 3 * (2 * n) + 1) ≤ L
+      rows h = rw (six n) h
+
+  pub few-reductions : reductions (pointCount (s .dimension) cs) (threshold (s .policy) (pointCount (s .dimension) cs)) (s .factor) ≤ 3
+  few-reductions = ends n (threshold (s .policy) n) (s .factor) (a .passes-all .coarse-some) (a .passes-all .reaches) .few
+
+-- ---- the level points begin with all rows, which are written first
+pub points-whole : (d : ℕ) (cs : List Float) (leaf q c k n : ℕ) (P P₁ P₂ : List ℕ) → n ≤ length P → P₁ ≡ put P 0 (from 0 n)
+    → P₂ ≡ put P₁ 0 (packedPoints (levelsAfter d cs leaf q c k 0 (from 0 n))) → P₂ ≡ put P 0 (packedPoints (levelsAfter d cs leaf q c k 0 (from 0 n)))
+points-whole d cs leaf q c k n P P₁ P₂ h e₁ e₂ =
+    let f = first-points (levelSettings d leaf q) cs c k mostFine 0 (from 0 n) in
+    e₂ ∙ rw (e₁, f .1) (put-again P 0 (from 0 n) (f .0) (omega (arith, length-from 0 n)))
+
+-- ---- what the levels answer, as the definition counts it
+pub counts-whole : (d : ℕ) (cs : List Float) (leaf q c k : ℕ) (active : List ℕ) (number : ℕ) (rows counts : List ℕ)
+    → number ≡ length (levelsAfter d cs leaf q c k 0 active) → rows ≡ put (replicate 4 0) 0 (map (λ (l : Level). length (l .points)) (levelsAfter d cs leaf q c k 0 active))
+    → counts ≡ put (replicate 4 0) 0 (map (λ (l : Level). length (l .leaves)) (levelsAfter d cs leaf q c k 0 active))
+    → record { levels = number; rows = rows; domains = counts } ≡ countsOf (levelsAfter d cs leaf q c k 0 active)
+unfolding countsOf
+counts-whole d cs leaf q c k active number rows counts e₁ e₂ e₃ =
+    let few = levels-few (levelSettings d leaf q) cs c k mostFine 0 active in
+    let ls = levelsAfter d cs leaf q c k 0 active in
+    rw (e₁, e₂, e₃, per-level (λ (l : Level). length (l .points)) ls few, per-level (λ (l : Level). length (l .leaves)) ls few)

@@ -1,0 +1,4 @@
+-- Laws of the build.
+pub mod Counts
+pub mod Grown
+pub mod Outcomes

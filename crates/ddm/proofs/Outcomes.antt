@@ -1,0 +1,61 @@
+-- The outcome of a build, from the verdict on it. Assumes nothing.
+use mathlib.Core.Path.{_≡_, refl, sym, ap, _∙_}
+use mathlib.Core.List.{List}
+use Prim.Native.Nat.{ℕ}
+use lib.ListN.{length}
+use lib.Ieee.{Float}
+use Rattle.lists.specs.Lists.{put}
+use Rattle.lists.proofs.Put.{put-zero}
+use Rattle.definition.specs.Tree.{Settings, levels}
+use Rattle.definition.specs.Packed.{Counts, countsOf, packedPoints, packedOwn, packedDomains, packedBoxes, packedBorrowed}
+use Rattle.definition.specs.Refusals.{Refusal, Verdict, accepted, refused}
+use Rattle.definition.specs.Outcome.{Answer, TreeLists, numberOf, placeOf, valueOf, written, listAfter, treeListsAfter, RoomAfter, zeroCounts, buildCall, buildAnswer, buildLists}
+
+-- ---- working room
+pub room-refused : {A : Type 0} (v : Verdict) (r : Refusal) (l : List A) → v ≡ refused r → RoomAfter v l l
+unfolding RoomAfter
+room-refused v r l e = rw e refl
+
+pub room-accepted : {A : Type 0} (v : Verdict) (old new : List A) → v ≡ accepted → length new ≡ length old → RoomAfter v old new
+unfolding RoomAfter
+room-accepted v old new e h = rw e h
+
+module _ (s : Settings) (cs : List Float) (old : TreeLists) (floats : List Float) (wholes : List ℕ) where
+  -- ---- a refused call: its number and place, zeros, and the lists as they were
+  module _ (r : Refusal) (e : buildCall s cs old floats wholes ≡ refused r) where
+    pub answer-refused : record { number = r .number; place = r .place; value = zeroCounts } ≡ buildAnswer s cs old floats wholes
+    unfolding buildAnswer numberOf placeOf valueOf
+    answer-refused = rw e
+
+    pub lists-refused : old ≡ buildLists s cs old floats wholes
+    unfolding buildLists treeListsAfter listAfter
+    lists-refused = rw e
+
+  -- ---- an accepted call: the tree's counts, and its lists written over the fronts of the old ones
+  module _ (e : buildCall s cs old floats wholes ≡ accepted) where
+    pub answer-accepted : record { number = 0; place = 0; value = countsOf (levels s cs) } ≡ buildAnswer s cs old floats wholes
+    unfolding buildAnswer numberOf placeOf valueOf
+    answer-accepted = rw e
+
+    written-is : {A : Type 0} (l xs : List A) → put l 0 xs ≡ listAfter accepted xs l
+    unfolding listAfter written
+    written-is l xs = put-zero l xs
+
+    pub lists-accepted :
+        record {
+          points = put (old .points) 0 (packedPoints (levels s cs));
+          internals = put (old .internals) 0 (packedOwn (levels s cs));
+          domains = put (old .domains) 0 (packedDomains (levels s cs));
+          boxes = put (old .boxes) 0 (packedBoxes (levels s cs));
+          borrowed = put (old .borrowed) 0 (packedBorrowed (levels s cs));
+        } ≡ buildLists s cs old floats wholes
+    unfolding buildLists treeListsAfter
+    lists-accepted =
+        rw (
+          e,
+          ← written-is (old .points) (packedPoints (levels s cs)),
+          ← written-is (old .internals) (packedOwn (levels s cs)),
+          ← written-is (old .domains) (packedDomains (levels s cs)),
+          ← written-is (old .boxes) (packedBoxes (levels s cs)),
+          ← written-is (old .borrowed) (packedBorrowed (levels s cs)),
+        )

@@ -1,0 +1,2 @@
+-- What the contracts of the build cite.
+pub mod Build

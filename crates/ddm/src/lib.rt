@@ -1,0 +1,167 @@
+// The library: the build of a multilevel domain tree over points, written to lists that the caller lends, and the other calls.
+ghost use mathlib.Core.Path.{_≡_};
+ghost use Prim.Native.Nat.{_≤_};
+ghost use lib.ListN.{length};
+ghost use Rattle.lists.specs.Lists.{put, from};
+ghost use Rattle.definition.specs.Tree.{levels};
+ghost use Rattle.definition.specs.Packed.{countsOf, packedPoints, packedOwn, packedDomains, packedBoxes, packedBorrowed};
+ghost use Rattle.definition.specs.Refusals.{accepted};
+ghost use Rattle.definition.specs.Outcome.{zeroCounts, buildCall, buildAnswer, buildLists, RoomAfter};
+ghost use Rattle.config.specs.Params.{settingsOf};
+ghost use Rattle.ddm.specs.Build.{treeAnswer, listsOf};
+use checks::Checked;
+use checks::Lent;
+
+// The settings, and the other calls, each with its answer.
+pub use common::SampleAnswer;
+pub use common::farthest_point_sampling;
+pub use config::DDMParams;
+pub use config::SizePolicy;
+pub use leaf_rows::DomainRow;
+pub use leaf_rows::Which;
+pub use leaf_rows::row_test;
+pub use leaf_rows::rows_of;
+pub use levels::LevelSize;
+pub use levels::get_num_level_coarse_points;
+pub use numbers::RootAnswer;
+pub use numbers::square_root;
+pub use quotas::QuotaAnswer;
+pub use quotas::get_domain_coarse_quotas;
+
+// What a build answers: the number of a refusal (0 for none) and its place; how many levels the tree has, and how many rows and
+// domains each of them has.
+pub struct DDMTree {
+    pub number: usize,
+    pub place: usize,
+    pub levels: usize,
+    pub rows: [usize; 4],
+    pub domains: [usize; 4],
+}
+
+// A refusal: no counts.
+fn refusal(number: usize, place: usize) -> DDMTree
+    ensures { λ r. ⌜ treeAnswer r ≡ record { number = number; place = place; value = zeroCounts } ⌝ }
+{
+    DDMTree {
+        number: number,
+        place: place,
+        levels: 0,
+        rows: [0; 4],
+        domains: [0; 4],
+    }
+}
+
+// Writes 0, 1, .., n - 1 to the front of a list.
+fn number_rows(list: &mut [usize], n: usize)
+    requires { ⌜ n ≤ length (now list) ⌝ }
+    ensures { λ _. ⌜ now (list .exit) ≡ put (now (list .entry)) 0 (from 0 n) ⌝ }
+{
+    let mut i = 0;
+    while i < n {
+        list[i] = i;
+        i += 1;
+    }
+}
+
+// The tree of an accepted call.
+fn grow(
+    points: &[f64],
+    dimensions: usize,
+    params: DDMParams,
+    level_points: &mut [usize],
+    internals: &mut [usize],
+    domains: &mut [usize],
+    boxes: &mut [f64],
+    borrowed: &mut [usize],
+    floats: &mut [f64],
+    wholes: &mut [usize],
+) -> DDMTree
+    requires { ⌜ buildCall (settingsOf dimensions params) (now points) (listsOf (now «level_points») (now internals) (now domains) (now boxes) (now borrowed)) (now floats) (now wholes) ≡ accepted ⌝ }
+    ensures counts { λ r. ⌜ treeAnswer r ≡ record { number = 0; place = 0; value = countsOf (levels (settingsOf dimensions params) (now (points .entry))) } ⌝ }
+    ensures points { λ _. ⌜ now («level_points» .exit) ≡ put (now («level_points» .entry)) 0 (packedPoints (levels (settingsOf dimensions params) (now (points .entry)))) ⌝ }
+    ensures internals { λ _. ⌜ now (internals .exit) ≡ put (now (internals .entry)) 0 (packedOwn (levels (settingsOf dimensions params) (now (points .entry)))) ⌝ }
+    ensures domains { λ _. ⌜ now (domains .exit) ≡ put (now (domains .entry)) 0 (packedDomains (levels (settingsOf dimensions params) (now (points .entry)))) ⌝ }
+    ensures boxes { λ _. ⌜ now (boxes .exit) ≡ put (now (boxes .entry)) 0 (packedBoxes (levels (settingsOf dimensions params) (now (points .entry)))) ⌝ }
+    ensures borrowed { λ _. ⌜ now (borrowed .exit) ≡ put (now (borrowed .entry)) 0 (packedBorrowed (levels (settingsOf dimensions params) (now (points .entry)))) ⌝ }
+{
+    let n = points.len() / dimensions;
+    let policy = params.coarse_threshold;
+    let c = levels::resolved_coarse_threshold(policy, n);
+    let k = levels::get_num_level_reductions(n, c, params.coarse_reduction_factor);
+    number_rows(level_points, n);
+    let counts = tree::all_levels(
+        points,
+        dimensions,
+        params.leaf_threshold as usize,
+        params.overlap_knn as usize,
+        c as usize,
+        k,
+        n,
+        level_points,
+        internals,
+        domains,
+        boxes,
+        borrowed,
+        wholes,
+        floats,
+    );
+    let rows = counts.rows;
+    let each = counts.domains;
+    DDMTree {
+        number: 0,
+        place: 0,
+        levels: counts.levels,
+        rows: rows,
+        domains: each,
+    }
+}
+
+// The build over all points. A refused call writes to no list. An accepted one writes its tree to the fronts of the five lists, and
+// leaves what stands past it as it was; of the working room it keeps only the length.
+pub fn build(
+    points: &[f64],
+    dimensions: usize,
+    params: DDMParams,
+    level_points: &mut [usize],
+    internals: &mut [usize],
+    domains: &mut [usize],
+    boxes: &mut [f64],
+    borrowed: &mut [usize],
+    floats: &mut [f64],
+    wholes: &mut [usize],
+) -> DDMTree
+    ensures answer { λ r. ⌜ treeAnswer r ≡ buildAnswer (settingsOf dimensions params) (now (points .entry)) (listsOf (now («level_points» .entry)) (now (internals .entry)) (now (domains .entry)) (now (boxes .entry)) (now (borrowed .entry))) (now (floats .entry)) (now (wholes .entry)) ⌝ }
+    ensures points { λ _. ⌜ now («level_points» .exit) ≡ buildLists (settingsOf dimensions params) (now (points .entry)) (listsOf (now («level_points» .entry)) (now (internals .entry)) (now (domains .entry)) (now (boxes .entry)) (now (borrowed .entry))) (now (floats .entry)) (now (wholes .entry)) .points ⌝ }
+    ensures internals { λ _. ⌜ now (internals .exit) ≡ buildLists (settingsOf dimensions params) (now (points .entry)) (listsOf (now («level_points» .entry)) (now (internals .entry)) (now (domains .entry)) (now (boxes .entry)) (now (borrowed .entry))) (now (floats .entry)) (now (wholes .entry)) .internals ⌝ }
+    ensures domains { λ _. ⌜ now (domains .exit) ≡ buildLists (settingsOf dimensions params) (now (points .entry)) (listsOf (now («level_points» .entry)) (now (internals .entry)) (now (domains .entry)) (now (boxes .entry)) (now (borrowed .entry))) (now (floats .entry)) (now (wholes .entry)) .domains ⌝ }
+    ensures boxes { λ _. ⌜ now (boxes .exit) ≡ buildLists (settingsOf dimensions params) (now (points .entry)) (listsOf (now («level_points» .entry)) (now (internals .entry)) (now (domains .entry)) (now (boxes .entry)) (now (borrowed .entry))) (now (floats .entry)) (now (wholes .entry)) .boxes ⌝ }
+    ensures borrowed { λ _. ⌜ now (borrowed .exit) ≡ buildLists (settingsOf dimensions params) (now (points .entry)) (listsOf (now («level_points» .entry)) (now (internals .entry)) (now (domains .entry)) (now (boxes .entry)) (now (borrowed .entry))) (now (floats .entry)) (now (wholes .entry)) .borrowed ⌝ }
+    ensures floats { λ _. ⌜ RoomAfter (buildCall (settingsOf dimensions params) (now (points .entry)) (listsOf (now («level_points» .entry)) (now (internals .entry)) (now (domains .entry)) (now (boxes .entry)) (now (borrowed .entry))) (now (floats .entry)) (now (wholes .entry))) (now (floats .entry)) (now (floats .exit)) ⌝ }
+    ensures wholes { λ _. ⌜ RoomAfter (buildCall (settingsOf dimensions params) (now (points .entry)) (listsOf (now («level_points» .entry)) (now (internals .entry)) (now (domains .entry)) (now (boxes .entry)) (now (borrowed .entry))) (now (floats .entry)) (now (wholes .entry))) (now (wholes .entry)) (now (wholes .exit)) ⌝ }
+{
+    let lent = Lent {
+        level_points: level_points.len(),
+        internals: internals.len(),
+        domains: domains.len(),
+        boxes: boxes.len(),
+        borrowed: borrowed.len(),
+        floats: floats.len(),
+        wholes: wholes.len(),
+    };
+    let checked = checks::check_build(points, dimensions, params, lent);
+    match checked {
+        Checked::Refused(number, place) => refusal(number, place),
+        Checked::Accepted => grow(
+            points,
+            dimensions,
+            params,
+            level_points,
+            internals,
+            domains,
+            boxes,
+            borrowed,
+            floats,
+            wholes,
+        ),
+    }
+}

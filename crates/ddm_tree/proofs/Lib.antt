@@ -1,0 +1,2 @@
+-- A law of what reading came to.
+pub mod Reading

@@ -1,0 +1,2 @@
+-- What the contracts of the job cite beside the definition.
+pub mod Printing

@@ -1,0 +1,6 @@
+-- Laws of the job stream, of the tree's shape, and of the printout's length.
+pub mod Lists
+pub mod Shape
+pub mod Stream
+pub mod Front
+pub mod Long

@@ -1,0 +1,2 @@
+-- Definitions that the laws of the job are stated with.
+pub mod Sizes

@@ -1,0 +1,1 @@
+// Laws of the job stream and of the printout; there is no code of its own.

@@ -1,0 +1,3 @@
+-- Laws of one level.
+pub mod Columns
+pub mod Stages

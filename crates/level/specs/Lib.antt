@@ -1,0 +1,2 @@
+-- What the contracts of a level cite.
+pub mod Fine

@@ -1,0 +1,39 @@
+-- The coarse level, packed. Assumes nothing.
+use mathlib.Core.Path.{_≡_, refl, sym, ap, _∙_}
+use mathlib.Core.List.{List, [], _∷_, _++_, map, append-nil}
+use Prim.Native.Nat.{ℕ, _+_, _*_}
+use lib.ListN.{length, replicate}
+use lib.Ieee.{Float}
+use Rattle.lists.specs.Lists.{joined}
+use Rattle.definition.specs.Number.{plusZero}
+use Rattle.definition.specs.Tree.{Leaf, Level, coarseLevel}
+use Rattle.definition.specs.Packed.{leavesIn, packedPoints, packedOwn, packedBorrowed, packedBoxes, stretches}
+
+module _ (d : ℕ) (active : List ℕ) where
+  pub coarse-points : packedPoints (coarseLevel d active ∷ []) ≡ active
+  unfolding packedPoints coarseLevel joined
+  coarse-points = append-nil active
+
+  pub coarse-own : packedOwn (coarseLevel d active ∷ []) ≡ active
+  unfolding packedOwn leavesIn coarseLevel joined
+  coarse-own = append-nil active
+
+  pub coarse-borrowed : packedBorrowed (coarseLevel d active ∷ []) ≡ []
+  unfolding packedBorrowed leavesIn coarseLevel joined
+  coarse-borrowed = refl
+
+  pub coarse-boxes : packedBoxes (coarseLevel d active ∷ []) ≡ replicate (2 * d) plusZero
+  unfolding packedBoxes leavesIn coarseLevel joined
+  coarse-boxes = append-nil (replicate (2 * d) plusZero)
+
+  pub coarse-rows : (a b : ℕ) → stretches a b (leavesIn (coarseLevel d active ∷ [])) ≡ a ∷ length active ∷ b ∷ 0 ∷ []
+  unfolding stretches leavesIn coarseLevel joined
+  coarse-rows a b = refl
+
+  pub coarse-row-count : map (λ (l : Level). length (l .points)) (coarseLevel d active ∷ []) ≡ length active ∷ []
+  unfolding coarseLevel
+  coarse-row-count = refl
+
+  pub coarse-domain-count : map (λ (l : Level). length (l .leaves)) (coarseLevel d active ∷ []) ≡ 1 ∷ []
+  unfolding coarseLevel
+  coarse-domain-count = refl

@@ -1,0 +1,7 @@
+-- Laws of the levels.
+pub mod Lists
+pub mod Spaces
+pub mod Packing
+pub mod Fine
+pub mod Coarse
+pub mod Loop

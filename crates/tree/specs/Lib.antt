@@ -1,0 +1,2 @@
+-- What the contracts of the levels cite.
+pub mod After

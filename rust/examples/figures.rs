@@ -1,0 +1,129 @@
+//! Figures, not a test: the library and a plain Rust implementation of document 01 in one run, one thread, both built for release.
+//!
+//!     rt staticlib ddm_c && rt staticlib ddm_stages && cd rust && cargo run --release --offline --example figures
+//!
+//! For each size it prints processor milliseconds of the whole build and of each stage of the first level (cut, neighbours,
+//! sampling), and the ratio library / plain Rust; then the root against the hardware's, and how much of the room is touched.
+#[path = "../tests/plain/mod.rs"]
+mod plain;
+
+use rekvashu::{build, square_root, DDMParams};
+use std::hint::black_box;
+
+#[link(name = "ddm_stages", kind = "static")]
+extern "C" {
+    fn stage_leaves(
+        points: *const f64, points_len: usize, dimensions: usize, leaf: usize, active: *const usize, active_len: usize,
+        work: *mut usize, work_len: usize, held: *mut f64, held_len: usize, internals: *mut usize, internals_len: usize,
+        domains: *mut usize, domains_len: usize, boxes: *mut f64, boxes_len: usize,
+    ) -> usize;
+    fn stage_overlaps(
+        points: *const f64, points_len: usize, dimensions: usize, neighbours: usize, active: *const usize, active_len: usize,
+        internals: *const usize, internals_len: usize, domains: *mut usize, domains_len: usize, m: usize,
+        borrowed: *mut usize, borrowed_len: usize, work: *mut usize, work_len: usize,
+    ) -> usize;
+    fn stage_coarse_points(
+        points: *const f64, points_len: usize, dimensions: usize, size: usize, internals: *const usize, internals_len: usize,
+        domains: *const usize, domains_len: usize, m: usize, level_points: *mut usize, level_points_len: usize, a: usize,
+        work: *mut usize, work_len: usize, least: *mut f64, least_len: usize,
+    ) -> usize;
+    fn clock_gettime(id: i32, time: *mut [i64; 2]) -> i32;
+}
+
+/// Processor milliseconds of this process.
+fn cpu() -> f64 {
+    let mut t = [0i64; 2];
+    unsafe { clock_gettime(2, &mut t) };
+    t[0] as f64 * 1e3 + t[1] as f64 * 1e-6
+}
+
+fn timed<T>(mut work: impl FnMut() -> T) -> (f64, T) {
+    let start = cpu();
+    let out = work();
+    (cpu() - start, out)
+}
+
+/// Both kinds of work in turns, the best of several each.
+fn compared<A, B>(turns: usize, mut ours: impl FnMut() -> A, mut theirs: impl FnMut() -> B) -> (f64, f64) {
+    let (mut a, mut b) = (f64::INFINITY, f64::INFINITY);
+    for _ in 0..turns {
+        a = a.min(timed(|| black_box(ours())).0);
+        b = b.min(timed(|| black_box(theirs())).0);
+    }
+    (a, b)
+}
+
+fn line(what: &str, (ours, theirs): (f64, f64)) {
+    println!("  {what:<28} {ours:>10.3} ms {theirs:>10.3} ms   ratio {:.2}", ours / theirs);
+}
+
+/// The three stages of the first level, each on the same input as the plain ones.
+fn stages(coords: &[f64], d: usize, s: &plain::Settings, turns: usize) {
+    let n = coords.len() / d;
+    let near = s.neighbours as usize + 1;
+    let rows: Vec<usize> = (0..n).collect();
+    let points = plain::Points { coords, d };
+    let (mut work, mut held) = (vec![0usize; 32 * n + 8 * n * near], vec![0.0; 32 * n]);
+    let (mut internals, mut domains, mut boxes) = (vec![0usize; n], vec![0usize; 4 * 2 * n], vec![0.0; 2 * d * 2 * n]);
+    let mut m = 0;
+    let cut = compared(turns, || unsafe {
+        m = stage_leaves(
+            coords.as_ptr(), coords.len(), d, s.leaf as usize, rows.as_ptr(), n, work.as_mut_ptr(), work.len(), held.as_mut_ptr(),
+            held.len(), internals.as_mut_ptr(), n, domains.as_mut_ptr(), domains.len(), boxes.as_mut_ptr(), boxes.len(),
+        )
+    }, || plain::leaves(&points, s.leaf, &rows));
+    line("cut", cut);
+    let leaves = plain::leaves(&points, s.leaf, &rows);
+    assert_eq!(m, leaves.len());
+    let mut borrowed = vec![0usize; 2 * n * near];
+    let turns = if n > 20_000 { 1 } else { turns };
+    let overlaps = compared(turns, || unsafe {
+        stage_overlaps(
+            coords.as_ptr(), coords.len(), d, s.neighbours as usize, rows.as_ptr(), n, internals.as_ptr(), n, domains.as_mut_ptr(),
+            domains.len(), m, borrowed.as_mut_ptr(), borrowed.len(), work.as_mut_ptr(), work.len(),
+        )
+    }, || {
+        let mut leaves = leaves.clone();
+        plain::borrow(&points, s.neighbours, &rows, &mut leaves);
+        leaves
+    });
+    line("neighbours and overlaps", overlaps);
+    let c = plain::threshold(s.policy, n);
+    let size = plain::level_size(n, c, plain::reductions(n, c, s.factor));
+    let mut list = vec![0usize; 2 * n];
+    list[..n].copy_from_slice(&rows);
+    let mut next = 0;
+    let sampling = compared(turns, || unsafe {
+        next = stage_coarse_points(
+            coords.as_ptr(), coords.len(), d, size, internals.as_ptr(), n, domains.as_ptr(), domains.len(), m, list.as_mut_ptr(),
+            list.len(), n, work.as_mut_ptr(), work.len(), held.as_mut_ptr(), held.len(),
+        )
+    }, || plain::send(&points, &leaves, size));
+    assert_eq!(&list[n..n + next], &plain::send(&points, &leaves, size)[..]);
+    line("quotas and sampling", sampling);
+}
+
+fn main() {
+    let params = DDMParams::default();
+    let s = plain::Settings { leaf: 64, neighbours: 16, factor: 8, policy: plain::Policy::Auto };
+    let mut state = 0x9e37_79b9_7f4a_7c15u64;
+    let mut unit = || {
+        state ^= state << 13;
+        state ^= state >> 7;
+        state ^= state << 17;
+        (state >> 11) as f64 / (1u64 << 53) as f64
+    };
+    println!("leaf 64, neighbours 16, factor 8, Auto; library, plain Rust");
+    for n in [1_000usize, 10_000, 50_000] {
+        for d in [2, 3] {
+            let coords: Vec<f64> = (0..n * d).map(|_| unit() * 1000.0).collect();
+            println!("{n} wells, {d} dimensions");
+            let turns = if n <= 1_000 { 20 } else if n <= 10_000 { 3 } else { 1 };
+            line("build", compared(turns, || build(&coords, d, params).unwrap(), || plain::build(&coords, d, &s).unwrap()));
+            stages(&coords, d, &s, turns);
+        }
+    }
+    let values: Vec<f64> = (0..1_000_000).map(|_| unit() * 1e6).collect();
+    println!("root of 1,000,000 values");
+    line("root", compared(5, || values.iter().map(|x| square_root(*x).unwrap()).sum::<f64>(), || values.iter().map(|x| black_box(*x).sqrt()).sum::<f64>()));
+}
