@@ -25,10 +25,11 @@ use Rattle.laws.proofs.Fit.{packed-fit}
 use Rattle.laws.proofs.Steps.{fineOf, nextOf}
 use Rattle.laws.proofs.Next.{noDomain}
 use Rattle.levels.proofs.Sizes.{reductions-few, reductions-reach}
-use Rattle.demand.specs.Handed.{Handed, levelCount, rowsOn, leavesOn, HasNext, listed}
+use Rattle.demand.specs.Handed.{Handed, handed, levelCount, rowsOn, leavesOn, HasNext, listed}
 use Rattle.demand.specs.Demand3.{Counted, coarseAt, reductionCount, CoarseLevel, Demand3Over, Demand3, handedBack}
 use Rattle.demand.proofs.Unpack.{noLevel, noLeaf, Packs, levels-are, rows-on, leaves-on, listed-is, own-count-is, borrowed-count-is, own-is, borrowed-is, box-is}
 use Rattle.demand.proofs.Levels.{Levelled, levelled, IsFine, first-active, some-levels, fine-at, coarse-at}
+use Rattle.demand.proofs.Answered.{answered-zero}
 use Rattle.demand.proofs.Fine.{Holds, fine-level}
 
 -- where n rows outnumber c, a reduction is made
@@ -205,19 +206,22 @@ demand-3 s cs old floats wholes e =
     (a .good) (handedBack s cs old floats wholes)
     (handed-packs s cs old floats wholes e (packed-fit s cs first (p .axes) (p .leaf-some) (a .good) .few))
 
--- The same of lists and counts of which a contract says so: an answer with its counts, and each list after the call.
-pub demand-3-of : (s : Settings) (cs : List Float) (old : TreeLists) (floats : List Float) (wholes : List ℕ) (answer : Answer Counts)
+-- The same of an answer and five lists of which a contract says that they are the definition's.
+module _ (s : Settings) (cs : List Float) (old : TreeLists) (floats : List Float) (wholes : List ℕ) (answer : Answer Counts)
     (points internals domains : List ℕ) (boxes : List Float) (borrowed : List ℕ)
-    → buildCall s cs old floats wholes ≡ accepted
-    → answer ≡ buildAnswer s cs old floats wholes
-    → points ≡ buildLists s cs old floats wholes .points
-    → internals ≡ buildLists s cs old floats wholes .internals
-    → domains ≡ buildLists s cs old floats wholes .domains
-    → boxes ≡ buildLists s cs old floats wholes .boxes
-    → borrowed ≡ buildLists s cs old floats wholes .borrowed
-    → Demand3 s cs (record {
-      lists = record { points = points; internals = internals; domains = domains; boxes = boxes; borrowed = borrowed };
-      counts = answer .value;
-    })
-demand-3-of s cs old floats wholes answer points internals domains boxes borrowed e a p i d x b =
-    rw (a, p, i, d, x, b) (demand-3 s cs old floats wholes e)
+    (answer-is : answer ≡ buildAnswer s cs old floats wholes)
+    (points-are : points ≡ buildLists s cs old floats wholes .points)
+    (internals-are : internals ≡ buildLists s cs old floats wholes .internals)
+    (domains-are : domains ≡ buildLists s cs old floats wholes .domains)
+    (boxes-are : boxes ≡ buildLists s cs old floats wholes .boxes)
+    (borrowed-are : borrowed ≡ buildLists s cs old floats wholes .borrowed) where
+  abbrev lists : TreeLists
+  lists = record { points = points; internals = internals; domains = domains; boxes = boxes; borrowed = borrowed }
+
+  -- an accepted call
+  pub demand-3-of : buildCall s cs old floats wholes ≡ accepted → Demand3 s cs (handed answer lists)
+  demand-3-of e = rw (answer-is, points-are, internals-are, domains-are, boxes-are, borrowed-are) (demand-3 s cs old floats wholes e)
+
+  -- a call that answers with the number 0: it was accepted
+  pub demand-3-seen : answer .number ≡ 0 → Demand3 s cs (handed answer lists)
+  demand-3-seen e = demand-3-of (answered-zero s cs old floats wholes (ap (λ (a : Answer Counts). a .number) (sym answer-is) ∙ e))

@@ -3,4 +3,5 @@ pub mod Unpack
 pub mod Shares
 pub mod Levels
 pub mod Fine
+pub mod Answered
 pub mod Demand

@@ -19,7 +19,7 @@ use Rattle.definition.specs.Sampling.{sentBy}
 use Rattle.definition.specs.Tree.{Settings, reductionsLeft, mostFine, pointCount}
 use Rattle.definition.specs.Packed.{rowFloats}
 use Rattle.definition.specs.Outcome.{TreeLists, buildAnswer, buildLists}
-use Rattle.demand.specs.Handed.{Handed, levelCount, rowsOn, leavesOn, HasNext, listed, domainRow, ownOf, borrowedOf, boxOf, ownLists, leafSizes, leafBoxes}
+use Rattle.demand.specs.Handed.{Handed, handed, levelCount, rowsOn, leavesOn, HasNext, listed, domainRow, ownOf, borrowedOf, boxOf, ownLists, leafSizes, leafBoxes}
 
 -- ---- the rules that speak of the lists alone
 
@@ -161,5 +161,4 @@ Demand3 s cs h = Demand3Over s cs (from 0 (pointCount (s .dimension) cs)) h
 
 -- ---- what a call of the build hands back, by its contract
 abbrev pub handedBack : Settings → List Float → TreeLists → List Float → List ℕ → Handed
-handedBack s cs old floats wholes =
-    record { lists = buildLists s cs old floats wholes; counts = buildAnswer s cs old floats wholes .value }
+handedBack s cs old floats wholes = handed (buildAnswer s cs old floats wholes) (buildLists s cs old floats wholes)

@@ -6,12 +6,16 @@ use lib.ListN.{length, getD, take}
 use lib.Ieee.{Float}
 use Rattle.lists.specs.Lists.{total, from, part}
 use Rattle.definition.specs.Packed.{Counts, DomainRow, rowNumbers, rowFloats}
-use Rattle.definition.specs.Outcome.{TreeLists}
+use Rattle.definition.specs.Outcome.{Answer, TreeLists}
 
 -- the five lists after the call, and the counts that it reports
 pub record Handed : Type 0 where
   pub lists : TreeLists
   pub counts : Counts
+
+-- of a call that answers so and leaves the lists so
+abbrev pub handed : Answer Counts → TreeLists → Handed
+handed answer lists = record { lists = lists; counts = answer .value }
 
 -- ---- levels
 
