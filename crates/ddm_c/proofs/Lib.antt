@@ -1,0 +1,2 @@
+-- The laws that the proofs of the exported functions cite.
+pub mod Slots

@@ -1,0 +1,70 @@
+-- `ddm_c::ddm_quotas` meets its contract. Assumes nothing.
+use mathlib.Core.Path.{ap, _∙_}
+use Rattle.definition.specs.Outcome.{Answer, Shared}
+use Rattle.ddm_c.proofs.Slots.{short, long, room-short, room-long, number-long, pair-long}
+use borrow.Author.Needs.{needs}
+use Rattle.ddm_c.proofs.ddm_quotas.Statement.{statement}
+use Rattle.ddm_c.proofs.ddm_quotas.Tie as tie
+use Rattle.ddm_c.proofs.ddm_quotas.Reads as reads
+use Rattle.ddm_c.proofs.ddm_quotas.Lts as lts
+use Rattle.ddm_c.proofs.quota_report.Reads as quota-report-reads
+use Rattle.queue.proofs.put_pair.Reads as put-pair-reads
+use Rattle.quotas.proofs.get_domain_coarse_quotas.Reads as get-domain-coarse-quotas-reads
+
+-- src/lib.rt:123:9
+returns : tie.Need-returns
+returns c =
+    let h = c .if1 .taken in
+    (short _ _ _ _ h, (short _ _ _ _ h, (short _ _ _ _ h, room-short _ _ _ _ h)))
+
+-- src/lib.rt:125:9
+get-domain-coarse-quotas-requires : tie.Need-get-domain-coarse-quotas-requires
+get-domain-coarse-quotas-requires c κs = search needs
+
+-- src/lib.rt:126:9
+quota-report-requires : tie.Need-quota-report-requires
+quota-report-requires c κs = search needs
+
+-- src/lib.rt:127:5
+put-pair-requires : tie.Need-put-pair-requires
+put-pair-requires c κs = search needs
+
+-- src/lib.rt:109:1
+same-length : tie.Need-same-length
+same-length c = search needs
+
+-- src/lib.rt:109:1
+same-length-2 : tie.Need-same-length-2
+same-length-2 c = search needs
+
+-- src/lib.rt:109:1
+same-length-3 : tie.Need-same-length-3
+same-length-3 c = search needs
+
+-- src/lib.rt:109:1
+returns-2 : tie.Need-returns-2
+returns-2 c =
+    let h = c .before .before .before .before .before .before .before .before .before .before .before .before .if1 .left in
+    let q = c .before .before .before .before .before .before .before .before .before .get-domain-coarse-quotas .ensures in
+    let t = c .before .before .before .before .quota-report .ensures in (
+      number-long _ _ _ _ _ h (t .0) (q .0),
+      (
+        pair-long _ _ _ _ _ _ h (c .before .before .put-pair .ensures)
+            (t .1 ∙ ap (λ (a : Answer Shared). a .value .leaves) (q .0))
+            (t .2 ∙ ap (λ (a : Answer Shared). a .value .seats) (q .0)),
+        (long _ _ _ _ _ h (q .1 .0), room-long _ _ _ _ _ h (q .1 .1)),
+      ),
+    )
+
+pub ddm-quotas-spec : {M : Type 1} → statement M
+ddm-quotas-spec =
+    tie.close
+    (tie.spec
+    returns
+    get-domain-coarse-quotas-requires
+    quota-report-requires
+    put-pair-requires
+    same-length
+    same-length-2
+    same-length-3
+    returns-2)

@@ -1,0 +1,76 @@
+-- `ddm_c::ddm_sample` meets its contract. Assumes nothing.
+use mathlib.Core.Path.{ap, _∙_}
+use Prim.Native.Nat.{ℕ}
+use Rattle.definition.specs.Outcome.{Answer}
+use Rattle.ddm_c.proofs.Slots.{short, long, room-short, room-long, number-long, pair-long}
+use borrow.Author.Needs.{needs}
+use Rattle.ddm_c.proofs.ddm_sample.Statement.{statement}
+use Rattle.ddm_c.proofs.ddm_sample.Tie as tie
+use Rattle.ddm_c.proofs.ddm_sample.Reads as reads
+use Rattle.ddm_c.proofs.ddm_sample.Lts as lts
+use Rattle.common.proofs.farthest_point_sampling.Reads as farthest-point-sampling-reads
+use Rattle.ddm_c.proofs.sample_report.Reads as sample-report-reads
+use Rattle.queue.proofs.put_pair.Reads as put-pair-reads
+
+-- src/lib.rt:168:9
+returns : tie.Need-returns
+returns c =
+    let h = c .if1 .taken in
+    (short _ _ _ _ h, (short _ _ _ _ h, (short _ _ _ _ h, (room-short _ _ _ _ h, room-short _ _ _ _ h))))
+
+-- src/lib.rt:170:9
+farthest-point-sampling-requires : tie.Need-farthest-point-sampling-requires
+farthest-point-sampling-requires c κs = search needs
+
+-- src/lib.rt:172:9
+sample-report-requires : tie.Need-sample-report-requires
+sample-report-requires c κs = search needs
+
+-- src/lib.rt:173:5
+put-pair-requires : tie.Need-put-pair-requires
+put-pair-requires c κs = search needs
+
+-- src/lib.rt:150:1
+same-length : tie.Need-same-length
+same-length c = search needs
+
+-- src/lib.rt:150:1
+same-length-2 : tie.Need-same-length-2
+same-length-2 c = search needs
+
+-- src/lib.rt:150:1
+same-length-3 : tie.Need-same-length-3
+same-length-3 c = search needs
+
+-- src/lib.rt:150:1
+same-length-4 : tie.Need-same-length-4
+same-length-4 c = search needs
+
+-- src/lib.rt:150:1
+returns-2 : tie.Need-returns-2
+returns-2 c =
+    let h = c .before .before .before .before .before .before .before .before .before .before .before .before .before .before .before .if1 .left in
+    let q = c .before .before .before .before .before .before .before .before .before .before .before .farthest-point-sampling .ensures in
+    let t = c .before .before .before .before .sample-report .ensures in (
+      number-long _ _ _ _ _ h (t .0) (q .0),
+      (
+        pair-long _ _ _ _ _ _ h (c .before .before .put-pair .ensures)
+            (t .1 ∙ ap (λ (a : Answer ℕ). a .place) (q .0))
+            (t .2 ∙ ap (λ (a : Answer ℕ). a .value) (q .0)),
+        (long _ _ _ _ _ h (q .1 .0), (room-long _ _ _ _ _ h (q .1 .1 .0), room-long _ _ _ _ _ h (q .1 .1 .1))),
+      ),
+    )
+
+pub ddm-sample-spec : {M : Type 1} → statement M
+ddm-sample-spec =
+    tie.close
+    (tie.spec
+    returns
+    farthest-point-sampling-requires
+    sample-report-requires
+    put-pair-requires
+    same-length
+    same-length-2
+    same-length-3
+    same-length-4
+    returns-2)

@@ -1,0 +1,210 @@
+// The public functions for C and Rust callers: numbers and slices only. c/ddm.h is their header. Each returns a refusal's
+// number, 0 for none, and writes its place and its values to the slot `result`. A slot that is too short is refused with 11
+// before anything else is looked at, and nothing is written then.
+ghost use mathlib.Core.Path.{_≡_};
+ghost use Rattle.definition.specs.Refusals.{stretchVerdict};
+ghost use Rattle.definition.specs.Outcome.{numberOf, RoomAfter, rootAnswer, sizeAnswer, quotaCall, quotaAnswer, quotaOutput, sampleCall, sampleAnswer, sampleOutput};
+ghost use Rattle.numbers.specs.Answers as numbers-answers;
+ghost use Rattle.levels.specs.Answers.{sizeReport};
+ghost use Rattle.quotas.specs.Answers.{quotaReport};
+ghost use Rattle.common.specs.Answers.{answerOf};
+ghost use Rattle.ddm_c.specs.Slots.{unlessShort, numberAfter, slotAfter, slotFirst, valueSlot, quotaSlot, sampleSlot};
+use common::SampleAnswer;
+use levels::LevelSize;
+use numbers::RootAnswer;
+use quotas::QuotaAnswer;
+
+// The refusal's number of a root.
+fn root_number(answer: RootAnswer) -> usize
+    ensures { λ r. ⌜ r ≡ numbers-answers.answerOf answer .number ⌝ }
+{
+    match answer {
+        RootAnswer::Value(_) => 0,
+        RootAnswer::Refused => 15,
+    }
+}
+
+// The root itself, or 0 for a refusal.
+fn root_value(answer: RootAnswer) -> f64
+    ensures { λ r. ⌜ r ≡ numbers-answers.answerOf answer .value ⌝ }
+{
+    match answer {
+        RootAnswer::Value(root) => root,
+        RootAnswer::Refused => 0.0,
+    }
+}
+
+// The square root, rounded to the nearest value. Refusal 15.
+#[no_mangle]
+pub extern "C" fn ddm_square_root(x: f64, result: &mut [f64]) -> usize
+    ensures number { λ r. ⌜ r ≡ numberAfter 1 (now (result .entry)) (rootAnswer x) ⌝ }
+    ensures slot { λ _. ⌜ now (result .exit) ≡ slotAfter 1 (now (result .entry)) (valueSlot (rootAnswer x)) ⌝ }
+{
+    if result.len() < 1 {
+        return 11;
+    }
+    let answer = numbers::square_root(x);
+    result[0] = root_value(answer);
+    root_number(answer)
+}
+
+// The refusal's number of a level size.
+fn size_number(size: LevelSize) -> usize
+    ensures { λ r. ⌜ r ≡ sizeReport size .number ⌝ }
+{
+    match size {
+        LevelSize::Points(_) => 0,
+        LevelSize::ZeroThreshold => 4,
+        LevelSize::TooManyPoints => 8,
+        LevelSize::NotAboveThreshold => 14,
+        LevelSize::WrongReductions => 9,
+    }
+}
+
+// The size itself, or 0 for a refusal.
+fn size_value(size: LevelSize) -> usize
+    ensures { λ r. ⌜ r ≡ sizeReport size .value ⌝ }
+{
+    match size {
+        LevelSize::Points(m) => m,
+        LevelSize::ZeroThreshold => 0,
+        LevelSize::TooManyPoints => 0,
+        LevelSize::NotAboveThreshold => 0,
+        LevelSize::WrongReductions => 0,
+    }
+}
+
+// The size of the next level, of a active rows at the threshold c with r reductions left. Refusals 4, 8, 14, 9.
+#[no_mangle]
+pub extern "C" fn ddm_level_size(a: usize, c: u32, r: u32, result: &mut [usize]) -> usize
+    ensures number { λ k. ⌜ k ≡ numberAfter 1 (now (result .entry)) (sizeAnswer a c r) ⌝ }
+    ensures slot { λ _. ⌜ now (result .exit) ≡ slotAfter 1 (now (result .entry)) (valueSlot (sizeAnswer a c r)) ⌝ }
+{
+    if result.len() < 1 {
+        return 11;
+    }
+    let size = levels::get_num_level_coarse_points(a, c, r);
+    result[0] = size_value(size);
+    size_number(size)
+}
+
+// What a call with a slot of two entries returns and writes there.
+struct Report {
+    number: usize,
+    first: usize,
+    second: usize,
+}
+
+// Of the quotas: entries written, seats.
+fn quota_report(answer: QuotaAnswer) -> Report
+    ensures { λ r. ⌜ (r .number ≡ quotaReport answer .number) × (r .first ≡ quotaReport answer .value .leaves) × (r .second ≡ quotaReport answer .value .seats) ⌝ }
+{
+    match answer {
+        QuotaAnswer::Seated { leaves, seats } => Report {
+            number: 0,
+            first: leaves,
+            second: seats,
+        },
+        QuotaAnswer::TooManyPoints => Report {
+            number: 8,
+            first: 0,
+            second: 0,
+        },
+        QuotaAnswer::ShortList => Report {
+            number: 11,
+            first: 0,
+            second: 0,
+        },
+    }
+}
+
+// The quotas of leaves of these sizes for `wanted` seats. The slot: entries written, seats. Refusals 8, 11.
+#[no_mangle]
+pub extern "C" fn ddm_quotas(
+    sizes: &[usize],
+    wanted: usize,
+    quotas: &mut [usize],
+    room: &mut [usize],
+    result: &mut [usize],
+) -> usize
+    ensures number { λ r. ⌜ r ≡ numberAfter 2 (now (result .entry)) (quotaAnswer (now (sizes .entry)) wanted (now (quotas .entry)) (now (room .entry))) ⌝ }
+    ensures slot { λ _. ⌜ now (result .exit) ≡ slotAfter 2 (now (result .entry)) (quotaSlot (quotaAnswer (now (sizes .entry)) wanted (now (quotas .entry)) (now (room .entry)))) ⌝ }
+    ensures quotas { λ _. ⌜ now (quotas .exit) ≡ unlessShort 2 (now (result .entry)) (now (quotas .entry)) (quotaOutput (now (sizes .entry)) wanted (now (quotas .entry)) (now (room .entry))) ⌝ }
+    ensures room { λ _. ⌜ RoomAfter (slotFirst 2 (now (result .entry)) (quotaCall (now (sizes .entry)) (now (quotas .entry)) (now (room .entry)))) (now (room .entry)) (now (room .exit)) ⌝ }
+{
+    if result.len() < 2 {
+        return 11;
+    }
+    let answer = quotas::get_domain_coarse_quotas(sizes, wanted, quotas, room);
+    let told = quota_report(answer);
+    queue::put_pair(result, 0, told.first, told.second);
+    told.number
+}
+
+// Of sampling: place, rows written.
+fn sample_report(answer: SampleAnswer) -> Report
+    ensures { λ r. ⌜ (r .number ≡ answerOf answer .number) × (r .first ≡ answerOf answer .place) × (r .second ≡ answerOf answer .value) ⌝ }
+{
+    match answer {
+        SampleAnswer::Sampled(count) => Report {
+            number: 0,
+            first: 0,
+            second: count,
+        },
+        SampleAnswer::Refused(number, place) => Report {
+            number: number as usize,
+            first: place,
+            second: 0,
+        },
+    }
+}
+
+// Farthest point sampling: `wanted` rows from the row `seed` on. The slot: place, rows written. Refusals 1, 6, 7, 8, 13, 11, 10.
+#[no_mangle]
+pub extern "C" fn ddm_sample(
+    points: &[f64],
+    dimensions: usize,
+    wanted: usize,
+    seed: usize,
+    out: &mut [usize],
+    floats: &mut [f64],
+    wholes: &mut [usize],
+    result: &mut [usize],
+) -> usize
+    ensures number { λ r. ⌜ r ≡ numberAfter 2 (now (result .entry)) (sampleAnswer dimensions (now (points .entry)) wanted seed (now (out .entry)) (now (floats .entry)) (now (wholes .entry))) ⌝ }
+    ensures slot { λ _. ⌜ now (result .exit) ≡ slotAfter 2 (now (result .entry)) (sampleSlot (sampleAnswer dimensions (now (points .entry)) wanted seed (now (out .entry)) (now (floats .entry)) (now (wholes .entry)))) ⌝ }
+    ensures out { λ _. ⌜ now (out .exit) ≡ unlessShort 2 (now (result .entry)) (now (out .entry)) (sampleOutput dimensions (now (points .entry)) wanted seed (now (out .entry)) (now (floats .entry)) (now (wholes .entry))) ⌝ }
+    ensures floats { λ _. ⌜ RoomAfter (slotFirst 2 (now (result .entry)) (sampleCall dimensions (now (points .entry)) wanted seed (now (out .entry)) (now (floats .entry)) (now (wholes .entry)))) (now (floats .entry)) (now (floats .exit)) ⌝ }
+    ensures wholes { λ _. ⌜ RoomAfter (slotFirst 2 (now (result .entry)) (sampleCall dimensions (now (points .entry)) wanted seed (now (out .entry)) (now (floats .entry)) (now (wholes .entry)))) (now (wholes .entry)) (now (wholes .exit)) ⌝ }
+{
+    if result.len() < 2 {
+        return 11;
+    }
+    let answer = common::farthest_point_sampling(
+        points,
+        dimensions,
+        wanted,
+        seed,
+        out,
+        floats,
+        wholes,
+    );
+    let told = sample_report(answer);
+    queue::put_pair(result, 0, told.first, told.second);
+    told.number
+}
+
+// The test of a domain row's stretch against the length of its list: 12 where start plus count ends past it. The sum is never
+// formed where it could wrap.
+#[no_mangle]
+pub extern "C" fn ddm_row_test(start: usize, count: usize, list_len: usize) -> usize
+    ensures { λ r. ⌜ r ≡ numberOf (stretchVerdict start count «list_len») ⌝ }
+{
+    if list_len < start {
+        return 12;
+    }
+    if list_len - start < count {
+        return 12;
+    }
+    0
+}
