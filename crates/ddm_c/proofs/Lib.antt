@@ -1,2 +1,3 @@
 -- The laws that the proofs of the exported functions cite.
 pub mod Slots
+pub mod Built

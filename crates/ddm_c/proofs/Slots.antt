@@ -1,13 +1,13 @@
 -- A call by the length of its slot: a short one is refused before anything else, and any other gets what the call answers.
 -- Assumes nothing.
 use mathlib.Core.Path.{_≡_, refl, ap, _∙_}
-use mathlib.Core.List.{List, [], _∷_}
+use mathlib.Core.List.{List, [], _∷_, _++_}
 use Prim.Native.Nat.{ℕ, _≤_, _<_}
 use native.Mathlib.Omega.{arith}
 use lib.ListN.{length, set}
 use borrow.Author.Tests.{lt-ltb, le-ltb}
-use Rattle.lists.specs.Lists.{put}
-use Rattle.lists.proofs.Put.{put-zero, set-put}
+use Rattle.lists.specs.Lists.{put, part}
+use Rattle.lists.proofs.Put.{put-zero, put-next-at, part-whole, set-put}
 use Rattle.definition.specs.Refusals.{Verdict}
 use Rattle.definition.specs.Outcome.{Answer, written, RoomAfter}
 use Rattle.ddm_c.specs.Slots.{unlessShort, numberAfter, slotAfter, slotFirst, valueSlot}
@@ -50,3 +50,12 @@ value-long slot a b x h e g =
 
 pub pair-long : (slot new : List ℕ) (x y u w : ℕ) → 2 ≤ length slot → new ≡ put slot 0 (x ∷ y ∷ []) → x ≡ u → y ≡ w → new ≡ slotAfter 2 slot (u ∷ w ∷ [])
 pair-long slot new x y u w h e f g = slot-written 2 slot _ new h (e ∙ rw (f, g))
+
+-- place and levels, then the rows of each level, then the domains of each level
+pub counts-put : (old first second third : List ℕ) (place levels : ℕ) (rows domains : List ℕ) → length rows ≡ 4 → length domains ≡ 4
+    → first ≡ put old 0 (place ∷ levels ∷ []) → second ≡ put first 2 (part rows 0 4) → third ≡ put second 6 (part domains 0 4)
+    → third ≡ put old 0 (place ∷ levels ∷ rows ++ domains)
+counts-put old first second third place levels rows domains m k e f g =
+    let two : second ≡ put old 0 (place ∷ levels ∷ rows) =
+    f ∙ rw (e, part-whole rows 4 m) (put-next-at old 0 (place ∷ levels ∷ []) rows 2 (omega arith) refl) in
+    g ∙ rw (two, part-whole domains 4 k) (put-next-at old 0 (place ∷ levels ∷ rows) domains 6 (omega arith) (omega arith))

@@ -4,7 +4,6 @@ use mathlib.Core.Bool.{cond}
 use mathlib.Core.List.{List, [], _∷_, _++_}
 use lib.ListN.{length}
 use lib.Dec.{ltb}
-use lib.Ieee.{Float}
 use Rattle.definition.specs.Packed.{Counts}
 use Rattle.definition.specs.Refusals.{Verdict, refused}
 use Rattle.definition.specs.Outcome.{Answer, Shared, written}

@@ -2,14 +2,23 @@
 // number, 0 for none, and writes its place and its values to the slot `result`. A slot that is too short is refused with 11
 // before anything else is looked at, and nothing is written then.
 ghost use mathlib.Core.Path.{_≡_};
+ghost use Prim.Native.Nat.{_≤_};
+ghost use lib.ListN.{length};
+ghost use Rattle.lists.specs.Lists.{put};
 ghost use Rattle.definition.specs.Refusals.{stretchVerdict};
-ghost use Rattle.definition.specs.Outcome.{numberOf, RoomAfter, rootAnswer, sizeAnswer, quotaCall, quotaAnswer, quotaOutput, sampleCall, sampleAnswer, sampleOutput};
+ghost use Rattle.definition.specs.Outcome.{numberOf, RoomAfter, rootAnswer, sizeAnswer, quotaCall, quotaAnswer, quotaOutput, sampleCall, sampleAnswer, sampleOutput, buildCall, buildAnswer, buildLists};
 ghost use Rattle.numbers.specs.Answers as numbers-answers;
 ghost use Rattle.levels.specs.Answers.{sizeReport};
 ghost use Rattle.quotas.specs.Answers.{quotaReport};
 ghost use Rattle.common.specs.Answers.{answerOf};
-ghost use Rattle.ddm_c.specs.Slots.{unlessShort, numberAfter, slotAfter, slotFirst, valueSlot, quotaSlot, sampleSlot};
+ghost use Rattle.config.specs.Params.{policyOf};
+ghost use Rattle.ddm.specs.Build.{treeAnswer, listsOf};
+ghost use Rattle.ddm_c.specs.Settings.{policyFrom, settingsFrom};
+ghost use Rattle.ddm_c.specs.Slots.{unlessShort, numberAfter, slotAfter, slotFirst, valueSlot, quotaSlot, sampleSlot, buildSlot};
 use common::SampleAnswer;
+use config::DDMParams;
+use config::SizePolicy;
+use ddm::DDMTree;
 use levels::LevelSize;
 use numbers::RootAnswer;
 use quotas::QuotaAnswer;
@@ -207,4 +216,81 @@ pub extern "C" fn ddm_row_test(start: usize, count: usize, list_len: usize) -> u
         return 12;
     }
     0
+}
+
+// The policy: 0 is Auto, any other number Fixed.
+fn policy_of(policy: u32, coarse_threshold: u32) -> SizePolicy
+    ensures { λ r. ⌜ policyOf r ≡ policyFrom policy «coarse_threshold» ⌝ }
+{
+    if policy == 0 {
+        return SizePolicy::Auto;
+    }
+    SizePolicy::Fixed(coarse_threshold)
+}
+
+// Place, levels, the rows of each level and the domains of each level to the front of a slot.
+fn put_counts(result: &mut [usize], tree: DDMTree)
+    requires { ⌜ 10 ≤ length (now result) ⌝ }
+    ensures { λ _. ⌜ now (result .exit) ≡ put (now (result .entry)) 0 (buildSlot (treeAnswer tree)) ⌝ }
+{
+    let rows = tree.rows;
+    let domains = tree.domains;
+    queue::put_pair(result, 0, tree.place, tree.levels);
+    queue::copy_rows(&rows, 0, 4, result, 2);
+    queue::copy_rows(&domains, 0, 4, result, 6);
+}
+
+// Builds the tree. The slot: place, levels, rows of levels 0 to 3, domains of levels 0 to 3. Refusals 1 to 11.
+#[no_mangle]
+pub extern "C" fn ddm_build(
+    points: &[f64],
+    dimensions: usize,
+    leaf_threshold: u32,
+    overlap_knn: u32,
+    coarse_reduction_factor: u32,
+    policy: u32,
+    coarse_threshold: u32,
+    level_points: &mut [usize],
+    internals: &mut [usize],
+    domains: &mut [usize],
+    boxes: &mut [f64],
+    borrowed: &mut [usize],
+    floats: &mut [f64],
+    wholes: &mut [usize],
+    result: &mut [usize],
+) -> usize
+    ensures number { λ r. ⌜ r ≡ numberAfter 10 (now (result .entry)) (buildAnswer (settingsFrom dimensions «leaf_threshold» «overlap_knn» «coarse_reduction_factor» policy «coarse_threshold») (now (points .entry)) (listsOf (now («level_points» .entry)) (now (internals .entry)) (now (domains .entry)) (now (boxes .entry)) (now (borrowed .entry))) (now (floats .entry)) (now (wholes .entry))) ⌝ }
+    ensures slot { λ _. ⌜ now (result .exit) ≡ slotAfter 10 (now (result .entry)) (buildSlot (buildAnswer (settingsFrom dimensions «leaf_threshold» «overlap_knn» «coarse_reduction_factor» policy «coarse_threshold») (now (points .entry)) (listsOf (now («level_points» .entry)) (now (internals .entry)) (now (domains .entry)) (now (boxes .entry)) (now (borrowed .entry))) (now (floats .entry)) (now (wholes .entry)))) ⌝ }
+    ensures level_points { λ _. ⌜ now («level_points» .exit) ≡ unlessShort 10 (now (result .entry)) (now («level_points» .entry)) (buildLists (settingsFrom dimensions «leaf_threshold» «overlap_knn» «coarse_reduction_factor» policy «coarse_threshold») (now (points .entry)) (listsOf (now («level_points» .entry)) (now (internals .entry)) (now (domains .entry)) (now (boxes .entry)) (now (borrowed .entry))) (now (floats .entry)) (now (wholes .entry)) .points) ⌝ }
+    ensures internals { λ _. ⌜ now (internals .exit) ≡ unlessShort 10 (now (result .entry)) (now (internals .entry)) (buildLists (settingsFrom dimensions «leaf_threshold» «overlap_knn» «coarse_reduction_factor» policy «coarse_threshold») (now (points .entry)) (listsOf (now («level_points» .entry)) (now (internals .entry)) (now (domains .entry)) (now (boxes .entry)) (now (borrowed .entry))) (now (floats .entry)) (now (wholes .entry)) .internals) ⌝ }
+    ensures domains { λ _. ⌜ now (domains .exit) ≡ unlessShort 10 (now (result .entry)) (now (domains .entry)) (buildLists (settingsFrom dimensions «leaf_threshold» «overlap_knn» «coarse_reduction_factor» policy «coarse_threshold») (now (points .entry)) (listsOf (now («level_points» .entry)) (now (internals .entry)) (now (domains .entry)) (now (boxes .entry)) (now (borrowed .entry))) (now (floats .entry)) (now (wholes .entry)) .domains) ⌝ }
+    ensures boxes { λ _. ⌜ now (boxes .exit) ≡ unlessShort 10 (now (result .entry)) (now (boxes .entry)) (buildLists (settingsFrom dimensions «leaf_threshold» «overlap_knn» «coarse_reduction_factor» policy «coarse_threshold») (now (points .entry)) (listsOf (now («level_points» .entry)) (now (internals .entry)) (now (domains .entry)) (now (boxes .entry)) (now (borrowed .entry))) (now (floats .entry)) (now (wholes .entry)) .boxes) ⌝ }
+    ensures borrowed { λ _. ⌜ now (borrowed .exit) ≡ unlessShort 10 (now (result .entry)) (now (borrowed .entry)) (buildLists (settingsFrom dimensions «leaf_threshold» «overlap_knn» «coarse_reduction_factor» policy «coarse_threshold») (now (points .entry)) (listsOf (now («level_points» .entry)) (now (internals .entry)) (now (domains .entry)) (now (boxes .entry)) (now (borrowed .entry))) (now (floats .entry)) (now (wholes .entry)) .borrowed) ⌝ }
+    ensures floats { λ _. ⌜ RoomAfter (slotFirst 10 (now (result .entry)) (buildCall (settingsFrom dimensions «leaf_threshold» «overlap_knn» «coarse_reduction_factor» policy «coarse_threshold») (now (points .entry)) (listsOf (now («level_points» .entry)) (now (internals .entry)) (now (domains .entry)) (now (boxes .entry)) (now (borrowed .entry))) (now (floats .entry)) (now (wholes .entry)))) (now (floats .entry)) (now (floats .exit)) ⌝ }
+    ensures wholes { λ _. ⌜ RoomAfter (slotFirst 10 (now (result .entry)) (buildCall (settingsFrom dimensions «leaf_threshold» «overlap_knn» «coarse_reduction_factor» policy «coarse_threshold») (now (points .entry)) (listsOf (now («level_points» .entry)) (now (internals .entry)) (now (domains .entry)) (now (boxes .entry)) (now (borrowed .entry))) (now (floats .entry)) (now (wholes .entry)))) (now (wholes .entry)) (now (wholes .exit)) ⌝ }
+{
+    if result.len() < 10 {
+        return 11;
+    }
+    let size = policy_of(policy, coarse_threshold);
+    let params = DDMParams {
+        leaf_threshold: leaf_threshold,
+        overlap_knn: overlap_knn,
+        coarse_reduction_factor: coarse_reduction_factor,
+        coarse_threshold: size,
+    };
+    let tree = ddm::build(
+        points,
+        dimensions,
+        params,
+        level_points,
+        internals,
+        domains,
+        boxes,
+        borrowed,
+        floats,
+        wholes,
+    );
+    put_counts(result, tree);
+    tree.number
 }

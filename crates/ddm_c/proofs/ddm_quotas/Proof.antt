@@ -5,43 +5,30 @@ use Rattle.ddm_c.proofs.Slots.{short, long, room-short, room-long, numb
 use borrow.Author.Needs.{needs}
 use Rattle.ddm_c.proofs.ddm_quotas.Statement.{statement}
 use Rattle.ddm_c.proofs.ddm_quotas.Tie as tie
-use Rattle.ddm_c.proofs.ddm_quotas.Reads as reads
-use Rattle.ddm_c.proofs.ddm_quotas.Lts as lts
-use Rattle.ddm_c.proofs.quota_report.Reads as quota-report-reads
-use Rattle.queue.proofs.put_pair.Reads as put-pair-reads
-use Rattle.quotas.proofs.get_domain_coarse_quotas.Reads as get-domain-coarse-quotas-reads
 
--- src/lib.rt:123:9
 returns : tie.Need-returns
 returns c =
     let h = c .if1 .taken in
     (short _ _ _ _ h, (short _ _ _ _ h, (short _ _ _ _ h, room-short _ _ _ _ h)))
 
--- src/lib.rt:125:9
 get-domain-coarse-quotas-requires : tie.Need-get-domain-coarse-quotas-requires
 get-domain-coarse-quotas-requires c κs = search needs
 
--- src/lib.rt:126:9
 quota-report-requires : tie.Need-quota-report-requires
 quota-report-requires c κs = search needs
 
--- src/lib.rt:127:5
 put-pair-requires : tie.Need-put-pair-requires
 put-pair-requires c κs = search needs
 
--- src/lib.rt:109:1
 same-length : tie.Need-same-length
 same-length c = search needs
 
--- src/lib.rt:109:1
 same-length-2 : tie.Need-same-length-2
 same-length-2 c = search needs
 
--- src/lib.rt:109:1
 same-length-3 : tie.Need-same-length-3
 same-length-3 c = search needs
 
--- src/lib.rt:109:1
 returns-2 : tie.Need-returns-2
 returns-2 c =
     let h = c .before .before .before .before .before .before .before .before .before .before .before .before .if1 .left in

@@ -6,47 +6,33 @@ use Rattle.ddm_c.proofs.Slots.{short, long, room-short, room-long, numb
 use borrow.Author.Needs.{needs}
 use Rattle.ddm_c.proofs.ddm_sample.Statement.{statement}
 use Rattle.ddm_c.proofs.ddm_sample.Tie as tie
-use Rattle.ddm_c.proofs.ddm_sample.Reads as reads
-use Rattle.ddm_c.proofs.ddm_sample.Lts as lts
-use Rattle.common.proofs.farthest_point_sampling.Reads as farthest-point-sampling-reads
-use Rattle.ddm_c.proofs.sample_report.Reads as sample-report-reads
-use Rattle.queue.proofs.put_pair.Reads as put-pair-reads
 
--- src/lib.rt:168:9
 returns : tie.Need-returns
 returns c =
     let h = c .if1 .taken in
     (short _ _ _ _ h, (short _ _ _ _ h, (short _ _ _ _ h, (room-short _ _ _ _ h, room-short _ _ _ _ h))))
 
--- src/lib.rt:170:9
 farthest-point-sampling-requires : tie.Need-farthest-point-sampling-requires
 farthest-point-sampling-requires c κs = search needs
 
--- src/lib.rt:172:9
 sample-report-requires : tie.Need-sample-report-requires
 sample-report-requires c κs = search needs
 
--- src/lib.rt:173:5
 put-pair-requires : tie.Need-put-pair-requires
 put-pair-requires c κs = search needs
 
--- src/lib.rt:150:1
 same-length : tie.Need-same-length
 same-length c = search needs
 
--- src/lib.rt:150:1
 same-length-2 : tie.Need-same-length-2
 same-length-2 c = search needs
 
--- src/lib.rt:150:1
 same-length-3 : tie.Need-same-length-3
 same-length-3 c = search needs
 
--- src/lib.rt:150:1
 same-length-4 : tie.Need-same-length-4
 same-length-4 c = search needs
 
--- src/lib.rt:150:1
 returns-2 : tie.Need-returns-2
 returns-2 c =
     let h = c .before .before .before .before .before .before .before .before .before .before .before .before .before .before .before .if1 .left in

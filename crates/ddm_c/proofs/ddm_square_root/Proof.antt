@@ -3,37 +3,25 @@ use Rattle.ddm_c.proofs.Slots.{short, number-long, value-long}
 use borrow.Author.Needs.{needs}
 use Rattle.ddm_c.proofs.ddm_square_root.Statement.{statement}
 use Rattle.ddm_c.proofs.ddm_square_root.Tie as tie
-use Rattle.ddm_c.proofs.ddm_square_root.Reads as reads
-use Rattle.ddm_c.proofs.ddm_square_root.Lts as lts
-use Rattle.ddm_c.proofs.root_number.Reads as root-number-reads
-use Rattle.ddm_c.proofs.root_value.Reads as root-value-reads
-use Rattle.numbers.proofs.square_root.Reads as square-root-reads
 
--- src/lib.rt:44:9
 returns : tie.Need-returns
 returns c = (short _ _ _ _ (c .if1 .taken), short _ _ _ _ (c .if1 .taken))
 
--- src/lib.rt:46:9
 square-root-requires : tie.Need-square-root-requires
 square-root-requires c κs = search needs
 
--- src/lib.rt:47:17
 root-value-requires : tie.Need-root-value-requires
 root-value-requires c κs = search needs
 
--- src/lib.rt:47:5
 slice-write-result : tie.Need-slice-write-result
 slice-write-result c = search needs
 
--- src/lib.rt:48:5
 root-number-requires : tie.Need-root-number-requires
 root-number-requires c κs = search needs
 
--- src/lib.rt:38:1
 same-length : tie.Need-same-length
 same-length c = search needs
 
--- src/lib.rt:38:1
 returns-2 : tie.Need-returns-2
 returns-2 c =
     let s = c .before .before .before in

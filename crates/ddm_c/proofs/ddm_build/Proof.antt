@@ -1,0 +1,70 @@
+-- `ddm_c::ddm_build` meets its contract. Assumes nothing.
+use Rattle.ddm.specs.Build.{treeAnswer, listsOf}
+use Rattle.ddm_c.proofs.Slots.{short, room-short}
+use Rattle.ddm_c.proofs.Built.{settings-from, answers}
+use borrow.Author.Needs.{needs}
+use Rattle.ddm_c.proofs.ddm_build.Statement.{statement}
+use Rattle.ddm_c.proofs.ddm_build.Tie as tie
+
+returns : tie.Need-returns
+returns c =
+    let h = c .if1 .taken in
+    (short _ _ _ _ h, (short _ _ _ _ h, (short _ _ _ _ h, (short _ _ _ _ h, (short _ _ _ _ h, (short _ _ _ _ h, (short _ _ _ _ h, (room-short _ _ _ _ h, room-short _ _ _ _ h))))))))
+
+policy-of-requires : tie.Need-policy-of-requires
+policy-of-requires c κs = search needs
+
+build-requires : tie.Need-build-requires
+build-requires c κs = search needs
+
+put-counts-requires : tie.Need-put-counts-requires
+put-counts-requires c κs = search needs
+
+same-length : tie.Need-same-length
+same-length c = search needs
+
+same-length-2 : tie.Need-same-length-2
+same-length-2 c = search needs
+
+same-length-3 : tie.Need-same-length-3
+same-length-3 c = search needs
+
+same-length-4 : tie.Need-same-length-4
+same-length-4 c = search needs
+
+same-length-5 : tie.Need-same-length-5
+same-length-5 c = search needs
+
+same-length-6 : tie.Need-same-length-6
+same-length-6 c = search needs
+
+same-length-7 : tie.Need-same-length-7
+same-length-7 c = search needs
+
+same-length-8 : tie.Need-same-length-8
+same-length-8 c = search needs
+
+returns-2 : tie.Need-returns-2
+returns-2 c =
+    let q = c .before .before .before .before .before .before .before .before .before .before .before .before .before .before .before .before .before .before .build in
+    answers _ _ (listsOf _ _ _ _ _) _ _ _ _ _ _ (treeAnswer (q .result)) _ _
+    (settings-from _ _ _ _ _ _ _ (c .before .before .before .before .before .before .before .before .before .before .before .before .before .before .before .before .before .before .before .before .before .before .before .before .before .before .policy-of .ensures))
+    (c .before .before .before .before .before .before .before .before .before .before .before .before .before .before .before .before .before .before .before .before .before .before .before .before .before .before .before .if1 .left) (c .before .before .put-counts .ensures) (q .ensures)
+
+pub ddm-build-spec : {M : Type 1} → statement M
+ddm-build-spec =
+    tie.close
+    (tie.spec
+    returns
+    policy-of-requires
+    build-requires
+    put-counts-requires
+    same-length
+    same-length-2
+    same-length-3
+    same-length-4
+    same-length-5
+    same-length-6
+    same-length-7
+    same-length-8
+    returns-2)
