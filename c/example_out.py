@@ -1,0 +1,24 @@
+"""What c/example.c prints, by tools/model.py, which shares nothing with the library:
+
+    python3 c/example_out.py > c/example.out
+"""
+import os
+import sys
+
+sys.path.insert(0, os.path.join(os.path.dirname(os.path.abspath(__file__)), "..", "tools"))
+import model
+
+WELLS, AXES, NEAR = 1000, 2, 8
+
+state, points = 12345, []
+for _ in range(AXES * WELLS):
+    state = (state * 1103515245 + 12345) % 2 ** 32
+    points.append((state >> 8) % 100000 / 100.0)
+
+levels = model.build(points, AXES, 32, NEAR, 4, 1, 60)
+print("levels", len(levels))
+for number, (rows, leaves) in enumerate(levels):
+    own = sorted(i for leaf in leaves for i in leaf[0])
+    assert own == rows, "the leaves do not share out the level"
+    print("level %d: %d wells in %d leaves, at most %d a leaf, %d borrowed; own wells %d" % (
+        number, len(rows), len(leaves), max(len(leaf[0]) for leaf in leaves), sum(len(leaf[1]) for leaf in leaves), len(own)))
