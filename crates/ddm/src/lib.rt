@@ -8,6 +8,8 @@ ghost use Rattle.definition.specs.Packed.{countsOf, packedPoints, packedOwn, pa
 ghost use Rattle.definition.specs.Refusals.{accepted};
 ghost use Rattle.definition.specs.Outcome.{zeroCounts, buildCall, buildAnswer, buildLists, RoomAfter};
 ghost use Rattle.config.specs.Params.{settingsOf};
+ghost use Rattle.demand.specs.Handed.{handed};
+ghost use Rattle.demand.specs.Demand3.{Demand3};
 ghost use Rattle.ddm.specs.Build.{treeAnswer, listsOf};
 use checks::Checked;
 use checks::Lent;
@@ -138,6 +140,7 @@ pub fn build(
     ensures borrowed { λ _. ⌜ now (borrowed .exit) ≡ buildLists (settingsOf dimensions params) (now (points .entry)) (listsOf (now («level_points» .entry)) (now (internals .entry)) (now (domains .entry)) (now (boxes .entry)) (now (borrowed .entry))) (now (floats .entry)) (now (wholes .entry)) .borrowed ⌝ }
     ensures floats { λ _. ⌜ RoomAfter (buildCall (settingsOf dimensions params) (now (points .entry)) (listsOf (now («level_points» .entry)) (now (internals .entry)) (now (domains .entry)) (now (boxes .entry)) (now (borrowed .entry))) (now (floats .entry)) (now (wholes .entry))) (now (floats .entry)) (now (floats .exit)) ⌝ }
     ensures wholes { λ _. ⌜ RoomAfter (buildCall (settingsOf dimensions params) (now (points .entry)) (listsOf (now («level_points» .entry)) (now (internals .entry)) (now (domains .entry)) (now (boxes .entry)) (now (borrowed .entry))) (now (floats .entry)) (now (wholes .entry))) (now (wholes .entry)) (now (wholes .exit)) ⌝ }
+    ensures demand3 { λ r. ⌜ (buildCall (settingsOf dimensions params) (now (points .entry)) (listsOf (now («level_points» .entry)) (now (internals .entry)) (now (domains .entry)) (now (boxes .entry)) (now (borrowed .entry))) (now (floats .entry)) (now (wholes .entry)) ≡ accepted → Demand3 (settingsOf dimensions params) (now (points .entry)) (handed (treeAnswer r) (listsOf (now («level_points» .exit)) (now (internals .exit)) (now (domains .exit)) (now (boxes .exit)) (now (borrowed .exit))))) ⌝ }
 {
     let lent = Lent {
         level_points: level_points.len(),

