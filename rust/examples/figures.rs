@@ -1,6 +1,6 @@
 //! Figures, not a test: the library and a plain Rust implementation of document 01 in one run, one thread, both built for release.
 //!
-//!     rt staticlib ddm_c && rt staticlib ddm_stages && cd rust && cargo run --release --offline --features figures --example figures
+//!     rust/figures.sh
 //!
 //! For each size it prints processor milliseconds of the whole build and of each stage of the first level (cut, neighbours,
 //! sampling), and the ratio library / plain Rust; then the root against the hardware's, and how much of the room is touched.
