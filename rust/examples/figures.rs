@@ -63,7 +63,8 @@ fn stages(coords: &[f64], d: usize, s: &plain::Settings, turns: usize) {
     let near = s.neighbours as usize + 1;
     let rows: Vec<usize> = (0..n).collect();
     let points = plain::Points { coords, d };
-    let (mut work, mut held) = (vec![0usize; 32 * n + 8 * n * near], vec![0.0; 32 * n]);
+    // entries that no stage writes keep these values
+    let (mut work, mut held) = (vec![usize::MAX; 32 * n + 8 * n * near], vec![-7.5f64; 32 * n]);
     let (mut internals, mut domains, mut boxes) = (vec![0usize; n], vec![0usize; 4 * 2 * n], vec![0.0; 2 * d * 2 * n]);
     let mut m = 0;
     let cut = compared(turns, || unsafe {
@@ -101,6 +102,9 @@ fn stages(coords: &[f64], d: usize, s: &plain::Settings, turns: usize) {
     }, || plain::send(&points, &leaves, size));
     assert_eq!(&list[n..n + next], &plain::send(&points, &leaves, size)[..]);
     line("quotas and sampling", sampling);
+    let wholes = work.iter().filter(|x| **x != usize::MAX).count();
+    let floats = held.iter().filter(|x| **x != -7.5).count();
+    println!("  room touched: {wholes} of {} whole numbers, {floats} of {} floats", work.len(), held.len());
 }
 
 fn main() {
