@@ -45,17 +45,23 @@ pub struct Refusal {
 /// Who can mend a refusal.
 #[derive(Clone, Copy, Debug, PartialEq, Eq)]
 pub enum Mender {
+    /// Whoever sets the station.
     Settings,
+    /// Whoever brings the points.
     Points,
+    /// The calling program.
     Program,
+    /// Whoever feeds the program a job stream; the library's own calls never give these.
+    Stream,
 }
 
 impl Refusal {
-    /// Who can mend it: whoever sets the station, whoever brings the points, or the calling program.
+    /// Who can mend it.
     pub fn mender(&self) -> Mender {
         match self.number {
             1..=5 | 9 => Mender::Settings,
             6 | 7 | 8 | 10 => Mender::Points,
+            16 | 17 => Mender::Stream,
             _ => Mender::Program,
         }
     }
@@ -78,6 +84,8 @@ impl Refusal {
             13 => "the wanted rows or the seed do not fit the rows given",
             14 => "the active rows do not outnumber the threshold",
             15 => "a negative number or not-a-number has no root",
+            16 => "the job stream is broken",
+            17 => "the job stream has over 32 points or over 16 neighbours",
             _ => "an unknown refusal",
         }
     }
@@ -89,6 +97,7 @@ impl fmt::Display for Refusal {
             Mender::Settings => "whoever sets the station can mend it",
             Mender::Points => "whoever brings the points can mend it",
             Mender::Program => "the calling program can mend it",
+            Mender::Stream => "whoever feeds the program can mend it",
         };
         write!(f, "refused {} at {}: {}; {}", self.number, self.place, self.reason(), who)
     }

@@ -174,6 +174,8 @@ fn refusals_say_who_can_mend_them() {
     let refused = build(&[0.0], 1, DDMParams { leaf_threshold: 0, ..DDMParams::default() }).unwrap_err();
     assert_eq!(refused.mender(), Mender::Settings);
     assert_eq!(refused.to_string(), "refused 2 at 0: the leaf threshold is 0; whoever sets the station can mend it");
+    assert_eq!(Refusal { number: 11, place: 0 }.mender(), Mender::Program);
+    assert_eq!(Refusal { number: 16, place: 20 }.to_string(), "refused 16 at 20: the job stream is broken; whoever feeds the program can mend it");
     let refused = build(&[0.0, f64::NAN], 1, DDMParams::default()).unwrap_err();
     assert_eq!(refused.to_string(), "refused 10 at 1: a coordinate is infinite or not a number; whoever brings the points can mend it");
 }
