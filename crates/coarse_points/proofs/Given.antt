@@ -11,7 +11,7 @@ use lib.Ieee.Scale.{finite}
 use Rattle.lists.specs.Ascends.{All, Ascends}
 use Rattle.lists.proofs.All.{all-at, all-by-index, all-map}
 use Rattle.definition.specs.Cut.{Domain, leavesOf}
-use Rattle.laws.proofs.Cuts.{leaves-ascend}
+use Rattle.definition.proofs.Cuts.{leaves-ascend}
 use Rattle.owners.specs.Own.{ownAt, readOwn, Leaves}
 use Rattle.owners.proofs.Read.{read-length, read-at}
 use Rattle.coarse_points.specs.Sent.{Sends}

@@ -19,9 +19,9 @@ use Rattle.definition.specs.Quotas.{quotas}
 use Rattle.definition.specs.Sampling.{seedOf, sample, sentBy}
 use Rattle.definition.specs.Cut.{Domain}
 use Rattle.definition.specs.Tree.{sentLists, nextActive}
-use Rattle.laws.proofs.Cuts.{rowsOf, sizesOf}
-use Rattle.laws.proofs.Sampling.{sent-length}
-use Rattle.laws.proofs.Next.{sents, sents-times}
+use Rattle.definition.proofs.Cuts.{rowsOf, sizesOf}
+use Rattle.definition.proofs.Sampling.{sent-length}
+use Rattle.definition.proofs.Next.{sents, sents-times}
 use Rattle.heap.specs.Heap.{Sorted}
 use Rattle.owners.specs.Own.{ownAt, readOwn}
 use Rattle.owners.proofs.Read.{read-length, read-at}

@@ -21,9 +21,9 @@ use Rattle.lists.proofs.Same.{Same, same-length, same-each, same-times, same-on
 use Rattle.definition.specs.Quotas.{quotasFor}
 use Rattle.definition.specs.Sampling.{sentBy}
 use Rattle.definition.specs.Tree.{nextActive}
-use Rattle.quotas.specs.Fair.{Fair}
+use Rattle.definition.specs.Fair.{Fair}
 use Rattle.definition.specs.Outcome.{written}
-use Rattle.quotas.proofs.Fairness.{fair-for, quotas-held, quotas-length}
+use Rattle.definition.proofs.Fairness.{fair-for, quotas-held, quotas-length}
 use Rattle.quotas.proofs.Written.{take-written}
 use Rattle.heap.specs.Heap.{Sorted}
 use Rattle.owners.specs.Own.{ownStart, ownCount, ownAt, readOwn}

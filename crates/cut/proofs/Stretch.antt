@@ -10,7 +10,7 @@ use Rattle.lists.specs.Ascends.{All}
 use Rattle.lists.proofs.Put.{length-part, part-lent}
 use Rattle.definition.specs.Points.{coordinate}
 use Rattle.definition.specs.Cut.{longestAxis, planeOf, plane, cutKeys}
-use Rattle.laws.proofs.Cuts.{axis-below}
+use Rattle.definition.proofs.Cuts.{axis-below}
 use Rattle.order.specs.Rows.{GoodRows}
 use Rattle.order.specs.Cuts.{MiddleRow, Halved}
 use Rattle.order.proofs.Good.{good-inside}

@@ -20,9 +20,9 @@ use Rattle.definition.specs.Levels.{threshold, reductions}
 use Rattle.definition.specs.Tree.{Settings, Level, coarseLevel, mostFine, levelsFrom, levelsOver, levels, pointCount}
 use Rattle.definition.specs.Packed.{BuildSizes, buildStated, packedPoints, countsOf}
 use Rattle.definition.specs.Outcome.{TreeLists, lentSizes}
-use Rattle.laws.proofs.Steps.{fineOf, nextOf, levels-last, levels-end, levels-more}
+use Rattle.definition.proofs.Steps.{fineOf, nextOf, levels-last, levels-end, levels-more}
 use Rattle.laws.proofs.Accepted.{Accepted}
-use Rattle.levels.proofs.Sizes.{ends}
+use Rattle.definition.proofs.Sizes.{ends}
 use Rattle.level.specs.Fine.{Given}
 use Rattle.tree.specs.After.{levelSettings, levelsAfter, Space}
 use Rattle.tree.proofs.Fine.{first-points, levels-few}

@@ -1,4 +1,20 @@
--- The tables of examples.
-pub mod Samples
-pub mod Examples
-pub mod Lookalikes
+-- Laws of the definition that demand 3 rests on, line by line; and the tables of examples.
+pub mod Order
+pub mod Halves
+pub mod Steps
+pub mod Cuts
+pub mod Borrowed
+pub mod Sampling
+pub mod Levels
+pub mod Next
+pub mod Powers
+pub mod Sizes
+pub mod SeatCut
+pub mod Seats
+pub mod Shares
+pub mod Fairness
+pub mod LevelLaws
+pub mod OneLevel
+pub mod WorkedSamples
+pub mod WorkedExamples
+pub mod WrongLookalikes

@@ -13,3 +13,5 @@ pub mod Refusals
 pub mod Outcome
 pub mod Stream
 pub mod Printout
+pub mod Fair
+pub mod LevelLaws

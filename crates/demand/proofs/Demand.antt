@@ -19,12 +19,12 @@ use Rattle.definition.specs.Tree.{Settings, Leaf, Level, coarseLevel, fineLevel
 use Rattle.definition.specs.Packed.{Counts, rowFloats, leavesIn, packedPoints, packedOwn, packedDomains, packedBoxes, packedBorrowed}
 use Rattle.definition.specs.Refusals.{accepted}
 use Rattle.definition.specs.Outcome.{Answer, TreeLists, lentSizes, written, listAfter, valueOf, treeListsAfter, buildCall, buildAnswer, buildLists}
-use Rattle.laws.proofs.Cuts.{Good}
+use Rattle.definition.proofs.Cuts.{Good}
 use Rattle.laws.proofs.Accepted.{build-accepted}
 use Rattle.laws.proofs.Fit.{packed-fit}
-use Rattle.laws.proofs.Steps.{fineOf, nextOf}
-use Rattle.laws.proofs.Next.{noDomain}
-use Rattle.levels.proofs.Sizes.{reductions-few, reductions-reach}
+use Rattle.definition.proofs.Steps.{fineOf, nextOf}
+use Rattle.definition.proofs.Next.{noDomain}
+use Rattle.definition.proofs.Sizes.{reductions-few, reductions-reach}
 use Rattle.demand.specs.Handed.{Handed, handed, levelCount, rowsOn, leavesOn, HasNext, listed}
 use Rattle.demand.specs.Demand3.{Counted, coarseAt, reductionCount, CoarseLevel, Demand3Over, Demand3, handedBack}
 use Rattle.demand.proofs.Unpack.{noLevel, noLeaf, Packs, levels-are, rows-on, leaves-on, listed-is, own-count-is, borrowed-count-is, own-is, borrowed-is, box-is}

@@ -5,35 +5,24 @@ use mathlib.Core.List.{List, [], _∷_, map, map-map}
 use Prim.Native.Nat.{ℕ, suc, _≤_, _<_}
 use native.Mathlib.Omega.{arith}
 use native.Mathlib.Nat.{zero-add}
-use native.Mathlib.Decide.{decLt}
 use lib.ListN.{length, getD, length-map}
 use lib.Ieee.{Float}
-use Rattle.lists.specs.Lists.{total, from, joined}
+use Rattle.lists.specs.Lists.{from, joined}
 use Rattle.lists.proofs.Map.{getD-map-in}
 use Rattle.lists.proofs.From.{map-from-at, zip-from-at}
-use Rattle.lists.proofs.Times.{times, Once, times-mem}
+use Rattle.lists.proofs.Times.{times}
 use Rattle.definition.specs.Quotas.{quotas}
 use Rattle.definition.specs.Cut.{Domain, leavesOf}
 use Rattle.definition.specs.Overlaps.{Near, nearOf, borrowedBy}
 use Rattle.definition.specs.Sampling.{sentBy}
 use Rattle.definition.specs.Tree.{Settings, sentLists}
-use Rattle.laws.proofs.Cuts.{Good, rowsOf, sizesOf, leaves-times}
-use Rattle.laws.proofs.Sampling.{sent-length, sent-own}
-use Rattle.laws.proofs.Overlaps.{borrowed-foreign, borrowed-once}
-use Rattle.laws.proofs.Steps.{nextOf}
-use Rattle.laws.proofs.Levels.{next-times}
-use Rattle.laws.proofs.Next.{Dealt, noDomain, rows-at, own-once, next-sent, next-at}
+use Rattle.definition.proofs.Cuts.{Good, sizesOf}
+use Rattle.definition.proofs.Steps.{nextOf}
+use Rattle.definition.proofs.Next.{noDomain}
+use Rattle.definition.proofs.OneLevel.{OneLevel, one-level}
 use Rattle.demand.specs.Handed.{Handed, leavesOn, listed, ownOf, borrowedOf, boxOf, ownLists, leafSizes, leafBoxes}
 use Rattle.demand.specs.Demand3.{coarseAt, reductionCount, shareOf, WholePart, OneMore, sentOf, sentUp, active, size, filled, FineLevel}
 use Rattle.demand.proofs.Shares.{shared}
-use Rattle.demand.proofs.Levels.{size-fewer, leaves-total, level-dealt, next-size}
-
--- a row that stands in no leaf's own list is not borrowed, by counts
-foreign : (nears : List Near) (rows own : List ℕ) (r : ℕ) → 0 < times r own → times r (borrowedBy nears rows own) ≡ 0
-foreign nears rows own r m = elim (decLt 0 (times r (borrowedBy nears rows own))) [
-  | yes k ↦ absurd (borrowed-foreign nears rows own r (times-mem (borrowedBy nears rows own) r k) (times-mem own r m))
-  | no k ↦ omega arith
-]
 
 empty : (xs : List ℕ) → length xs ≡ 0 → xs ≡ []
 empty [] e = refl
@@ -69,23 +58,9 @@ module _ (s : Settings) (cs : List Float) (n : ℕ) (pos : 0 < s .dimension) (lp
     abbrev ws : List ℕ
     ws = quotas (sizesOf qs) S
 
-    some : 1 ≤ length rows
-    some = omega (arith, holds .outnumbers)
-
-    fewer : S < length rows
-    fewer = size-fewer s cs (coarseAt s n) (reductionCount s n) pos lp cp l rows (holds .good) (holds .outnumbers)
-
-    adds-up : total (sizesOf qs) ≡ length rows
-    adds-up = leaves-total s cs (coarseAt s n) (reductionCount s n) pos lp cp l rows (holds .good) (holds .outnumbers)
-
-    dealt : Dealt (sizesOf qs) S ws
-    dealt = level-dealt s cs (coarseAt s n) (reductionCount s n) pos lp cp l rows (holds .good) (holds .outnumbers)
-
-    once : Once rows
-    once = holds .good .once
-
-    each-own : Once (rowsOf qs)
-    each-own = own-once d cs pos (s .leaf) lp rows (holds .good) some S dealt
+    -- the definition's level has the demand's lines
+    level : OneLevel s cs (coarseAt s n) (reductionCount s n) l (listed h l)
+    level = one-level s cs (coarseAt s n) (reductionCount s n) l (listed h l) pos lp cp (holds .good) (holds .outnumbers)
 
     -- ---- the leaves together
     owns : ownLists h l ≡ map (λ q. q .rows) qs
@@ -105,7 +80,7 @@ module _ (s : Settings) (cs : List Float) (n : ℕ) (pos : 0 < s .dimension) (lp
     sizes = ap (map length) owns ∙ map-map length (λ (q : Domain). q .rows) qs
 
     own-all : (r : ℕ) → times r (joined (ownLists h l)) ≡ times r (listed h l)
-    own-all r = ap (λ (x : List (List ℕ)). times r (joined x)) owns ∙ leaves-times d cs pos (s .leaf) lp rows (holds .good) some r
+    own-all r = ap (λ (x : List (List ℕ)). times r (joined x)) owns ∙ level .internal-once r
 
     -- ---- the leaf at i
     module _ (i : ℕ) (k : i < leavesOn h l) where
@@ -115,33 +90,28 @@ module _ (s : Settings) (cs : List Float) (n : ℕ) (pos : 0 < s .dimension) (lp
       size-is : getD (sizesOf qs) i 0 ≡ length (ownOf h l i)
       size-is = getD-map-in (λ q. length (q .rows)) qs i noDomain 0 in-qs ∙ ap length (sym (holds .own i k))
 
-      own-one : Once (ownOf h l i)
-      own-one = subst (λ (x : List ℕ). Once x) (sym (holds .own i k)) (λ r. omega (arith, rows-at qs i r in-qs, each-own r))
-
       quota-is : getD (quotas (leafSizes h l) S) i 0 ≡ getD ws i 0
       quota-is = ap (λ (z : List ℕ). getD (quotas z S) i 0) sizes
 
       quota-fits : getD (quotas (leafSizes h l) S) i 0 ≤ length (ownOf h l i)
-      quota-fits = omega (arith, quota-is, size-is, dealt .within i (omega (arith, in-qs, length-map qs (λ (q : Domain). length (q .rows)))))
-
-      sent-many : length (sentOf s cs n h l i) ≡ getD (quotas (leafSizes h l) S) i 0
-      unfolding sentOf
-      sent-many = sent-length d cs (ownOf h l i) (getD (quotas (leafSizes h l) S) i 0)
-
-      sent-from : (r : ℕ) → times r (sentOf s cs n h l i) ≤ times r (ownOf h l i)
-      unfolding sentOf
-      sent-from r = sent-own d cs (ownOf h l i) own-one (getD (quotas (leafSizes h l) S) i 0) quota-fits r
+      quota-fits = omega (arith, quota-is, size-is, level .fair-shares .within i)
 
       sent-is : sentOf s cs n h l i ≡ sentBy d cs (getD qs i noDomain .rows) (getD ws i 0)
       unfolding sentOf
       sent-is = ap₂ (λ (x : List ℕ) (m : ℕ). sentBy d cs x m) (holds .own i k) quota-is
 
+      sent-many : length (sentOf s cs n h l i) ≡ getD (quotas (leafSizes h l) S) i 0
+      sent-many = ap length sent-is ∙ level .sends-quota i ∙ sym quota-is
+
+      sent-from : (r : ℕ) → times r (sentOf s cs n h l i) ≤ times r (ownOf h l i)
+      sent-from r = omega (arith, ap (times r) sent-is, ap (times r) (holds .own i k), level .sends-own i r in-qs)
+
       share : 0 < length (ownOf h l i)
           → WholePart (length (sentOf s cs n h l i)) (shareOf S (filled s cs n h l) (active s cs n h l) (length (ownOf h l i)))
           ⊎ OneMore (length (sentOf s cs n h l i)) (shareOf S (filled s cs n h l) (active s cs n h l) (length (ownOf h l i)))
       share p =
-          let w = shared (sizesOf qs) S (omega (arith, fewer, adds-up)) i (omega (arith, size-is)) in
-          rw (sent-many, quota-is, ← size-is, sizes) (rw adds-up at w)
+          let w = shared (sizesOf qs) S ws (omega (arith, level .size-fewer, level .sizes-sum)) (level .fair-shares) i (omega (arith, size-is)) in
+          rw (sent-many, quota-is, ← size-is, sizes) (rw (level .sizes-sum) at w)
 
     -- ---- what is sent up
     sent-all : sentUp s cs n h l ≡ joined (sentLists d cs qs S)
@@ -149,37 +119,37 @@ module _ (s : Settings) (cs : List Float) (n : ℕ) (pos : 0 < s .dimension) (lp
     sent-all =
         ap (λ (m : ℕ). joined (map (sentOf s cs n h l) (from 0 m))) (holds .leaf-count)
         ∙ ap joined (zip-from-at (sentOf s cs n h l) (λ q w. sentBy d cs (q .rows) w) noDomain 0 qs ws 0
-        (dealt .as-many ∙ length-map qs (λ (q : Domain). length (q .rows)))
+        (level .fair-shares .entries ∙ length-map qs (λ (q : Domain). length (q .rows)))
         (λ i k. ap (sentOf s cs n h l) (zero-add i) ∙ sent-is i (omega (arith, holds .leaf-count))))
 
     up : (r : ℕ) → times r (listed h (suc l)) ≡ times r (sentUp s cs n h l)
-    up r = ap (times r) (holds .next) ∙ next-sent d cs pos (s .leaf) lp rows (holds .good) some S dealt r ∙ ap (times r) (sym sent-all)
+    up r = ap (times r) (holds .next) ∙ level .next-lists-sent r ∙ ap (times r) (sym sent-all)
 
     next-le : (r : ℕ) → times r (listed h (suc l)) ≤ times r (listed h l)
-    next-le r = omega (arith, ap (times r) (holds .next), next-times rows (sentLists d cs qs S) r)
+    next-le r = omega (arith, ap (times r) (holds .next), level .next-once r)
 
     size-next : length (listed h (suc l)) ≡ S
-    size-next = ap length (holds .next) ∙ next-size s cs (coarseAt s n) (reductionCount s n) pos lp cp l rows (holds .good) (holds .outnumbers)
+    size-next = ap length (holds .next) ∙ level .next-size
 
     shows : (i : ℕ) → i < leavesOn h l → (r : ℕ) → 0 < times r (ownOf h l i) → times r (sentOf s cs n h l i) ≡ times r (listed h (suc l))
     shows i k r m =
         ap (times r) (sent-is i k)
-        ∙ sym (next-at d cs pos (s .leaf) lp rows (holds .good) some S dealt i r (in-qs i k) (subst (λ (x : List ℕ). 0 < times r x) (holds .own i k) m))
+        ∙ sym (level .sends-alone i r (in-qs i k) (subst (λ (x : List ℕ). 0 < times r x) (holds .own i k) m))
         ∙ ap (times r) (sym (holds .next))
 
     -- THE LAW
     pub fine-level : FineLevel s cs n h l
     fine-level = record {
       rows = record {
-        internal-once = λ r m. omega (arith, own-all r, once r);
+        internal-once = λ r m. omega (arith, own-all r, level .once r);
         internal-none = λ r m. omega (arith, own-all r);
         borrows-not-own = λ i k r m.
-            ap (times r) (holds .borrowed i k) ∙ foreign nears rows (getD qs i noDomain .rows) r (subst (λ (x : List ℕ). 0 < times r x) (holds .own i k) m);
-        borrows-once = λ i k r. omega (arith, ap (times r) (holds .borrowed i k), borrowed-once nears rows (getD qs i noDomain .rows) once r);
+            ap (times r) (holds .borrowed i k) ∙ level .borrows-not-own i r (subst (λ (x : List ℕ). 0 < times r x) (holds .own i k) m);
+        borrows-once = λ i k r. omega (arith, ap (times r) (holds .borrowed i k), level .borrows-once i r);
       };
       next = record {
-        fewer = omega (arith, size-next, fewer);
-        each-once = λ r. omega (arith, next-le r, once r);
+        fewer = omega (arith, size-next, level .size-fewer);
+        each-once = λ r. omega (arith, next-le r, level .once r);
         from-this = λ r m. omega (arith, next-le r);
       };
       next-lists-sent = up;

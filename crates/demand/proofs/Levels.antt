@@ -8,19 +8,13 @@ use native.Mathlib.Omega.{arith}
 use lib.ListN.{length, getD}
 use lib.Ieee.{Float}
 use Rattle.lists.proofs.Tests.{le-or-lt}
-use Rattle.lists.specs.Lists.{total}
-use Rattle.definition.specs.Levels.{levelSize}
-use Rattle.definition.specs.Cut.{leavesOf}
 use Rattle.definition.specs.Tree.{Settings, Level, coarseLevel, fineLevel, reductionsLeft, levelsFrom}
-use Rattle.laws.proofs.Cuts.{Good, sizesOf}
-use Rattle.laws.proofs.Shape.{leaves-sum}
-use Rattle.laws.proofs.Steps.{fineOf, nextOf, sentOf, levels-last, levels-end, levels-more}
-use Rattle.laws.proofs.Levels.{next-good}
-use Rattle.laws.proofs.Next.{Dealt, next-length}
-use Rattle.levels.proofs.Sizes.{sized}
-use Rattle.definition.specs.Quotas.{quotas}
+use Rattle.definition.proofs.Cuts.{Good}
+use Rattle.definition.proofs.Steps.{fineOf, nextOf, sentOf, levels-last, levels-end, levels-more}
+use Rattle.definition.proofs.Levels.{next-good}
+use Rattle.definition.proofs.OneLevel.{one-level}
+use Rattle.definition.proofs.Sizes.{sized}
 use Rattle.demand.proofs.Unpack.{noLevel}
-use Rattle.demand.proofs.Shares.{dealt}
 
 -- the levels over the active rows, `built` fine levels standing before them
 pub data Levelled (s : Settings) (cs : List Float) (c k : ℕ) : ℕ → List ℕ → List Level → Type 0 where
@@ -31,30 +25,13 @@ pub data Levelled (s : Settings) (cs : List Float) (c k : ℕ) : ℕ → List �
 module _ (s : Settings) (cs : List Float) (c k : ℕ) (pos : 0 < s .dimension) (lp : 1 ≤ s .leaf) (cp : 1 ≤ c) where
   -- ---- a fine level over active rows that outnumber c
   module _ (built : ℕ) (active : List ℕ) (g : Good (s .dimension) cs active) (h : c < length active) where
-    -- S
-    abbrev size : ℕ
-    size = levelSize (length active) c (reductionsLeft k built)
-
-    pub size-fewer : levelSize (length active) c (reductionsLeft k built) < length active
-    size-fewer = sized (length active) c (reductionsLeft k built) cp h (omega arith) .fewer
-
-    pub leaves-total : total (sizesOf (leavesOf (s .dimension) cs (s .leaf) active)) ≡ length active
-    leaves-total = leaves-sum (s .dimension) cs pos (s .leaf) lp active g (omega arith)
-
-    pub level-dealt : Dealt (sizesOf (leavesOf (s .dimension) cs (s .leaf) active)) (levelSize (length active) c (reductionsLeft k built))
-        (quotas (sizesOf (leavesOf (s .dimension) cs (s .leaf) active)) (levelSize (length active) c (reductionsLeft k built)))
-    level-dealt = dealt (sizesOf (leavesOf (s .dimension) cs (s .leaf) active)) size (omega (arith, size-fewer, leaves-total))
-
-    pub next-size : length (nextOf s cs c k built active) ≡ levelSize (length active) c (reductionsLeft k built)
-    next-size = next-length (s .dimension) cs pos (s .leaf) lp active g (omega arith) size level-dealt
-
     -- with one reduction left, c rows are left after it
     next-few : built < k → c < length (nextOf s cs c k built active) → suc built < k
     next-few l m =
         ⊎-elim
         (λ (e : k ≤ suc built).
         let o : reductionsLeft k built ≡ 1 = omega arith in
-        absurd (omega (arith, next-size, sized (length active) c (reductionsLeft k built) cp h (omega arith) .last o)))
+        absurd (omega (arith, one-level s cs c k built active pos lp cp g h .next-size, sized (length active) c (reductionsLeft k built) cp h (omega arith) .last o)))
         (λ e. e)
         (le-or-lt k (suc built))
 

@@ -1,4 +1,4 @@
--- The quotas of the leaves deal S rows out, and each is the whole part of its leaf's share, or one more where the share isn't whole.
+-- A fair quota is the whole part of its leaf's share, or one more where the share isn't whole.
 -- Assumes nothing.
 use mathlib.Core.Path.{_≡_, ap, _∙_, subst}
 use mathlib.Core.Logic.{_⊎_, inl, inr, ⊎-elim}
@@ -10,10 +10,8 @@ use borrow.Author.Tests.{le-leb, lt-leb}
 use lib.ListN.{getD}
 use Rattle.lists.specs.Lists.{total}
 use Rattle.lists.proofs.Tests.{le-or-lt}
-use Rattle.definition.specs.Quotas.{nonempty, quotas}
-use Rattle.laws.proofs.Next.{Dealt}
-use Rattle.quotas.specs.Fair.{WholeOrNext, Fair}
-use Rattle.quotas.proofs.Fairness.{fair}
+use Rattle.definition.specs.Quotas.{nonempty}
+use Rattle.definition.specs.Fair.{WholeOrNext, Fair}
 use Rattle.demand.specs.Demand3.{Fraction, shareOf, WholePart, OneMore}
 
 -- ---- the whole part, by multiplication
@@ -42,27 +40,21 @@ module _ (k x p t : ℕ) (pos : 0 < p) (is : t ≡ k * p + x) where
       }))
       h
 
--- ---- S seats for leaves of these sizes, fewer than their rows
-module _ (sizes : List ℕ) (size : ℕ) (fewer : size < total sizes) where
+-- ---- S seats for leaves of these sizes, fewer than their rows, shared out fairly
+module _ (sizes : List ℕ) (size : ℕ) (qs : List ℕ) (fewer : size < total sizes) (held : Fair sizes size qs) where
   abbrev d : ℕ
   d = nonempty sizes
 
   abbrev a : ℕ
   a = total sizes
 
-  held : Fair sizes size (quotas sizes size)
-  held = let e : min size (total sizes) ≡ size = omega arith in subst (λ (s : ℕ). Fair sizes s (quotas sizes size)) e (fair sizes size)
-
-  -- THE LAWS
-  pub dealt : Dealt sizes size (quotas sizes size)
-  dealt = record { as-many = held .entries; adds-up = held .sum; within = λ i l. held .within i }
-
+  -- THE LAW
   pub shared : (i : ℕ) → 0 < getD sizes i 0
-      → WholePart (getD (quotas sizes size) i 0) (shareOf size (nonempty sizes) (total sizes) (getD sizes i 0))
-      ⊎ OneMore (getD (quotas sizes size) i 0) (shareOf size (nonempty sizes) (total sizes) (getD sizes i 0))
+      → WholePart (getD qs i 0) (shareOf size (nonempty sizes) (total sizes) (getD sizes i 0))
+      ⊎ OneMore (getD qs i 0) (shareOf size (nonempty sizes) (total sizes) (getD sizes i 0))
   unfolding shareOf
   shared i some =
-      let q = getD (quotas sizes size) i 0 in
+      let q = getD qs i 0 in
       let w = getD sizes i 0 in
       ⊎-elim
       (λ (h : d ≤ size).

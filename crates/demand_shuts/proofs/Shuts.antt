@@ -9,7 +9,7 @@ use lib.ListN.{getD, replicate}
 use lib.Ieee.{Float, nan, binary64, toBits}
 use Rattle.definition.specs.Packed.{Counts}
 use Rattle.definition.specs.Tree.{Settings}
-use Rattle.definition.proofs.Samples.{opened, line, onLine, nines, floatRoom, wholeRoom}
+use Rattle.definition.proofs.WorkedSamples.{opened, line, onLine, nines, floatRoom, wholeRoom}
 use Rattle.demand.specs.Handed.{Handed, listed, rowAt, rowNumber, domainRow, ownOf, borrowedOf, boxOf, ownLists, leafSizes, leafBoxes}
 use Rattle.demand.specs.Demand3.{shareOf, WholePart, OneMore, sentOf, sentUp, Demand3, handedBack}
 use Rattle.demand.proofs.Demand.{demand-3}

@@ -27,9 +27,9 @@ use Rattle.definition.specs.Tree.{Settings, Leaf, Level, coarseLevel, fineLevel
 use Rattle.definition.specs.Refusals.{Refusal, Verdict, accepted, refused}
 use Rattle.definition.specs.Stream.{Job, job, broken, streamPoints, jobIn}
 use Rattle.definition.specs.Printout.{ascii, digitOf, decimal, decimalOnto, hexOnto, rowsText, boxText, domainLine, fineLines, coarseLines, levelLine, levelsText, treeText, refusalText, builtText, jobText, printout}
-use Rattle.laws.proofs.Halves.{first-rows, other-rows}
-use Rattle.laws.proofs.Cuts.{leaves-all}
-use Rattle.laws.proofs.Steps.{fineOf, nextOf, queue-wait, queue-done, levels-last, levels-end, levels-more}
+use Rattle.definition.proofs.Halves.{first-rows, other-rows}
+use Rattle.definition.proofs.Cuts.{leaves-all}
+use Rattle.definition.proofs.Steps.{fineOf, nextOf, queue-wait, queue-done, levels-last, levels-end, levels-more}
 use Rattle.laws.proofs.Shape.{leaves-boxes}
 use Rattle.job_laws.proofs.Shape.{levels-shaped}
 use Rattle.job_laws.specs.Sizes.{Kept, KeptBy, mostBytes}

@@ -16,7 +16,7 @@ use Rattle.definition.specs.Cut.{Domain, leavesOf}
 use Rattle.definition.specs.Overlaps.{nearOf, borrowedBy}
 use Rattle.definition.specs.Tree.{Settings, Leaf, Level, coarseLevel, fineLevel, mostFine, levelsFrom, levelsOver, pointCount, levels}
 use Rattle.definition.specs.Packed.{rowFloats, leavesIn}
-use Rattle.laws.proofs.Steps.{fineOf, nextOf, levels-last, levels-end, levels-more}
+use Rattle.definition.proofs.Steps.{fineOf, nextOf, levels-last, levels-end, levels-more}
 use Rattle.laws.proofs.Shape.{leaves-boxes}
 
 -- how many leaves a level has

@@ -22,7 +22,7 @@ use Rattle.definition.specs.Levels.{Policy, auto, fixed, threshold}
 use Rattle.definition.specs.Tree.{Settings, mostFine, pointCount}
 use Rattle.definition.specs.Packed.{BuildSizes, buildStated}
 use Rattle.definition.specs.Refusals.{Refusal, Test, Verdict, accepted, refused, verdict, mostPoints, mostNeighbours, coordinatesMissing, zeroThreshold, notFinite, buildShort, buildTests, buildVerdict}
-use Rattle.laws.proofs.Cuts.{Good}
+use Rattle.definition.proofs.Cuts.{Good}
 
 -- ---- tests
 stop : (b : Bool) (r : Refusal) (v : Verdict) → cond b (refused r) v ≡ accepted → (b ≡ false) × (v ≡ accepted)

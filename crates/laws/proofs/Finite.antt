@@ -118,12 +118,6 @@ module _ (d : ℕ) (cs : List Float) (f : (x : Float) → List·Memᴰ x cs → 
           root-good (distanceSq d (centroid d cs rows) (coordinate d cs i)) (centroid-sq-good i h)
 
 -- ---- no NaN, as a test
-pub no-nan : (x : Float) → finite x ≡ true → isNan x ≡ false
-unfolding isNan
-no-nan nan h = clash h refl
-no-nan (inf s) h = refl
-no-nan (fin s m e) h = refl
-
 good-known : (x : Float) → good x ≡ true → isNan x ≡ false
 unfolding isNan
 good-known nan h = clash h refl

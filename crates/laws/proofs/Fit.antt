@@ -19,12 +19,12 @@ use Rattle.definition.specs.Overlaps.{nearOf, borrowedBy}
 use Rattle.definition.specs.Tree.{Settings, Leaf, Level, coarseLevel, fineLevel, nextActive, mostFine, levelsFrom, levelsOver, pointCount, levels}
 use Rattle.definition.specs.Packed.{leavesIn, packedPoints, packedOwn, packedDomains, packedBoxes, packedBorrowed, stretches, rowNumbers, rowFloats, mostRows, BuildSizes, buildStated}
 use Rattle.definition.specs.Refusals.{accepted, buildVerdict}
-use Rattle.laws.proofs.Steps.{fineOf}
-use Rattle.laws.proofs.Cuts.{Good}
-use Rattle.laws.proofs.Shape.{leaves-most, leaves-sum, leaves-boxes}
+use Rattle.definition.proofs.Steps.{fineOf}
+use Rattle.definition.proofs.Cuts.{Good, leaves-sum}
+use Rattle.laws.proofs.Shape.{leaves-most, leaves-boxes}
 use Rattle.laws.proofs.Overlaps.{level-borrowed}
 use Rattle.laws.proofs.Accepted.{LentEnough, Accepted, build-accepted}
-use Rattle.laws.proofs.Levels.{next-short, next-good, levels-all, levels-sum}
+use Rattle.definition.proofs.Levels.{next-short, next-good, levels-all, levels-sum}
 
 -- ---- the lengths of the packed lists, level by level
 abbrev ofLeaves : (Leaf → ℕ) → Level → ℕ

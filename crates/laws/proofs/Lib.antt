@@ -1,13 +1,6 @@
--- Laws of the definition of the build.
-pub mod Order
+-- Laws of the definition of the build that rest on those of its numbers, and of its calls.
 pub mod Finite
-pub mod Halves
-pub mod Steps
-pub mod Cuts
 pub mod Shape
-pub mod Sampling
 pub mod Overlaps
-pub mod Levels
 pub mod Accepted
 pub mod Fit
-pub mod Next

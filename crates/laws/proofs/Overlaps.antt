@@ -1,5 +1,4 @@
--- Neighbours and borrowed rows: how many rows each row takes; what is borrowed is active, foreign and ascending; and how many rows the
--- leaves of a level borrow together. Assumes nothing.
+-- Neighbours and borrowed rows: how many rows each row takes, and how many rows the leaves of a level borrow together. Assumes nothing.
 use mathlib.Core.Path.{_≡_, refl, sym, ap, _∙_}
 use mathlib.Core.Bool.{Bool, true, false, not, _&&_}
 use mathlib.Core.List.{List, map, map-map, List·Memᴰ}
@@ -27,8 +26,8 @@ use Rattle.definition.specs.Overlaps.{nearest, Near, nearOf, lends, borrowedBy}
 use Rattle.definition.specs.Cut.{Domain, leavesOf}
 use Rattle.definition.specs.Tree.{Leaf, fineLevel}
 use Rattle.laws.proofs.Finite.{rows-known}
-use Rattle.laws.proofs.Halves.{Sortable, first-length, length-keyed, first-ascends, sortable}
-use Rattle.laws.proofs.Cuts.{Good, leaves-times}
+use Rattle.definition.proofs.Halves.{Sortable, first-length, length-keyed, first-ascends, sortable}
+use Rattle.definition.proofs.Cuts.{Good, leaves-times}
 
 -- ---- the rows that an active row takes
 module _ (d : ℕ) (cs : List Float) (active : List ℕ) (g : Good d cs active) where
@@ -54,24 +53,6 @@ nearest-ascends d cs neighbours active i up = first-ascends (rowsSq d cs i) (suc
 
 -- ---- what a leaf borrows
 module _ (nears : List Near) (active own : List ℕ) where
-  pub borrowed-active : (j : ℕ) → List·Memᴰ j (borrowedBy nears active own) → List·Memᴰ j active
-  unfolding borrowedBy
-  borrowed-active j m = keep-mem (λ j. not (member j own) && anyOf (lends own j) nears) active m .0
-
-  pub borrowed-foreign : (j : ℕ) → List·Memᴰ j (borrowedBy nears active own) → List·Memᴰ j own → ⊥
-  unfolding borrowedBy
-  borrowed-foreign j m i =
-      clash (mem-member own j i)
-      (not-true (member j own) (and-fst (not (member j own)) (anyOf (lends own j) nears) (keep-mem (λ j. not (member j own) && anyOf (lends own j) nears) active m .1)))
-
-  pub borrowed-once : Once active → Once (borrowedBy nears active own)
-  unfolding borrowedBy
-  borrowed-once o = once-keep (λ j. not (member j own) && anyOf (lends own j) nears) active o
-
-  pub borrowed-ascends : Ascends active → Ascends (borrowedBy nears active own)
-  unfolding borrowedBy
-  borrowed-ascends up = ascends-keep (λ j. not (member j own) && anyOf (lends own j) nears) active up
-
   -- no more than what each taker gives and gets
   borrowed-lends : length (borrowedBy nears active own) ≤ total (map (λ e. count (λ j. lends own j e) active) nears)
   unfolding borrowedBy

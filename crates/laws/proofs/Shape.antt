@@ -17,8 +17,8 @@ use Rattle.lists.proofs.Sums.{total-nil, total-cons, total-append, sum-nil, sum
 use Rattle.definition.specs.Points.{extents}
 use Rattle.definition.specs.Cut.{Domain, rootDomain, longestAxis, plane, leftOf, rightOf, queueLeaves, leavesOf}
 use Rattle.laws.specs.Shape.{shapeQueue, shape}
-use Rattle.laws.proofs.Steps.{queue-wait, queue-done}
-use Rattle.laws.proofs.Cuts.{Good, sizesOf, left-good, right-good, left-length, right-length, leaves-all, queue-enough}
+use Rattle.definition.proofs.Steps.{queue-wait, queue-done}
+use Rattle.definition.proofs.Cuts.{Good, sizesOf, left-good, right-good, left-length, right-length, leaves-all, queue-enough}
 
 -- ---- the queue of sizes
 module _ (leaf : ℕ) where
@@ -82,7 +82,7 @@ module _ (leaf : ℕ) where
         (λ (small : z < 2 * leaf). rw (shape-done fuel z zs small) (omega (arith, shape-most fuel zs (u .1), total-cons z zs, u .0)))
         (le-or-lt (2 * leaf) z)
 
-    -- with fuel for the cuts that are still to be made, it has at least two leaves to each size, and as many rows
+    -- with fuel for the cuts that are still to be made, it has at least two leaves to each size
     pub shape-least : (fuel : ℕ) (zs : List ℕ) → All (λ z. 1 ≤ z) zs → total (map (λ z. 2 * z - 1) zs) ≤ fuel → 2 * length zs ≤ length (shapeQueue leaf fuel zs)
     unfolding All shapeQueue
     shape-least zero [] u w = omega arith
@@ -97,30 +97,6 @@ module _ (leaf : ℕ) where
           length-append zs (z / 2 ∷ (z - z / 2) ∷ []),
         )))
         (λ (small : z < 2 * leaf). rw (shape-done fuel z zs small) (omega (arith, shape-least fuel zs (u .1) (omega (arith, cuts-done z zs u)))))
-        (le-or-lt (2 * leaf) z)
-
-    pub shape-sum : (fuel : ℕ) (zs : List ℕ) → All (λ z. 1 ≤ z) zs → total (map (λ z. 2 * z - 1) zs) ≤ fuel → total (shapeQueue leaf fuel zs) ≡ total zs
-    unfolding All
-    shape-sum zero [] u w = ap total (shape-empty 0)
-    shape-sum zero (z ∷ zs) u w = absurd (omega (arith, cuts-done z zs u))
-    shape-sum (suc fuel) [] u w = ap total (shape-empty (suc fuel))
-    shape-sum (suc fuel) (z ∷ zs) u w =
-        ⊎-elim
-        (λ (big : 2 * leaf ≤ z). rw (shape-wait fuel z zs big)
-        (omega (
-          arith,
-          shape-sum fuel (zs ++ z / 2 ∷ (z - z / 2) ∷ []) (some-wait z zs big u) (omega (arith, cuts-wait z zs big)),
-          total-two zs (z / 2) (z - z / 2),
-          total-cons z zs,
-        )))
-        (λ (small : z < 2 * leaf). rw (shape-done fuel z zs small)
-        (omega (
-          arith,
-          shape-sum fuel zs (u .1) (omega (arith, cuts-done z zs u)),
-          total-cons (z / 2) ((z - z / 2) ∷ shapeQueue leaf fuel zs),
-          total-cons (z - z / 2) (shapeQueue leaf fuel zs),
-          total-cons z zs,
-        )))
         (le-or-lt (2 * leaf) z)
 
 -- ---- the domains
@@ -173,13 +149,6 @@ module _ (d : ℕ) (cs : List Float) (pos : 0 < d) (leaf : ℕ) where
     pub leaves-most : length (leavesOf d cs leaf active) ≤ 2 * length active
     unfolding shape
     leaves-most = omega (arith, count-is, shape-most leaf lp (2 * length active) (length active ∷ []) one, total-cons (length active) [], total-nil)
-
-    -- the leaves' sizes add up to the active rows
-    pub leaves-sum : total (sizesOf (leavesOf d cs leaf active)) ≡ length active
-    unfolding shape
-    leaves-sum =
-        ap total (leaves-shape active g) ∙ shape-sum leaf lp (2 * length active) (length active ∷ []) one enough
-        ∙ omega (arith, total-cons (length active) [], total-nil)
 
     -- the fuel is enough: with more of it the leaves are the same, so no waiting domain is dropped
     pub leaves-enough : (more : ℕ) → 2 * length active - 1 ≤ more → queueLeaves d cs leaf more (rootDomain d cs active ∷ []) ≡ leavesOf d cs leaf active

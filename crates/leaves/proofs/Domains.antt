@@ -9,8 +9,8 @@ use Rattle.lists.specs.Lists.{total}
 use Rattle.lists.specs.Ascends.{All}
 use Rattle.lists.proofs.All.{all-imp}
 use Rattle.definition.specs.Cut.{Domain, rootDomain, leftOf, rightOf, queueLeaves, leavesOf}
-use Rattle.laws.proofs.Steps.{queue-empty, queue-wait, queue-done}
-use Rattle.laws.proofs.Cuts.{Good, cutsFor, left-length, right-length, queue-enough, full-wait, cuts-wait, cuts-done}
+use Rattle.definition.proofs.Steps.{queue-empty, queue-wait, queue-done}
+use Rattle.definition.proofs.Cuts.{Good, cutsFor, left-length, right-length, queue-enough, full-wait, cuts-wait, cuts-done}
 use Rattle.laws.proofs.Shape.{leaves-enough}
 use Rattle.queue.proofs.Kind.{Kind, Full}
 use Rattle.order.specs.Rows.{GoodRows}

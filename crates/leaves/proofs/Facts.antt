@@ -11,7 +11,7 @@ use Rattle.lists.specs.Lists.{joined}
 use Rattle.lists.proofs.Times.{times}
 use Rattle.definition.specs.Packed.{rowFloats, buildStated}
 use Rattle.definition.specs.Cut.{Domain, leavesOf}
-use Rattle.laws.proofs.Cuts.{leaves-times}
+use Rattle.definition.proofs.Cuts.{leaves-times}
 use Rattle.laws.proofs.Shape.{leaves-least, leaves-most}
 use Rattle.order.specs.Rows.{GoodRows}
 use Rattle.order.proofs.Good.{good-good}

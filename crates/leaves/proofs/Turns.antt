@@ -13,7 +13,7 @@ use Rattle.lists.proofs.From.{length-from}
 use Rattle.definition.specs.Packed.{rowNumbers, rowFloats}
 use Rattle.definition.specs.Points.{extents}
 use Rattle.definition.specs.Cut.{Domain, rootDomain, longestAxis, plane, leftOf, rightOf, leavesOf}
-use Rattle.laws.proofs.Cuts.{axis-below}
+use Rattle.definition.proofs.Cuts.{axis-below}
 use Rattle.queue.specs.Rows.{twoHalves, twoOwn, withOwn}
 use Rattle.queue.proofs.Loop.{Inv, cutsLeft, inv-first, inv-next, inv-end, inv-wait, inv-done, less-wait, less-done}
 use Rattle.queue.proofs.Loop.{turn-inside, turn-good, turn-same, turn-left, turn-right, turn-full, turn-rows, turn-leaves, turn-room, turn-end, turn-wait, turn-done}

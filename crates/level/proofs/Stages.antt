@@ -27,8 +27,8 @@ use Rattle.definition.specs.Quotas.{quotas}
 use Rattle.definition.specs.Sampling.{sentBy}
 use Rattle.definition.specs.Tree.{Leaf, fineLevel, sentLists, nextActive}
 use Rattle.definition.specs.Packed.{stretches}
-use Rattle.laws.proofs.Cuts.{Good, leaves-times, leaves-ascend}
-use Rattle.laws.proofs.Shape.{leaves-most, leaves-sum}
+use Rattle.definition.proofs.Cuts.{Good, leaves-times, leaves-ascend, leaves-sum}
+use Rattle.laws.proofs.Shape.{leaves-most}
 use Rattle.queue.specs.Rows.{withOwn}
 use Rattle.order.proofs.Good.{good-good}
 use Rattle.owners.specs.Own.{ownStart, ownCount, ownAt, readOwn, Shared, Leaves}

@@ -1,4 +1,2 @@
 -- The laws that belong to no one function.
-pub mod Powers
-pub mod Sizes
 pub mod Verdicts

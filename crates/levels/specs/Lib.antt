@@ -1,3 +1,2 @@
--- What the contracts of `levels` cite beside the definition of the build, and the laws of the level sizes.
+-- What the contracts of `levels` cite beside the definition of the build.
 pub mod Answers
-pub mod Laws

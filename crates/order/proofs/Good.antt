@@ -14,8 +14,8 @@ use Rattle.lists.proofs.Ascends.{ascends-keep, ascends-take, ascends-part, asce
 use Rattle.lists.proofs.Times.{Once, to-times}
 use Rattle.definition.specs.Points.{coordinate}
 use Rattle.definition.specs.Keys.{keyed, firstRows, otherRows}
-use Rattle.laws.proofs.Halves.{first-rows, other-rows}
-use Rattle.laws.proofs.Cuts.{Good}
+use Rattle.definition.proofs.Halves.{first-rows, other-rows}
+use Rattle.definition.proofs.Cuts.{Good}
 use Rattle.heap.specs.Rows.{FiniteOn}
 use Rattle.order.specs.Rows.{GoodRows}
 

@@ -22,8 +22,8 @@ use Rattle.lists.proofs.Same.{Same, same-mem, same-once, same-length}
 use Rattle.lists.proofs.Rank.{ahead-lt}
 use Rattle.definition.specs.Points.{coordinate}
 use Rattle.definition.specs.Keys.{Key, keyed, before, rank, firstRows, otherRows, keyAt}
-use Rattle.laws.proofs.Order.{before-irr, before-trans}
-use Rattle.laws.proofs.Halves.{rank-keyed, length-keyed, first-rows, other-rows, sortable, Middle, key-at}
+use Rattle.definition.proofs.Order.{before-irr, before-trans}
+use Rattle.definition.proofs.Halves.{rank-keyed, length-keyed, first-rows, other-rows, sortable, Middle, key-at}
 use Rattle.heap.specs.Rows.{keyOn, FiniteOn, NoLater}
 use Rattle.heap.specs.Heap.{Sorted}
 use Rattle.heap.proofs.Orders.{row-or, not-both, sorted-before, finite-known}

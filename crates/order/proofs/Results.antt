@@ -11,7 +11,7 @@ use Rattle.lists.proofs.Put.{length-part, length-put, part-put-same, part-put-i
 use Rattle.definition.specs.Points.{coordinate}
 use Rattle.definition.specs.Keys.{firstRows, otherRows, keyAt}
 use Rattle.definition.specs.Cut.{planeOf}
-use Rattle.laws.proofs.Halves.{Sortable, first-length, other-length, length-keyed, sortable}
+use Rattle.definition.proofs.Halves.{Sortable, first-length, other-length, length-keyed, sortable}
 use Rattle.heap.proofs.Orders.{finite-known}
 use Rattle.lists.proofs.Times.{to-times}
 use Rattle.order.specs.Rows.{GoodRows}

@@ -1,5 +1,3 @@
--- What the contracts of `quotas` cite beside the definition of the build, and the laws of the levels and their quotas.
+-- What the contracts of `quotas` cite beside the definition of the build and its laws.
 pub mod Answers
-pub mod Cuts
-pub mod Fair
-pub mod Laws
+pub mod Small

@@ -8,7 +8,8 @@ ghost use Rattle.lists.specs.Lists.{oneIf, total, from};
 ghost use Rattle.definition.specs.Quotas.{sizeAt, nonempty, wholeAt, remainderAt, leftover, seatsAt, seatsOf, quotasFor};
 ghost use Rattle.definition.specs.Outcome.{written, quotaCall, quotaAnswer, quotaOutput, RoomAfter};
 ghost use Rattle.quotas.specs.Answers.{quotaReport};
-ghost use Rattle.quotas.specs.Cuts.{Small, above, CutBy, extraBy};
+ghost use Rattle.definition.proofs.SeatCut.{above, CutBy, extraBy};
+ghost use Rattle.quotas.specs.Small.{Small};
 use levels::LIMIT;
 
 // The leaves that got a quota and the seats handed out in all, or why there are none. `quotaReport` gives document 01's

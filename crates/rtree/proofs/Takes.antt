@@ -22,7 +22,7 @@ use Rattle.lists.proofs.Same.{same-mem}
 use Rattle.definition.specs.Points.{rowsSq}
 use Rattle.definition.specs.Keys.{Key, keyed, before, rank, firstRows}
 use Rattle.definition.specs.Overlaps.{nearest}
-use Rattle.laws.proofs.Order.{before-irr, before-trans, before-or}
+use Rattle.definition.proofs.Order.{before-irr, before-trans, before-or}
 use Rattle.laws.proofs.Finite.{rows-known}
 use Rattle.order.specs.Rows.{GoodRows}
 use Rattle.rtree.specs.Near.{Spot, apart, keyOf, sooner, Found}

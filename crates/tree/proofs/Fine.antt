@@ -21,14 +21,14 @@ use Rattle.definition.specs.Quotas.{quotas}
 use Rattle.definition.specs.Cut.{Domain, leavesOf}
 use Rattle.definition.specs.Tree.{Settings, Leaf, Level, coarseLevel, fineLevel, nextActive, reductionsLeft, mostFine, levelsFrom}
 use Rattle.definition.specs.Packed.{packedPoints}
-use Rattle.laws.proofs.Steps.{fineOf, nextOf, levels-last, levels-end, levels-more}
-use Rattle.laws.proofs.Cuts.{Good, sizesOf}
-use Rattle.laws.proofs.Shape.{leaves-sum, leaves-boxes}
+use Rattle.definition.proofs.Steps.{fineOf, nextOf, levels-last, levels-end, levels-more}
+use Rattle.definition.proofs.Cuts.{Good, sizesOf, leaves-sum}
+use Rattle.laws.proofs.Shape.{leaves-boxes}
 use Rattle.laws.proofs.Overlaps.{level-borrowed}
-use Rattle.laws.proofs.Levels.{next-short}
-use Rattle.laws.proofs.Next.{Dealt, next-length}
-use Rattle.levels.proofs.Sizes.{sized}
-use Rattle.quotas.proofs.Fairness.{fair}
+use Rattle.definition.proofs.Levels.{next-short}
+use Rattle.definition.proofs.Next.{Dealt, next-length}
+use Rattle.definition.proofs.Sizes.{sized}
+use Rattle.definition.proofs.Fairness.{fair}
 use Rattle.order.specs.Rows.{GoodRows}
 use Rattle.order.proofs.Good.{good-good, good-keep}
 use Rattle.level.specs.Fine.{leavesAt, nextAt, ownIn, borrowedIn, boxesIn, Given}

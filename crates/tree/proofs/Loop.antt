@@ -16,7 +16,7 @@ use Rattle.definition.specs.Number.{plusZero}
 use Rattle.definition.specs.Levels.{levelSize}
 use Rattle.definition.specs.Tree.{Settings, Leaf, Level, mostFine, reductionsLeft, coarseLevel}
 use Rattle.definition.specs.Packed.{leavesIn, packedPoints, packedOwn, packedDomains, packedBoxes, packedBorrowed, stretches}
-use Rattle.laws.proofs.Steps.{fineOf, nextOf}
+use Rattle.definition.proofs.Steps.{fineOf, nextOf}
 use Rattle.laws.proofs.Fit.{length-stretches}
 use Rattle.level.specs.Fine.{leavesAt, nextAt, ownIn, borrowedIn, boxesIn, Given, Fits, Room}
 use Rattle.tree.specs.After.{levelSettings, levelsAfter, Space}

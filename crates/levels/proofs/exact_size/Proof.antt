@@ -3,7 +3,7 @@ use mathlib.Core.Path.{_≡_, ap}
 use Prim.Native.Nat.{ℕ, _^_, _*_, _+_, _-_, _≤_, _<_}
 use native.Mathlib.Nat.{pow-le-pow-left}
 use native.Mathlib.Omega.{arith}
-use Rattle.levels.proofs.Sizes.{exact-is, goal-bound}
+use Rattle.definition.proofs.Sizes.{exact-is, goal-bound}
 use Rattle.levels.proofs.exact_size.Statement.{statement}
 use Rattle.levels.proofs.exact_size.Tie as tie
 

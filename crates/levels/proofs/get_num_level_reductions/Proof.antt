@@ -7,7 +7,7 @@ use native.Mathlib.Omega.{arith}
 use borrow.Author.Tests.{le-leb, lt-leb}
 use mir.Syntax.{w64}
 use mir.Val.{Fits}
-use Rattle.levels.proofs.Sizes.{reductions-steps}
+use Rattle.definition.proofs.Sizes.{reductions-steps}
 use Rattle.levels.proofs.get_num_level_reductions.Statement.{statement}
 use Rattle.levels.proofs.get_num_level_reductions.Tie as tie
 

@@ -1,7 +1,7 @@
 -- `levels::level_size` meets its contract: the exact size is at least c, so the lower hold changes nothing. Assumes nothing.
 use native.Mathlib.Omega.{arith}
 use Rattle.definition.specs.Levels.{levelSize}
-use Rattle.levels.proofs.Sizes.{exact-ge}
+use Rattle.definition.proofs.Sizes.{exact-ge}
 use Rattle.levels.proofs.level_size.Statement.{statement}
 use Rattle.levels.proofs.level_size.Tie as tie
 

@@ -3,7 +3,7 @@ use mathlib.Core.Path.{_≡_, sym, ap, _∙_}
 use Prim.Native.Nat.{ℕ, _^_}
 use native.Mathlib.Nat.{pow-zero, mul-le-mul}
 use native.Mathlib.Omega.{arith}
-use Rattle.levels.proofs.Powers.{pow-1, pow-2, pow-3}
+use Rattle.definition.proofs.Powers.{pow-1, pow-2, pow-3}
 use Rattle.levels.proofs.power.Statement.{statement}
 use Rattle.levels.proofs.power.Tie as tie
 

@@ -6,7 +6,7 @@ use native.Mathlib.Omega.{arith}
 use lib.ListN.{length}
 use Rattle.lists.specs.Lists.{from}
 use Rattle.definition.specs.Quotas.{seatsAt, seatsOf}
-use Rattle.quotas.proofs.Shares.{wholes-fit, divisor-top, cut-by}
+use Rattle.definition.proofs.Shares.{wholes-fit, divisor-top, cut-by}
 use borrow.Author.Needs.{needs}
 use Rattle.quotas.proofs.deal.Statement.{statement}
 use Rattle.quotas.proofs.deal.Tie as tie

@@ -8,7 +8,7 @@ use native.Mathlib.Omega.{arith}
 use Rattle.lists.specs.Lists.{total}
 use Rattle.definition.specs.Quotas.{quotasFor}
 use Rattle.definition.specs.Outcome.{written}
-use Rattle.quotas.proofs.Fairness.{quotas-length}
+use Rattle.definition.proofs.Fairness.{quotas-length}
 use Rattle.quotas.proofs.Written.{length-written, take-written, written-over}
 use Rattle.quotas.proofs.Verdicts.{refused-8, refused-11-out, refused-11-room, seated}
 use borrow.Author.Needs.{needs}

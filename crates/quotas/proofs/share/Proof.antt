@@ -7,7 +7,7 @@ use native.Mathlib.Omega.{arith}
 use Rattle.lists.specs.Lists.{total}
 use Rattle.lists.proofs.Sums.{total-at}
 use Rattle.definition.specs.Quotas.{nonempty, seatsOf, quotasFor}
-use Rattle.quotas.proofs.Fairness.{capacity-one, capacity-none, for-each, for-none}
+use Rattle.definition.proofs.Fairness.{capacity-one, capacity-none, for-each, for-none}
 use borrow.Author.Needs.{needs}
 use Rattle.quotas.proofs.share.Statement.{statement}
 use Rattle.quotas.proofs.share.Tie as tie

@@ -7,7 +7,7 @@ use lib.Seq.{length-take-le}
 use Rattle.lists.specs.Lists.{total}
 use Rattle.definition.specs.Quotas.{quotasFor}
 use Rattle.definition.specs.Outcome.{written}
-use Rattle.quotas.proofs.Fairness.{quotas-length}
+use Rattle.definition.proofs.Fairness.{quotas-length}
 use borrow.Author.Needs.{needs}
 use native.Mathlib.Omega.{arith}
 use Rattle.quotas.proofs.share_in_place.Statement.{statement}

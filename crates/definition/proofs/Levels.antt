@@ -13,9 +13,9 @@ use Rattle.lists.proofs.Count.{count-len, length-keep}
 use Rattle.lists.proofs.Times.{times, times-keep-le}
 use Rattle.lists.proofs.Ascends.{ascends-keep}
 use Rattle.lists.proofs.Sums.{sum-cons, sum-nil}
 use Rattle.definition.specs.Tree.{Settings, Level, coarseLevel, nextActive, levelsFrom}
-use Rattle.laws.proofs.Steps.{fineOf, nextOf, sentOf, levels-last, levels-end, levels-more}
-use Rattle.laws.proofs.Cuts.{Good, good-part}
+use Rattle.definition.proofs.Steps.{fineOf, nextOf, sentOf, levels-last, levels-end, levels-more}
+use Rattle.definition.proofs.Cuts.{Good, good-part}
 
 -- ---- the next active rows are a part of the active rows, in their order
 module _ (active : List ℕ) (sent : List (List ℕ)) where

@@ -13,8 +13,8 @@ use Rattle.lists.proofs.Tests.{le-or-lt}
 use Rattle.lists.proofs.From.{count-below-same, count-below-nil, count-below-snoc}
 use Rattle.lists.proofs.Sums.{sum-below-nil, sum-below-snoc, count-below-le, count-below-two, count-below-two-le, count-below-le-two}
 use Rattle.lists.proofs.Least.{least-high, least-before, least-holds}
 use Rattle.definition.specs.Quotas.{comesBefore, leavesBefore, extraAt}
-use Rattle.quotas.specs.Cuts.{above, ties, extraBy, CutBy}
+use Rattle.definition.proofs.SeatCut.{above, ties, extraBy, CutBy}
 
 -- ---- the three ways in which two numbers stand
 data Way (a b : ℕ) : Type 0 where

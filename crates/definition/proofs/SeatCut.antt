@@ -1,16 +1,9 @@
--- The leftover seats by a cut of the remainders, which needs no sorting. Definitions only.
-use Prim.Native.Nat.{ℕ, _+_, _≤_, _<_}
+-- The leftover seats by a cut of the remainders, which needs no sorting: what the laws of the seats, and the code of the quotas, say
+-- them by. Definitions only.
+use Prim.Native.Nat.{ℕ, _+_, _≤_}
 use mathlib.Core.Bool.{cond}
-use mathlib.Core.List.{List}
 use lib.Dec.{ltb, eqb}
 use Rattle.lists.specs.Lists.{oneIf, count, from}
-use Rattle.definition.specs.Quotas.{sizeAt}
-
--- sizes, a rest and a divisor whose products and shares fit the machine's numbers
-pub record Small (sizes : List ℕ) (rest pool : ℕ) : Type 0 where
-  pub sizes-fit : (j : ℕ) → sizeAt sizes j ≤ 1048576
-  pub rest-fits : rest ≤ 1048576
-  pub positive : 0 < pool
 
 -- how many of n remainders r 0, r 1, .. are above t, and how many equal t
 abbrev pub above : ℕ → (ℕ → ℕ) → ℕ → ℕ

@@ -12,10 +12,10 @@ use borrow.Author.Tests.{le-leb, lt-leb}
 use Rattle.lists.specs.Lists.{oneIf, count, total}
 use Rattle.lists.proofs.Tests.{le-or-lt}
 use Rattle.lists.proofs.From.{map-at, length-map-from, getD-map-below}
 use Rattle.definition.specs.Quotas.{sizeAt, nonempty, remainderAt, extraAt, leftover, seatsAt, seatsOf, heldSeats, quotasFor, quotas}
-use Rattle.quotas.specs.Fair.{WholeOrNext, Fair}
-use Rattle.quotas.proofs.Seats.{one-lt, one-ge}
-use Rattle.quotas.proofs.Shares.{sum-seats, seats-within, extra-case}
+use Rattle.definition.specs.Fair.{WholeOrNext, Fair}
+use Rattle.definition.proofs.Seats.{one-lt, one-ge}
+use Rattle.definition.proofs.Shares.{sum-seats, seats-within, extra-case}
 
 -- ---- capacity
 

@@ -17,8 +17,8 @@ use Rattle.lists.proofs.Ascends.{ascends-keep}
 use Rattle.lists.proofs.Times.{times, Once, times-one, times-cons, from-times, once-tail, once-head, times-mem}
 use Rattle.lists.proofs.Rank.{Compared, first-count, ahead}
 use Rattle.lists.proofs.Take.{single}
 use Rattle.definition.specs.Keys.{Key, keyed, before, rank, firstRows, otherRows, keyAt}
-use Rattle.laws.proofs.Order.{before-irr, before-trans, before-or}
+use Rattle.definition.proofs.Order.{before-irr, before-trans, before-or}
 
 -- ---- keys of which each two compare
 

@@ -11,7 +11,7 @@ use Rattle.definition.specs.Levels.{auto, threshold}
 use Rattle.definition.specs.Packed.{Counts}
 use Rattle.definition.specs.Outcome.{Answer, Shared, TreeLists, rootAnswer, sizeAnswer, quotaAnswer, quotaOutput, sampleAnswer, sampleOutput, buildAnswer, buildLists}
 use Rattle.definition.specs.Printout.{ascii, printout}
-use Rattle.definition.proofs.Samples.{opened, line, onLine, nines, floatRoom, wholeRoom, fourPoints}
+use Rattle.definition.proofs.WorkedSamples.{opened, line, onLine, nines, floatRoom, wholeRoom, fourPoints}
 
 -- an accepted call that reports x
 abbrev reports : {A : Type 0} → A → Answer A

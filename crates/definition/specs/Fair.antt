@@ -1,11 +1,11 @@
--- What a fair list of quotas is. Definitions only: `proofs/Laws.antt` shows that the quotas are fair.
+-- What a fair list of quotas is. Definitions only: `proofs/Fairness.antt` shows that the quotas are fair.
 use Prim.Native.Nat.{ℕ, _+_, _-_, _*_, _/_, _%_, _≤_, _<_}
 use mathlib.Core.Path.{_≡_}
 use mathlib.Core.Logic.{_⊎_}
 use mathlib.Core.List.{List}
 use lib.ListN.{length, getD}
 use Rattle.lists.specs.Lists.{total}
 use Rattle.definition.specs.Quotas.{sizeAt, nonempty}
 
 -- q is the whole part of the exact share k + x / p, or one more where that share is not whole
 abbrev pub WholeOrNext : ℕ → ℕ → ℕ → ℕ → Type 0

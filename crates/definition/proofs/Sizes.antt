@@ -10,9 +10,9 @@ use borrow.Author.Tests.{leb-true, leb-false, le-leb, lt-leb}
 use Rattle.lists.specs.Lists.{leastFrom}
 use Rattle.lists.proofs.Tests.{true-or-false, cond-true, cond-false}
 use Rattle.lists.proofs.Least.{least-is, least-above, least-le, least-holds}
 use Rattle.definition.specs.Levels.{reductions, exactSize, levelSize}
-use Rattle.levels.specs.Laws.{activeAfter, Sized, Ends}
-use Rattle.levels.proofs.Powers.{pow-1, pow-2, pow-3}
+use Rattle.definition.specs.LevelLaws.{activeAfter, Sized, Ends}
+use Rattle.definition.proofs.Powers.{pow-1, pow-2, pow-3}
 
 -- ---- the number of reductions, test by test
 pub reductions-steps : (n c f : ℕ) → reductions n c f ≡ cond (leb n c) 0 (cond (leb n (c * f)) 1 (cond (leb n (c * f * f)) 2 (cond (leb n (c * f * f * f)) 3 4)))

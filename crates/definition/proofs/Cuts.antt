@@ -1,28 +1,27 @@
 -- Rows that a level can be built over; the cut's halves; and the queue: its leaves hold each active row once, and no other. Assumes nothing.
-use mathlib.Core.Path.{_≡_, sym, ap, _∙_}
+use mathlib.Core.Path.{_≡_, refl, sym, ap, _∙_}
 use mathlib.Core.Logic.{⊎-elim}
-use mathlib.Core.Bool.{true}
+use mathlib.Core.Bool.{true, false}
 use mathlib.Core.List.{List, [], _∷_, _++_, map, map-map}
 use Prim.Native.Nat.{ℕ, zero, suc, _+_, _-_, _*_, _/_, _≤_, _<_}
 use native.Mathlib.Omega.{arith}
 use lib.Dec.{eqb}
 use lib.ListN.{length}
-use lib.Ieee.{Float, lt}
+use lib.Ieee.{Float, nan, inf, fin, lt, isNan}
 use lib.Ieee.Scale.{finite}
 use Rattle.lists.specs.Lists.{joined, total, from}
 use Rattle.lists.specs.Ascends.{All, Ascends}
-use Rattle.lists.proofs.Tests.{le-or-lt}
+use Rattle.lists.proofs.Tests.{le-or-lt, clash}
 use Rattle.lists.proofs.All.{all-append}
 use Rattle.lists.proofs.From.{all-from}
 use Rattle.lists.proofs.Best.{best-in}
 use Rattle.lists.proofs.Times.{times, Once}
 use Rattle.lists.proofs.Joined.{count-joined}
 use Rattle.lists.proofs.Sums.{sum-nil, sum-cons, sum-two}
 use Rattle.definition.specs.Points.{coordinate, extent}
 use Rattle.definition.specs.Cut.{Domain, rootDomain, longestAxis, cutKeys, leftOf, rightOf, queueLeaves, leavesOf}
-use Rattle.laws.proofs.Finite.{no-nan}
-use Rattle.laws.proofs.Halves.{Sortable, first-length, other-length, length-keyed, parts-times, first-ascends, other-ascends, sortable}
-use Rattle.laws.proofs.Steps.{queue-empty, queue-wait, queue-done}
+use Rattle.definition.proofs.Halves.{Sortable, first-length, other-length, length-keyed, parts-times, first-ascends, other-ascends, sortable}
+use Rattle.definition.proofs.Steps.{queue-empty, queue-wait, queue-done}
 
 -- ---- rows that a level can be built over: none twice, and each coordinate is finite
 pub record Good (d : ℕ) (cs : List Float) (rows : List ℕ) : Type 0 where
@@ -32,6 +31,13 @@ pub record Good (d : ℕ) (cs : List Float) (rows : List ℕ) : Type 0 where
 pub good-part : (d : ℕ) (cs : List Float) (rows part : List ℕ) → Good d cs rows → ((r : ℕ) → times r part ≤ times r rows) → Good d cs part
 good-part d cs rows part g h =
     record { once = λ r. omega (arith, g .once r, h r); finite-at = λ r m. g .finite-at r (omega (arith, h r)) }
+
+-- a finite coordinate is no NaN
+no-nan : (x : Float) → finite x ≡ true → isNan x ≡ false
+unfolding isNan
+no-nan nan h = clash h refl
+no-nan (inf s) h = refl
+no-nan (fin s m e) h = refl
 
 -- ---- the own rows of domains, together, and how many each has
 abbrev pub rowsOf : List Domain → List ℕ
@@ -54,7 +60,7 @@ module _ (d : ℕ) (cs : List Float) where
   pub axis-below : (rows : List ℕ) → 0 < d → longestAxis d cs rows < d
   unfolding longestAxis
   axis-below rows p =
-      best-in (λ a b. lt (extent d cs rows b) (extent d cs rows a)) (λ a. a < d) 0 (from 1 (d - 1)) p (all-from (λ a. a < d) 1 (d - 1) (λ i l h. omega arith))
+      best-in _ (λ a. a < d) 0 (from 1 (d - 1)) p (all-from (λ a. a < d) 1 (d - 1) (λ i l h. omega arith))
 
   pub length-cutKeys : (rows : List ℕ) → length (cutKeys d cs rows) ≡ length rows
   unfolding cutKeys
@@ -215,3 +221,16 @@ module _ (d : ℕ) (cs : List Float) where
             sum-cons (λ (q : Domain). times r (q .rows)) root [],
             sum-nil (λ (q : Domain). times r (q .rows)),
           ))
+
+      -- and their sizes add up to the active rows
+      pub leaves-sum : (active : List ℕ) → Good d cs active → 0 < length active → total (sizesOf (leavesOf d cs leaf active)) ≡ length active
+      unfolding leavesOf rootDomain All
+      leaves-sum active g l =
+          let root = rootDomain d cs active in
+          omega (
+            arith,
+            queue-sum (λ q. length (q .rows)) (λ q h. omega (arith, left-length q h, right-length q h)) (2 * length active) (root ∷ []) ((l, g), tt)
+                (omega (arith, sum-cons (λ (q : Domain). 2 * length (q .rows) - 1) root [], sum-nil (λ (q : Domain). 2 * length (q .rows) - 1))),
+            sum-cons (λ (q : Domain). length (q .rows)) root [],
+            sum-nil (λ (q : Domain). length (q .rows)),
+          )

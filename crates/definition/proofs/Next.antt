@@ -9,12 +9,12 @@ use lib.Ieee.{Float}
 use Rattle.lists.specs.Lists.{total, joined}
 use Rattle.lists.proofs.Times.{times, Once, times-nil, times-append, members-length, members-times}
 use Rattle.lists.proofs.Joined.{joined-nil, joined-cons}
 use Rattle.definition.specs.Quotas.{quotas}
 use Rattle.definition.specs.Sampling.{sentBy}
 use Rattle.definition.specs.Cut.{Domain, leavesOf}
 use Rattle.definition.specs.Tree.{sentLists, nextActive}
-use Rattle.laws.proofs.Cuts.{Good, rowsOf, sizesOf, leaves-times}
-use Rattle.laws.proofs.Sampling.{sent-length, sent-own}
+use Rattle.definition.proofs.Cuts.{Good, rowsOf, sizesOf, leaves-times}
+use Rattle.definition.proofs.Sampling.{sent-length, sent-own}
 
 -- quotas for the leaves: as many as leaves, each within its leaf's size, and adding up to the seats
 pub record Dealt (sizes : List ℕ) (seats : ℕ) (ws : List ℕ) : Type 0 where

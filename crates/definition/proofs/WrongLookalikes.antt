@@ -12,7 +12,7 @@ use Rattle.definition.specs.Sampling.{seedOf}
 use Rattle.definition.specs.Overlaps.{nearest}
 use Rattle.definition.specs.Tree.{Level, levels}
 use Rattle.definition.specs.Outcome.{sampleOutput}
-use Rattle.definition.proofs.Samples.{opened, line, onLine}
+use Rattle.definition.proofs.WorkedSamples.{opened, line, onLine}
 
 -- the corners of a square, the second axis slower
 abbrev square : List Float

@@ -12,9 +12,9 @@ use Rattle.lists.specs.Ascends.{All}
 use Rattle.lists.proofs.All.{all-map}
 use Rattle.lists.proofs.Best.{best-in}
 use Rattle.lists.proofs.Times.{times, Once, times-nil, from-times, member-some, times-keep-le, times-keep-out, others-count, times-more}
 use Rattle.definition.specs.Keys.{Key, keyed, nearestRow, farthestRow}
 use Rattle.definition.specs.Sampling.{gap, pick, sampleMore, sample, fromCentroid, seedOf, sentBy}
-use Rattle.laws.proofs.Halves.{keyOf}
+use Rattle.definition.proofs.Halves.{keyOf}
 
 -- ---- the row of the least, or of the greatest, value is one of the rows
 pub nearest-in : (P : ℕ → Type 0) (v : ℕ → Float) (rows : List ℕ) → 0 < length rows → All P rows → P (nearestRow (keyed v rows))
