@@ -2,27 +2,8 @@
 // lent. The lists hold nines before the call.
 use config::DDMParams;
 use config::SizePolicy;
-
-// Writes a space and the number.
-fn print_number(n: u64) {
-    io::write_all(1, b" ");
-    io::print_decimal(1, n);
-}
-
-// Writes the name and the first `most` numbers of the list.
-fn print_front(name: &[u8], list: &[usize], most: usize) {
-    io::write_all(1, name);
-    let mut end = list.len();
-    if most < end {
-        end = most;
-    }
-    let mut i = 0;
-    while i < end {
-        print_number(list[i] as u64);
-        i += 1;
-    }
-    io::write_all(1, b"\n");
-}
+use printing::print_front;
+use printing::print_number;
 
 // Writes the first line of an answer.
 fn print_answer(number: usize, place: usize, levels: usize) {

@@ -1,22 +1,9 @@
 // Runs document 01's edges of the level arithmetic and the quotas, and prints what each call answers and leaves in its lists.
 use config::SizePolicy;
 use levels::LevelSize;
+use printing::print_list;
+use printing::print_number;
 use quotas::QuotaAnswer;
-
-// Writes a space and the number.
-fn print_number(n: u64) {
-    io::write_all(1, b" ");
-    io::print_decimal(1, n);
-}
-
-// Writes a space and each number of the list.
-fn print_list(list: &[usize]) {
-    let mut i = 0;
-    while i < list.len() {
-        print_number(list[i] as u64);
-        i += 1;
-    }
-}
 
 // The coarse threshold under Auto.
 fn print_auto(n: usize) {

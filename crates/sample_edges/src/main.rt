@@ -1,21 +1,8 @@
 // Runs document 01's samples and each refusal of a sampling, and prints what each call answers and leaves in its lists.
 // (Refusal 8 needs a list longer than a program's stack holds.)
 use common::SampleAnswer;
-
-// Writes a space and the number.
-fn print_number(n: u64) {
-    io::write_all(1, b" ");
-    io::print_decimal(1, n);
-}
-
-// Writes a space and each number of the list.
-fn print_list(list: &[usize]) {
-    let mut i = 0;
-    while i < list.len() {
-        print_number(list[i] as u64);
-        i += 1;
-    }
-}
+use printing::print_list;
+use printing::print_number;
 
 // One call, with the output after it, and the working room too where the call is refused.
 fn print_sample(

@@ -1,15 +1,15 @@
--- `sample_edges::print_list` is safe and ends. Assumes nothing.
+-- `printing::print_first` is safe and ends. Assumes nothing.
 use Prim.Native.Nat.{_≤_, _-_}
 use lib.ListN.{length}
 use borrow.Author.Needs.{needs}
-use Rattle.sample_edges.proofs.print_list.Statement.{statement}
-use Rattle.sample_edges.proofs.print_list.Tie as tie
+use Rattle.printing.proofs.print_first.Statement.{statement}
+use Rattle.printing.proofs.print_first.Tie as tie
 
 abbrev Inv-loop : tie.InvT-loop
-Inv-loop list i₀ i = i ≤ length list
+Inv-loop list most i₀ i = i ≤ length list
 
 abbrev μ-loop : tie.MeasureT-loop
-μ-loop list i₀ i = length list - i
+μ-loop list most i₀ i = length list - i
 
 loop-holds : tie.Need-loop-holds Inv-loop μ-loop
 loop-holds c = search needs
@@ -35,8 +35,11 @@ loop-again c = search needs
 returns : tie.Need-returns Inv-loop μ-loop
 returns c = search needs
 
-pub print-list-spec : {M : Type 1} → statement M
-print-list-spec =
+returns-2 : tie.Need-returns-2 Inv-loop μ-loop
+returns-2 c = search needs
+
+pub print-first-spec : {M : Type 1} → statement M
+print-first-spec =
     tie.close
     (tie.spec
     Inv-loop
@@ -48,4 +51,5 @@ print-list-spec =
     add-i
     loop-less
     loop-again
-    returns)
+    returns
+    returns-2)
