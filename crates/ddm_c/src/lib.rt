@@ -203,19 +203,12 @@ pub extern "C" fn ddm_sample(
     told.number
 }
 
-// The test of a domain row's stretch against the length of its list: 12 where start plus count ends past it. The sum is never
-// formed where it could wrap.
+// The test of a domain row's stretch against the length of its list: 12 where start plus count ends past it.
 #[no_mangle]
 pub extern "C" fn ddm_row_test(start: usize, count: usize, list_len: usize) -> usize
     ensures { λ r. ⌜ r ≡ numberOf (stretchVerdict start count «list_len») ⌝ }
 {
-    if list_len < start {
-        return 12;
-    }
-    if list_len - start < count {
-        return 12;
-    }
-    0
+    leaf_rows::stretch_test(list_len, start, count) as usize
 }
 
 // The policy: 0 is Auto, any other number Fixed.

@@ -23,7 +23,7 @@ pub struct DomainRow {
 
 // The number of the refusal of a stretch: 12 where it ends past a list of this length. The sum is never formed where it
 // could wrap.
-fn stretch_test(length: usize, start: usize, count: usize) -> u32
+pub fn stretch_test(length: usize, start: usize, count: usize) -> u32
     ensures { λ r. ⌜ r ≡ numberOf (stretchVerdict start count length) ⌝ }
 {
     if length < start {
