@@ -11,7 +11,7 @@ use borrow.Author.Tests.{ltb-true, eqb-true, lt-ltb, le-ltb, eq-eqb, ne-eqb}
 use lib.Dec.{ltb, eqb}
 use lib.Ieee.{Float, nan, inf, fin, up, down, lt, eq, below, level, isNan}
 use lib.Ieee.Positive.{num, den, den-pos}
-use Rattle.lists.proofs.Tests.{clash, and-of, and-fst, and-snd, same-test}
+use Rattle.lists.proofs.Tests.{clash, and-of, and-fst, and-snd, same-test, and-true}
 use Rattle.definition.specs.Keys.{Key, before}
 
 -- two tests on numbers whose facts are the same
@@ -36,10 +36,6 @@ below-shift b r p true true x y l m =
 
 same-eq : (a b c d : ℕ) → (a ≡ b → c ≡ d) → (c ≡ d → a ≡ b) → eqb a b ≡ eqb c d
 same-eq a b c d f g = same-test (eqb a b) (eqb c d) (λ e. eq-eqb c d (f (eqb-true a b e))) (λ e. eq-eqb a b (g (eqb-true c d e)))
-
-and-true : (b : Bool) → b && true ≡ b
-and-true true = refl
-and-true false = refl
 
 -- a common factor is cancelled
 cancel : (x y r : ℕ) → 0 < r → x * r ≡ y * r → x ≡ y

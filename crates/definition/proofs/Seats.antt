@@ -9,7 +9,7 @@ use native.Mathlib.Omega.{arith}
 use lib.Dec.{leb, ltb, eqb}
 use borrow.Author.Tests.{leb-true, leb-false, lt-ltb, le-ltb, eq-eqb, ne-eqb}
 use Rattle.lists.specs.Lists.{oneIf, count, total, from, least}
-use Rattle.lists.proofs.Tests.{le-or-lt}
+use Rattle.lists.proofs.Tests.{le-or-lt, and-true}
 use Rattle.lists.proofs.From.{count-below-same, count-below-nil, count-below-snoc}
 use Rattle.lists.proofs.Sums.{sum-below-nil, sum-below-snoc, count-below-le, count-below-two, count-below-two-le, count-below-le-two}
 use Rattle.lists.proofs.Least.{least-high, least-before, least-holds}
@@ -37,10 +37,6 @@ one-eq a b h = ap oneIf (eq-eqb a b h)
 
 one-ne : (a b : ℕ) → (a ≡ b → ⊥) → oneIf (eqb a b) ≡ 0
 one-ne a b h = ap oneIf (ne-eqb a b h)
-
-and-true : (b : Bool) → b && true ≡ b
-and-true true = refl
-and-true false = refl
 
 and-false : (b : Bool) → oneIf (b && false) ≡ 0
 and-false true = refl

@@ -19,7 +19,7 @@ use Rattle.definition.specs.Refusals.{Test, Verdict, accepted, refused, verdict
 use Rattle.definition.specs.Outcome.{Answer, numberOf, placeOf, valueOf, written, listAfter, TreeLists, lentSizes, buildCall, buildAnswer, treeListsAfter, buildLists}
 use Rattle.definition.specs.Stream.{job, streamPoints, jobIn}
 use Rattle.definition.specs.Printout.{treeText, refusalText, builtText, jobText, printout}
-use Rattle.laws.proofs.Accepted.{LentEnough}
+use Rattle.laws.proofs.Accepted.{LentEnough, build-zero}
 use Rattle.job_laws.specs.Sizes.{Kept, KeptBy, mostBytes}
 use Rattle.job_laws.proofs.Stream.{job-kept}
 use Rattle.job_laws.proofs.Long.{job-long, refusal-long, printout-long}
@@ -86,29 +86,6 @@ roomy d n k lent hd hn hk r =
       wholes = omega (arith, r .wholes);
     }
 
--- ---- no refusal has the number 0
-numbers : (ts : List Test) → All (λ (t : Test). 0 < t .refusal .number) ts → numberOf (verdict ts) ≡ 0 → verdict ts ≡ accepted
-unfolding verdict numberOf All
-numbers [] a e = refl
-numbers (t ∷ ts) a e = go (t .holds) (numbers ts (a .1)) e
-  where
-    go : (b : Bool) → (numberOf (verdict ts) ≡ 0 → verdict ts ≡ accepted) → numberOf (cond b (refused (t .refusal)) (verdict ts)) ≡ 0
-        → cond b (refused (t .refusal)) (verdict ts) ≡ accepted
-    go true f e = absurd (omega (arith, a .0, e))
-    go false f e = f e
-
-none-refused : (s : tree.Settings) (cs : List Float) (lent : BuildSizes) → numberOf (buildVerdict s cs lent) ≡ 0 → buildVerdict s cs lent ≡ accepted
-unfolding buildVerdict buildTests All
-none-refused s cs lent e =
-    numbers _ (
-      omega arith,
-      (
-        omega arith,
-        (omega arith, (omega arith, (omega arith, (omega arith, (omega arith, (omega arith, (omega arith, (omega arith, (omega arith, tt))))))))),
-      ),
-    )
-    e
-
 -- ---- a build in the program's lists
 module _ (s : tree.Settings) (cs : List Float) (old : TreeLists) (floats : List Float) (wholes : List ℕ) where
   abbrev call : Verdict
@@ -146,7 +123,7 @@ module _ (s : tree.Settings) (cs : List Float) (old : TreeLists) (floats : List 
       job-refused h = ap (λ (v : Verdict). builtText v s cs) (sym as-printed) ∙ text-refused call number-is place-is h
 
       job-accepted : r .number ≤ 0 → call ≡ accepted
-      job-accepted h = none-refused s cs (lentSizes old floats wholes) (sym number-is ∙ (omega arith))
+      job-accepted h = build-zero s cs (lentSizes old floats wholes) (sym number-is ∙ (omega arith))
 
       text-accepted : r .number ≤ 0 → jobText (job s cs) ≡ treeText (tree.levels s cs)
       unfolding jobText builtText

@@ -13,7 +13,7 @@ use lib.Ieee.{Float, nan}
 use lib.Ieee.Scale.{finite}
 use Rattle.lists.specs.Lists.{from}
 use Rattle.lists.specs.Ascends.{All}
-use Rattle.lists.proofs.Tests.{clash, and-fst, and-snd}
+use Rattle.lists.proofs.Tests.{clash, and-fst, and-snd, or-none}
 use Rattle.lists.proofs.Members.{none-any, mem-at}
 use Rattle.lists.proofs.From.{from-mem}
 use Rattle.lists.proofs.Ascends.{ascends-from, ascends-once}
@@ -22,6 +22,7 @@ use Rattle.definition.specs.Levels.{Policy, auto, fixed, threshold}
 use Rattle.definition.specs.Tree.{Settings, mostFine, pointCount}
 use Rattle.definition.specs.Packed.{BuildSizes, buildStated}
 use Rattle.definition.specs.Refusals.{Refusal, Test, Verdict, accepted, refused, verdict, mostPoints, mostNeighbours, coordinatesMissing, zeroThreshold, notFinite, buildShort, buildTests, buildVerdict}
+use Rattle.definition.specs.Outcome.{numberOf}
 use Rattle.definition.proofs.Cuts.{Good}
 
 -- ---- tests
@@ -54,11 +55,26 @@ accepted-iff ts = (to ts, back ts)
     back [] h = none
     back (t ∷ ts) h = pass t ts (h .0) ∙ back ts (h .1)
 
--- ---- what a failed test says
-or-none : (b c : Bool) → b || c ≡ false → (b ≡ false) × (c ≡ false)
-or-none true c e = clash refl e
-or-none false c e = (refl, e)
+-- a call whose answer has the number 0 is accepted, where no refusal has that number
+pub number-zero : (ts : List Test) → All (λ (t : Test). 1 ≤ t .refusal .number) ts → numberOf (verdict ts) ≡ 0 → verdict ts ≡ accepted
+unfolding All verdict numberOf
+number-zero [] h e = refl
+number-zero (t ∷ ts) h e = go (t .holds) (number-zero ts (h .1)) e
+  where
+    go : (b : Bool) → (numberOf (verdict ts) ≡ 0 → verdict ts ≡ accepted) → numberOf (cond b (refused (t .refusal)) (verdict ts)) ≡ 0
+        → cond b (refused (t .refusal)) (verdict ts) ≡ accepted
+    go true rest e = absurd (omega (arith, h .0))
+    go false rest e = rest e
 
+-- so it is with a build
+pub build-zero : (s : Settings) (cs : List Float) (lent : BuildSizes) → numberOf (buildVerdict s cs lent) ≡ 0 → buildVerdict s cs lent ≡ accepted
+unfolding buildVerdict buildTests All
+build-zero s cs lent e =
+    number-zero _
+    (omega arith, (omega arith, (omega arith, (omega arith, (omega arith, (omega arith, (omega arith, (omega arith, (omega arith, (omega arith, (omega arith, tt)))))))))))
+    e
+
+-- ---- what a failed test says
 and-none : (b c : Bool) → b && not c ≡ false → c ≡ false → b ≡ false
 and-none true true e f = clash refl f
 and-none true false e f = clash refl e

@@ -15,6 +15,7 @@ use Rattle.definition.specs.Packed.{rowNumbers, stretches}
 use Rattle.queue.specs.Rows.{withOwn}
 use Rattle.owners.specs.Own.{ownStart, ownCount, ownAt, readOwn}
 use Rattle.overlaps.specs.Borrowed.{withBorrowed}
+use Rattle.overlaps.proofs.Columns.{columns-own}
 
 -- ---- the own columns
 pub own-length : (at : ℕ) (ls : List (List ℕ)) (k : ℕ) (D : List ℕ) → 4 * (k + length ls) ≤ length D → length (withOwn at ls k D) ≡ length D
@@ -86,32 +87,14 @@ module _ (I : List ℕ) where
       sym (list-below (λ l. ownAt I (withOwn at ls k D) (k + l)) ls (length ls) [] refl (λ i g. sym (own-names at ls k D h f e i g .0)))
 
 -- ---- the borrowed columns: the own ones stay
-pub borrowed-length : (at : ℕ) (ls : List (List ℕ)) (k : ℕ) (D : List ℕ) → 4 * (k + length ls) ≤ length D → length (withBorrowed at ls k D) ≡ length D
-unfolding withBorrowed
-borrowed-length at [] k D h = refl
-borrowed-length at (l ∷ ls) k D h =
-    let e = length-put D (4 * k + 2) (at ∷ length l ∷ []) (omega arith) in
-    borrowed-length (at + length l) ls (k + 1) (put D (4 * k + 2) (at ∷ length l ∷ [])) (omega arith) ∙ e
-
-borrowed-keeps : (at : ℕ) (ls : List (List ℕ)) (k : ℕ) (D : List ℕ) (j r : ℕ) → 4 * (k + length ls) ≤ length D → r < 2 → getD (withBorrowed at ls k D) (4 * j + r) 0 ≡ getD D (4 * j + r) 0
-unfolding withBorrowed
-borrowed-keeps at [] k D j r h g = refl
-borrowed-keeps at (l ∷ ls) k D j r h g =
-    let e = length-put D (4 * k + 2) (at ∷ length l ∷ []) (omega arith) in
-    borrowed-keeps (at + length l) ls (k + 1) (put D (4 * k + 2) (at ∷ length l ∷ [])) j r (omega arith) g ∙ go (decLe j k)
-  where
-    go : Dec (j ≤ k) → getD (put D (4 * k + 2) (at ∷ length l ∷ [])) (4 * j + r) 0 ≡ getD D (4 * j + r) 0
-    go (yes y) = getD-put-before D (4 * k + 2) (at ∷ length l ∷ []) (4 * j + r) 0 (omega arith) (omega arith)
-    go (no n) = getD-put-after D (4 * k + 2) (at ∷ length l ∷ []) (4 * j + r) 0 (omega arith) (omega arith)
-
 module _ (at : ℕ) (ls : List (List ℕ)) (k : ℕ) (D : List ℕ) (h : 4 * (k + length ls) ≤ length D) (j : ℕ) where
   pub keeps-start : ownStart (withBorrowed at ls k D) j ≡ ownStart D j
   keeps-start =
-      ap (λ (i : ℕ). getD (withBorrowed at ls k D) i 0) (sym (add-zero (4 * j))) ∙ borrowed-keeps at ls k D j 0 h (omega arith)
+      ap (λ (i : ℕ). getD (withBorrowed at ls k D) i 0) (sym (add-zero (4 * j))) ∙ columns-own at ls k D j 0 h (omega arith)
       ∙ ap (λ (i : ℕ). getD D i 0) (add-zero (4 * j))
 
   pub keeps-count : ownCount (withBorrowed at ls k D) j ≡ ownCount D j
-  keeps-count = borrowed-keeps at ls k D j 1 h (omega arith)
+  keeps-count = columns-own at ls k D j 1 h (omega arith)
 
 -- ---- both writers together: the definition's domain rows
 pub both-columns : (a b k : ℕ) (fs : List Leaf) (D : List ℕ) → 4 * (k + length fs) ≤ length D

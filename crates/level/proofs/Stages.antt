@@ -36,7 +36,8 @@ use Rattle.owners.proofs.Read.{read-at}
 use Rattle.overlaps.specs.Borrowed.{borrowedLists, withBorrowed, Stage}
 use Rattle.coarse_points.specs.Sent.{sentUp, Sends}
 use Rattle.level.specs.Fine.{leavesAt, nextAt, ownIn, borrowedIn, boxesIn, Given}
-use Rattle.level.proofs.Columns.{own-length, own-names, own-read, borrowed-length, keeps-start, keeps-count, both-columns}
+use Rattle.level.proofs.Columns.{own-length, own-names, own-read, keeps-start, keeps-count, both-columns}
+use Rattle.overlaps.proofs.Columns.{columns-length}
 
 -- ---- the definition's level, by its parts
 -- the own rows of each domain
@@ -160,7 +161,7 @@ module _ (d : ℕ) (cs : List Float) (leaf neighbours : ℕ) (active : List ℕ)
       pub overlaps-named : Leaves active I₁ D₂ k (length (leavesOf d cs leaf active))
       overlaps-named = record {
         ascends = g .good .ascends;
-        rows = rw (eD₂, borrowed-length bat bs k D₁ fit-b) (leaves-named .rows);
+        rows = rw (eD₂, columns-length bat bs k D₁ fit-b) (leaves-named .rows);
         inside = λ l h. rw (eD₂, keeps-start bat bs k D₁ fit-b (k + l), keeps-count bat bs k D₁ fit-b (k + l)) (leaves-named .inside l h);
         shared = rw overlaps-read own-shared;
       }

@@ -4,7 +4,7 @@ use mathlib.Core.Logic.{_⊎_, inl, inr, ⊎-elim}
 use mathlib.Core.Bool.{Bool, true, false, _&&_, _||_, cond, true≢false}
 use Prim.Native.Nat.{ℕ, _≤_, _<_}
 use native.Mathlib.Decide.{ℕ-discrete}
-use lib.Dec.{eqb, leb}
+use lib.Dec.{T, eqb, leb}
 use borrow.Author.Tests.{eq-eqb, ne-eqb, leb-true, leb-false}
 
 -- ---- no test both passes and fails, and each does one of the two
@@ -14,6 +14,11 @@ clash p q = absurd (true≢false (sym p ∙ q))
 pub true-or-false : (b : Bool) → (b ≡ true) ⊎ (b ≡ false)
 true-or-false true = inl refl
 true-or-false false = inr refl
+
+-- a test that holds passes
+pub of-T : (b : Bool) → T b → b ≡ true
+of-T true h = refl
+of-T false h = absurd h
 
 -- ---- both, and one of two
 pub and-of : {b c : Bool} → b ≡ true → c ≡ true → b && c ≡ true
@@ -27,9 +32,17 @@ pub and-snd : (b c : Bool) → b && c ≡ true → c ≡ true
 and-snd true c h = h
 and-snd false c h = absurd (true≢false (sym h))
 
+pub and-true : (b : Bool) → b && true ≡ b
+and-true true = refl
+and-true false = refl
+
 pub or-cases : (b c : Bool) → b || c ≡ true → (b ≡ true) ⊎ (c ≡ true)
 or-cases true c h = inl refl
 or-cases false c h = inr h
+
+pub or-none : (b c : Bool) → b || c ≡ false → (b ≡ false) × (c ≡ false)
+or-none true c h = absurd (true≢false h)
+or-none false c h = (refl, h)
 
 pub or-left : (b c : Bool) → b ≡ true → b || c ≡ true
 or-left b c h = rw h

@@ -10,6 +10,7 @@ use lib.Dec.{T, eqb}
 use lib.IntN.{ℤ}
 use lib.Ieee.{Float, nan, inf, fin, up, down, lt, eq, ne, ofBits}
 use lib.Ieee.Compare.{differs-from-itself}
+use Rattle.lists.proofs.Tests.{and-fst}
 use Rattle.definition.specs.Number.{squareRoot, plusZero}
 use Rattle.root_laws.proofs.Refusal.{zero-size, above-zero, negative-below}
 
@@ -38,10 +39,6 @@ negative-nan (fin true zero e) h =
 negative-nan (fin true (suc m) e) h = refl
 
 -- ---- zeros
-and-true : (a b : Bool) → (a && b) ≡ true → a ≡ true
-and-true true b h = refl
-and-true false b h = h
-
 pub zero-itself : (x : Float) → eq x plusZero ≡ true → x ≡ squareRoot x
 unfolding eq ofBits squareRoot
 zero-itself nan h = absurd (false≢true h)
@@ -49,7 +46,7 @@ zero-itself (inf s) h = absurd (false≢true h)
 zero-itself (fin s zero e) h = refl
 zero-itself (fin s (suc m) e) h =
     absurd
-    (clash (suc m * up e * 1) (0 * down e) (above-zero m e) (zero-mul (down e)) (eqb-true (suc m * up e * 1) (0 * down e) (and-true (eqb (suc m * up e * 1) (0 * down e)) (Bool·beq s false || eqb (suc m * up e * 1) 0) h)))
+    (clash (suc m * up e * 1) (0 * down e) (above-zero m e) (zero-mul (down e)) (eqb-true (suc m * up e * 1) (0 * down e) (and-fst (eqb (suc m * up e * 1) (0 * down e)) (Bool·beq s false || eqb (suc m * up e * 1) 0) h)))
   where
     clash : (a b : ℕ) → 0 < a → b ≡ 0 → a ≡ b → ⊥
     clash a b p q r = omega arith

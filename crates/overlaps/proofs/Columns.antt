@@ -49,7 +49,7 @@ columns-map f at (l ∷ ls) k D =
     ∙ columns-map f (at + length l) ls (k + 1) (put D (4 * k + 2) (at ∷ length l ∷ []))
 
 -- ---- the own columns stay
-columns-own : (at : ℕ) (ls : List (List ℕ)) (k : ℕ) (D : List ℕ) (j r : ℕ) → 4 * (k + length ls) ≤ length D → r < 2 → getD (withBorrowed at ls k D) (4 * j + r) 0 ≡ getD D (4 * j + r) 0
+pub columns-own : (at : ℕ) (ls : List (List ℕ)) (k : ℕ) (D : List ℕ) (j r : ℕ) → 4 * (k + length ls) ≤ length D → r < 2 → getD (withBorrowed at ls k D) (4 * j + r) 0 ≡ getD D (4 * j + r) 0
 unfolding withBorrowed
 columns-own at [] k D j r h g = refl
 columns-own at (l ∷ ls) k D j r h g =
@@ -59,16 +59,6 @@ columns-own at (l ∷ ls) k D j r h g =
     go : Dec (j ≤ k) → getD (put D (4 * k + 2) (at ∷ length l ∷ [])) (4 * j + r) 0 ≡ getD D (4 * j + r) 0
     go (yes y) = getD-put-before D (4 * k + 2) (at ∷ length l ∷ []) (4 * j + r) 0 (omega arith) (omega arith)
     go (no n) = getD-put-after D (4 * k + 2) (at ∷ length l ∷ []) (4 * j + r) 0 (omega arith) (omega arith)
-
--- so the own rows are read as before
-pub columns-read : (I : List ℕ) (at : ℕ) (ls : List (List ℕ)) (k : ℕ) (D : List ℕ) (first m : ℕ) → 4 * (k + length ls) ≤ length D
-    → readOwn I (withBorrowed at ls k D) first m ≡ readOwn I D first m
-unfolding readOwn
-columns-read I at ls k D first m h =
-    map-same (λ l. ownAt I (withBorrowed at ls k D) (first + l)) (λ l. ownAt I D (first + l)) (from 0 m)
-    (λ l i. ap₂ (λ (s n : ℕ). part I s n)
-    (ap (λ (j : ℕ). getD (withBorrowed at ls k D) j 0) (sym (add-zero (4 * (first + l)))) ∙ columns-own at ls k D (first + l) 0 h (omega arith) ∙ ap (λ (j : ℕ). getD D j 0) (add-zero (4 * (first + l))))
-    (columns-own at ls k D (first + l) 1 h (omega arith)))
 
 -- ---- the end of a block
 reach-end : (codes xs ys : List ℕ) (s limit e : ℕ) → drop s codes ≡ xs ++ ys → All (λ c. c < limit) xs → All (λ c. limit ≤ c) ys

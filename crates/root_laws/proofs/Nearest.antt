@@ -12,13 +12,13 @@ use lib.Ieee.Fits.{down-pos}
 use lib.Ieee.Exact.{HasValue}
 use lib.Ieee.Scale.{finite}
 use lib.Ieee.Positive.{positive}
+use Rattle.lists.proofs.Tests.{le-or-lt}
 use Rattle.definition.specs.Number.{unitsOf, rootOfUnits, squareRoot}
 use Rattle.root_laws.specs.Sorts.{notNegative, Nearer}
 use Rattle.root_laws.specs.Steps.{NearRoot, fieldUnits}
 use Rattle.root_laws.proofs.Squares.{sq-one, sq-two, sq-lt, sq-back}
 use Rattle.root_laws.proofs.Rounding.{sq-odd, sq-scaled}
 use Rattle.root_laws.proofs.Patterns.{read}
-use Rattle.root_laws.proofs.Scaling.{either-way}
 use Rattle.root_laws.proofs.Rooted.{Rooted, rooted, value-is}
 
 -- a value on a finer grid is below the least number of 53 digits on this one
@@ -47,7 +47,7 @@ module _ (A q K a k : ℕ) (N : NearRoot A q) (h : a < 2 ^ 53) where
   area = ap (λ (x : ℕ). 4 * x) (mul-assoc A (2 ^ K) (2 ^ K)) ∙ sym (mul-assoc 4 A (2 ^ K * 2 ^ K))
 
   at-most : (r : ℕ) → q ≡ r + 1 → 2 ^ 52 ≤ r → a * 2 ^ k < q * 2 ^ K → a * 2 ^ k ≤ r * 2 ^ K
-  at-most r e l g = elim (either-way K k) [
+  at-most r e l g = elim (le-or-lt K k) [
     | inl c ↦
         let d = coarser a k K c in
         let f : a * 2 ^ (k - K) < r + 1 =
@@ -61,7 +61,7 @@ module _ (A q K a k : ℕ) (N : NearRoot A q) (h : a < 2 ^ 53) where
       less x r h = omega arith
 
   at-least : q * 2 ^ K < a * 2 ^ k → (q + 1) * 2 ^ K ≤ a * 2 ^ k
-  at-least g = elim (either-way K k) [
+  at-least g = elim (le-or-lt K k) [
     | inl c ↦
         let d = coarser a k K c in
         let f : q < a * 2 ^ (k - K) = lt-of-mul-lt-mul-right (2 ^ K) (lt-of-lt-of-le g (le-of-eq d)) in
@@ -73,7 +73,7 @@ module _ (A q K a k : ℕ) (N : NearRoot A q) (h : a < 2 ^ 53) where
       more q x h = omega arith
 
   below : a * 2 ^ k < q * 2 ^ K → (a * 2 ^ k + q * 2 ^ K) * (a * 2 ^ k + q * 2 ^ K) < 4 * (A * 2 ^ K * 2 ^ K)
-  below g = elim (either-way (q * q) A) [
+  below g = elim (le-or-lt (q * q) A) [
     | inl c ↦
         let R = q * 2 ^ K in
         let s : a * 2 ^ k + R < 2 * R = omega arith in

@@ -12,6 +12,7 @@ use lib.IntN.{ℤ}
 use lib.Ieee.{Float, nan, inf, fin, binary64, up, down, lt, le, fits}
 use lib.Ieee.Fits.{down-pos}
 use lib.Ieee.Order.{le-of-values}
+use Rattle.lists.proofs.Tests.{true-or-false, and-fst}
 use Rattle.root_laws.specs.Sorts.{notNegative, good}
 
 -- such a value, by its parts
@@ -25,10 +26,6 @@ view′ (inf true) h = absurd (true≢false (sym h))
 view′ (inf false) h = top
 view′ (fin true m e) h = absurd (true≢false (sym h))
 view′ (fin false m e) h = num m e
-
-and-left : (a b : Bool) → (a && b) ≡ true → a ≡ true
-and-left true b h = refl
-and-left false b h = h
 
 and-right : (a b : Bool) → (a && b) ≡ true → T b
 and-right true true h = tt
@@ -45,7 +42,7 @@ pub fits-of : (x : Float) → good x ≡ true → T (fits binary64 x)
 fits-of x h = and-right (notNegative x) (fits binary64 x) h
 
 pub view : (x : Float) → good x ≡ true → Good x
-view x h = view′ x (and-left (notNegative x) (fits binary64 x) h)
+view x h = view′ x (and-fst (notNegative x) (fits binary64 x) h)
 
 -- ---- `le` and `lt`
 
@@ -73,10 +70,6 @@ le→not-lt (num m e) (num n d) h =
     le-ltb (n * up d * down e) (m * up e * down d)
     (or-le (ltb (m * up e * down d) (n * up d * down e)) (eqb (m * up e * down d) (n * up d * down e)) _ (m * up e * down d) (n * up d * down e)
     (ltb→lt (m * up e * down d) (n * up d * down e)) (eqb→eq (m * up e * down d) (n * up d * down e)) h)
-
-either : (b : Bool) → (b ≡ true) ⊎ (b ≡ false)
-either true = inl refl
-either false = inr refl
 
 -- ---- fractions
 -- a / p ≤ b / q and b / q ≤ c / r, so a / p ≤ c / r
@@ -127,8 +120,8 @@ le-le x y z g h i = trans-of (view x g) (view y h) (view z i)
 
 -- x ≤ y < z
 pub le-lt : (x y z : Float) → good x ≡ true → good y ≡ true → good z ≡ true → lt y x ≡ false → lt y z ≡ true → lt x z ≡ true
-le-lt x y z g h i a b = ⊎-elim (λ t. t) (λ f. absurd (true≢false (sym b ∙ le-le z x y i g h f a))) (either (lt x z))
+le-lt x y z g h i a b = ⊎-elim (λ t. t) (λ f. absurd (true≢false (sym b ∙ le-le z x y i g h f a))) (true-or-false (lt x z))
 
 -- x < y ≤ z
 pub lt-le : (x y z : Float) → good x ≡ true → good y ≡ true → good z ≡ true → lt x y ≡ true → lt z y ≡ false → lt x z ≡ true
-lt-le x y z g h i a b = ⊎-elim (λ t. t) (λ f. absurd (true≢false (sym a ∙ le-le y z x h i g b f))) (either (lt x z))
+lt-le x y z g h i a b = ⊎-elim (λ t. t) (λ f. absurd (true≢false (sym a ∙ le-le y z x h i g b f))) (true-or-false (lt x z))

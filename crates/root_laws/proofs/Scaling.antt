@@ -9,6 +9,7 @@ use native.Mathlib.Omega.{arith}
 use lib.Dec.{T, leb, leb→le, nleb→lt}
 use lib.Pow.{pow-add}
 use lib.Ieee.{binary64, round, size}
+use Rattle.lists.proofs.Tests.{le-or-lt}
 use Rattle.definition.specs.Number.{halves, rootOfUnits, wholeRoot}
 use Rattle.root_laws.proofs.Squares.{IsWhole, the-root, sq-one, sq-back}
 use Rattle.root_laws.specs.Steps.{NearRoot}
@@ -78,14 +79,7 @@ near-by A s w lo hi k =
     far : (s : ℕ) → 2 ^ 53 - 1 ≤ s → s * s + s < A → ⊥
     far s g h = let k : (2 ^ 53 - 1) * (2 ^ 53 - 1) ≤ s * s = mul-le-mul g g in omega arith
 
-pub either-way : (a b : ℕ) → (a ≤ b) ⊎ (b < a)
-either-way a b = go (leb a b) (leb→le a b) (nleb→lt a b)
-  where
-    go : (t : Bool) → (T t → a ≤ b) → (T (not t) → b < a) → (a ≤ b) ⊎ (b < a)
-    go true p q = inl (p tt)
-    go false p q = inr (q tt)
-
 pub near-any : (n : ℕ) → 2 ^ 52 ≤ n → n + 2 ≤ 2 ^ 54 → (q : ℕ) × NearRoot (n * 2 ^ 52) q
 near-any n lo hi =
     let s = wholeRoot (size (n * 2 ^ 52)) (n * 2 ^ 52) in
-    near-by (n * 2 ^ 52) s (the-root (n * 2 ^ 52)) (omega arith) (omega arith) (either-way (n * 2 ^ 52) (s * s + s))
+    near-by (n * 2 ^ 52) s (the-root (n * 2 ^ 52)) (omega arith) (omega arith) (le-or-lt (n * 2 ^ 52) (s * s + s))

@@ -9,7 +9,7 @@ use lib.Seq.{take-suc, take-all}
 use lib.Ieee.{Float, toBits, binary64}
 use Rattle.lists.specs.Lists.{joined}
 use Rattle.lists.proofs.Map.{map-snoc}
-use Rattle.lists.proofs.Joined.{joined-append, joined-snoc}
+use Rattle.lists.proofs.Joined.{joined-append, joined-map-more}
 use Rattle.definition.specs.Printout.{rowsText, boxText, decimal, hexOnto, ascii}
 use Rattle.texts.specs.Wrote.{Wrote, Room}
 use Rattle.texts.proofs.Texts.{spelt, room-spelt, room-first, room-next, wrote-then}
@@ -18,9 +18,6 @@ module _ {A : Type 0} (f : A → List ℕ) where
   pub each-none : (xs : List A) → joined (map f (take 0 xs)) ≡ []
   unfolding joined
   each-none xs = refl
-
-  pub each-step : (xs : List A) (i : ℕ) (d : A) → i < length xs → joined (map f (take (i + 1) xs)) ≡ joined (map f (take i xs)) ++ f (getD xs i d)
-  each-step xs i d h = rw (add-one, take-suc xs i d h, map-snoc, joined-snoc)
 
   pub each-all : (xs : List A) (i : ℕ) → length xs ≤ i → joined (map f (take i xs)) ≡ joined (map f xs)
   each-all xs i h = rw (take-all i xs h)
@@ -35,13 +32,13 @@ module _ {A : Type 0} (f : A → List ℕ) where
   module _ {l : List ℕ} {at : ℕ} (xs : List A) (h : Room l at (joined (map f xs))) (i : ℕ) (d : A) (g : i < length xs) {r : ℕ} {m : List ℕ}
       (w : Wrote l at (joined (map f (take i xs))) r m) where
     step-room : Room l at (joined (map f (take i xs)) ++ f (getD xs i d))
-    step-room = room-spelt (each-step xs i d g) (each-room xs h (i + 1))
+    step-room = room-spelt (joined-map-more f xs i d g) (each-room xs h (i + 1))
 
     pub more-room : Room m r (f (getD xs i d))
     more-room = room-next _ w step-room
 
     pub each-more : {q : ℕ} {k : List ℕ} → Wrote m r (f (getD xs i d)) q k → Wrote l at (joined (map f (take (i + 1) xs))) q k
-    each-more v = spelt (sym (each-step xs i d g)) (wrote-then w step-room v)
+    each-more v = spelt (sym (joined-map-more f xs i d g)) (wrote-then w step-room v)
 
 -- ---- rows, and the bounds of a box
 abbrev pub rowText : ℕ → List ℕ
