@@ -49,7 +49,7 @@ narrow-requires c κs =
 
 sub-left : tie.Need-sub-left Inv-loop μ-loop
 sub-left c =
-    leb-true (c .before .before .before .before .before .before .loop .m) (c .before .before .before .before .before .before .loop .left) (c .before .before .before .before .if1 .taken)
+    let h = leb-true (c .before .before .before .before .before .before .loop .m) (c .before .before .before .before .before .before .loop .left) (c .before .before .before .before .if1 .taken) in omega arith
 
 add-round : tie.Need-add-round Inv-loop μ-loop
 add-round c = search needs
