@@ -5,7 +5,7 @@ use mathlib.Core.Logic.{⊎-elim}
 use mathlib.Core.List.{List, [], _∷_, _++_, map}
 use Prim.Native.Nat.{ℕ, zero, suc, _+_, _-_, _*_, _/_, _≤_, _<_}
 use native.Mathlib.Omega.{arith}
-use native.Mathlib.Nat.{mul-le-mul-right, mul-assoc, suc-mul}
+use native.Mathlib.Nat.{mul-le-mul, mul-le-mul-right, mul-assoc, suc-mul}
 use lib.Dec.{T}
 use lib.ListN.{length, getD, replicate}
 use lib.Ieee.{Float, nan}
@@ -71,6 +71,7 @@ module _ (s : Settings) (cs : List Float) (old : TreeLists) (floats : List Float
       ascends = ascends-from 0 n;
       inside = all-from (λ i. i * d + d ≤ length cs) 0 n (λ i l h. within i h);
       finite-all = λ i h. of-true (finite (getD cs i nan)) (a .finite-all i h);
+      few = omega (arith, mul-le-mul (a .passes-all .rows-few) (a .passes-all .axes-few), a .whole);
     };
   }
     where

@@ -1,3 +1,2 @@
 -- Laws of sorting.
 pub mod Heaps
-pub mod Orders

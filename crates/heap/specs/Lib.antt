@@ -1,3 +1,2 @@
 -- What the contracts of sorting cite.
-pub mod Rows
 pub mod Heap

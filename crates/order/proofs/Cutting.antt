@@ -19,11 +19,11 @@ use Rattle.lists.proofs.Put.{set-put, length-put, length-part, put-over, put-co
 use Rattle.lists.proofs.Times.{Once}
 use Rattle.lists.proofs.Same.{Same, same-length}
 use Rattle.definition.specs.Keys.{firstRows, otherRows}
-use Rattle.heap.specs.Rows.{FiniteOn, NoLater}
+use Rattle.argsort.specs.Rows.{FiniteOn, NoLater}
 use Rattle.heap.specs.Heap.{Sorted}
 use Rattle.order.specs.Rows.{GoodRows}
 use Rattle.order.specs.Cuts.{keysOn, onSide, MiddleRow, Halved, Room, Spent, Ranked, Round, Narrows}
-use Rattle.order.proofs.Good.{good-keep, good-once, good-finite, good-inside}
+use Rattle.order.proofs.Good.{good-keep, good-once, good-finite, good-inside, good-below, good-short}
 use Rattle.order.proofs.Ranks.{aheadOf, ranked-low, ranked-high, sides, ranked-sorted, ranked-middle, middle-ranked, lefts-are, rights-are}
 use Rattle.order.proofs.Turns.{back-most, back-end}
 use borrow.Rule.Slice.PartMut.{putMid}
@@ -72,7 +72,7 @@ module _ {d : ℕ} {cs : List Float} {axis : ℕ} where
         below = omega arith;
         good =
             rw one
-            (record { ascends = (tt, tt); inside = (all-mem (λ i. i * d + d ≤ length cs) rows (r .good .inside) p p-mem, tt); finite-all = r .good .finite-all });
+            (record { ascends = (tt, tt); inside = (all-mem (λ i. i * d + d ≤ length cs) rows (r .good .inside) p p-mem, tt); finite-all = r .good .finite-all; few = r .good .few });
         leads = λ x z.
             let y : x ≡ p = List·Memᴰ·eq-of-singleton (subst (λ (s : List ℕ). List·Memᴰ x s) one (z .inside)) in
             rw y (record { inside = p-mem; ahead = sym e ∙ q });
@@ -127,8 +127,8 @@ module _ {d : ℕ} {cs : List Float} {axis : ℕ} where
   -- ---- their end: the rows that are left are sorted
   module _ {l l₁ : List ℕ} {n j : ℕ} (A : axis < d) (some : 1 ≤ length l) (g : GoodRows d cs l)
       (N : Narrows d cs axis l (length l) (length l / 2) l₁ n j) where
-    pub end-finite : FiniteOn d cs axis (take n l₁)
-    end-finite = good-finite axis A (take n l₁) (N .good)
+    pub end-asks : FiniteOn d cs axis (take n l₁) × All (λ i. i < 4294967296) (take n l₁) × (length (take n l₁) ≤ 4294967296)
+    end-asks = let k = N .good in (good-finite axis A (take n l₁) k, good-below axis A (take n l₁) k, good-short axis A (take n l₁) k)
 
     pub end-front : length (take n l₁) ≡ n
     end-front = length-take-le n l₁ (N .fits)

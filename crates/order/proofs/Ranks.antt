@@ -24,9 +24,9 @@ use Rattle.definition.specs.Points.{coordinate}
 use Rattle.definition.specs.Keys.{Key, keyed, before, rank, firstRows, otherRows, keyAt}
 use Rattle.definition.proofs.Order.{before-irr, before-trans}
 use Rattle.definition.proofs.Halves.{rank-keyed, length-keyed, first-rows, other-rows, sortable, Middle, key-at}
-use Rattle.heap.specs.Rows.{keyOn, FiniteOn, NoLater}
+use Rattle.argsort.specs.Rows.{keyOn, FiniteOn, NoLater}
 use Rattle.heap.specs.Heap.{Sorted}
-use Rattle.heap.proofs.Orders.{row-or, not-both, sorted-before, finite-known}
+use Rattle.argsort.proofs.Orders.{row-or, not-both, sorted-before, finite-known}
 use Rattle.order.specs.Cuts.{MiddleRow, Ranked}
 
 module _ (d : ℕ) (cs : List Float) (axis : ℕ) where

@@ -12,7 +12,7 @@ use Rattle.definition.specs.Points.{coordinate}
 use Rattle.definition.specs.Keys.{firstRows, otherRows, keyAt}
 use Rattle.definition.specs.Cut.{planeOf}
 use Rattle.definition.proofs.Halves.{Sortable, first-length, other-length, length-keyed, sortable}
-use Rattle.heap.proofs.Orders.{finite-known}
+use Rattle.argsort.proofs.Orders.{finite-known}
 use Rattle.lists.proofs.Times.{to-times}
 use Rattle.order.specs.Rows.{GoodRows}
 use Rattle.order.specs.Cuts.{keysOn, MiddleRow, Halved}

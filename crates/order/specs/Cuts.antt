@@ -8,7 +8,7 @@ use lib.Ieee.{Float}
 use Rattle.lists.specs.Lists.{count, part, put}
 use Rattle.definition.specs.Points.{coordinate}
 use Rattle.definition.specs.Keys.{Key, keyed, before, firstRows, otherRows, keyAt}
-use Rattle.heap.specs.Rows.{keyOn}
+use Rattle.argsort.specs.Rows.{keyOn}
 use Rattle.order.specs.Rows.{GoodRows}
 
 -- the rows with their coordinates on the axis

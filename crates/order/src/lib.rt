@@ -5,7 +5,7 @@ ghost use mathlib.Core.Bool.{true, not};
 ghost use Prim.Native.Nat.{_+_, _*_, _≤_, _<_};
 ghost use lib.ListN.{length, take};
 ghost use Rattle.lists.specs.Lists.{count, keep, part, put};
-ghost use Rattle.heap.specs.Rows.{FiniteOn};
+ghost use Rattle.argsort.specs.Rows.{FiniteOn};
 ghost use Rattle.order.specs.Rows.{GoodRows};
 ghost use Rattle.order.specs.Cuts.{MiddleRow, Halved, Room, Spent, onSide, Round, Narrows};
 
@@ -21,7 +21,7 @@ fn count_before(points: &[f64], d: usize, axis: usize, rows: &[usize], p: usize)
     while t < rows.len() {
         let r = rows[t];
         t += 1;
-        if heap::comes_before(points, d, axis, r, p) {
+        if argsort::comes_before(points, d, axis, r, p) {
             n += 1;
         }
     }
@@ -34,9 +34,9 @@ fn beside(points: &[f64], d: usize, axis: usize, i: usize, p: usize, low: bool) 
     ensures { λ r. ⌜ r ≡ onSide d (now (points .entry)) axis p low i ⌝ }
 {
     if low {
-        return heap::comes_before(points, d, axis, i, p);
+        return argsort::comes_before(points, d, axis, i, p);
     }
-    heap::comes_before(points, d, axis, p, i)
+    argsort::comes_before(points, d, axis, p, i)
 }
 
 // Moves the rows on one side of row p among the first m rows to the front, in their order. The answer is how many they are.
@@ -105,22 +105,25 @@ fn narrow(
 // The row with half of the rows, rounded down, before it. The list is the room of the search and is left with other content.
 // A round takes two comparisons for each row that is left. The first one looks at the row in the middle of the list, which is the
 // right one where the coordinates ascend with the rows, and the later ones at rows here and there, so that no usual order of the
-// points is a bad one. After 64 rounds, or with few rows left, these are sorted.
+// points is a bad one. The rounds look at no more than 8 rows for each row of the list. The rows that are left after them, or 32 of
+// them or fewer, are sorted.
 pub fn middle(points: &[f64], d: usize, axis: usize, rows: &mut [usize]) -> usize
     requires { ⌜ (axis < d) × (1 ≤ length (now rows)) × GoodRows d (now points) (now rows) ⌝ }
     ensures { λ r. ⌜ MiddleRow d (now (points .entry)) axis (now (rows .entry)) r ⌝ }
 {
     let mut m = rows.len();
     let mut k = m / 2;
-    let mut rounds: usize = 64;
-    while 32 < m && 0 < rounds {
-        let at = (m / 2 + (64 - rounds) * 2654435761) % m;
+    let mut left = 8 * m;
+    let mut round: usize = 0;
+    while 32 < m && m <= left {
+        let at = (m / 2 + round * 2654435761) % m;
         let s = narrow(points, d, axis, rows, m, k, at);
+        left -= m;
+        round += 1;
         m = s.count;
         k = s.rank;
-        rounds -= 1;
     }
-    heap::argsort(points, d, axis, &mut rows[..m]);
+    argsort::argsort(points, d, axis, &mut rows[..m]);
     rows[k]
 }
 
@@ -183,7 +186,7 @@ fn part_rows(
     while i < count {
         let r = work[start + i];
         i += 1;
-        if heap::comes_before(points, d, axis, r, m) {
+        if argsort::comes_before(points, d, axis, r, m) {
             work[start + lo] = r;
             lo += 1;
         } else {

@@ -6,7 +6,7 @@ use lib.ListN.{length}
 use Rattle.lists.proofs.All.{all-at}
 use mathlib.Core.Bool.{true}
 use Rattle.order.specs.Cuts.{onSide}
-use Rattle.heap.proofs.Orders.{row-inside}
+use Rattle.argsort.proofs.Orders.{row-inside}
 use Rattle.order.proofs.Turns.{Counted, counted-first, counted-in, counted-out, counted-end}
 use Rattle.order.proofs.count_before.Statement.{statement}
 use Rattle.order.proofs.count_before.Tie as tie

@@ -3,7 +3,7 @@ use borrow.Author.Needs.{needs}
 use mathlib.Core.Path.{sym, _∙_}
 use Prim.Native.Nat.{_-_}
 use Rattle.order.specs.Cuts.{onSide}
-use Rattle.heap.proofs.Orders.{row-inside}
+use Rattle.argsort.proofs.Orders.{row-inside}
 use Rattle.order.proofs.Turns.{Kept, kept-first, kept-row, kept-in, kept-out, kept-end}
 use Rattle.order.proofs.keep_side.Statement.{statement}
 use Rattle.order.proofs.keep_side.Tie as tie

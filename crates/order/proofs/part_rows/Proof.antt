@@ -5,7 +5,7 @@ use Prim.Native.Nat.{_-_}
 use native.Mathlib.Omega.{arith}
 use mathlib.Core.Bool.{true}
 use Rattle.order.specs.Cuts.{onSide}
-use Rattle.heap.proofs.Orders.{row-inside}
+use Rattle.argsort.proofs.Orders.{row-inside}
 use Rattle.order.proofs.Turns.{Parted, parted-first, parted-row, parted-left, parted-right, parted-end}
 use Rattle.order.proofs.part_rows.Statement.{statement}
 use Rattle.order.proofs.part_rows.Tie as tie

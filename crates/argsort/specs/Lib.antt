@@ -1,0 +1,3 @@
+-- What the contracts of the ordering cite.
+pub mod Rows
+pub mod Merge
