@@ -3,7 +3,12 @@
 use config::DDMParams;
 use config::SizePolicy;
 use printing::print_front;
-use printing::print_number;
+
+// Writes a space and the number.
+fn print_number(n: u64) {
+    io::write_all(1, b" ");
+    io::print_decimal(1, n);
+}
 
 // Writes the first line of an answer.
 fn print_answer(number: usize, place: usize, levels: usize) {

@@ -2,8 +2,13 @@
 use config::SizePolicy;
 use levels::LevelSize;
 use printing::print_list;
-use printing::print_number;
 use quotas::QuotaAnswer;
+
+// Writes a space and the number.
+fn print_number(n: u64) {
+    io::write_all(1, b" ");
+    io::print_decimal(1, n);
+}
 
 // The coarse threshold under Auto.
 fn print_auto(n: usize) {

@@ -2,7 +2,12 @@
 // (Refusal 8 needs a list longer than a program's stack holds.)
 use common::SampleAnswer;
 use printing::print_list;
-use printing::print_number;
+
+// Writes a space and the number.
+fn print_number(n: u64) {
+    io::write_all(1, b" ");
+    io::print_decimal(1, n);
+}
 
 // One call, with the output after it, and the working room too where the call is refused.
 fn print_sample(
