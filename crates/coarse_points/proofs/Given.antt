@@ -8,6 +8,7 @@ use lib.Dec.{T}
 use lib.ListN.{length, getD}
 use lib.Ieee.{Float, nan}
 use lib.Ieee.Scale.{finite}
+use Rattle.lists.proofs.Tests.{of-T}
 use Rattle.lists.specs.Ascends.{All, Ascends}
 use Rattle.lists.proofs.All.{all-at, all-by-index, all-map}
 use Rattle.definition.specs.Cut.{Domain, leavesOf}
@@ -15,9 +16,6 @@ use Rattle.definition.proofs.Cuts.{leaves-ascend}
 use Rattle.owners.specs.Own.{ownAt, readOwn, Leaves}
 use Rattle.owners.proofs.Read.{read-length, read-at}
 use Rattle.coarse_points.specs.Sent.{Sends}
-
-holds : (b : Bool) → T b → b ≡ true
-holds true t = refl
 
 -- THE LAW that the level cites: the leaves that the domain rows name are those of the cut
 pub sends-of : (d : ℕ) (cs : List Float) (leaf : ℕ) (active I D : List ℕ) (first m : ℕ) → d ≤ 3 → length active ≤ 1048576
@@ -27,7 +25,7 @@ sends-of d cs leaf active I D first m axes few inside f leaves e = record {
   axes = axes;
   few = few;
   inside = inside;
-  finite-all = all-by-index (λ x. finite x ≡ true) cs nan (λ k h. holds (finite (getD cs k nan)) (f k h));
+  finite-all = all-by-index (λ x. finite x ≡ true) cs nan (λ k h. of-T (finite (getD cs k nan)) (f k h));
   leaves = leaves;
   ascend = each;
 }

@@ -11,6 +11,7 @@ use lib.Dec.{T}
 use lib.ListN.{length, getD, length-map}
 use lib.Ieee.{Float, nan}
 use lib.Ieee.Scale.{finite}
+use Rattle.coarse_points.proofs.Given.{sends-of}
 use Rattle.lists.specs.Lists.{put, part, joined, keep, count, from}
 use Rattle.lists.specs.Ascends.{All, Ascends}
 use Rattle.lists.proofs.Tests.{true-or-false}
@@ -189,23 +190,8 @@ module _ (d : ℕ) (cs : List Float) (leaf neighbours : ℕ) (active : List ℕ)
     packed-named = overlaps-named I D at k fI fD I₁ (withOwn at own k D) own-due refl bat D₂ rows-due
 
     pub packed-sends : Sends d cs active I₁ D₂ k (length (leavesOf d cs leaf active))
-    packed-sends = record {
-      axes = g .axes-few;
-      few = g .rows-few;
-      inside = g .good .inside;
-      finite-all = all-by-index (λ x. finite x ≡ true) cs nan (λ i h. true-of (finite (getD cs i nan)) (g .good .finite-all i h));
-      leaves = packed-named;
-      ascend = λ l h. subst Ascends (sym (own-at l h)) (all-at Ascends own l [] ascending (omega (arith, own-number)));
-    }
-      where
-        true-of : (b : Bool) → T b → b ≡ true
-        true-of true t = refl
-
-        own-at : (l : ℕ) → l < length (leavesOf d cs leaf active) → ownAt I₁ D₂ (k + l) ≡ getD own l []
-        own-at l h = sym (read-at I₁ D₂ k (length (leavesOf d cs leaf active)) l h) ∙ ap (λ (z : List (List ℕ)). getD z l []) packed-read
-
-        ascending : All Ascends own
-        ascending = all-map Ascends (λ (q : Domain). q .rows) (leavesOf d cs leaf active) (leaves-ascend d cs leaf active (g .good .ascends))
+    packed-sends =
+        sends-of d cs leaf active I₁ D₂ k (length (leavesOf d cs leaf active)) (g .axes-few) (g .rows-few) (g .good .inside) (g .good .finite-all) packed-named packed-read
 
 -- ---- working room
 pub boxes-room : (d a : ℕ) → d ≤ 3 → 2 * d * (2 * a) ≤ 12 * a

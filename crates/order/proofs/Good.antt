@@ -9,6 +9,7 @@ use lib.ListN.{length, take}
 use lib.Dec.{T}
 use lib.Ieee.{Float}
 use lib.Ieee.Scale.{finite}
+use Rattle.lists.proofs.Tests.{of-T}
 use Rattle.lists.specs.Lists.{keep, part, from}
 use Rattle.lists.specs.Ascends.{All, Ascends}
 use Rattle.lists.proofs.All.{all-keep, all-take, all-part, all-imp, all-mem}
@@ -89,8 +90,5 @@ module _ {d : ℕ} {cs : List Float} where
   good-good l g = record {
     once = good-once l g;
     finite-at =
-        λ r m a h. true-of (finite (coordinate d cs r a)) (to-times (λ i. T (finite (coordinate d cs i a))) l (good-finite a h l g) r m);
+        λ r m a h. of-T (finite (coordinate d cs r a)) (to-times (λ i. T (finite (coordinate d cs i a))) l (good-finite a h l g) r m);
   }
-    where
-      true-of : (b : Bool) → T b → b ≡ true
-      true-of true t = refl

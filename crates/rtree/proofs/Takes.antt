@@ -11,6 +11,7 @@ use lib.Dec.{T, ltb}
 use lib.ListN.{length, getD, take}
 use lib.Ieee.{Float, nan, isNan, lt, eq}
 use lib.Ieee.Scale.{finite}
+use Rattle.lists.proofs.Tests.{of-T}
 use Rattle.lists.specs.Lists.{keep, count, from, put, part}
 use Rattle.lists.specs.Ascends.{Ascends}
 use Rattle.lists.proofs.All.{all-at, all-take, all-mem}
@@ -28,9 +29,6 @@ use Rattle.order.specs.Rows.{GoodRows}
 use Rattle.rtree.specs.Near.{Spot, apart, keyOf, sooner, Found}
 use Rattle.rtree.proofs.Placed.{sortedOf, first-kept, count-sorted, all-sorted, ordered-take, ordered-sorted}
 use Rattle.rtree.proofs.Scans.{Scanned, scan-none, scan-more, scan-full}
-
-is-true : (b : Bool) → T b → b ≡ true
-is-true true h = refl
 
 or-none : (b c : Bool) → b || (c && false) ≡ b
 or-none true c = refl
@@ -56,8 +54,8 @@ module _ (d : ℕ) (cs : List Float) (active : List ℕ) (row : ℕ) (rows : Goo
   known : (p : ℕ) → p < n → isNan (apart d cs active row p) ≡ false
   known p h =
       let g = all-at (λ i. i * d + d ≤ length cs) active p 0 (rows .inside) h in
-      rows-known d cs row (getD active p 0) (λ a k. is-true (finite (getD cs (row * d + a) nan)) (rows .finite-all (row * d + a) (omega arith)))
-      (λ a k. is-true (finite (getD cs (getD active p 0 * d + a) nan)) (rows .finite-all (getD active p 0 * d + a) (omega arith)))
+      rows-known d cs row (getD active p 0) (λ a k. of-T (finite (getD cs (row * d + a) nan)) (rows .finite-all (row * d + a) (omega arith)))
+      (λ a k. of-T (finite (getD cs (getD active p 0 * d + a) nan)) (rows .finite-all (getD active p 0 * d + a) (omega arith)))
 
   pub sooner-or : (p q : ℕ) → p < n → q < n → (p ≡ q → ⊥) → (bef p q ≡ true) ⊎ (bef q p ≡ true)
   unfolding sooner
