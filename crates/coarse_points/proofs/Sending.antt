@@ -79,13 +79,6 @@ module _ (d : ℕ) (cs : List Float) where
   as-sents : (own : List (List ℕ)) (ws : List ℕ) → zipWith (sentBy d cs) own ws ≡ sents d cs (map wrap own) ws
   as-sents own ws = zip-map (λ (q : Domain) (w : ℕ). sentBy d cs (q .rows) w) wrap own ws
 
-  -- THE LAW that the level cites: what the leaves of a cut send up
-  pub sent-up-leaves : (active : List ℕ) (qs : List Domain) (size : ℕ)
-      → sentUp d cs active (map (λ q. q .rows) qs) size ≡ nextActive active (sentLists d cs qs size)
-  unfolding sentUp sentLists
-  sent-up-leaves active qs size =
-      rw (map-map length (λ (q : Domain). q .rows) qs, ← zip-map (sentBy d cs) (λ (q : Domain). q .rows) qs (quotas (map (λ (q : Domain). length (q .rows)) qs) size))
-
   -- quotas within the leaves' sizes: own rows, none twice
   module _ (own : List (List ℕ)) (ws : List ℕ) (within : (i : ℕ) → i < length own → getD ws i 0 ≤ getD (map length own) i 0) where
     pub sent-times : Once (joined own) → (r : ℕ) → times r (joined (zipWith (sentBy d cs) own ws)) ≤ times r (joined own)

@@ -104,10 +104,6 @@ module _ (d : ℕ) (cs : List Float) where
   unfolding All leavesOf
   leaves-all P f g leaf active h = queue-all P f g leaf (2 * length active) (rootDomain d cs active ∷ []) (h, tt)
 
-  pub leaves-good : (leaf : ℕ) (active : List ℕ) → Good d cs active → All (λ q. Good d cs (q .rows)) (leavesOf d cs leaf active)
-  unfolding rootDomain
-  leaves-good leaf active g = leaves-all (λ q. Good d cs (q .rows)) left-good right-good leaf active g
-
   pub leaves-ascend : (leaf : ℕ) (active : List ℕ) → Ascends active → All (λ q. Ascends (q .rows)) (leavesOf d cs leaf active)
   unfolding rootDomain
   leaves-ascend leaf active h = leaves-all (λ q. Ascends (q .rows)) left-ascends right-ascends leaf active h

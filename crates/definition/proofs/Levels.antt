@@ -27,10 +27,6 @@ module _ (active : List ℕ) (sent : List (List ℕ)) where
   unfolding nextActive
   next-short = omega (arith, length-keep (λ i. member i (joined sent)) active, count-len (λ i. member i (joined sent)) active)
 
-  pub next-ascends : Ascends active → Ascends (nextActive active sent)
-  unfolding nextActive
-  next-ascends up = ascends-keep (λ i. member i (joined sent)) active up
-
   pub next-good : (d : ℕ) (cs : List Float) → Good d cs active → Good d cs (nextActive active sent)
   next-good d cs g = good-part d cs active (nextActive active sent) g next-times
 

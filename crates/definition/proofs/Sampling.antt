@@ -86,9 +86,6 @@ module _ (d : ℕ) (cs : List Float) (rows : List ℕ) where
     sample-own wanted seed h l m =
         more-own (wanted - 1) (seed ∷ []) (times-more rows [] seed (λ r. omega (arith, times-nil r)) m (times-nil seed)) (omega arith)
 
-    pub sample-once : (wanted seed : ℕ) → 1 ≤ wanted → wanted ≤ length rows → 0 < times seed rows → Once (sample d cs rows wanted seed)
-    sample-once wanted seed h l m r = omega (arith, sample-own wanted seed h l m r, once r)
-
     -- what a leaf sends up are its own rows, each at most once
     pub sent-own : (quota : ℕ) → quota ≤ length rows → (r : ℕ) → times r (sentBy d cs rows quota) ≤ times r rows
     unfolding sentBy

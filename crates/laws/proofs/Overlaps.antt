@@ -47,10 +47,6 @@ module _ (d : ℕ) (cs : List Float) (active : List ℕ) (g : Good d cs active) 
       all-map (λ (e : Near). length (e .taken) ≤ suc neighbours) (nearOf d cs neighbours active) active
       (from-times (λ i. length (nearest d cs neighbours active i) ≤ suc neighbours) active (λ i h. omega (arith, nearest-length neighbours i h)))
 
-pub nearest-ascends : (d : ℕ) (cs : List Float) (neighbours : ℕ) (active : List ℕ) (i : ℕ) → Ascends active → Ascends (nearest d cs neighbours active i)
-unfolding nearest
-nearest-ascends d cs neighbours active i up = first-ascends (rowsSq d cs i) (suc neighbours) active up
-
 -- ---- what a leaf borrows
 module _ (nears : List Near) (active own : List ℕ) where
   -- no more than what each taker gives and gets

@@ -2,4 +2,3 @@
 pub mod Domains
 pub mod Boxes
 pub mod Turns
-pub mod Facts

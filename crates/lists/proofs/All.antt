@@ -26,15 +26,6 @@ module _ {A : Type 0} (P : A → Type 0) where
   all-right [] ys h = h
   all-right (x ∷ xs) ys h = all-right xs ys (h .1)
 
-  -- ---- one more element
-  pub all-nil : All P []
-  unfolding All
-  all-nil = tt
-
-  pub all-snoc : (xs : List A) (x : A) → All P xs → P x → All P (xs ++ x ∷ [])
-  unfolding All
-  all-snoc xs x h g = all-append xs (x ∷ []) h (g, tt)
-
   -- ---- what is kept, and a stretch
   pub all-keep : (p : A → Bool) (l : List A) → All P l → All P (keep p l)
   unfolding All keep

@@ -57,10 +57,6 @@ unfolding Ascends All
 ascends-append [] ys h g k = g
 ascends-append (x ∷ xs) ys h g k = (all-append (λ y. x < y) xs ys (h .0) (k .0), ascends-append xs ys (h .1) g (k .1))
 
-pub ascends-snoc : (xs : List ℕ) (y : ℕ) → Ascends xs → All (λ x. x < y) xs → Ascends (xs ++ y ∷ [])
-unfolding Ascends All
-ascends-snoc xs y h k = ascends-append xs (y ∷ []) h (tt, tt) (all-imp (λ x. x < y) (λ x. All (λ z. x < z) (y ∷ [])) xs (λ x q. (q, tt)) k)
-
 -- a map that keeps the order of the elements
 pub ascends-map : (f : ℕ → ℕ) (l : List ℕ) → ((a b : ℕ) → List·Memᴰ a l → List·Memᴰ b l → a < b → f a < f b) → Ascends l → Ascends (map f l)
 unfolding Ascends
@@ -85,17 +81,6 @@ unfolding Ascends
 ascends-by-index [] f = tt
 ascends-by-index (x ∷ l) f =
     (all-by-index (λ y. x < y) l 0 (λ i h. f 0 (suc i) (omega arith) (omega arith)), ascends-by-index l (λ a b g h. f (suc a) (suc b) (omega arith) (omega arith)))
-
--- the order of two elements is that of their indices
-pub ascends-order : (l : List ℕ) (a b : ℕ) → Ascends l → a < length l → b < length l → ltb (getD l a 0) (getD l b 0) ≡ ltb a b
-ascends-order l a b up h g = elim (decLt a b) [
-  | yes s ↦ lt-ltb (getD l a 0) (getD l b 0) (ascends-at l a b up s g) ∙ sym (lt-ltb a b s)
-  | no s ↦ le-ltb (getD l a 0) (getD l b 0) (back s (decLt b a)) ∙ sym (le-ltb a b (omega arith))
-]
-  where
-    back : (a < b → ⊥) → Dec (b < a) → getD l b 0 ≤ getD l a 0
-    back s (yes t) = omega (arith, ascends-at l b a up t h)
-    back s (no t) = let e : b ≡ a = omega arith in omega (arith, ap (λ (k : ℕ). getD l k 0) e)
 
 pub ascends-same : (l : List ℕ) (a b : ℕ) → Ascends l → a < length l → b < length l → getD l a 0 ≡ getD l b 0 → a ≡ b
 ascends-same l a b up h g e = elim (decLt a b) [
@@ -145,9 +130,6 @@ ascends-once (x ∷ l) h z = elim (ℕ-discrete x z) [
   | yes e ↦ rw (← e) (omega (arith, times-one x l, none-above l x (h .0)))
   | no n ↦ omega (arith, times-other z x l n, ascends-once l (h .1) z)
 ]
-
-pub from-once : (a n : ℕ) → Once (from a n)
-from-once a n = ascends-once (from a n) (ascends-from a n)
 
 -- ---- a strictly ascending list is no longer than one with all its members
 pub ascends-short : (xs ys : List ℕ) → Ascends xs → ((z : ℕ) → List·Memᴰ z xs → List·Memᴰ z ys) → length xs ≤ length ys

@@ -43,9 +43,6 @@ module _ {A : Type 0} (better : A → A → Bool) where
       go true = k .0
       go false = h
 
-  pub best-mem : (x : A) (ys : List A) → List·Memᴰ (best better x ys) (x ∷ ys)
-  best-mem x ys = best-in (λ z. List·Memᴰ z (x ∷ ys)) x ys (List·Memᴰ·head refl) (all-of (λ z. List·Memᴰ z (x ∷ ys)) ys (λ z m. List·Memᴰ·tail m))
-
   -- ---- an element that is better than those before it, and that none behind it is better than, is the best
   pub best-stays : (x : A) (ys : List A) → All (λ z. better z x ≡ false) ys → best better x ys ≡ x
   unfolding best All

@@ -48,9 +48,6 @@ module _ {A : Type 0} where
   pub count-halves : (p : A → Bool) (n : ℕ) (l : List A) → count p (take n l) + count p (drop n l) ≡ count p l
   count-halves p n l = sym (count-append p (take n l) (drop n l)) ∙ ap (count p) (take-append-drop n l)
 
-  pub count-front : (p : A → Bool) (n : ℕ) (l : List A) → count p (take n l) ≤ count p l
-  count-front p n l = omega (arith, count-halves p n l)
-
   -- ---- one more element: the turn of a loop that counts
   pub count-snoc : (p : A → Bool) (xs : List A) (x : A) → count p (xs ++ x ∷ []) ≡ count p xs + oneIf (p x)
   count-snoc p xs x = omega (arith, count-append p xs (x ∷ []), count-cons p x [], count-nil p)

@@ -94,12 +94,6 @@ count-below-yes p n e = count-below-suc p n ∙ rw e
 pub count-below-no : (p : ℕ → Bool) (n : ℕ) → p n ≡ false → count p (from 0 (n + 1)) ≡ count p (from 0 n)
 count-below-no p n e = count-below-suc p n ∙ rw (e, add-zero)
 
-pub keep-below-yes : (p : ℕ → Bool) (n : ℕ) → p n ≡ true → keep p (from 0 (n + 1)) ≡ keep p (from 0 n) ++ n ∷ []
-keep-below-yes p n e = ap (keep p) (below-suc n) ∙ keep-in p (from 0 n) n e
-
-pub keep-below-no : (p : ℕ → Bool) (n : ℕ) → p n ≡ false → keep p (from 0 (n + 1)) ≡ keep p (from 0 n)
-keep-below-no p n e = ap (keep p) (below-suc n) ∙ keep-out p (from 0 n) n e
-
 pub count-below-same : (p q : ℕ → Bool) (n : ℕ) → ((i : ℕ) → i < n → p i ≡ q i) → count p (from 0 n) ≡ count q (from 0 n)
 count-below-same p q n h = count-same p q (from 0 n) (λ i m. h i (omega (arith, from-mem 0 n m)))
 
@@ -108,9 +102,6 @@ module _ {B : Type 0} (f : ℕ → B) where
   pub map-from-nil : (a : ℕ) → map f (from a 0) ≡ []
   unfolding from
   map-from-nil a = refl
-
-  pub map-from-snoc : (a n : ℕ) → map f (from a (suc n)) ≡ map f (from a n) ++ f (a + n) ∷ []
-  map-from-snoc a n = ap (map f) (from-snoc a n) ∙ map-snoc f (from a n) (a + n)
 
   pub map-below-snoc : (n : ℕ) → map f (from 0 (suc n)) ≡ map f (from 0 n) ++ f n ∷ []
   map-below-snoc n = ap (map f) (below-snoc n) ∙ map-snoc f (from 0 n) n
@@ -135,21 +126,12 @@ module _ {B : Type 0} (f : ℕ → B) where
       let e : suc (a + b) ≡ a + suc b = omega arith in
       ap (λ (l : List B). f (a + b) ∷ l) (ap (λ (k : ℕ). map f (from k n)) e ∙ map-from-shift a (suc b) n)
 
-  -- a loop that writes them one after the other into a stretch, or from the front on
-  pub put-below-suc : (h : List B) (at k n : ℕ) (v : B) → at + n ≡ k → k < length h → v ≡ f n
-      → set (put h at (map f (from 0 n))) k v ≡ put h at (map f (from 0 (n + 1)))
-  put-below-suc h at k n v e g w =
-      put-snoc h at (map f (from 0 n)) v k (omega (arith, length-map-from 0 n)) g ∙ ap (put h at) (rw w (sym (map-below-suc n)))
-
   pub front-below-suc : (n : ℕ) (d : List B) (v z : B) → n < length d → v ≡ f n → set (map f (from 0 n) ++ drop n d) n v ≡ map f (from 0 (n + 1)) ++ drop (n + 1) d
   front-below-suc n d v z h e =
       rw (map-below-suc n, e, add-one n)
       (ap (λ (t : List B). set (map f (from 0 n) ++ t) n (f n)) (drop-cons d n z h)
       ∙ set-at (map f (from 0 n)) (getD d n z) (drop (suc n) d) (f n) n (length-map-from 0 n)
       ∙ simp append-assoc)
-
-  pub length-front-below : (n : ℕ) (d : List B) → n ≤ length d → length (map f (from 0 n) ++ drop n d) ≡ length d
-  length-front-below n d h = omega (arith, length-append (map f (from 0 n)) (drop n d), length-map-from 0 n, length-drop n d)
 
   -- one more entry of a list that agrees with f so far
   pub noted-more : (l : List B) (i : ℕ) (v d : B) → i < length l → ((j : ℕ) → j < i → getD l j d ≡ f j) → v ≡ f i → (j : ℕ) → j < i + 1 → getD (set l i v) j d ≡ f j
@@ -188,9 +170,6 @@ module _ {A : Type 0} where
 
   pub count-at : (p : A → Bool) (l : List A) (d : A) → count p l ≡ count (λ i. p (getD l i d)) (from 0 (length l))
   count-at p l d = ap (count p) (list-at l d) ∙ count-map (λ i. getD l i d) p (from 0 (length l))
-
-  pub part-at : (l : List A) (at n : ℕ) (d : A) → at + n ≤ length l → part l at n ≡ map (λ i. getD l (at + i) d) (from 0 n)
-  part-at l at n d h = list-below (λ i. getD l (at + i) d) (part l at n) n d (length-part l at n h) (λ i g. getD-part l at n i d g)
 
 -- ---- two lists of one length, taken together element by element
 pub zip-from-at : {A B C : Type 0} (f : ℕ → C) (g : A → B → C) (x : A) (z : B) (xs : List A) (ws : List B) (j : ℕ) → length ws ≡ length xs

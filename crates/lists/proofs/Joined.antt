@@ -51,9 +51,6 @@ module _ {A : Type 0} where
   count-joined p [] = refl
   count-joined p (l ∷ ls) = omega (arith, count-append p l (joined ls), count-joined p ls)
 
-  pub count-joined-append : (p : A → Bool) (xs ys : List (List A)) → count p (joined (xs ++ ys)) ≡ count p (joined xs) + count p (joined ys)
-  count-joined-append p xs ys = ap (count p) (joined-append xs ys) ∙ count-append p (joined xs) (joined ys)
-
   pub keep-joined : (p : A → Bool) (ls : List (List A)) → keep p (joined ls) ≡ joined (map (keep p) ls)
   unfolding joined keep
   keep-joined p [] = refl
@@ -67,10 +64,6 @@ module _ {A : Type 0} where
   joined-at (l ∷ ls) rest zero h = rw append-assoc (take-at l (joined ls ++ rest) (length l) refl)
   joined-at (l ∷ ls) rest (suc k) h =
       rw (append-assoc, drop-append-add l (joined ls ++ rest) (total (map length (take k ls)))) (joined-at ls rest k (omega arith))
-
-  pub part-joined : (ls : List (List A)) (k : ℕ) → k < length ls → part (joined ls) (total (map length (take k ls))) (length (getD ls k [])) ≡ getD ls k []
-  part-joined ls k h =
-      ap (λ (r : List A). part r (total (map length (take k ls))) (length (getD ls k []))) (sym (append-nil (joined ls))) ∙ joined-at ls [] k h
 
   pub joined-fits : (ls : List (List A)) (k : ℕ) → k < length ls → total (map length (take k ls)) + length (getD ls k []) ≤ length (joined ls)
   unfolding joined total

@@ -107,17 +107,3 @@ module _ (p : ℕ → Bool) where
 
   pub least-holds : (b : ℕ) → least p b < b → p (least p b) ≡ true
   least-holds b h = leastFrom-holds 0 b (omega arith)
-
-  -- some number below the bound passes, so the least does; or none does
-  pub least-passes : (b j : ℕ) → j < b → p j ≡ true → p (least p b) ≡ true
-  least-passes b j h t = least-holds b (omega (arith, least-le b j t))
-
-  pub least-none : (b : ℕ) → ((j : ℕ) → j < b → p j ≡ false) → least p b ≡ b
-  least-none b h = least-is b b (omega arith) h (λ l. absurd (omega arith))
-
--- two tests that agree below the bound
-pub least-same : (p q : ℕ → Bool) (b : ℕ) → ((j : ℕ) → j < b → p j ≡ q j) → least p b ≡ least q b
-least-same p q b h =
-    least-is p b (least q b) (least-high q b)
-    (λ j l. h j (omega (arith, least-high q b)) ∙ least-before q b j l)
-    (λ l. h (least q b) l ∙ least-holds q b l)

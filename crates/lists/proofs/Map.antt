@@ -22,10 +22,6 @@ module _ {A B : Type 0} (f : A → B) where
   drop-map (suc n) [] = refl
   drop-map (suc n) (x ∷ l) = drop-map n l
 
-  pub part-map : (l : List A) (at n : ℕ) → part (map f l) at n ≡ map f (part l at n)
-  unfolding part
-  part-map l at n = ap (take n) (drop-map at l) ∙ take-map n (drop at l)
-
   -- ---- by index
   pub getD-map-in : (l : List A) (i : ℕ) (d : A) (e : B) → i < length l → getD (map f l) i e ≡ f (getD l i d)
   getD-map-in [] i d e h = absurd (not-suc-le-zero h)

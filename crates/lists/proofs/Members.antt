@@ -44,9 +44,6 @@ module _ {A : Type 0} where
   mem-any p (y ∷ l) {x} (List·Memᴰ·head e) h = or-left (p y) (anyOf p l) (subst (λ (z : A). p z ≡ true) e h)
   mem-any p (y ∷ l) (List·Memᴰ·tail m) h = or-right (p y) (anyOf p l) (mem-any p l m h)
 
-  pub any-none : (p : A → Bool) (l : List A) → ((x : A) → List·Memᴰ x l → p x ≡ false) → anyOf p l ≡ false
-  any-none p l h = fails (anyOf p l) (λ e. let r = any-mem p l e in clash (r .2) (h (r .0) (r .1)))
-
   pub none-any : (p : A → Bool) (l : List A) {x : A} → anyOf p l ≡ false → List·Memᴰ x l → p x ≡ false
   none-any p l {x} h m = fails (p x) (λ e. clash (mem-any p l m e) h)
 
@@ -85,17 +82,6 @@ module _ {A : Type 0} where
       let m = keep-mem p l (mem-at (keep p l) k d h) in
       let r = mem-index l d (m .0) in
       (r .0, r .1, sym (r .2), rw (r .2) (m .1))
-
-  -- ---- a stretch
-  pub take-mem : (n : ℕ) (l : List A) {x : A} → List·Memᴰ x (take n l) → List·Memᴰ x l
-  take-mem n l {x} m = subst (λ (r : List A). List·Memᴰ x r) (take-append-drop n l) (mem-left (take n l) (drop n l) m)
-
-  pub drop-mem : (n : ℕ) (l : List A) {x : A} → List·Memᴰ x (drop n l) → List·Memᴰ x l
-  drop-mem n l {x} m = subst (λ (r : List A). List·Memᴰ x r) (take-append-drop n l) (mem-right (take n l) (drop n l) m)
-
-  pub part-mem : (l : List A) (at n : ℕ) {x : A} → List·Memᴰ x (part l at n) → List·Memᴰ x l
-  unfolding part
-  part-mem l at n m = drop-mem at l (take-mem n (drop at l) m)
 
   -- ---- lists of lists
   pub joined-mem : (ls : List (List A)) {x : A} → List·Memᴰ x (joined ls) → (l : List A) × List·Memᴰ l ls × List·Memᴰ x l
@@ -136,11 +122,6 @@ not-member l z h = fails (member z l) (λ e. h (member-mem l z e))
 
 pub member-not : (l : List ℕ) (z : ℕ) → member z l ≡ false → List·Memᴰ z l → ⊥
 member-not l z h m = clash (mem-member l z m) h
-
--- two lists of numbers with the same members have the same test
-pub member-same : (xs ys : List ℕ) (z : ℕ) → (List·Memᴰ z xs → List·Memᴰ z ys) → (List·Memᴰ z ys → List·Memᴰ z xs) → member z xs ≡ member z ys
-member-same xs ys z f g =
-    same-test (member z xs) (member z ys) (λ e. mem-member ys z (f (member-mem xs z e))) (λ e. mem-member xs z (g (member-mem ys z e)))
 
 -- ---- a list about its element at i
 module _ {A : Type 0} (l : List A) (i : ℕ) (d : A) (h : i < length l) where

@@ -17,10 +17,6 @@ module _ {A : Type 0} where
   unfolding put
   put-zero l xs = rw zero-add
 
-  pub put-cons : (x : A) (l : List A) (at : ℕ) (xs : List A) → put (x ∷ l) (suc at) xs ≡ x ∷ put l at xs
-  unfolding put
-  put-cons x l at xs = rw suc-add
-
   pub put-nil : (l : List A) (at : ℕ) → put l at [] ≡ l
   unfolding put
   put-nil l at = rw (add-zero, append-nil) (take-append-drop at l)
@@ -244,23 +240,9 @@ module _ {A : Type 0} where
   unfolding part
   part-lent l at n = let e : at + n - at ≡ n = omega arith in rw e
 
-  pub part-past : (p q : List A) (i n : ℕ) → part (p ++ q) (length p + i) n ≡ part q i n
-  unfolding part
-  part-past p q i n = rw (drop-append-add p q i)
-
-  -- ---- a store into a stretch that was written before
-  pub set-inside : (l : List A) (at : ℕ) (xs : List A) (i : ℕ) (x : A) → at + length xs ≤ length l → i < length xs → set (put l at xs) (at + i) x ≡ put l at (set xs i x)
-  set-inside l at xs i x h g =
-      set-put (put l at xs) (at + i) x (omega (arith, length-put l at xs h))
-      ∙ put-inside l at xs i (x ∷ []) (omega arith) (omega arith)
-      ∙ ap (put l at) (sym (set-put xs i x g))
-
   -- ---- the turn of a loop that copies a stretch of l to `to`: into another list, and within l to a stretch apart
   pub copy-none : (out : List A) (to : ℕ) (l : List A) (at : ℕ) → out ≡ put out to (part l at 0)
   copy-none out to l at = rw (part-nil l at) (sym (put-nil out to))
-
-  pub copy-length : (out : List A) (to : ℕ) (l : List A) (at i : ℕ) → at + i ≤ length l → to + i ≤ length out → length (put out to (part l at i)) ≡ length out
-  copy-length out to l at i h g = length-put out to (part l at i) (omega (arith, length-part l at i h))
 
   pub copy-more : (out : List A) (to : ℕ) (l : List A) (at i : ℕ) (d : A) → at + i < length l → to + i < length out
       → set (put out to (part l at i)) (to + i) (getD l (at + i) d) ≡ put out to (part l at (i + 1))

@@ -104,14 +104,6 @@ module _ {A : Type 0} (before : A → A → Bool) (irr : (a : A) → before a a 
   pub ahead-lt : (xs : List A) (p q : A) → List·Memᴰ p xs → before p q ≡ true → ahead before xs p < ahead before xs q
   ahead-lt xs p q m h = under xs q p m h
 
-  -- two elements with as many before them are not one before the other
-  pub ahead-same : (xs : List A) (p q : A) → List·Memᴰ p xs → ahead before xs p ≡ ahead before xs q → before p q ≡ false
-  ahead-same xs p q m e = go (before p q) refl
-    where
-      go : (t : Bool) → before p q ≡ t → t ≡ false
-      go true h = absurd (omega (arith, under xs q p m h))
-      go false h = refl
-
 next-same : (a t : ℕ) → (a ≡ t → ⊥) → ltb a (suc t) ≡ ltb a t
 next-same a t n = elim (decLe t a) [
   | yes h ↦ le-ltb a (suc t) (above-of h) ∙ sym (le-ltb a t h)
@@ -123,20 +115,6 @@ next-same a t n = elim (decLe t a) [
 
 -- ---- elements by a number w: the order of the ranks is that of the numbers
 module _ {A : Type 0} (w : A → ℕ) where
-  pub rank-order : (l : List A) (x y : A) → List·Memᴰ x l
-      → ltb (count (λ z. ltb (w z) (w x)) l) (count (λ z. ltb (w z) (w y)) l) ≡ ltb (w x) (w y)
-  rank-order l x y m = elim (decLe (w y) (w x)) [
-    | yes h ↦
-        le-ltb (count (λ z. ltb (w z) (w x)) l) (count (λ z. ltb (w z) (w y)) l)
-        (count-le (λ z. ltb (w z) (w y)) (λ z. ltb (w z) (w x)) l (λ z n e. lt-ltb (w z) (w x) (omega (arith, ltb-true (w z) (w y) e))))
-        ∙ sym (le-ltb (w x) (w y) h)
-    | no h ↦
-        lt-ltb (count (λ z. ltb (w z) (w x)) l) (count (λ z. ltb (w z) (w y)) l)
-        (count-lt (λ z. ltb (w z) (w x)) (λ z. ltb (w z) (w y)) l (λ z n e. lt-ltb (w z) (w y) (omega (arith, ltb-true (w z) (w x) e)))
-        x m (le-ltb (w x) (w x) (omega arith)) (lt-ltb (w x) (w y) (omega arith)))
-        ∙ sym (lt-ltb (w x) (w y) (omega arith))
-  ]
-
   -- ---- a count that jumps from t to t + 1
   pub jump : (t : ℕ) (l : List A) (d : A) → count (λ z. ltb (w z) t) l < count (λ z. ltb (w z) (suc t)) l → (k : ℕ) × (k < length l) × (w (getD l k d) ≡ t)
   unfolding count

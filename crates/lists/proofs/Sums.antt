@@ -127,12 +127,6 @@ sum-below-same n f g h = sum-same f g (from 0 n) (λ j m. h j (omega (arith, fro
 pub sum-below-le : (n : ℕ) (f g : ℕ → ℕ) → ((j : ℕ) → j < n → f j ≤ g j) → total (map f (from 0 n)) ≤ total (map g (from 0 n))
 sum-below-le n f g h = sum-le f g (from 0 n) (λ j m. h j (omega (arith, from-mem 0 n m)))
 
-pub sum-below-none : (n : ℕ) (f : ℕ → ℕ) → ((j : ℕ) → j < n → f j ≡ 0) → total (map f (from 0 n)) ≡ 0
-sum-below-none n f h = sum-none f (from 0 n) (λ j m. h j (omega (arith, from-mem 0 n m)))
-
-pub sum-below-const : (n k : ℕ) → total (map (λ j. k) (from 0 n)) ≡ n * k
-sum-below-const n k = sum-const k (from 0 n) ∙ ap (λ (m : ℕ). m * k) (length-from 0 n)
-
 pub sum-below-part : (i n : ℕ) (f : ℕ → ℕ) → i ≤ n → total (map f (from 0 i)) ≤ total (map f (from 0 n))
 sum-below-part i n f h =
     let d = n - i in

@@ -39,15 +39,6 @@ module _ {d : ℕ} {cs : List Float} where
         few = g .few;
       }
 
-  pub good-take : (n : ℕ) (l : List ℕ) → GoodRows d cs l → GoodRows d cs (take n l)
-  good-take n l g =
-      record {
-        ascends = ascends-take n l (g .ascends);
-        inside = all-take (λ i. i * d + d ≤ length cs) n l (g .inside);
-        finite-all = g .finite-all;
-        few = g .few;
-      }
-
   pub good-part : (l : List ℕ) (at n : ℕ) → GoodRows d cs l → GoodRows d cs (part l at n)
   good-part l at n g =
       record {

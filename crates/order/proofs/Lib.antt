@@ -3,4 +3,3 @@ pub mod Good
 pub mod Ranks
 pub mod Turns
 pub mod Cutting
-pub mod Results
