@@ -7,12 +7,13 @@ use native.Mathlib.Nat.{not-suc-le-zero}
 use native.Mathlib.Omega.{arith}
 use lib.ListN.{length, getD, take, length-map}
 use lib.Seq.{take-all}
-use lib.Ieee.{Float, nan, lt}
+use lib.Ieee.{Float, nan}
 use Rattle.lists.specs.Lists.{best, from}
 use Rattle.lists.proofs.Map.{getD-map-in}
 use Rattle.lists.proofs.Best.{best-yes, best-no, best-map, best-from-yes, best-from-no}
 use Rattle.definition.specs.Points.{leastOf, greatestOf}
 use Rattle.definition.specs.Keys.{Key, keyed, nearestRow, farthestRow}
+use Rattle.utils.specs.Sides.{beyond}
 
 either : {A : Type 0} (b : Bool) (x : A) → cond b x x ≡ x
 either true x = refl
@@ -52,16 +53,16 @@ again : (better : Float → Float → Bool) (x : Float) (xs : List Float) → be
 unfolding best
 again better x xs = ap (λ (y : Float). best better y xs) (either (better x x) x)
 
-pub least-end : (f : ℕ → Float) (rows : List ℕ) (t : ℕ) (m : Float) → 0 < length rows → length rows ≤ t → m ≡ bestIn lt f rows t → m ≡ leastOf (map f rows)
-unfolding leastOf
-least-end f [] t m p h e = absurd (not-suc-le-zero p)
-least-end f (r ∷ rows) t m p h e = e ∙ whole lt f (r ∷ rows) t h ∙ again lt (f r) (map f rows)
-
-pub greatest-end : (f : ℕ → Float) (rows : List ℕ) (t : ℕ) (m : Float) → 0 < length rows → length rows ≤ t → m ≡ bestIn (λ y z. lt z y) f rows t → m ≡ greatestOf (map f rows)
-unfolding greatestOf
-greatest-end f [] t m p h e = absurd (not-suc-le-zero p)
-greatest-end f (r ∷ rows) t m p h e =
-    e ∙ whole (λ y z. lt z y) f (r ∷ rows) t h ∙ again (λ y z. lt z y) (f r) (map f rows)
+pub bound-end : (upper : Bool) (f : ℕ → Float) (rows : List ℕ) (t : ℕ) (m : Float) → 0 < length rows → length rows ≤ t
+    → m ≡ bestIn (beyond upper) f rows t → m ≡ cond upper greatestOf leastOf (map f rows)
+unfolding leastOf greatestOf
+bound-end upper f [] t m p h e = absurd (not-suc-le-zero p)
+bound-end upper f (r ∷ rows) t m p h e =
+    e ∙ whole (beyond upper) f (r ∷ rows) t h ∙ again (beyond upper) (f r) (map f rows) ∙ side upper
+  where
+    side : (u : Bool) → best (beyond u) (f r) (map f rows) ≡ cond u greatestOf leastOf (f r ∷ map f rows)
+    side true = refl
+    side false = refl
 
 -- ---- the place of the best value: x is the best of the first i places, of n
 pub record Place (better : ℕ → ℕ → Bool) (n x i : ℕ) : Type 0 where
@@ -103,31 +104,27 @@ module _ {better : ℕ → ℕ → Bool} {n : ℕ} where
         }
 
 -- the definition's choice by keys is the one by places
-module _ (v : ℕ → Float) where
+module _ (upper : Bool) (v : ℕ → Float) where
   keyOf : ℕ → Key
   unfolding keyed
   keyOf i = record { value = v i; row = i }
 
-  nearest-is : (n : ℕ) → nearestRow (keyed v (from 0 n)) ≡ best (λ a b. lt (v a) (v b)) 0 (from 1 (n - 1))
-  unfolding nearestRow keyed from best keyOf
-  nearest-is zero = refl
-  nearest-is (suc n) =
+  choice-is : (n : ℕ) → cond upper farthestRow nearestRow (keyed v (from 0 n)) ≡ best (λ a b. beyond upper (v a) (v b)) 0 (from 1 (n - 1))
+  unfolding nearestRow farthestRow keyed from best keyOf
+  choice-is zero = none upper
+    where
+      none : (u : Bool) → cond u farthestRow nearestRow [] ≡ 0
+      none true = refl
+      none false = refl
+  choice-is (suc n) =
       let e : suc n - 1 ≡ n = omega arith in
-      rw e (ap (λ (k : Key). k .row) (best-map keyOf (λ q r. lt (q .value) (r .value)) 0 (from 1 n)))
+      rw e (side upper ∙ ap (λ (k : Key). k .row) (best-map keyOf (λ q r. beyond upper (q .value) (r .value)) 0 (from 1 n)))
+    where
+      side : (u : Bool) → cond u farthestRow nearestRow (keyOf 0 ∷ map keyOf (from 1 n)) ≡ (best (λ q r. beyond u (q .value) (r .value)) (keyOf 0) (map keyOf (from 1 n))) .row
+      side true = refl
+      side false = refl
 
-  farthest-is : (n : ℕ) → farthestRow (keyed v (from 0 n)) ≡ best (λ a b. lt (v b) (v a)) 0 (from 1 (n - 1))
-  unfolding farthestRow keyed from best keyOf
-  farthest-is zero = refl
-  farthest-is (suc n) =
-      let e : suc n - 1 ≡ n = omega arith in
-      rw e (ap (λ (k : Key). k .row) (best-map keyOf (λ q r. lt (r .value) (q .value)) 0 (from 1 n)))
-
-  pub nearest-end : {n x i : ℕ} → Place (λ a b. lt (v a) (v b)) n x i → n ≤ i → x ≡ nearestRow (keyed v (from 0 n))
-  nearest-end {n} {x} {i} p h =
+  pub place-end : {n x i : ℕ} → Place (λ a b. beyond upper (v a) (v b)) n x i → n ≤ i → x ≡ cond upper farthestRow nearestRow (keyed v (from 0 n))
+  place-end {n} {x} {i} p h =
       let e : i - 1 ≡ n - 1 = omega (arith, p .least, p .most) in
-      p .is ∙ ap (λ (k : ℕ). best (λ a b. lt (v a) (v b)) 0 (from 1 k)) e ∙ sym (nearest-is n)
-
-  pub farthest-end : {n x i : ℕ} → Place (λ a b. lt (v b) (v a)) n x i → n ≤ i → x ≡ farthestRow (keyed v (from 0 n))
-  farthest-end {n} {x} {i} p h =
-      let e : i - 1 ≡ n - 1 = omega (arith, p .least, p .most) in
-      p .is ∙ ap (λ (k : ℕ). best (λ a b. lt (v b) (v a)) 0 (from 1 k)) e ∙ sym (farthest-is n)
+      p .is ∙ ap (λ (k : ℕ). best (λ a b. beyond upper (v a) (v b)) 0 (from 1 k)) e ∙ sym (choice-is n)

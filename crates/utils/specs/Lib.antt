@@ -1,2 +1,3 @@
 -- What the contracts of the helpers cite beside the definition.
 pub mod Boxes
+pub mod Sides

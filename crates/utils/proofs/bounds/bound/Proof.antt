@@ -1,59 +1,56 @@
--- `utils::upper_bound` meets its contract. The invariant: the bound is that of the rows passed. Assumes nothing.
+-- `utils::bound` meets its contract. The invariant: the bound is that of the rows passed. Assumes nothing.
 use mathlib.Core.Path.{_≡_, _∙_}
 use mathlib.Core.Logic.{⊎-elim}
-use mathlib.Core.Bool.{Bool}
 use mathlib.Core.List.{List}
 use Prim.Native.Nat.{ℕ, _-_, _≤_}
 use native.Mathlib.Omega.{arith}
 use borrow.Author.Needs.{needs}
 use lib.ListN.{length}
-use lib.Ieee.{Float, lt}
+use lib.Ieee.{Float}
 use Rattle.definition.specs.Points.{coordinate}
+use Rattle.utils.specs.Sides.{beyond}
 use Rattle.utils.proofs.Turns.{row-in}
-use Rattle.utils.proofs.Firsts.{bestIn, bound-first, bound-yes, bound-no, greatest-end}
-use Rattle.utils.proofs.bounds.upper_bound.Statement.{statement}
-use Rattle.utils.proofs.bounds.upper_bound.Tie as tie
+use Rattle.utils.proofs.Firsts.{bestIn, bound-first, bound-yes, bound-no, bound-end}
+use Rattle.utils.proofs.bounds.bound.Statement.{statement}
+use Rattle.utils.proofs.bounds.bound.Tie as tie
 
 abbrev along : ℕ → List Float → ℕ → ℕ → Float
 along d cs a i = coordinate d cs i a
 
-abbrev better : Float → Float → Bool
-better y z = lt z y
-
 abbrev Inv-loop : tie.InvT-loop
-Inv-loop points dimensions axis rows bound₀ t₀ bound t =
-    (1 ≤ t) × (t ≤ length rows) × (bound ≡ bestIn better (along dimensions points axis) rows t)
+Inv-loop points dimensions axis rows upper best₀ t₀ best t =
+    (1 ≤ t) × (t ≤ length rows) × (best ≡ bestIn (beyond upper) (along dimensions points axis) rows t)
 
 abbrev μ-loop : tie.MeasureT-loop
-μ-loop points dimensions axis rows bound₀ t₀ bound t = length rows - t
+μ-loop points dimensions axis rows upper best₀ t₀ best t = length rows - t
 
-shared-slice-read-bound : tie.Need-shared-slice-read-bound Inv-loop μ-loop
-shared-slice-read-bound c = search needs
+shared-slice-read-best : tie.Need-shared-slice-read-best Inv-loop μ-loop
+shared-slice-read-best c = search needs
 
-mul-bound : tie.Need-mul-bound Inv-loop μ-loop
-mul-bound c =
-    let s = c .before in
+mul-best : tie.Need-mul-best Inv-loop μ-loop
+mul-best c =
+    let s = c .before .before .before in
     omega (arith, row-in (s .args .points .now) (s .args .rows .now) (s .args .dimensions) 0 (s .pre .2) (s .pre .1))
 
-add-bound : tie.Need-add-bound Inv-loop μ-loop
-add-bound c =
-    let s = c .before in
+add-best : tie.Need-add-best Inv-loop μ-loop
+add-best c =
+    let s = c .before .before .before in
     omega (arith, row-in (s .args .points .now) (s .args .rows .now) (s .args .dimensions) 0 (s .pre .2) (s .pre .1))
 
-mul-bound-2 : tie.Need-mul-bound-2 Inv-loop μ-loop
-mul-bound-2 c =
-    let s = c .before in
+mul-best-2 : tie.Need-mul-best-2 Inv-loop μ-loop
+mul-best-2 c =
+    let s = c .before .before .before in
     omega (arith, row-in (s .args .points .now) (s .args .rows .now) (s .args .dimensions) 0 (s .pre .2) (s .pre .1))
 
-shared-slice-read-bound-2 : tie.Need-shared-slice-read-bound-2 Inv-loop μ-loop
-shared-slice-read-bound-2 c =
-    let s = c .before .before in
+shared-slice-read-best-2 : tie.Need-shared-slice-read-best-2 Inv-loop μ-loop
+shared-slice-read-best-2 c =
+    let s = c .before .before .before .before in
     omega (arith, row-in (s .args .points .now) (s .args .rows .now) (s .args .dimensions) 0 (s .pre .2) (s .pre .1))
 
 loop-holds : tie.Need-loop-holds Inv-loop μ-loop
 loop-holds c =
-    let s = c .before .before in
-    (omega arith, s .pre .1, bound-first better (along (s .args .dimensions) (s .args .points .now) (s .args .axis)) (s .args .rows .now) (s .pre .1))
+    let s = c .before .before .before .before in
+    (omega arith, s .pre .1, bound-first (beyond (s .args .upper)) (along (s .args .dimensions) (s .args .points .now) (s .args .axis)) (s .args .rows .now) (s .pre .1))
 
 mul-v : tie.Need-mul-v Inv-loop μ-loop
 mul-v c = search needs
@@ -63,23 +60,26 @@ shared-slice-read-v c = search needs
 
 mul-v-2 : tie.Need-mul-v-2 Inv-loop μ-loop
 mul-v-2 c =
-    let s = c .before .before .before .before .before in
+    let s = c .before .before .before .before .before .before .before in
     omega (arith, row-in (s .args .points .now) (s .args .rows .now) (s .args .dimensions) (c .before .before .loop .t) (s .pre .2) (c .before .loop-test .taken))
 
 add-v : tie.Need-add-v Inv-loop μ-loop
 add-v c =
-    let s = c .before .before .before .before .before in
+    let s = c .before .before .before .before .before .before .before in
     omega (arith, row-in (s .args .points .now) (s .args .rows .now) (s .args .dimensions) (c .before .before .loop .t) (s .pre .2) (c .before .loop-test .taken))
 
 mul-v-3 : tie.Need-mul-v-3 Inv-loop μ-loop
 mul-v-3 c =
-    let s = c .before .before .before .before .before in
+    let s = c .before .before .before .before .before .before .before in
     omega (arith, row-in (s .args .points .now) (s .args .rows .now) (s .args .dimensions) (c .before .before .loop .t) (s .pre .2) (c .before .loop-test .taken))
 
 shared-slice-read-v-2 : tie.Need-shared-slice-read-v-2 Inv-loop μ-loop
 shared-slice-read-v-2 c =
-    let s = c .before .before .before .before .before .before in
+    let s = c .before .before .before .before .before .before .before .before in
     omega (arith, row-in (s .args .points .now) (s .args .rows .now) (s .args .dimensions) (c .before .before .before .loop .t) (s .pre .2) (c .before .before .loop-test .taken))
+
+is-beyond-requires : tie.Need-is-beyond-requires Inv-loop μ-loop
+is-beyond-requires c κs = search needs
 
 add-t : tie.Need-add-t Inv-loop μ-loop
 add-t c = search needs
@@ -89,34 +89,35 @@ loop-less c = search needs
 
 loop-again : tie.Need-loop-again Inv-loop μ-loop
 loop-again c =
-    let s = c .before .before .before .before in
-    let a = s .before .before .before .args in
+    let s = c .before .before .before .before .before in
+    let a = s .before .before .before .before .before .args in
     let f = along (a .dimensions) (a .points .now) (a .axis) in
-    let h = c .before .before .before .loop-test .taken in
+    let h = c .before .before .before .before .loop-test .taken in
     let e = s .loop .inv .2 in
+    let r = c .before .is-beyond .ensures in
     ⊎-elim
-    (λ w. (omega arith, omega arith, w .1 ∙ bound-yes better f (a .rows .now) (s .loop .t) (s .loop .bound) h e (w .0 .taken)))
-    (λ w. (omega arith, omega arith, w .1 ∙ bound-no better f (a .rows .now) (s .loop .t) (s .loop .bound) h e (w .0 .left)))
+    (λ w. (omega arith, omega arith, w .1 ∙ bound-yes (beyond (a .upper)) f (a .rows .now) (s .loop .t) (s .loop .best) h e (rw r at (w .0 .taken))))
+    (λ w. (omega arith, omega arith, w .1 ∙ bound-no (beyond (a .upper)) f (a .rows .now) (s .loop .t) (s .loop .best) h e (rw r at (w .0 .left))))
     (c .if1 .came)
 
 returns : tie.Need-returns Inv-loop μ-loop
 returns c =
-    let s = c .before .before .before .before in
+    let s = c .before .before .before .before .before .before in
     let a = s .args in
     let f = along (a .dimensions) (a .points .now) (a .axis) in
-    greatest-end f (a .rows .now) (c .before .loop .t) (c .before .loop .bound) (s .pre .1) (c .loop-test .left) (c .before .loop .inv .2)
+    bound-end (a .upper) f (a .rows .now) (c .before .loop .t) (c .before .loop .best) (s .pre .1) (c .loop-test .left) (c .before .loop .inv .2)
 
-pub upper-bound-spec : {M : Type 1} → statement M
-upper-bound-spec =
+pub bound-spec : {M : Type 1} → statement M
+bound-spec =
     tie.close
     (tie.spec
     Inv-loop
     μ-loop
-    shared-slice-read-bound
-    mul-bound
-    add-bound
-    mul-bound-2
-    shared-slice-read-bound-2
+    shared-slice-read-best
+    mul-best
+    add-best
+    mul-best-2
+    shared-slice-read-best-2
     loop-holds
     mul-v
     shared-slice-read-v
@@ -124,6 +125,7 @@ upper-bound-spec =
     add-v
     mul-v-3
     shared-slice-read-v-2
+    is-beyond-requires
     add-t
     loop-less
     loop-again
