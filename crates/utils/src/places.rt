@@ -5,7 +5,7 @@ ghost use lib.ListN.{length, getD};
 ghost use lib.Ieee.{nan};
 ghost use Rattle.lists.specs.Lists.{from};
 ghost use Rattle.definition.specs.Keys.{keyed, nearestRow, farthestRow};
-use super::bounds::is_beyond;
+use extents::is_beyond;
 
 // The place of the greatest value, or of the least where `upper` is false.
 fn place(values: &[f64], upper: bool) -> usize

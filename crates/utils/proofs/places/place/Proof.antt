@@ -5,7 +5,7 @@ use native.Mathlib.Omega.{arith}
 use borrow.Author.Needs.{needs}
 use lib.ListN.{length, getD}
 use lib.Ieee.{nan}
-use Rattle.utils.specs.Sides.{beyond}
+use Rattle.extents.specs.Sides.{beyond}
 use Rattle.utils.proofs.Firsts.{Place, place-first, place-yes, place-no, place-end}
 use Rattle.utils.proofs.places.place.Statement.{statement}
 use Rattle.utils.proofs.places.place.Tie as tie
