@@ -58,8 +58,8 @@ fn sample_leaf(
     if quota < 1 {
         return;
     }
-    let seed = common::sampling_seed(points, dimensions, rows);
-    common::sample_rows(points, dimensions, rows, quota, seed, out, at, least);
+    let seed = seed::sampling_seed(points, dimensions, rows);
+    rounds::sample_rows(points, dimensions, rows, quota, seed, out, at, least);
 }
 
 // Writes what the leaf at the domain row r sends up from `at` on: `quota` of its own rows.

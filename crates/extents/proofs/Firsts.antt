@@ -2,22 +2,16 @@
 use mathlib.Core.Path.{_≡_, refl, sym, ap, _∙_}
 use mathlib.Core.Bool.{Bool, true, false, cond}
 use mathlib.Core.List.{List, [], _∷_, map}
-use Prim.Native.Nat.{ℕ, _+_, _*_, _≤_, _<_}
+use Prim.Native.Nat.{ℕ, _+_, _≤_, _<_}
 use native.Mathlib.Nat.{not-suc-le-zero}
 use lib.ListN.{length, getD, take, length-map}
 use lib.Seq.{take-all}
 use lib.Ieee.{Float, nan}
 use Rattle.lists.specs.Lists.{best}
-use Rattle.lists.specs.Ascends.{All}
-use Rattle.lists.proofs.All.{all-at}
 use Rattle.lists.proofs.Map.{getD-map-in}
 use Rattle.lists.proofs.Best.{best-yes, best-no}
 use Rattle.definition.specs.Points.{leastOf, greatestOf}
 use Rattle.extents.specs.Sides.{beyond}
-
--- a row of the list that is read
-pub row-in : (cs : List Float) (rows : List ℕ) (d t : ℕ) → All (λ i. i * d + d ≤ length cs) rows → t < length rows → getD rows t 0 * d + d ≤ length cs
-row-in cs rows d t h k = all-at (λ i. i * d + d ≤ length cs) rows t 0 h k
 
 either : {A : Type 0} (b : Bool) (x : A) → cond b x x ≡ x
 either true x = refl

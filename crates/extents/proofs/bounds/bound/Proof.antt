@@ -9,7 +9,8 @@ use lib.ListN.{length}
 use lib.Ieee.{Float}
 use Rattle.definition.specs.Points.{coordinate}
 use Rattle.extents.specs.Sides.{beyond}
-use Rattle.extents.proofs.Firsts.{row-in, bestIn, bound-first, bound-yes, bound-no, bound-end}
+use Rattle.extents.proofs.Rows.{row-fits}
+use Rattle.extents.proofs.Firsts.{bestIn, bound-first, bound-yes, bound-no, bound-end}
 use Rattle.extents.proofs.bounds.bound.Statement.{statement}
 use Rattle.extents.proofs.bounds.bound.Tie as tie
 
@@ -29,22 +30,22 @@ shared-slice-read-best c = search needs
 mul-best : tie.Need-mul-best Inv-loop μ-loop
 mul-best c =
     let s = c .before .before .before in
-    omega (arith, row-in (s .args .points .now) (s .args .rows .now) (s .args .dimensions) 0 (s .pre .2) (s .pre .1))
+    omega (arith, row-fits (s .args .dimensions) (s .args .points .now) (s .args .rows .now) (s .pre .2) 0 (s .pre .1))
 
 add-best : tie.Need-add-best Inv-loop μ-loop
 add-best c =
     let s = c .before .before .before in
-    omega (arith, row-in (s .args .points .now) (s .args .rows .now) (s .args .dimensions) 0 (s .pre .2) (s .pre .1))
+    omega (arith, row-fits (s .args .dimensions) (s .args .points .now) (s .args .rows .now) (s .pre .2) 0 (s .pre .1))
 
 mul-best-2 : tie.Need-mul-best-2 Inv-loop μ-loop
 mul-best-2 c =
     let s = c .before .before .before in
-    omega (arith, row-in (s .args .points .now) (s .args .rows .now) (s .args .dimensions) 0 (s .pre .2) (s .pre .1))
+    omega (arith, row-fits (s .args .dimensions) (s .args .points .now) (s .args .rows .now) (s .pre .2) 0 (s .pre .1))
 
 shared-slice-read-best-2 : tie.Need-shared-slice-read-best-2 Inv-loop μ-loop
 shared-slice-read-best-2 c =
     let s = c .before .before .before .before in
-    omega (arith, row-in (s .args .points .now) (s .args .rows .now) (s .args .dimensions) 0 (s .pre .2) (s .pre .1))
+    omega (arith, row-fits (s .args .dimensions) (s .args .points .now) (s .args .rows .now) (s .pre .2) 0 (s .pre .1))
 
 loop-holds : tie.Need-loop-holds Inv-loop μ-loop
 loop-holds c =
@@ -60,22 +61,22 @@ shared-slice-read-v c = search needs
 mul-v-2 : tie.Need-mul-v-2 Inv-loop μ-loop
 mul-v-2 c =
     let s = c .before .before .before .before .before .before .before in
-    omega (arith, row-in (s .args .points .now) (s .args .rows .now) (s .args .dimensions) (c .before .before .loop .t) (s .pre .2) (c .before .loop-test .taken))
+    omega (arith, row-fits (s .args .dimensions) (s .args .points .now) (s .args .rows .now) (s .pre .2) (c .before .before .loop .t) (c .before .loop-test .taken))
 
 add-v : tie.Need-add-v Inv-loop μ-loop
 add-v c =
     let s = c .before .before .before .before .before .before .before in
-    omega (arith, row-in (s .args .points .now) (s .args .rows .now) (s .args .dimensions) (c .before .before .loop .t) (s .pre .2) (c .before .loop-test .taken))
+    omega (arith, row-fits (s .args .dimensions) (s .args .points .now) (s .args .rows .now) (s .pre .2) (c .before .before .loop .t) (c .before .loop-test .taken))
 
 mul-v-3 : tie.Need-mul-v-3 Inv-loop μ-loop
 mul-v-3 c =
     let s = c .before .before .before .before .before .before .before in
-    omega (arith, row-in (s .args .points .now) (s .args .rows .now) (s .args .dimensions) (c .before .before .loop .t) (s .pre .2) (c .before .loop-test .taken))
+    omega (arith, row-fits (s .args .dimensions) (s .args .points .now) (s .args .rows .now) (s .pre .2) (c .before .before .loop .t) (c .before .loop-test .taken))
 
 shared-slice-read-v-2 : tie.Need-shared-slice-read-v-2 Inv-loop μ-loop
 shared-slice-read-v-2 c =
     let s = c .before .before .before .before .before .before .before .before in
-    omega (arith, row-in (s .args .points .now) (s .args .rows .now) (s .args .dimensions) (c .before .before .before .loop .t) (s .pre .2) (c .before .before .loop-test .taken))
+    omega (arith, row-fits (s .args .dimensions) (s .args .points .now) (s .args .rows .now) (s .pre .2) (c .before .before .before .loop .t) (c .before .before .loop-test .taken))
 
 is-beyond-requires : tie.Need-is-beyond-requires Inv-loop μ-loop
 is-beyond-requires c κs = search needs
