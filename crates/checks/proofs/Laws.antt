@@ -5,18 +5,17 @@ use mathlib.Core.List.{List, [], _∷_, _++_}
 use Prim.Native.Nat.{ℕ, zero, suc, _+_, _*_, _/_, _%_, _^_, _≤_, _<_}
 use native.Mathlib.Omega.{arith}
 use native.Mathlib.Nat.{mul-le-mul, mul-le-mul-left, le-trans, pow-le-pow-right, zero-div, zero-mod, zero-mul, div-add-mod'}
-use borrow.Author.Tests.{le-leb, lt-leb, lt-ltb, le-ltb, eq-eqb, ne-eqb, leb-true, leb-false, ltb-false, eqb-true}
+use borrow.Author.Tests.{le-leb, lt-leb, lt-ltb, le-ltb, eq-eqb, ne-eqb, leb-true, leb-false}
 use lib.Dec.{leb, ltb, eqb}
 use lib.ListN.{length}
 use lib.Ieee.{Float}
 use lib.Ieee.Scale.{finite}
 use Rattle.lists.specs.Lists.{anyOf, least}
-use Rattle.lists.proofs.Tests.{clash}
-use Rattle.lists.proofs.Least.{least-before, least-holds, least-le, least-high}
+use Rattle.lists.proofs.Least.{least-before, least-holds}
 use Rattle.definition.specs.Levels.{threshold, reductions}
-use Rattle.definition.specs.Tree.{Settings, pointCount, mostFine}
+use Rattle.definition.specs.Tree.{Settings, pointCount}
 use Rattle.definition.specs.Packed.{BuildSizes, buildStated}
-use Rattle.definition.specs.Refusals.{Refusal, Test, Verdict, accepted, refused, on, verdict, mostPoints, mostNeighbours, zeroThreshold, firstBad, notFinite, coordinatesMissing, settingsTests, pointsTests, buildTests, buildVerdict, buildShort}
+use Rattle.definition.specs.Refusals.{Test, Verdict, accepted, refused, on, verdict, mostPoints, mostNeighbours, zeroThreshold, firstBad, notFinite, coordinatesMissing, settingsTests, pointsTests, buildTests, buildVerdict, buildShort}
 use Rattle.checks.specs.Verdicts.{numbered}
 
 -- ---- groups of tests

@@ -15,17 +15,15 @@ use Rattle.lists.proofs.Times.{times, Once, members-length, members-times}
 use Rattle.lists.proofs.Ascends.{ascends-keep, ascends-once, ascends-unique-count, once-ascends}
 use Rattle.lists.proofs.Same.{Same, same-times, same-once}
 use Rattle.lists.proofs.Map.{zip-map}
-use Rattle.definition.specs.Quotas.{quotas}
 use Rattle.definition.specs.Sampling.{seedOf, sample, sentBy}
 use Rattle.definition.specs.Cut.{Domain}
-use Rattle.definition.specs.Tree.{sentLists, nextActive}
 use Rattle.definition.proofs.Cuts.{rowsOf, sizesOf}
 use Rattle.definition.proofs.Sampling.{sent-length}
 use Rattle.definition.proofs.Next.{sents, sents-times}
 use Rattle.heap.specs.Heap.{Sorted}
 use Rattle.owners.specs.Own.{ownAt, readOwn}
 use Rattle.owners.proofs.Read.{read-length, read-at}
-use Rattle.coarse_points.specs.Sent.{sentUp, sentAt}
+use Rattle.coarse_points.specs.Sent.{sentAt}
 
 -- ---- one leaf
 module _ (d : ℕ) (cs : List Float) (rows : List ℕ) where

@@ -1,8 +1,8 @@
 // The rows that the leaves of a level send up: the active rows of the next level.
 ghost use mathlib.Core.Path.{_≡_};
 ghost use mathlib.Core.Bool.{true};
-ghost use Prim.Native.Nat.{ℕ, _+_, _-_, _*_, _≤_, _<_};
-ghost use lib.ListN.{length, getD, take};
+ghost use Prim.Native.Nat.{_+_, _-_, _*_, _≤_, _<_};
+ghost use lib.ListN.{length, take};
 ghost use lib.Ieee.Scale.{finite};
 ghost use Rattle.lists.specs.Lists.{total, part, put};
 ghost use Rattle.lists.specs.Ascends.{All, Ascends};
@@ -58,8 +58,8 @@ fn sample_leaf(
     if quota < 1 {
         return;
     }
-    let seed = common::sampling_seed(points, dimensions, rows);
-    common::sample_rows(points, dimensions, rows, quota, seed, out, at, least);
+    let seed = seed::sampling_seed(points, dimensions, rows);
+    rounds::sample_rows(points, dimensions, rows, quota, seed, out, at, least);
 }
 
 // Writes what the leaf at the domain row r sends up from `at` on: `quota` of its own rows.

@@ -1,9 +1,2 @@
--- Laws that the proofs of sampling cite.
-mod Orders
-mod Passes
-mod Roots
-mod Alike
-mod Picking
-mod Choosing
-mod Nearest
+-- Laws that the proof of the public call cites.
 mod Refusing

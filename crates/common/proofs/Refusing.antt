@@ -23,8 +23,8 @@ use Rattle.definition.specs.Packed.{sampleStated}
 use Rattle.definition.specs.Refusals.{Test, on, Verdict, accepted, refused, verdict, wrongDimension, coordinatesMissing, firstBad, notFinite, mostPoints, sampleShort, sampleVerdict}
 use Rattle.definition.specs.Sampling.{sample}
 use Rattle.definition.specs.Outcome.{answered, numberOf, placeOf, valueOf, written, listAfter, RoomAfter, sampleCall, sampleAnswer, sampleOutput}
-use Rattle.common.specs.declared.call.SampleAnswer.{SampleAnswer}
-use Rattle.common.specs.declared.call.SampleAnswer.the-variants.{Sampled, Refused}
+use Rattle.common.specs.declared.SampleAnswer.{SampleAnswer}
+use Rattle.common.specs.declared.SampleAnswer.the-variants.{Sampled, Refused}
 use Rattle.common.specs.Answers.{lentSizes, shown, answerOf}
 
 -- ---- 10: the first coordinate that is not finite stands inside the list where there is one

@@ -3,8 +3,8 @@ use Prim.Native.Nat.{ℕ}
 use Rattle.definition.specs.Packed.{SampleSizes}
 use Rattle.definition.specs.Refusals.{Verdict, accepted, refused}
 use Rattle.definition.specs.Outcome.{Answer}
-use Rattle.common.specs.declared.call.SampleAnswer.{SampleAnswer}
-use Rattle.common.specs.declared.call.SampleAnswer.the-variants.{Sampled, Refused}
+use Rattle.common.specs.declared.SampleAnswer.{SampleAnswer}
+use Rattle.common.specs.declared.SampleAnswer.the-variants.{Sampled, Refused}
 
 -- the rows written, or a refusal's number and place with the value 0
 unfoldable pub answerOf : SampleAnswer → Answer ℕ

@@ -1,3 +1,2 @@
--- What the contracts of sampling cite beside the definition.
-pub mod Rounds
+-- What the contracts of the public call cite beside the definition.
 pub mod Answers

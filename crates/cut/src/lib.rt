@@ -20,8 +20,8 @@ fn extent_on(points: &[f64], dimensions: usize, axis: usize, rows: &[usize]) -> 
     requires { ⌜ (axis < dimensions) × (0 < length (now rows)) × All (λ i. i * dimensions + dimensions ≤ length (now points)) (now rows) ⌝ }
     ensures { λ r. ⌜ r ≡ extent dimensions (now (points .entry)) (now (rows .entry)) axis ⌝ }
 {
-    utils::upper_bound(points, dimensions, axis, rows)
-        - utils::lower_bound(points, dimensions, axis, rows)
+    extents::upper_bound(points, dimensions, axis, rows)
+        - extents::lower_bound(points, dimensions, axis, rows)
 }
 
 // The first axis with the longest extent of the rows.

@@ -1,24 +1,23 @@
 -- What an accepted call has for its levels, and what they come to. Assumes nothing.
-use mathlib.Core.Path.{_≡_, refl, sym, ap, subst, _∙_}
+use mathlib.Core.Path.{_≡_, sym, ap, subst, _∙_}
 use mathlib.Core.Bool.{Bool, true}
 use mathlib.Core.Logic.{⊎-elim}
-use mathlib.Core.List.{List, [], _∷_, _++_, map}
-use Prim.Native.Nat.{ℕ, zero, suc, _+_, _-_, _*_, _/_, _≤_, _<_}
+use mathlib.Core.List.{List, _∷_, map}
+use Prim.Native.Nat.{ℕ, zero, suc, _+_, _-_, _*_, _≤_, _<_}
 use native.Mathlib.Omega.{arith}
 use native.Mathlib.Nat.{mul-le-mul, mul-le-mul-right, mul-assoc, suc-mul}
 use lib.Dec.{T}
 use lib.ListN.{length, getD, replicate}
 use lib.Ieee.{Float, nan}
 use lib.Ieee.Scale.{finite}
-use Rattle.lists.specs.Lists.{put, part, from}
-use Rattle.lists.specs.Ascends.{All}
+use Rattle.lists.specs.Lists.{put, from}
 use Rattle.lists.proofs.Tests.{le-or-lt}
-use Rattle.lists.proofs.Put.{put-zero, length-put, part-put-same, put-again}
+use Rattle.lists.proofs.Put.{put-again}
 use Rattle.lists.proofs.From.{length-from, all-from}
 use Rattle.lists.proofs.Ascends.{ascends-from}
 use Rattle.definition.specs.Levels.{threshold, reductions}
-use Rattle.definition.specs.Tree.{Settings, Level, coarseLevel, mostFine, levelsFrom, levelsOver, levels, pointCount}
-use Rattle.definition.specs.Packed.{BuildSizes, buildStated, packedPoints, countsOf}
+use Rattle.definition.specs.Tree.{Settings, Level, mostFine, levelsFrom, levelsOver, levels, pointCount}
+use Rattle.definition.specs.Packed.{buildStated, packedPoints, countsOf}
 use Rattle.definition.specs.Outcome.{TreeLists, lentSizes}
 use Rattle.definition.proofs.Steps.{fineOf, nextOf, levels-last, levels-end, levels-more}
 use Rattle.laws.proofs.Accepted.{Accepted}
@@ -26,7 +25,6 @@ use Rattle.definition.proofs.Sizes.{ends}
 use Rattle.level.specs.Fine.{Given}
 use Rattle.tree.specs.After.{levelSettings, levelsAfter, Space}
 use Rattle.tree.proofs.Fine.{first-points, levels-few}
-use Rattle.order.specs.Rows.{GoodRows}
 use Rattle.ddm.proofs.Counts.{per-level}
 
 -- ---- the levels depend on three of the settings

@@ -1,5 +1,5 @@
 -- The outcome of a build, from the verdict on it. Assumes nothing.
-use mathlib.Core.Path.{_≡_, refl, sym, ap, _∙_}
+use mathlib.Core.Path.{_≡_, refl}
 use mathlib.Core.List.{List}
 use Prim.Native.Nat.{ℕ}
 use lib.ListN.{length}
@@ -7,9 +7,9 @@ use lib.Ieee.{Float}
 use Rattle.lists.specs.Lists.{put}
 use Rattle.lists.proofs.Put.{put-zero}
 use Rattle.definition.specs.Tree.{Settings, levels}
-use Rattle.definition.specs.Packed.{Counts, countsOf, packedPoints, packedOwn, packedDomains, packedBoxes, packedBorrowed}
+use Rattle.definition.specs.Packed.{countsOf, packedPoints, packedOwn, packedDomains, packedBoxes, packedBorrowed}
 use Rattle.definition.specs.Refusals.{Refusal, Verdict, accepted, refused}
-use Rattle.definition.specs.Outcome.{Answer, TreeLists, numberOf, placeOf, valueOf, written, listAfter, treeListsAfter, RoomAfter, zeroCounts, buildCall, buildAnswer, buildLists}
+use Rattle.definition.specs.Outcome.{TreeLists, numberOf, placeOf, valueOf, written, listAfter, treeListsAfter, RoomAfter, zeroCounts, buildCall, buildAnswer, buildLists}
 
 -- ---- working room
 pub room-refused : {A : Type 0} (v : Verdict) (r : Refusal) (l : List A) → v ≡ refused r → RoomAfter v l l

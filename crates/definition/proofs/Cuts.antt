@@ -7,7 +7,7 @@ use Prim.Native.Nat.{ℕ, zero, suc, _+_, _-_, _*_, _/_, _≤_, _<_}
 use native.Mathlib.Omega.{arith}
 use lib.Dec.{eqb}
 use lib.ListN.{length}
-use lib.Ieee.{Float, nan, inf, fin, lt, isNan}
+use lib.Ieee.{Float, nan, inf, fin, isNan}
 use lib.Ieee.Scale.{finite}
 use Rattle.lists.specs.Lists.{joined, total, from}
 use Rattle.lists.specs.Ascends.{All, Ascends}
@@ -18,7 +18,7 @@ use Rattle.lists.proofs.Best.{best-in}
 use Rattle.lists.proofs.Times.{times, Once}
 use Rattle.lists.proofs.Joined.{count-joined}
 use Rattle.lists.proofs.Sums.{sum-nil, sum-cons, sum-two}
-use Rattle.definition.specs.Points.{coordinate, extent}
+use Rattle.definition.specs.Points.{coordinate}
 use Rattle.definition.specs.Cut.{Domain, rootDomain, longestAxis, cutKeys, leftOf, rightOf, queueLeaves, leavesOf}
 use Rattle.definition.proofs.Halves.{Sortable, first-length, other-length, length-keyed, parts-times, first-ascends, other-ascends, sortable}
 use Rattle.definition.proofs.Steps.{queue-empty, queue-wait, queue-done}

@@ -7,11 +7,10 @@ use native.Mathlib.Nat.{suc-mul}
 use lib.ListN.{length}
 use lib.Ieee.{Float}
 use Rattle.lists.specs.Lists.{member, total, joined}
-use Rattle.lists.specs.Ascends.{All, Ascends}
+use Rattle.lists.specs.Ascends.{All}
 use Rattle.lists.proofs.Tests.{le-or-lt}
 use Rattle.lists.proofs.Count.{count-len, length-keep}
 use Rattle.lists.proofs.Times.{times, times-keep-le}
-use Rattle.lists.proofs.Ascends.{ascends-keep}
 use Rattle.lists.proofs.Sums.{sum-cons, sum-nil}
 use Rattle.definition.specs.Tree.{Settings, Level, coarseLevel, nextActive, levelsFrom}
 use Rattle.definition.proofs.Steps.{fineOf, nextOf, sentOf, levels-last, levels-end, levels-more}

@@ -1,10 +1,10 @@
 -- DEMAND 3 OF ONE FINE LEVEL, over the definition's own lists: each field is a line of the demand. crates/demand reads the same out of
 -- the lists that a build hands back. Assumes nothing.
-use mathlib.Core.Path.{_≡_, ap, _∙_, subst}
+use mathlib.Core.Path.{_≡_, subst}
 use mathlib.Core.List.{List, map}
 use Prim.Native.Nat.{ℕ, _≤_, _<_, min}
 use native.Mathlib.Omega.{arith}
-use lib.ListN.{length, getD, length-map}
+use lib.ListN.{length, getD}
 use lib.Ieee.{Float}
 use Rattle.lists.specs.Lists.{joined, total}
 use Rattle.lists.proofs.Map.{getD-map-in}

@@ -1,5 +1,5 @@
 -- Inputs of the tables of examples, and the one name that opens every definition for computing. Assumes nothing.
-use Prim.Native.Nat.{ℕ, zero, suc, _%_, _/_, _*_}
+use Prim.Native.Nat.{ℕ, zero, suc, _%_, _/_}
 use mathlib.Core.List.{List, [], _∷_, _++_, map, zipWith}
 use lib.IntN.{pos}
 use lib.ListN.{replicate}
@@ -7,7 +7,6 @@ use lib.Ieee.{Float, binary64, ofInt, ofBits, toBits, round, size, add, sub, mul
 use Rattle.lists.specs.Lists.{keep, count, anyOf, member, best, leastFrom, total, from, joined, part, put}
 use Rattle.definition.specs.Levels.{fixed}
 use Rattle.definition.specs.Tree.{Settings}
-use Rattle.definition.specs.Packed.{BuildSizes}
 use Rattle.definition.specs.Outcome.{TreeLists}
 use Rattle.definition.specs.Cut.{rootDomain, longestAxis, cutKeys, planeOf, plane, leftOf, rightOf, queueLeaves, leavesOf}
 use Rattle.definition.specs.Keys.{keyed, before, rank, firstRows, otherRows, keyAt, nearestRow, farthestRow}

@@ -1,16 +1,15 @@
 -- Rows that tell the definition from lookalikes that come out wrong, each with the answer that document 01 gives. Each row is
 -- computed. Assumes nothing.
-use Prim.Native.Nat.{ℕ}
 use mathlib.Core.Path.{_≡_, refl}
 use mathlib.Core.List.{List, [], _∷_, map}
 use lib.ListN.{length, replicate}
 use lib.Ieee.{Float, binary64, ofBits}
 use Rattle.lists.specs.Lists.{from}
-use Rattle.definition.specs.Cut.{Domain, leavesOf}
+use Rattle.definition.specs.Cut.{leavesOf}
 use Rattle.definition.specs.Quotas.{quotas}
 use Rattle.definition.specs.Sampling.{seedOf}
 use Rattle.definition.specs.Overlaps.{nearest}
-use Rattle.definition.specs.Tree.{Level, levels}
+use Rattle.definition.specs.Tree.{levels}
 use Rattle.definition.specs.Outcome.{sampleOutput}
 use Rattle.definition.proofs.WorkedSamples.{opened, line, onLine}
 

@@ -1,7 +1,7 @@
 -- Numbers (module 1): IEEE 754 binary64 values, their rounded operations, and the square root. Definitions only.
 -- The finite test is `finite` of lib.Ieee.Scale: neither an infinity nor NaN.
 use Prim.Native.Nat.{ℕ, zero, suc, _+_, _*_, _/_, _^_}
-use mathlib.Core.Bool.{Bool, true, false, cond}
+use mathlib.Core.Bool.{true, false, cond}
 use lib.IntN.{pos}
 use lib.Dec.{leb, eqb}
 use lib.Ieee.{Float, nan, inf, fin, binary64, up, down, size, round, add, sub, mul, div, ofInt, ofBits}

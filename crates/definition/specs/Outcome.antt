@@ -2,10 +2,8 @@
 -- refused calls too. Definitions only.
 use Prim.Native.Nat.{ℕ, _+_}
 use mathlib.Core.Path.{_≡_}
-use mathlib.Core.Bool.{Bool, true, false, cond}
-use mathlib.Core.List.{List, [], _∷_, _++_}
+use mathlib.Core.List.{List, [], _++_}
 use lib.ListN.{length, drop, replicate}
-use lib.Dec.{leb}
 use lib.Ieee.{Float}
 use Rattle.lists.specs.Lists.{from, part}
 use Rattle.definition.specs.Number.{plusZero, squareRoot}
@@ -14,7 +12,7 @@ use Rattle.definition.specs.Quotas.{heldSeats, quotas}
 use Rattle.definition.specs.Sampling.{sample}
 use Rattle.definition.specs.Tree.{Settings, Level, levels, pointCount}
 use Rattle.definition.specs.Packed.{DomainRow, BuildSizes, Counts, countsOf, packedPoints, packedOwn, packedDomains, packedBoxes, packedBorrowed}
-use Rattle.definition.specs.Refusals.{Refusal, Verdict, accepted, refused, buildVerdict, sampleVerdict, sizeVerdict, quotaVerdict, stretchVerdict, rootVerdict}
+use Rattle.definition.specs.Refusals.{Verdict, accepted, refused, buildVerdict, sampleVerdict, sizeVerdict, quotaVerdict, stretchVerdict, rootVerdict}
 
 -- ---- what a call answers, and what becomes of a lent list
 

@@ -1,5 +1,5 @@
 -- The printout, as bytes. Definitions only.
-use Prim.Native.Nat.{ℕ, zero, suc, _+_, _*_, _/_, _%_}
+use Prim.Native.Nat.{ℕ, zero, suc, _+_, _/_, _%_}
 use Prim.Native.String.{String}
 use Prim.Native.Char.{code}
 use mathlib.Core.Bool.{cond}

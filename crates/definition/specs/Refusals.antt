@@ -1,5 +1,5 @@
 -- The refusals, each with its number and place, in the order in which each function tries them. Definitions only.
-use Prim.Native.Nat.{ℕ, zero, suc, _+_, _*_, _%_, _^_}
+use Prim.Native.Nat.{ℕ, suc, _+_, _*_, _%_, _^_}
 use mathlib.Core.Bool.{Bool, false, not, _&&_, _||_, cond}
 use mathlib.Core.List.{List, [], _∷_, _++_}
 use lib.ListN.{length}

@@ -1,6 +1,6 @@
 -- Farthest point sampling (module 5; Gonzalez 1985) of a list of rows, and its seed for a leaf. Definitions only.
 use Prim.Native.Nat.{ℕ, zero, suc, _-_}
-use mathlib.Core.Bool.{Bool, not}
+use mathlib.Core.Bool.{not}
 use mathlib.Core.List.{List, [], _∷_, _++_, map}
 use lib.ListN.{length}
 use lib.Ieee.{Float}

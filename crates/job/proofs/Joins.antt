@@ -1,21 +1,20 @@
 -- From the build's outcome to the text of a job, and from the reader's answer to the printout. Assumes nothing.
-use mathlib.Core.Path.{_≡_, refl, sym, ap, _∙_}
+use mathlib.Core.Path.{_≡_, sym, ap, _∙_}
 use mathlib.Core.Logic.{⊎-elim}
-use mathlib.Core.Bool.{Bool, true, false, cond}
+use mathlib.Core.Bool.{false}
 use Prim.Native.Nat.{ℕ, _+_, _*_, _≤_, _<_}
 use native.Mathlib.Nat.{mul-le-mul, div-le-of-le-mul, mul-comm, le-refl, zero-add}
 use native.Mathlib.Omega.{arith}
-use mathlib.Core.List.{List, [], _∷_}
+use mathlib.Core.List.{List}
 use lib.ListN.{length, take, replicate, length-replicate}
 use lib.Ieee.{Float}
 use borrow.Author.Tests.{le-ltb, lt-ltb}
-use Rattle.lists.specs.Ascends.{All}
 use Rattle.lists.proofs.Put.{put-zero}
 use Rattle.lists.proofs.Tests.{le-or-lt}
 use Rattle.definition.specs.Number.{plusZero}
 use Rattle.definition.specs.Tree as tree
 use Rattle.definition.specs.Packed.{Counts, BuildSizes, buildStated, rowFloats, countsOf, packedPoints, packedOwn, packedBorrowed, packedBoxes, packedDomains}
-use Rattle.definition.specs.Refusals.{Test, Verdict, accepted, refused, verdict, buildShort, buildTests, buildVerdict}
+use Rattle.definition.specs.Refusals.{Verdict, accepted, refused, verdict, buildShort, buildVerdict}
 use Rattle.definition.specs.Outcome.{Answer, numberOf, placeOf, valueOf, written, listAfter, TreeLists, lentSizes, buildCall, buildAnswer, treeListsAfter, buildLists}
 use Rattle.definition.specs.Stream.{job, streamPoints, jobIn}
 use Rattle.definition.specs.Printout.{treeText, refusalText, builtText, jobText, printout}

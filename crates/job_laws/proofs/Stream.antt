@@ -13,7 +13,7 @@ use Rattle.lists.proofs.From.{length-map-from}
 use Rattle.lists.proofs.Tests.{clash, and-fst, and-snd}
 use Rattle.definition.specs.Tree.{Settings}
 use Rattle.definition.specs.Refusals.{wrongDimension}
-use Rattle.job_laws.specs.Sizes.{Kept, KeptBy}
+use Rattle.job_laws.specs.Sizes.{KeptBy}
 use Rattle.definition.specs.Stream.{Job, job, broken, brokenAt, tooLarge, field, coordinatesAt, whole, pointMark, pointSize, settingsMark, settingsSize, policyFits, settingsIn, streamPoints, streamNeighbours, readPoints, held, jobIn}
 
 pub length-coordinates : (d at : ℕ) (bs : List ℕ) → length (coordinatesAt d at bs) ≡ d

@@ -4,3 +4,4 @@ pub mod Shape
 pub mod Overlaps
 pub mod Accepted
 pub mod Fit
+pub mod Choice

@@ -1,23 +1,20 @@
 -- Neighbours and borrowed rows: how many rows each row takes, and how many rows the leaves of a level borrow together. Assumes nothing.
 use mathlib.Core.Path.{_≡_, refl, sym, ap, _∙_}
 use mathlib.Core.Bool.{Bool, true, false, not, _&&_}
-use mathlib.Core.List.{List, map, map-map, List·Memᴰ}
+use mathlib.Core.List.{List, map, map-map}
 use Prim.Native.Nat.{ℕ, suc, _+_, _*_, _≤_, _<_, min}
 use native.Mathlib.Omega.{arith}
 use native.Mathlib.Nat.{mul-le-mul-left, mul-comm, mul-assoc}
 use native.Mathlib.Numerals.{add-one}
-use borrow.Author.Tests.{not-true}
 use lib.Dec.{eqb}
 use lib.ListN.{length, length-map}
 use lib.Ieee.{Float}
 use Rattle.lists.specs.Lists.{oneIf, count, anyOf, member, total, joined}
-use Rattle.lists.specs.Ascends.{All, Ascends}
-use Rattle.lists.proofs.Tests.{clash, and-fst, and-snd, eqb-comm}
+use Rattle.lists.specs.Ascends.{All}
+use Rattle.lists.proofs.Tests.{and-fst, and-snd, eqb-comm}
 use Rattle.lists.proofs.All.{all-mem, all-map}
 use Rattle.lists.proofs.Count.{count-le, count-none, length-keep, count-or-le}
-use Rattle.lists.proofs.Members.{keep-mem, mem-member}
-use Rattle.lists.proofs.Times.{times, Once, from-times, once-keep, members-few}
-use Rattle.lists.proofs.Ascends.{ascends-keep}
+use Rattle.lists.proofs.Times.{times, Once, from-times, members-few}
 use Rattle.lists.proofs.Sums.{sum-le, sum-add, sum-mul, count-any, any-sum, sum-swap, sum-most}
 use Rattle.lists.proofs.Joined.{holders-few}
 use Rattle.definition.specs.Points.{rowsSq}
@@ -26,7 +23,7 @@ use Rattle.definition.specs.Overlaps.{nearest, Near, nearOf, lends, borrowedBy}
 use Rattle.definition.specs.Cut.{Domain, leavesOf}
 use Rattle.definition.specs.Tree.{Leaf, fineLevel}
 use Rattle.laws.proofs.Finite.{rows-known}
-use Rattle.definition.proofs.Halves.{Sortable, first-length, length-keyed, first-ascends, sortable}
+use Rattle.definition.proofs.Halves.{Sortable, first-length, length-keyed, sortable}
 use Rattle.definition.proofs.Cuts.{Good, leaves-times}
 
 -- ---- the rows that an active row takes

@@ -8,8 +8,8 @@ use lib.Seq.{length-take-le}
 use lib.Ieee.{Float}
 use Rattle.lists.specs.Lists.{put}
 use Rattle.lists.proofs.Put.{put-next-at}
-use Rattle.utils.specs.declared.boxes.Extents.{Extents}
-use Rattle.utils.specs.Boxes.{floatsOf}
+use Rattle.extents.specs.declared.boxes.Extents.{Extents}
+use Rattle.extents.specs.Boxes.{floatsOf}
 
 -- what the check knows of an array that a struct holds
 pub three : (l : List Float) → length (map (λ v. v) l) ≡ 3 → length l ≡ 3

@@ -9,18 +9,18 @@ ghost use Rattle.definition.specs.Packed.{rowNumbers, rowFloats};
 ghost use Rattle.definition.specs.Points.{extents};
 ghost use Rattle.definition.specs.Cut.{leavesOf};
 ghost use Rattle.queue.specs.Rows.{withOwn};
-ghost use Rattle.utils.specs.Boxes.{floatsOf};
+ghost use Rattle.extents.specs.Boxes.{floatsOf};
 ghost use Rattle.order.specs.Rows.{GoodRows};
 
 // Writes the boxes of the two halves of a domain to a list, from `at` on. Each is the domain's box with one bound changed: on the
 // left the upper one, on the right the lower one.
-fn write_halves(whole: utils::Extents, axis: usize, plane: f64, out: &mut [f64], at: usize)
+fn write_halves(whole: extents::Extents, axis: usize, plane: f64, out: &mut [f64], at: usize)
     requires { ⌜ (axis < whole .dimensions) × (whole .dimensions ≤ 3) × (at + 2 * rowFloats (whole .dimensions) ≤ length (now out)) ⌝ }
     ensures { λ _. ⌜ now (out .exit) ≡ put (now (out .entry)) at (set (floatsOf whole) (whole .dimensions + axis) plane ++ set (floatsOf whole) axis plane) ⌝ }
 {
     let right = at + 2 * whole.dimensions;
-    utils::write_box(whole.with_upper(axis, plane), out, at);
-    utils::write_box(whole.with_lower(axis, plane), out, right);
+    extents::write_box(whole.with_upper(axis, plane), out, at);
+    extents::write_box(whole.with_lower(axis, plane), out, right);
 }
 
 // Puts the root domain into the working room: the active rows, then its stretch as the first of the queue, and its box.
@@ -39,8 +39,8 @@ fn put_root(
     let n = active.len();
     queue::copy_rows(active, 0, n, work, 0);
     queue::put_pair(work, n, 0, n);
-    utils::write_box(
-        utils::get_pointarray_extents(points, dimensions, active),
+    extents::write_box(
+        extents::get_pointarray_extents(points, dimensions, active),
         held,
         0,
     );
@@ -80,7 +80,7 @@ pub fn leaves(
     while head < tail {
         let start = work[n + 2 * head];
         let count = work[n + 2 * head + 1];
-        let whole = utils::read_box(held, floats * head, dimensions);
+        let whole = extents::read_box(held, floats * head, dimensions);
         let plane = cut::cut_stretch(points, dimensions, work, start, count, 5 * n);
         head += 1;
         if leaf <= count / 2 {

@@ -5,13 +5,12 @@ use mathlib.Core.List.{List, [], _∷_, _++_, map}
 use Prim.Native.Nat.{ℕ, zero, suc, _+_, _*_, _≤_, _<_}
 use native.Mathlib.Omega.{arith}
 use native.Mathlib.Nat.{add-zero}
-use native.Mathlib.Decide.{decLe}
 use lib.ListN.{length, getD, length-append, length-map}
-use Rattle.lists.specs.Lists.{put, part, joined, from}
-use Rattle.lists.proofs.Put.{length-put, put-next-at, put-comm, put-nil, getD-put-in, getD-put-before, getD-put-after, part-part, part-first, part-second}
+use Rattle.lists.specs.Lists.{put, part, joined}
+use Rattle.lists.proofs.Put.{length-put, put-next-at, put-comm, put-nil, getD-put-in, getD-put-before, part-part, part-first, part-second}
 use Rattle.lists.proofs.From.{list-below}
 use Rattle.definition.specs.Tree.{Leaf}
-use Rattle.definition.specs.Packed.{rowNumbers, stretches}
+use Rattle.definition.specs.Packed.{stretches}
 use Rattle.queue.specs.Rows.{withOwn}
 use Rattle.owners.specs.Own.{ownStart, ownCount, ownAt, readOwn}
 use Rattle.overlaps.specs.Borrowed.{withBorrowed}

@@ -1,21 +1,17 @@
 -- How the stages of a level fit together: what one has written, the next one reads; and what all have written is the definition's
 -- level. Assumes nothing.
-use mathlib.Core.Path.{_≡_, refl, sym, ap, subst, _∙_}
+use mathlib.Core.Path.{_≡_, refl, sym, _∙_}
 use mathlib.Core.Logic.{⊎-elim}
-use mathlib.Core.Bool.{Bool, true, false}
-use mathlib.Core.List.{List, [], map, map-map}
-use Prim.Native.Nat.{ℕ, zero, suc, _+_, _*_, _≤_, _<_}
+use mathlib.Core.Bool.{Bool}
+use mathlib.Core.List.{List, map, map-map}
+use Prim.Native.Nat.{ℕ, _+_, _*_, _≤_}
 use native.Mathlib.Omega.{arith}
 use native.Mathlib.Nat.{mul-le-mul}
-use lib.Dec.{T}
-use lib.ListN.{length, getD, length-map}
-use lib.Ieee.{Float, nan}
-use lib.Ieee.Scale.{finite}
+use lib.ListN.{length, length-map}
+use lib.Ieee.{Float}
 use Rattle.coarse_points.proofs.Given.{sends-of}
-use Rattle.lists.specs.Lists.{put, part, joined, keep, count, from}
-use Rattle.lists.specs.Ascends.{All, Ascends}
+use Rattle.lists.specs.Lists.{put, part, joined, keep}
 use Rattle.lists.proofs.Tests.{true-or-false}
-use Rattle.lists.proofs.All.{all-at, all-by-index, all-map}
 use Rattle.lists.proofs.Put.{part-put-same, length-put}
 use Rattle.lists.proofs.Count.{length-keep}
 use Rattle.lists.proofs.Joined.{length-joined}
@@ -26,17 +22,16 @@ use Rattle.definition.specs.Cut.{Domain, leavesOf}
 use Rattle.definition.specs.Overlaps.{nearOf, borrowedBy}
 use Rattle.definition.specs.Quotas.{quotas}
 use Rattle.definition.specs.Sampling.{sentBy}
-use Rattle.definition.specs.Tree.{Leaf, fineLevel, sentLists, nextActive}
+use Rattle.definition.specs.Tree.{Leaf, fineLevel, sentLists}
 use Rattle.definition.specs.Packed.{stretches}
-use Rattle.definition.proofs.Cuts.{Good, leaves-times, leaves-ascend, leaves-sum}
+use Rattle.definition.proofs.Cuts.{Good, leaves-times, leaves-sum}
 use Rattle.laws.proofs.Shape.{leaves-most}
 use Rattle.queue.specs.Rows.{withOwn}
 use Rattle.order.proofs.Good.{good-good}
-use Rattle.owners.specs.Own.{ownStart, ownCount, ownAt, readOwn, Shared, Leaves}
-use Rattle.owners.proofs.Read.{read-at}
+use Rattle.owners.specs.Own.{ownAt, readOwn, Shared, Leaves}
 use Rattle.overlaps.specs.Borrowed.{borrowedLists, withBorrowed, Stage}
 use Rattle.coarse_points.specs.Sent.{sentUp, Sends}
-use Rattle.level.specs.Fine.{leavesAt, nextAt, ownIn, borrowedIn, boxesIn, Given}
+use Rattle.level.specs.Fine.{leavesAt, nextAt, ownIn, Given}
 use Rattle.level.proofs.Columns.{own-length, own-names, own-read, keeps-start, keeps-count, both-columns}
 use Rattle.overlaps.proofs.Columns.{columns-length}
 

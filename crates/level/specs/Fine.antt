@@ -1,13 +1,12 @@
 -- One fine level over its active rows, by short names; what it asks. Definitions only.
 use Prim.Native.Nat.{ℕ, _+_, _*_, _≤_}
-use mathlib.Core.Path.{_≡_}
 use mathlib.Core.List.{List, map}
 use lib.ListN.{length}
 use lib.Ieee.{Float}
-use Rattle.lists.specs.Lists.{put, joined}
+use Rattle.lists.specs.Lists.{joined}
 use Rattle.definition.specs.Cut.{leavesOf}
-use Rattle.definition.specs.Tree.{Leaf, Level, fineLevel, sentLists, nextActive}
-use Rattle.definition.specs.Packed.{stretches, rowNumbers, rowFloats}
+use Rattle.definition.specs.Tree.{Leaf, fineLevel, sentLists, nextActive}
+use Rattle.definition.specs.Packed.{rowNumbers, rowFloats}
 use Rattle.definition.specs.Refusals.{mostPoints, mostNeighbours}
 use Rattle.order.specs.Rows.{GoodRows}
 

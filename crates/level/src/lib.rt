@@ -1,6 +1,6 @@
 // One fine level: the leaves of the active rows, what they borrow, and the rows that they send up.
 ghost use mathlib.Core.Path.{_≡_};
-ghost use Prim.Native.Nat.{_+_, _*_, _≤_, _<_};
+ghost use Prim.Native.Nat.{_+_, _*_, _≤_};
 ghost use lib.ListN.{length};
 ghost use Rattle.lists.specs.Lists.{put, part};
 ghost use Rattle.definition.specs.Packed.{stretches, rowNumbers, rowFloats};

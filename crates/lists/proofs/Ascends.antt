@@ -1,5 +1,5 @@
 -- Strictly ascending lists: of what is kept, of stretches, by index, and that its members make such a list. Assumes nothing.
-use mathlib.Core.Path.{_≡_, refl, sym, ap, _∙_}
+use mathlib.Core.Path.{_≡_, refl, sym, _∙_}
 use mathlib.Core.Logic.{_⊎_, inl, inr, ⊎-elim}
 use Prim.Native.Nat.{ℕ, zero, suc, _≤_, _<_}
 use native.Mathlib.Omega.{arith}
@@ -12,7 +12,7 @@ use borrow.Author.Tests.{lt-ltb, le-ltb}
 use native.Mathlib.Decide.{ℕ-discrete, decLt}
 use Rattle.lists.specs.Lists.{consIf, keep, from, part}
 use Rattle.lists.specs.Ascends.{All, Ascends}
-use Rattle.lists.proofs.All.{all-append, all-keep, all-take, all-at, all-by-index, all-mem, all-of, all-imp}
+use Rattle.lists.proofs.All.{all-append, all-keep, all-take, all-at, all-by-index, all-mem, all-of}
 use Rattle.lists.proofs.Count.{count-len, count-lt, length-keep}
 use Rattle.lists.proofs.Members.{mem-keep, map-mem}
 use Rattle.lists.proofs.From.{from-mem}

@@ -10,7 +10,6 @@ use lib.Seq.{take-suc}
 use Rattle.lists.specs.Lists.{best, from}
 use Rattle.lists.specs.Ascends.{All}
 use Rattle.lists.proofs.Tests.{clash, cond-true, cond-false}
-use Rattle.lists.proofs.All.{all-of}
 use Rattle.lists.proofs.From.{from-suc}
 
 module _ {A : Type 0} (better : A → A → Bool) where

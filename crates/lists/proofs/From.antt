@@ -7,16 +7,16 @@ use native.Mathlib.Nat.{add-zero, zero-add, not-suc-le-zero, eq-or-lt-of-le}
 use native.Mathlib.Numerals.{add-one}
 use mathlib.Core.Bool.{Bool, true, false}
 use mathlib.Core.List.{List, [], _∷_, _++_, map, zipWith, append-assoc, List·Memᴰ, List·Memᴰ·head, List·Memᴰ·tail, List·Memᴰ·not-nil, List·Memᴰ·cases-cons, append-nil}
-use lib.ListN.{length, getD, set, drop, length-append, length-map, length-drop, take}
+use lib.ListN.{length, getD, set, drop, length-map, take}
 use lib.Seq.{ext-getD, getD-set-same, getD-set-other, drop-cons, set-at, take-suc-set, drop-length, getD-append-add, getD-drop}
 use lib.Dec.{eqb}
 use borrow.Author.Tests.{eqb-true, eqb-false}
-use Rattle.lists.specs.Lists.{oneIf, keep, count, from, part, put}
+use Rattle.lists.specs.Lists.{oneIf, count, from, put}
 use Rattle.lists.specs.Ascends.{All}
 use Rattle.lists.proofs.All.{all-of}
-use Rattle.lists.proofs.Count.{count-snoc, count-same, count-map, keep-in, keep-out, count-nil}
+use Rattle.lists.proofs.Count.{count-snoc, count-same, count-map, count-nil}
 use Rattle.lists.proofs.Map.{map-snoc, map-same, getD-map-in}
-use Rattle.lists.proofs.Put.{put-snoc, length-part, getD-part}
+use Rattle.lists.proofs.Put.{put-snoc}
 
 -- ---- members
 pub from-mem : (a n : ℕ) {x : ℕ} → List·Memᴰ x (from a n) → (a ≤ x) × (x < a + n)

@@ -10,8 +10,8 @@ use lib.ListN.{length, getD, take, drop, take-append-drop, length-take, length-d
 use lib.Dec.{eqb}
 use lib.Seq.{drop-cons, getD-take, getD-drop}
 use borrow.Author.Tests.{eqb-true, eq-eqb, ne-eqb}
-use Rattle.lists.specs.Lists.{consIf, keep, anyOf, member, joined, part}
-use Rattle.lists.proofs.Tests.{clash, or-cases, or-left, or-right, or-assoc, fails, same-test, or-false, or-true}
+use Rattle.lists.specs.Lists.{consIf, keep, anyOf, member, joined}
+use Rattle.lists.proofs.Tests.{clash, or-cases, or-left, or-right, or-assoc, fails, or-false, or-true}
 
 module _ {A : Type 0} where
   -- ---- two lists together

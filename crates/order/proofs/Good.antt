@@ -1,19 +1,18 @@
 -- Parts of good rows are good rows. Assumes nothing.
-use mathlib.Core.Path.{_≡_, refl}
-use mathlib.Core.Bool.{Bool, true}
+use mathlib.Core.Bool.{Bool}
 use mathlib.Core.List.{List, List·Memᴰ}
 use Prim.Native.Nat.{ℕ, _+_, _*_, _≤_, _<_}
 use native.Mathlib.Nat.{mul-le-mul-left}
 use native.Mathlib.Omega.{arith}
-use lib.ListN.{length, take}
+use lib.ListN.{length}
 use lib.Dec.{T}
 use lib.Ieee.{Float}
 use lib.Ieee.Scale.{finite}
 use Rattle.lists.proofs.Tests.{of-T}
 use Rattle.lists.specs.Lists.{keep, part, from}
 use Rattle.lists.specs.Ascends.{All, Ascends}
-use Rattle.lists.proofs.All.{all-keep, all-take, all-part, all-imp, all-mem}
-use Rattle.lists.proofs.Ascends.{ascends-keep, ascends-take, ascends-part, ascends-once, ascends-short}
+use Rattle.lists.proofs.All.{all-keep, all-part, all-imp, all-mem}
+use Rattle.lists.proofs.Ascends.{ascends-keep, ascends-part, ascends-once, ascends-short}
 use Rattle.lists.proofs.From.{mem-from, length-from}
 use Rattle.lists.proofs.Times.{Once, to-times}
 use Rattle.definition.specs.Points.{coordinate}

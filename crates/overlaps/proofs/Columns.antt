@@ -8,14 +8,13 @@ use native.Mathlib.Numerals.{add-one}
 use native.Mathlib.Decide.{decLt, decLe}
 use lib.ListN.{length, getD, set, take, drop, length-set, length-map, length-append, length-drop, List·getD-append}
 use lib.Seq.{drop-cons, getD-drop, getD-append-add, length-take-le, take-suc, take-length}
-use Rattle.lists.specs.Lists.{total, from, part, put}
+use Rattle.lists.specs.Lists.{total, put}
 use Rattle.lists.specs.Ascends.{All}
 use Rattle.lists.proofs.All.{all-at, all-imp, all-drop}
 use Rattle.lists.proofs.Put.{length-put, put-next-at, set-put, getD-put-before, getD-put-after}
 use Rattle.lists.proofs.Sums.{total-snoc}
-use Rattle.lists.proofs.Map.{map-same, map-snoc}
+use Rattle.lists.proofs.Map.{map-snoc}
 use Rattle.pairs.specs.Pairs.{code}
-use Rattle.owners.specs.Own.{readOwn, ownAt}
 use Rattle.overlaps.specs.Codes.{codesFrom, Reached, Positions}
 use Rattle.overlaps.specs.Borrowed.{withBorrowed}
 use Rattle.overlaps.proofs.Codes.{block-range, codes-above, drop-codes}

@@ -1,12 +1,11 @@
 -- A value's size m * 2 ^ e, in units of 2 ^ -2148, as a whole number n * 2 ^ 52 times a power of four: what the root is
 -- taken of. Assumes nothing.
 use mathlib.Core.Path.{_≡_, refl, sym, ap, _∙_}
-use mathlib.Core.Bool.{Bool, true, false, not}
+use mathlib.Core.Bool.{false}
 use mathlib.Core.Logic.{_⊎_, inl, inr}
 use Prim.Native.Nat.{ℕ, suc, _+_, _-_, _*_, _/_, _%_, _^_, _≤_, _<_}
 use native.Mathlib.Nat.{mul-assoc, mul-le-mul, lt-of-le-of-lt, pow-succ', lt-of-not-le}
 use native.Mathlib.Omega.{arith}
-use lib.Dec.{T, leb, leb→le, nleb→lt}
 use lib.Pow.{pow-add}
 use lib.Ieee.{binary64, round, size}
 use Rattle.lists.proofs.Tests.{le-or-lt}

@@ -1,14 +1,12 @@
 -- The texts of a list's elements, one after the other. Assumes nothing.
 use mathlib.Core.Path.{_≡_, refl, sym}
 use Prim.Native.Nat.{ℕ, _+_, _≤_, _<_}
-use native.Mathlib.Numerals.{add-one}
 use native.Mathlib.Omega.{arith}
 use mathlib.Core.List.{List, [], _∷_, _++_, map, map-append}
 use lib.ListN.{length, getD, take, drop, take-append-drop}
-use lib.Seq.{take-suc, take-all}
+use lib.Seq.{take-all}
 use lib.Ieee.{Float, toBits, binary64}
 use Rattle.lists.specs.Lists.{joined}
-use Rattle.lists.proofs.Map.{map-snoc}
 use Rattle.lists.proofs.Joined.{joined-append, joined-map-more}
 use Rattle.definition.specs.Printout.{rowsText, boxText, decimal, hexOnto, ascii}
 use Rattle.texts.specs.Wrote.{Wrote, Room}

@@ -1,12 +1,11 @@
 -- The coarse level, packed. Assumes nothing.
-use mathlib.Core.Path.{_≡_, refl, sym, ap, _∙_}
-use mathlib.Core.List.{List, [], _∷_, _++_, map, append-nil}
-use Prim.Native.Nat.{ℕ, _+_, _*_}
+use mathlib.Core.Path.{_≡_, refl}
+use mathlib.Core.List.{List, [], _∷_, map, append-nil}
+use Prim.Native.Nat.{ℕ, _*_}
 use lib.ListN.{length, replicate}
-use lib.Ieee.{Float}
 use Rattle.lists.specs.Lists.{joined}
 use Rattle.definition.specs.Number.{plusZero}
-use Rattle.definition.specs.Tree.{Leaf, Level, coarseLevel}
+use Rattle.definition.specs.Tree.{Level, coarseLevel}
 use Rattle.definition.specs.Packed.{leavesIn, packedPoints, packedOwn, packedBorrowed, packedBoxes, stretches}
 
 module _ (d : ℕ) (active : List ℕ) where

@@ -3,15 +3,14 @@ use mathlib.Core.Path.{_≡_, refl, sym, ap, _∙_}
 use mathlib.Core.Bool.{Bool, true, false, _&&_}
 use mathlib.Core.Logic.{⊎-elim}
 use mathlib.Core.List.{List, [], _∷_, _++_, map, map-map}
-use Prim.Native.Nat.{ℕ, zero, suc, _+_, _-_, _*_, _≤_, _<_, min, max}
+use Prim.Native.Nat.{ℕ, zero, suc, _+_, _-_, _*_, _≤_, _<_}
 use native.Mathlib.Omega.{arith}
 use native.Mathlib.Numerals.{add-one}
 use borrow.Author.Tests.{ltb-true, ltb-false}
 use lib.Dec.{ltb}
 use lib.ListN.{length, set, length-map}
 use lib.Ieee.{Float}
-use Rattle.lists.specs.Lists.{put, part, joined, total, member}
-use Rattle.lists.specs.Ascends.{All}
+use Rattle.lists.specs.Lists.{put, joined, total, member}
 use Rattle.lists.proofs.Tests.{and-fst, and-snd, le-or-lt}
 use Rattle.lists.proofs.All.{all-map}
 use Rattle.lists.proofs.Put.{set-put, put-next-at}
@@ -19,13 +18,12 @@ use Rattle.lists.proofs.Joined.{length-joined, joined-even}
 use Rattle.definition.specs.Levels.{levelSize}
 use Rattle.definition.specs.Quotas.{quotas}
 use Rattle.definition.specs.Cut.{Domain, leavesOf}
-use Rattle.definition.specs.Tree.{Settings, Leaf, Level, coarseLevel, fineLevel, nextActive, reductionsLeft, mostFine, levelsFrom}
+use Rattle.definition.specs.Tree.{Settings, Leaf, Level, coarseLevel, fineLevel, nextActive, mostFine, levelsFrom}
 use Rattle.definition.specs.Packed.{packedPoints}
 use Rattle.definition.proofs.Steps.{fineOf, nextOf, levels-last, levels-end, levels-more}
 use Rattle.definition.proofs.Cuts.{Good, sizesOf, leaves-sum}
 use Rattle.laws.proofs.Shape.{leaves-boxes}
 use Rattle.laws.proofs.Overlaps.{level-borrowed}
-use Rattle.definition.proofs.Levels.{next-short}
 use Rattle.definition.proofs.Next.{Dealt, next-length}
 use Rattle.definition.proofs.Sizes.{sized}
 use Rattle.definition.proofs.Fairness.{fair}

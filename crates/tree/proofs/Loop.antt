@@ -2,7 +2,7 @@
 use mathlib.Core.Path.{_≡_, refl, sym, ap, _∙_}
 use mathlib.Core.Bool.{true, false, _&&_}
 use mathlib.Core.List.{List, [], _∷_, _++_, map}
-use Prim.Native.Nat.{ℕ, zero, suc, _+_, _-_, _*_, _≤_, _<_}
+use Prim.Native.Nat.{ℕ, suc, _+_, _-_, _*_, _≤_, _<_}
 use native.Mathlib.Omega.{arith}
 use native.Mathlib.Nat.{mul-zero, mul-add, mul-le-mul-left}
 use borrow.Author.Tests.{ltb-true}
@@ -14,7 +14,7 @@ use Rattle.lists.proofs.Tests.{and-fst, and-snd}
 use Rattle.lists.proofs.Put.{length-part, length-put, part-put-same, put-part, put-nil, set-put}
 use Rattle.definition.specs.Number.{plusZero}
 use Rattle.definition.specs.Levels.{levelSize}
-use Rattle.definition.specs.Tree.{Settings, Leaf, Level, mostFine, reductionsLeft, coarseLevel}
+use Rattle.definition.specs.Tree.{Settings, Level, mostFine, reductionsLeft, coarseLevel}
 use Rattle.definition.specs.Packed.{leavesIn, packedPoints, packedOwn, packedDomains, packedBoxes, packedBorrowed, stretches}
 use Rattle.definition.proofs.Steps.{fineOf, nextOf}
 use Rattle.laws.proofs.Fit.{length-stretches}
@@ -22,7 +22,7 @@ use Rattle.level.specs.Fine.{leavesAt, nextAt, ownIn, borrowedIn, boxesIn, Give
 use Rattle.tree.specs.After.{levelSettings, levelsAfter, Space}
 use Rattle.tree.proofs.Spaces.{coarse-fits, fine-fits, fine-points, fine-room, space-next}
 use Rattle.tree.proofs.Packing.{points-more, own-more, borrowed-more, boxes-more, rows-more}
-use Rattle.tree.proofs.Fine.{leaves-few, own-all, borrowed-few, boxes-all, next-many, next-given, size-small, after-coarse, after-fine, first-points, levels-few, counts-more, fine-rows}
+use Rattle.tree.proofs.Fine.{leaves-few, own-all, borrowed-few, boxes-all, next-many, next-given, size-small, after-coarse, after-fine, first-points, counts-more, fine-rows}
 use Rattle.tree.proofs.Coarse.{coarse-points, coarse-own, coarse-borrowed, coarse-boxes, coarse-rows, coarse-row-count, coarse-domain-count}
 
 -- how many rows, and how many leaves, a level has

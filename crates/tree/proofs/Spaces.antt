@@ -1,9 +1,9 @@
 -- The room for the levels that are left: a level fits in it, and what is left of it is enough for the others. Assumes nothing.
-use mathlib.Core.Path.{_≡_, sym, ap, _∙_}
+use mathlib.Core.Path.{_≡_}
 use mathlib.Core.List.{List}
-use Prim.Native.Nat.{ℕ, suc, _+_, _*_, _≤_, _<_}
+use Prim.Native.Nat.{ℕ, suc, _+_, _*_, _≤_}
 use native.Mathlib.Omega.{arith}
-use native.Mathlib.Nat.{mul-le-mul, mul-le-mul-left, mul-le-mul-right, suc-mul, mul-assoc}
+use native.Mathlib.Nat.{mul-le-mul, mul-le-mul-left, suc-mul}
 use lib.ListN.{length}
 use lib.Ieee.{Float}
 use Rattle.level.specs.Fine.{Fits, Room}

@@ -1,4 +1,3 @@
--- Laws of the helpers: no NaN arises from finite coordinates (Finite), and what their proofs cite.
+-- Laws of distances and places, which their proofs cite.
 mod Turns
-mod Boxed
 mod Firsts

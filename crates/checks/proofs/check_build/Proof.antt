@@ -1,9 +1,8 @@
 -- `checks::check_build` meets its contract. Assumes nothing.
-use mathlib.Core.Path.{_≡_, sym, ap, _∙_}
-use Prim.Native.Nat.{ℕ, zero, suc, _/_, _≤_, _<_}
+use mathlib.Core.Path.{sym, ap, _∙_}
+use Prim.Native.Nat.{ℕ}
 use native.Mathlib.Omega.{arith}
 use borrow.Author.Needs.{needs}
-use lib.ListN.{length}
 use Rattle.definition.specs.Refusals.{refused}
 use Rattle.config.specs.Params.{settingsOf}
 use Rattle.checks.specs.Verdicts.{sizesOf}

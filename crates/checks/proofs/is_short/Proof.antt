@@ -1,5 +1,5 @@
 -- `checks::is_short` meets its contract. Assumes nothing.
-use Prim.Native.Nat.{ℕ, _+_, _*_, _≤_}
+use Prim.Native.Nat.{_+_, _*_}
 use native.Mathlib.Omega.{arith}
 use borrow.Author.Needs.{needs}
 use Rattle.checks.specs.Verdicts.{sizesOf}

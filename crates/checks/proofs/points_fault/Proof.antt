@@ -1,10 +1,9 @@
 -- `checks::points_fault` meets its contract. Assumes nothing.
-use mathlib.Core.Path.{_≡_, sym, subst}
-use Prim.Native.Nat.{ℕ, _/_, _≤_, _<_}
+use Prim.Native.Nat.{_/_, _≤_, _<_}
 use native.Mathlib.Omega.{arith}
 use borrow.Author.Needs.{needs}
 use Rattle.definition.specs.Levels.{threshold, reductions}
-use Rattle.config.specs.Params.{policyOf, settingsOf}
+use Rattle.config.specs.Params.{settingsOf}
 use Rattle.checks.proofs.Laws.{points-6, points-7, points-8, points-9, points-fine, reductions-many, reductions-few}
 use Rattle.checks.proofs.points_fault.Statement.{statement}
 use Rattle.checks.proofs.points_fault.Tie as tie

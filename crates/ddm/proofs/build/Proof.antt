@@ -1,7 +1,7 @@
 -- `ddm::build` meets its contract. Assumes nothing.
-use mathlib.Core.Path.{_≡_, sym, ap, _∙_}
+use mathlib.Core.Path.{sym, ap, _∙_}
 use borrow.Author.Needs.{needs}
-use Rattle.definition.specs.Outcome.{TreeLists, buildCall}
+use Rattle.definition.specs.Outcome.{TreeLists}
 use Rattle.config.specs.Params.{settingsOf}
 use Rattle.checks.specs.Verdicts.{verdictOf}
 use Rattle.demand.proofs.Demand.{demand-3-of}

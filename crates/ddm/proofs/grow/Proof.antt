@@ -1,17 +1,15 @@
 -- `ddm::grow` meets its contract. Assumes nothing.
 use mathlib.Core.Path.{_≡_, refl, sym, ap, _∙_}
 use mathlib.Core.List.{List}
-use Prim.Native.Nat.{ℕ, _/_, _≤_}
+use Prim.Native.Nat.{_/_}
 use native.Mathlib.Omega.{arith}
 use borrow.Author.Needs.{needs}
 use lib.ListN.{length}
-use lib.Ieee.{Float}
 use Rattle.lists.specs.Lists.{put, part, from}
 use Rattle.lists.proofs.Put.{part-put-same, length-put}
 use Rattle.lists.proofs.From.{length-from}
-use Rattle.definition.specs.Tree.{Level, levels}
+use Rattle.definition.specs.Tree.{Level}
 use Rattle.definition.specs.Packed.{Counts, countsOf, packedPoints, packedOwn, packedDomains, packedBoxes, packedBorrowed}
-use Rattle.definition.specs.Outcome.{Answer}
 use Rattle.laws.proofs.Accepted.{build-accepted}
 use Rattle.config.specs.Params.{settingsOf}
 use Rattle.ddm.specs.Build.{listsOf}

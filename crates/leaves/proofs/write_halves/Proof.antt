@@ -2,7 +2,7 @@
 use Prim.Native.Nat.{_+_}
 use native.Mathlib.Omega.{arith}
 use borrow.Author.Needs.{needs}
-use Rattle.utils.specs.Boxes.{floatsOf}
+use Rattle.extents.specs.Boxes.{floatsOf}
 use Rattle.leaves.proofs.Boxes.{three, length-floats, two-boxes}
 use Rattle.leaves.proofs.write_halves.Statement.{statement}
 use Rattle.leaves.proofs.write_halves.Tie as tie

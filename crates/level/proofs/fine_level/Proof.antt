@@ -1,14 +1,10 @@
 -- `level::fine_level` meets its contract. Assumes nothing.
-use mathlib.Core.Path.{_≡_, sym, ap, _∙_}
-use mathlib.Core.List.{List}
-use Prim.Native.Nat.{ℕ, _+_, _*_}
+use mathlib.Core.Path.{_≡_, _∙_}
 use native.Mathlib.Omega.{arith}
 use borrow.Author.Needs.{needs}
 use lib.ListN.{length}
-use Rattle.lists.specs.Lists.{put, part}
+use Rattle.lists.specs.Lists.{part}
 use Rattle.lists.proofs.Put.{length-part, part-lent}
-use Rattle.definition.specs.Cut.{leavesOf}
-use Rattle.level.specs.Fine.{leavesAt}
 use Rattle.level.proofs.Stages.{level-number, level-next, number-most, packed-read, packed-sends}
 use Rattle.level.proofs.fine_level.Statement.{statement}
 use Rattle.level.proofs.fine_level.Tie as tie

@@ -1,10 +1,9 @@
 -- `tree::all_levels` meets its contract. The loop's invariant: what is written, with what the levels that are left will write, is what
 -- is due. The measure: how many more fine levels may be built. Assumes nothing.
-use mathlib.Core.Path.{_≡_, refl, sym, ap, _∙_}
-use Prim.Native.Nat.{ℕ, _+_, _-_, _≤_, _<_}
+use mathlib.Core.Path.{sym, _∙_}
+use Prim.Native.Nat.{_-_}
 use native.Mathlib.Omega.{arith}
 use borrow.Author.Needs.{needs}
-use lib.ListN.{length}
 use Rattle.definition.specs.Tree.{mostFine}
 use Rattle.tree.proofs.Spaces.{coarse-fits}
 use Rattle.tree.proofs.Loop.{Inv, inv-first, inv-next, rows-few, built-below, above, level-points, level-fits, level-room, size-few, first-fits, bat-fits, end-points, end-internals, end-domains, end-boxes, end-borrowed, end-rows, end-counts, end-number}

@@ -1,6 +1,6 @@
 -- `tree::next_size` meets its contract. Assumes nothing.
 use mathlib.Core.Path.{_≡_, ap, _∙_}
-use Prim.Native.Nat.{ℕ, _-_, max}
+use Prim.Native.Nat.{_-_, max}
 use native.Mathlib.Omega.{arith}
 use borrow.Author.Needs.{needs}
 use Rattle.definition.specs.Levels.{levelSize}

@@ -3,9 +3,9 @@ use mathlib.Core.Path.{_≡_, sym, ap, _∙_}
 use Prim.Native.Nat.{ℕ, _+_, _-_, _≤_}
 use native.Mathlib.Omega.{arith}
 use borrow.Author.Needs.{needs}
-use lib.ListN.{length, set, replicate, length-set, length-replicate}
+use lib.ListN.{length, replicate, length-set}
 use Rattle.lists.specs.Lists.{put}
-use Rattle.lists.proofs.Put.{put-nil, length-put, put-same-more}
+use Rattle.lists.proofs.Put.{put-nil, put-same-more}
 use Rattle.definition.specs.Number.{plusZero}
 use Rattle.tree.proofs.put_zeros.Statement.{statement}
 use Rattle.tree.proofs.put_zeros.Tie as tie

@@ -1,0 +1,2 @@
+-- What the contracts of the rounds cite beside the definition.
+pub mod Rounds

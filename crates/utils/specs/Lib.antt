@@ -1,2 +1,0 @@
--- What the contracts of the helpers cite beside the definition.
-pub mod Boxes
