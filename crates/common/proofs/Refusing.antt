@@ -1,11 +1,11 @@
 -- The refusals of a sampling, and what holds where it is accepted. Assumes nothing.
 use mathlib.Core.Path.{_≡_, refl, sym, ap, _∙_}
-use mathlib.Core.Bool.{Bool, true, false, not, cond, _&&_, _||_, true≢false}
+use mathlib.Core.Bool.{Bool, true, false, not, cond, _||_}
 use mathlib.Core.List.{List, [], _∷_}
 use Prim.Native.Nat.{ℕ, zero, suc, _+_, _*_, _/_, _≤_, _<_}
 use native.Mathlib.Nat.{zero-add, div-mul-le-self, le-trans, le-of-eq, mul-le-mul-right, suc-mul}
 use native.Mathlib.Omega.{arith}
-use borrow.Author.Tests.{ltb-false, leb-false, leb-true, eqb-false, not-false}
+use borrow.Author.Tests.{ltb-false, leb-false, eqb-false, not-false}
 use lib.Dec.{ltb, leb, eqb}
 use lib.ListN.{length, getD, take, drop}
 use lib.Seq.{take-at}
@@ -18,11 +18,12 @@ use Rattle.lists.proofs.Ascends.{ascends-from}
 use Rattle.lists.proofs.From.{all-from, length-from, getD-from}
 use Rattle.lists.proofs.Put.{put-zero}
 use Rattle.lists.proofs.Members.{none-any}
-use Rattle.lists.proofs.Tests.{and-fst, and-snd}
+use Rattle.lists.proofs.Tests.{or-none}
 use Rattle.definition.specs.Packed.{sampleStated}
-use Rattle.definition.specs.Refusals.{Test, on, Verdict, accepted, refused, verdict, wrongDimension, coordinatesMissing, firstBad, notFinite, mostPoints, sampleShort, sampleVerdict}
+use Rattle.definition.specs.Refusals.{on, Verdict, accepted, refused, wrongDimension, coordinatesMissing, firstBad, notFinite, mostPoints, sampleShort, sampleVerdict}
 use Rattle.definition.specs.Sampling.{sample}
 use Rattle.definition.specs.Outcome.{answered, numberOf, placeOf, valueOf, written, listAfter, RoomAfter, sampleCall, sampleAnswer, sampleOutput}
+use Rattle.laws.proofs.Accepted.{passes, right-dimension}
 use Rattle.common.specs.declared.SampleAnswer.{SampleAnswer}
 use Rattle.common.specs.declared.SampleAnswer.the-variants.{Sampled, Refused}
 use Rattle.common.specs.Answers.{lentSizes, shown, answerOf}
@@ -55,12 +56,6 @@ bad-found cs p e h = bad-some 0 cs (omega (arith, e))
 pub bad-nowhere : (cs : List Float) (p : ℕ) → p ≡ firstBad 0 cs → length cs ≤ p → anyOf (λ x. not (finite x)) cs ≡ false
 bad-nowhere cs p e h = bad-none 0 cs (omega (arith, e))
 
--- ---- 1
-pub dimension-right : (d : ℕ) → wrongDimension d ≡ false → (1 ≤ d) × (d ≤ 3)
-dimension-right d e =
-    let h = not-false (leb 1 d && leb d 3) e in
-    (leb-true 1 d (and-fst (leb 1 d) (leb d 3) h), leb-true d 3 (and-snd (leb 1 d) (leb d 3) h))
-
 -- ---- an accepted call
 zero-one : {A : Type 0} → _≡_ {A = ℕ} 0 1 → A
 zero-one e = absurd (omega arith)
@@ -69,18 +64,6 @@ sampled-count : (v : Verdict) (wanted count : ℕ) → shown v wanted ≡ Sample
 unfolding shown
 sampled-count accepted wanted count e = (refl, cc)
 sampled-count (refused r) wanted count e = let z : _≡_ {A = ℕ} 0 1 = cc in zero-one z
-
-passed : (t : Test) (ts : List Test) → verdict (t ∷ ts) ≡ accepted → (t .holds ≡ false) × (verdict ts ≡ accepted)
-unfolding verdict
-passed t ts e = go (t .holds) e
-  where
-    go : (b : Bool) → cond b (refused (t .refusal)) (verdict ts) ≡ accepted → (b ≡ false) × (verdict ts ≡ accepted)
-    go true h = let z : _≡_ {A = ℕ} 0 1 = cc in zero-one z
-    go false h = (refl, h)
-
-neither : (a b : Bool) → a || b ≡ false → (a ≡ false) × (b ≡ false)
-neither true b e = absurd (true≢false e)
-neither false b e = (refl, e)
 
 above-zero : (n : ℕ) → (n ≡ 0 → ⊥) → 0 < n
 above-zero zero h = absurd (h refl)
@@ -101,19 +84,19 @@ call-accepted : (d : ℕ) (cs : List Float) (wanted seed o f w : ℕ) → sample
 unfolding sampleVerdict sampleShort sampleStated
 call-accepted d cs wanted seed o f w e =
     let n = length cs / d in
-    let p1 = passed (on (wrongDimension d) 1) _ e in
-    let p2 = passed (on (eqb (length cs) 0) 6) _ (p1 .1) in
-    let p3 = passed (on (coordinatesMissing d cs) 7) _ (p2 .1) in
-    let p4 = passed (on (ltb mostPoints n) 8) _ (p3 .1) in
-    let p5 = passed (on (eqb wanted 0 || ltb n wanted || leb n seed) 13) _ (p4 .1) in
-    let p6 = passed (on (ltb o wanted || ltb f (2 * n) || ltb w n) 11) _ (p5 .1) in
-    let p7 = passed (notFinite cs) _ (p6 .1) in
-    let a = neither (eqb wanted 0 || ltb n wanted) (leb n seed) (p5 .0) in
-    let b = neither (eqb wanted 0) (ltb n wanted) (a .0) in
-    let s = neither (ltb o wanted || ltb f (2 * n)) (ltb w n) (p6 .0) in
-    let t = neither (ltb o wanted) (ltb f (2 * n)) (s .0) in
+    let p1 = passes (on (wrongDimension d) 1) _ e in
+    let p2 = passes (on (eqb (length cs) 0) 6) _ (p1 .1) in
+    let p3 = passes (on (coordinatesMissing d cs) 7) _ (p2 .1) in
+    let p4 = passes (on (ltb mostPoints n) 8) _ (p3 .1) in
+    let p5 = passes (on (eqb wanted 0 || ltb n wanted || leb n seed) 13) _ (p4 .1) in
+    let p6 = passes (on (ltb o wanted || ltb f (2 * n) || ltb w n) 11) _ (p5 .1) in
+    let p7 = passes (notFinite cs) _ (p6 .1) in
+    let a = or-none (eqb wanted 0 || ltb n wanted) (leb n seed) (p5 .0) in
+    let b = or-none (eqb wanted 0) (ltb n wanted) (a .0) in
+    let s = or-none (ltb o wanted || ltb f (2 * n)) (ltb w n) (p6 .0) in
+    let t = or-none (ltb o wanted) (ltb f (2 * n)) (s .0) in
     record {
-      axes = dimension-right d (p1 .0);
+      axes = right-dimension d (p1 .0);
       few = ltb-false mostPoints n (p4 .0);
       some-wanted = above-zero wanted (eqb-false wanted 0 (b .0));
       wanted-in = ltb-false n wanted (b .1);

@@ -20,7 +20,8 @@ use Rattle.definition.specs.Refusals.{wrongDimension}
 use Rattle.definition.specs.Stream.{Job, broken, brokenAt, Mark, little, field, coordinatesAt, whole, pointMark, pointSize, settingsMark, settingsSize, policyFits, settingsIn, streamPoints, readPoints, held, jobIn}
 use Rattle.definition.specs.Printout.{jobText, printout}
 use Rattle.job_laws.specs.Sizes.{decisive}
-use Rattle.job_laws.proofs.Stream.{read-cut, read-full, read-more, right-dimension}
+use Rattle.laws.proofs.Accepted.{right-dimension}
+use Rattle.job_laws.proofs.Stream.{read-cut, read-full, read-more}
 
 -- ---- a number, a record and a point that end within the first n bytes
 little-take : (k n : ℕ) (bs : List ℕ) → k ≤ n → little k (take n bs) ≡ little k bs

@@ -1,20 +1,20 @@
 -- The job stream: one record after the other, what a job that is read keeps, and how many bytes decide it. Assumes nothing.
 use mathlib.Core.Path.{_≡_, refl}
-use mathlib.Core.Bool.{Bool, true, false, not, _&&_, cond}
+use mathlib.Core.Bool.{Bool, true, false, _&&_, cond}
 use Prim.Native.Nat.{ℕ, zero, suc, _+_, _*_, _≤_, _<_}
 use native.Mathlib.Nat.{suc-mul, zero-mul}
 use native.Mathlib.Omega.{arith}
 use mathlib.Core.List.{List, [], _∷_, _++_}
 use lib.ListN.{length, drop, length-append}
-use lib.Dec.{leb, ltb}
+use lib.Dec.{ltb}
 use lib.Ieee.{Float}
-use borrow.Author.Tests.{leb-true, ltb-false}
+use borrow.Author.Tests.{ltb-false}
 use Rattle.lists.proofs.From.{length-map-from}
-use Rattle.lists.proofs.Tests.{clash, and-fst, and-snd}
 use Rattle.definition.specs.Tree.{Settings}
 use Rattle.definition.specs.Refusals.{wrongDimension}
 use Rattle.job_laws.specs.Sizes.{KeptBy}
 use Rattle.definition.specs.Stream.{Job, job, broken, brokenAt, tooLarge, field, coordinatesAt, whole, pointMark, pointSize, settingsMark, settingsSize, policyFits, settingsIn, streamPoints, streamNeighbours, readPoints, held, jobIn}
+use Rattle.laws.proofs.Accepted.{right-dimension}
 
 pub length-coordinates : (d at : ℕ) (bs : List ℕ) → length (coordinatesAt d at bs) ≡ d
 unfolding coordinatesAt
@@ -96,13 +96,6 @@ held-kept (job s cs) h = go (ltb streamNeighbours (s .neighbours)) refl
     go : (b : Bool) → ltb streamNeighbours (s .neighbours) ≡ b → KeptBy (cond b tooLarge (job s cs))
     go true e = tt
     go false e = record { axes = h .0; axes-few = h .1; points-few = h .2; neighbours-few = ltb-false streamNeighbours (s .neighbours) e }
-
-pub right-dimension : (d : ℕ) → wrongDimension d ≡ false → (1 ≤ d) × (d ≤ 3)
-right-dimension d e = go (leb 1 d && leb d 3) refl e
-  where
-    go : (b : Bool) → leb 1 d && leb d 3 ≡ b → not b ≡ false → (1 ≤ d) × (d ≤ 3)
-    go true f g = (leb-true 1 d (and-fst (leb 1 d) (leb d 3) f), leb-true d 3 (and-snd (leb 1 d) (leb d 3) f))
-    go false f g = let z : _≡_ {A = Bool} true false = g in clash refl z
 
 pub job-kept : (bs : List ℕ) → KeptBy (jobIn bs)
 unfolding jobIn settingsIn

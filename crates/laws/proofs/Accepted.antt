@@ -21,7 +21,7 @@ use Rattle.lists.proofs.Times.{times-mem}
 use Rattle.definition.specs.Levels.{Policy, auto, fixed, threshold}
 use Rattle.definition.specs.Tree.{Settings, mostFine, pointCount}
 use Rattle.definition.specs.Packed.{BuildSizes, buildStated}
-use Rattle.definition.specs.Refusals.{Refusal, Test, Verdict, accepted, refused, verdict, mostPoints, mostNeighbours, coordinatesMissing, zeroThreshold, notFinite, buildShort, buildTests, buildVerdict}
+use Rattle.definition.specs.Refusals.{Refusal, Test, Verdict, accepted, refused, verdict, mostPoints, mostNeighbours, coordinatesMissing, zeroThreshold, notFinite, buildShort, buildTests, buildVerdict, wrongDimension}
 use Rattle.definition.specs.Outcome.{numberOf}
 use Rattle.definition.proofs.Cuts.{Good}
 
@@ -54,6 +54,12 @@ accepted-iff ts = (to ts, back ts)
     back : (ts : List Test) → All (λ (t : Test). t .holds ≡ false) ts → verdict ts ≡ accepted
     back [] h = none
     back (t ∷ ts) h = pass t ts (h .0) ∙ back ts (h .1)
+
+-- a dimension that is not refused
+pub right-dimension : (d : ℕ) → wrongDimension d ≡ false → (1 ≤ d) × (d ≤ 3)
+right-dimension d e =
+    let h = not-false (leb 1 d && leb d 3) e in
+    (leb-true 1 d (and-fst (leb 1 d) (leb d 3) h), leb-true d 3 (and-snd (leb 1 d) (leb d 3) h))
 
 -- a call whose answer has the number 0 is accepted, where no refusal has that number
 pub number-zero : (ts : List Test) → All (λ (t : Test). 1 ≤ t .refusal .number) ts → numberOf (verdict ts) ≡ 0 → verdict ts ≡ accepted

@@ -5,7 +5,8 @@ use borrow.Author.Tests.{lt-ltb, le-ltb, eq-eqb, ne-eqb}
 use Rattle.definition.specs.Refusals.{verdict, sampleVerdict}
 use Rattle.common.specs.declared.SampleAnswer.the-variants.{Refused}
 use Rattle.common.specs.Answers.{shown}
-use Rattle.common.proofs.Refusing.{dimension-right, bad-found, bad-nowhere}
+use Rattle.laws.proofs.Accepted.{right-dimension}
+use Rattle.common.proofs.Refusing.{bad-found, bad-nowhere}
 use Rattle.common.proofs.sampling_verdict.Statement.{statement}
 use Rattle.common.proofs.sampling_verdict.Tie as tie
 
@@ -25,7 +26,7 @@ returns-2 c = simp (
 )
 
 rem-if3 : tie.Need-rem-if3
-rem-if3 c = dimension-right _ (sym (c .before .before .wrong-dimension .ensures) ∙ c .before .if1 .left) .0
+rem-if3 c = right-dimension _ (sym (c .before .before .wrong-dimension .ensures) ∙ c .before .if1 .left) .0
 
 returns-3 : tie.Need-returns-3
 unfolding sampleVerdict verdict shown
@@ -36,7 +37,7 @@ returns-3 c = simp (
 )
 
 div-rows : tie.Need-div-rows
-div-rows c = dimension-right _ (sym (c .before .before .before .wrong-dimension .ensures) ∙ c .before .before .if1 .left) .0
+div-rows c = right-dimension _ (sym (c .before .before .before .wrong-dimension .ensures) ∙ c .before .before .if1 .left) .0
 
 returns-4 : tie.Need-returns-4
 unfolding sampleVerdict verdict shown
