@@ -3,8 +3,6 @@ ghost use mathlib.Core.Path.{_≡_};
 ghost use mathlib.Core.Bool.{_||_};
 ghost use Prim.Native.Nat.{_≤_};
 ghost use lib.Dec.{eqb, ltb, leb};
-ghost use lib.ListN.{length};
-ghost use Rattle.lists.specs.Lists.{put, from};
 ghost use Rattle.definition.specs.Packed.{sampleStated};
 ghost use Rattle.definition.specs.Refusals.{wrongDimension, sampleShort, sampleVerdict};
 ghost use Rattle.definition.specs.Outcome.{sampleCall, sampleAnswer, sampleOutput, RoomAfter};
@@ -97,18 +95,6 @@ fn sampling_verdict(
     SampleAnswer::Sampled(wanted)
 }
 
-// Writes the numbers below `count` to the front of the list.
-fn number_rows(wholes: &mut [usize], count: usize)
-    requires { ⌜ count ≤ length (now wholes) ⌝ }
-    ensures { λ _. ⌜ now (wholes .exit) ≡ put (now (wholes .entry)) 0 (from 0 count) ⌝ }
-{
-    let mut i = 0;
-    while i < count {
-        wholes[i] = i;
-        i += 1;
-    }
-}
-
 // Farthest point sampling of all rows, from the row `seed` on: `wanted` rows are written to the front of `out`. The working
 // room, 2 floats and 1 whole number per row, is left free but for its length. A refusal writes to no list.
 pub fn farthest_point_sampling(
@@ -138,7 +124,7 @@ pub fn farthest_point_sampling(
         SampleAnswer::Refused(number, place) => SampleAnswer::Refused(number, place),
         SampleAnswer::Sampled(count) => {
             let rows = points.len() / dimensions;
-            number_rows(wholes, rows);
+            stretches::number_rows(wholes, rows);
             rounds::sample_rows(
                 points,
                 dimensions,

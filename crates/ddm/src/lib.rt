@@ -1,8 +1,6 @@
 // The library: the build of a multilevel domain tree over points, written to lists that the caller lends, and the other calls.
 ghost use mathlib.Core.Path.{_≡_};
-ghost use Prim.Native.Nat.{_≤_};
-ghost use lib.ListN.{length};
-ghost use Rattle.lists.specs.Lists.{put, from};
+ghost use Rattle.lists.specs.Lists.{put};
 ghost use Rattle.definition.specs.Tree.{levels};
 ghost use Rattle.definition.specs.Packed.{countsOf, packedPoints, packedOwn, packedDomains, packedBoxes, packedBorrowed};
 ghost use Rattle.definition.specs.Refusals.{accepted};
@@ -53,18 +51,6 @@ fn refusal(number: usize, place: usize) -> DDMTree
     }
 }
 
-// Writes 0, 1, .., n - 1 to the front of a list.
-fn number_rows(list: &mut [usize], n: usize)
-    requires { ⌜ n ≤ length (now list) ⌝ }
-    ensures { λ _. ⌜ now (list .exit) ≡ put (now (list .entry)) 0 (from 0 n) ⌝ }
-{
-    let mut i = 0;
-    while i < n {
-        list[i] = i;
-        i += 1;
-    }
-}
-
 // The tree of an accepted call.
 fn grow(
     points: &[f64],
@@ -90,7 +76,7 @@ fn grow(
     let policy = params.coarse_threshold;
     let c = levels::resolved_coarse_threshold(policy, n);
     let k = levels::get_num_level_reductions(n, c, params.coarse_reduction_factor);
-    number_rows(level_points, n);
+    stretches::number_rows(level_points, n);
     let counts = tree::all_levels(
         points,
         dimensions,

@@ -146,7 +146,7 @@ pub extern "C" fn ddm_quotas(
     }
     let answer = quotas::get_domain_coarse_quotas(sizes, wanted, quotas, room);
     let told = quota_report(answer);
-    queue::put_pair(result, 0, told.first, told.second);
+    stretches::put_pair(result, 0, told.first, told.second);
     told.number
 }
 
@@ -199,7 +199,7 @@ pub extern "C" fn ddm_sample(
         wholes,
     );
     let told = sample_report(answer);
-    queue::put_pair(result, 0, told.first, told.second);
+    stretches::put_pair(result, 0, told.first, told.second);
     told.number
 }
 
@@ -228,9 +228,9 @@ fn put_counts(result: &mut [usize], tree: DDMTree)
 {
     let rows = tree.rows;
     let domains = tree.domains;
-    queue::put_pair(result, 0, tree.place, tree.levels);
-    queue::copy_rows(&rows, 0, 4, result, 2);
-    queue::copy_rows(&domains, 0, 4, result, 6);
+    stretches::put_pair(result, 0, tree.place, tree.levels);
+    stretches::copy_rows(&rows, 0, 4, result, 2);
+    stretches::copy_rows(&domains, 0, 4, result, 6);
 }
 
 // Builds the tree. The slot: place, levels, rows of levels 0 to 3, domains of levels 0 to 3. Refusals 1 to 11.

@@ -37,8 +37,8 @@ fn put_root(
     ensures held { λ _. ⌜ now (held .exit) ≡ put (now (held .entry)) 0 (extents dimensions (now (points .entry)) (now (active .entry))) ⌝ }
 {
     let n = active.len();
-    queue::copy_rows(active, 0, n, work, 0);
-    queue::put_pair(work, n, 0, n);
+    stretches::copy_rows(active, 0, n, work, 0);
+    stretches::put_pair(work, n, 0, n);
     extents::write_box(
         extents::get_pointarray_extents(points, dimensions, active),
         held,

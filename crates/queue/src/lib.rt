@@ -1,6 +1,5 @@
 // The breadth-first queue of domains: what a turn of its loop writes to the lent lists. The loop's laws are in proofs/.
 ghost use mathlib.Core.Path.{_≡_};
-ghost use mathlib.Core.List.{[], _∷_};
 ghost use Prim.Native.Nat.{_+_, _*_, _^_, _≤_, _<_};
 ghost use lib.ListN.{length};
 ghost use Rattle.lists.specs.Lists.{put, part};
@@ -10,35 +9,14 @@ ghost use Rattle.queue.specs.Rows.{twoHalves, twoOwn};
 // How many whole numbers a domain row has.
 pub const ROW_NUMBERS: usize = 4;
 
-// Copies the `count` rows from `start` on to `out`, from `at` on.
-pub fn copy_rows(rows: &[usize], start: usize, count: usize, out: &mut [usize], at: usize)
-    requires { ⌜ (start + count ≤ length (now rows)) × (at + count ≤ length (now out)) ⌝ }
-    ensures { λ _. ⌜ now (out .exit) ≡ put (now (out .entry)) at (part (now (rows .entry)) start count) ⌝ }
-{
-    let mut i = 0;
-    while i < count {
-        out[at + i] = rows[start + i];
-        i += 1;
-    }
-}
-
-// Writes two numbers to a list, from `at` on.
-pub fn put_pair(list: &mut [usize], at: usize, a: usize, b: usize)
-    requires { ⌜ at + 2 ≤ length (now list) ⌝ }
-    ensures { λ _. ⌜ now (list .exit) ≡ put (now (list .entry)) at (a ∷ b ∷ []) ⌝ }
-{
-    list[at] = a;
-    list[at + 1] = b;
-}
-
 // Writes start and count of the two halves of a stretch to a list, from `at` on: left before right.
 pub fn put_halves(list: &mut [usize], at: usize, start: usize, count: usize)
     requires { ⌜ (at + 4 ≤ length (now list)) × (start + count < 2 ^ 64) ⌝ }
     ensures { λ _. ⌜ now (list .exit) ≡ put (now (list .entry)) at (twoHalves start count) ⌝ }
 {
     let half = count / 2;
-    put_pair(list, at, start, half);
-    put_pair(list, at + 2, start + half, count - half);
+    stretches::put_pair(list, at, start, half);
+    stretches::put_pair(list, at + 2, start + half, count - half);
 }
 
 // Writes start and count of two leaves to the domain rows from the k-th on. They take up `count` rows from `start` on.
@@ -47,8 +25,8 @@ fn put_leaves(list: &mut [usize], k: usize, start: usize, count: usize)
     ensures { λ _. ⌜ now (list .exit) ≡ twoOwn (now (list .entry)) k start count ⌝ }
 {
     let half = count / 2;
-    put_pair(list, ROW_NUMBERS * k, start, half);
-    put_pair(list, ROW_NUMBERS * (k + 1), start + half, count - half);
+    stretches::put_pair(list, ROW_NUMBERS * k, start, half);
+    stretches::put_pair(list, ROW_NUMBERS * (k + 1), start + half, count - half);
 }
 
 // Packs two leaves, the halves of the `count` rows from `start` on: their rows go to `internals` from `at` on, and start and count of
@@ -66,6 +44,6 @@ pub fn pack_leaves(
     ensures internals { λ _. ⌜ now (internals .exit) ≡ put (now (internals .entry)) at (part (now (rows .entry)) start count) ⌝ }
     ensures domains { λ _. ⌜ now (domains .exit) ≡ twoOwn (now (domains .entry)) k at count ⌝ }
 {
-    copy_rows(rows, start, count, internals, at);
+    stretches::copy_rows(rows, start, count, internals, at);
     put_leaves(domains, k, at, count);
 }

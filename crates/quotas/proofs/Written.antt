@@ -5,8 +5,8 @@ use mathlib.Core.List.{List, _++_, map}
 use native.Mathlib.Omega.{arith}
 use lib.ListN.{length, take, drop, length-append, length-drop}
 use lib.Seq.{take-at, drop-append-seam}
-use Rattle.lists.specs.Lists.{from}
-use Rattle.lists.proofs.From.{length-map-from}
+use Rattle.lists.specs.Lists.{put}
+use Rattle.lists.proofs.Put.{put-zero}
 use Rattle.definition.specs.Outcome.{written}
 
 module _ {A : Type 0} where
@@ -23,6 +23,7 @@ module _ {A : Type 0} where
   unfolding written
   written-over xs ys old e = rw (e, drop-append-seam ys (drop (length ys) old))
 
-  pub written-below : (f : ℕ → A) (n : ℕ) (old : List A) → map f (from 0 n) ++ drop n old ≡ written (map f (from 0 n)) old
+  -- a store at the front
+  pub put-written : (old xs : List A) → put old 0 xs ≡ written xs old
   unfolding written
-  written-below f n old = ap (λ (k : ℕ). map f (from 0 n) ++ drop k old) (sym (length-map-from f 0 n))
+  put-written old xs = put-zero old xs

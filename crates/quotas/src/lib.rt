@@ -216,11 +216,7 @@ fn copy_sizes(sizes: &[usize], quotas: &mut [usize])
     requires { ⌜ length (now sizes) ≤ length (now quotas) ⌝ }
     ensures { λ _. ⌜ now (quotas .exit) ≡ written (now (sizes .entry)) (now (quotas .entry)) ⌝ }
 {
-    let mut i = 0;
-    while i < sizes.len() {
-        quotas[i] = sizes[i];
-        i += 1;
-    }
+    stretches::copy_rows(sizes, 0, sizes.len(), quotas, 0);
 }
 
 // The quotas for `wanted` seats, held to the total. Document 01's refusals come in its order: 8, 11. The sharing works in the

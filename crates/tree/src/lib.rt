@@ -29,8 +29,8 @@ fn put_row(domains: &mut [usize], k: usize, start: usize, count: usize, lent: us
     ensures { λ _. ⌜ now (domains .exit) ≡ put (now (domains .entry)) (rowNumbers * k) (start ∷ count ∷ lent ∷ 0 ∷ []) ⌝ }
 {
     let at = 4 * k;
-    queue::put_pair(domains, at, start, count);
-    queue::put_pair(domains, at + 2, lent, 0);
+    stretches::put_pair(domains, at, start, count);
+    stretches::put_pair(domains, at + 2, lent, 0);
 }
 
 // Writes `count` zeros from `at` on.
@@ -63,7 +63,7 @@ fn coarse_level(
     ensures boxes { λ _. ⌜ now (boxes .exit) ≡ put (now (boxes .entry)) (rowFloats dimensions * first) (replicate (rowFloats dimensions) plusZero) ⌝ }
 {
     let floats = 2 * dimensions;
-    queue::copy_rows(list, from, a, internals, from);
+    stretches::copy_rows(list, from, a, internals, from);
     put_row(domains, first, from, a, bat);
     put_zeros(boxes, floats * first, floats);
 }

@@ -18,7 +18,7 @@ use Rattle.ddm.proofs.grow.Statement.{statement}
 use Rattle.ddm.proofs.grow.Tie as tie
 use Rattle.ddm.proofs.grow.Reads as reads
 use Rattle.ddm.proofs.grow.Lts as lts
-use Rattle.ddm.proofs.number_rows.Reads as number-rows-reads
+use Rattle.stretches.proofs.number_rows.Reads as number-rows-reads
 use Rattle.levels.proofs.get_num_level_reductions.Reads as get-num-level-reductions-reads
 use Rattle.levels.proofs.resolved_coarse_threshold.Reads as resolved-coarse-threshold-reads
 use Rattle.tree.proofs.all_levels.Reads as all-levels-reads

@@ -4,7 +4,7 @@ use Rattle.tree.proofs.coarse_level.Statement.{statement}
 use Rattle.tree.proofs.coarse_level.Tie as tie
 use Rattle.tree.proofs.coarse_level.Reads as reads
 use Rattle.tree.proofs.coarse_level.Lts as lts
-use Rattle.queue.proofs.copy_rows.Reads as copy-rows-reads
+use Rattle.stretches.proofs.copy_rows.Reads as copy-rows-reads
 use Rattle.tree.proofs.put_row.Reads as put-row-reads
 use Rattle.tree.proofs.put_zeros.Reads as put-zeros-reads
 

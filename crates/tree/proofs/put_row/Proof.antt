@@ -10,7 +10,7 @@ use Rattle.tree.proofs.put_row.Statement.{statement}
 use Rattle.tree.proofs.put_row.Tie as tie
 use Rattle.tree.proofs.put_row.Reads as reads
 use Rattle.tree.proofs.put_row.Lts as lts
-use Rattle.queue.proofs.put_pair.Reads as put-pair-reads
+use Rattle.stretches.proofs.put_pair.Reads as put-pair-reads
 
 mul-at : tie.Need-mul-at
 mul-at c = search needs

@@ -1,4 +1,4 @@
--- `queue::copy_rows` meets its contract. Assumes nothing.
+-- `stretches::copy_rows` meets its contract. Assumes nothing.
 use borrow.Author.Needs.{needs}
 use Prim.Native.Nat.{_≤_, _-_}
 use mathlib.Core.Path.{_≡_}
@@ -6,8 +6,8 @@ use native.Mathlib.Omega.{arith}
 use lib.ListN.{length}
 use Rattle.lists.specs.Lists.{put, part}
 use Rattle.lists.proofs.Put.{copy-none, copy-more}
-use Rattle.queue.proofs.copy_rows.Statement.{statement}
-use Rattle.queue.proofs.copy_rows.Tie as tie
+use Rattle.stretches.proofs.copy_rows.Statement.{statement}
+use Rattle.stretches.proofs.copy_rows.Tie as tie
 
 abbrev Inv-loop : tie.InvT-loop
 Inv-loop rows start count out₀ at i₀ out i = (i ≤ count) × (length out ≡ length out₀) × (out ≡ put out₀ at (part rows start i))

@@ -1,4 +1,4 @@
--- `common::number_rows` meets its contract. The loop's invariant: the numbers passed are written. Assumes nothing.
+-- `stretches::number_rows` meets its contract. The loop's invariant: the numbers passed are written. Assumes nothing.
 use mathlib.Core.Path.{_≡_, refl, sym, ap, _∙_}
 use Prim.Native.Nat.{ℕ, _≤_, _-_}
 use native.Mathlib.Nat.{le-antisymm}
@@ -7,8 +7,8 @@ use lib.ListN.{length, length-set}
 use Rattle.lists.specs.Lists.{put, from}
 use Rattle.lists.proofs.Put.{put-nil}
 use Rattle.lists.proofs.From.{numbered-more}
-use Rattle.common.proofs.number_rows.Statement.{statement}
-use Rattle.common.proofs.number_rows.Tie as tie
+use Rattle.stretches.proofs.number_rows.Statement.{statement}
+use Rattle.stretches.proofs.number_rows.Tie as tie
 
 abbrev Inv-loop : tie.InvT-loop
 Inv-loop wholes₀ count i₀ wholes i = (i ≤ count) × ((length wholes ≡ length wholes₀) × (wholes ≡ put wholes₀ 0 (from 0 i)))

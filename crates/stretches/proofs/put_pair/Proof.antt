@@ -1,10 +1,10 @@
--- `queue::put_pair` meets its contract. Assumes nothing.
+-- `stretches::put_pair` meets its contract. Assumes nothing.
 use native.Mathlib.Omega.{arith}
 use lib.ListN.{length-set}
 use borrow.Author.Needs.{needs}
 use Rattle.lists.proofs.Put.{set-two}
-use Rattle.queue.proofs.put_pair.Statement.{statement}
-use Rattle.queue.proofs.put_pair.Tie as tie
+use Rattle.stretches.proofs.put_pair.Statement.{statement}
+use Rattle.stretches.proofs.put_pair.Tie as tie
 
 mul-list : tie.Need-mul-list
 mul-list c = search needs
