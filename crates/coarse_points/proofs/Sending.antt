@@ -20,9 +20,9 @@ use Rattle.definition.specs.Cut.{Domain}
 use Rattle.definition.proofs.Cuts.{rowsOf, sizesOf}
 use Rattle.definition.proofs.Sampling.{sent-length}
 use Rattle.definition.proofs.Next.{sents, sents-times}
-use Rattle.heap.specs.Heap.{Sorted}
-use Rattle.owners.specs.Own.{ownAt, readOwn}
-use Rattle.owners.proofs.Read.{read-length, read-at}
+use Rattle.sort.specs.Heap.{Sorted}
+use Rattle.overlap_owners.specs.Own.{ownAt, readOwn}
+use Rattle.overlap_owners.proofs.Read.{read-length, read-at}
 use Rattle.coarse_points.specs.Sent.{sentAt}
 
 -- ---- one leaf

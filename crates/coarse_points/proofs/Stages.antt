@@ -25,9 +25,9 @@ use Rattle.definition.specs.Fair.{Fair}
 use Rattle.definition.specs.Outcome.{written}
 use Rattle.definition.proofs.Fairness.{fair-for, quotas-held, quotas-length}
 use Rattle.quotas.proofs.Written.{take-written}
-use Rattle.heap.specs.Heap.{Sorted}
-use Rattle.owners.specs.Own.{ownStart, ownCount, ownAt, readOwn}
-use Rattle.owners.proofs.Read.{read-length, read-at}
+use Rattle.sort.specs.Heap.{Sorted}
+use Rattle.overlap_owners.specs.Own.{ownStart, ownCount, ownAt, readOwn}
+use Rattle.overlap_owners.proofs.Read.{read-length, read-at}
 use Rattle.coarse_points.specs.Sent.{sentUp, countsAt, sentAt, Sends, LeafFits, LeavesFit, Reordered}
 use Rattle.coarse_points.proofs.Sending.{sent-next, sent-zip, sent-many, sent-times, sorted-next, next-many}
 

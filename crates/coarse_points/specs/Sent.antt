@@ -12,8 +12,8 @@ use Rattle.lists.proofs.Same.{Same}
 use Rattle.definition.specs.Quotas.{quotas}
 use Rattle.definition.specs.Sampling.{sentBy}
 use Rattle.definition.specs.Tree.{nextActive}
-use Rattle.heap.specs.Heap.{Sorted}
-use Rattle.owners.specs.Own.{ownStart, ownCount, ownAt, Leaves}
+use Rattle.sort.specs.Heap.{Sorted}
+use Rattle.overlap_owners.specs.Own.{ownStart, ownCount, ownAt, Leaves}
 
 -- the active rows that the leaves with these own rows send up, `size` in all
 unfoldable pub sentUp : ℕ → List Float → List ℕ → List (List ℕ) → ℕ → List ℕ

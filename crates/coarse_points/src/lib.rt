@@ -8,7 +8,7 @@ ghost use Rattle.lists.specs.Lists.{total, part, put};
 ghost use Rattle.lists.specs.Ascends.{All, Ascends};
 ghost use Rattle.definition.specs.Quotas.{quotasFor};
 ghost use Rattle.definition.specs.Sampling.{sentBy};
-ghost use Rattle.owners.specs.Own.{ownAt, readOwn};
+ghost use Rattle.overlap_owners.specs.Own.{ownAt, readOwn};
 ghost use Rattle.coarse_points.specs.Sent.{sentUp, countsAt, sentAt, Sends, LeafFits, LeavesFit, Reordered};
 
 // A domain row: four numbers, of which the first two say where the leaf's own rows start and how many they are.
@@ -58,8 +58,8 @@ fn sample_leaf(
     if quota < 1 {
         return;
     }
-    let seed = seed::sampling_seed(points, dimensions, rows);
-    rounds::sample_rows(points, dimensions, rows, quota, seed, out, at, least);
+    let seed = sampling_seed::sampling_seed(points, dimensions, rows);
+    sampling_rounds::sample_rows(points, dimensions, rows, quota, seed, out, at, least);
 }
 
 // Writes what the leaf at the domain row r sends up from `at` on: `quota` of its own rows.
@@ -133,7 +133,7 @@ fn sort_stretch(list: &mut [usize], start: usize, end: usize)
     requires { ⌜ (start ≤ end) × (end ≤ length (now list)) ⌝ }
     ensures { λ _. ⌜ Reordered (now (list .entry)) start (end - start) (now (list .exit)) ⌝ }
 {
-    heap::sort(&mut list[start..end]);
+    sort::sort(&mut list[start..end]);
 }
 
 // Of the m leaves that share out the `a` active rows from `from` on in the level points, each sends its quota of its own rows

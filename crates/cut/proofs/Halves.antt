@@ -7,9 +7,9 @@ use lib.Ieee.{Float}
 use Rattle.lists.specs.Lists.{put, part}
 use Rattle.lists.proofs.Put.{length-part}
 use Rattle.definition.specs.Cut.{Domain, longestAxis, cutKeys, leftOf, rightOf}
-use Rattle.order.specs.Rows.{GoodRows}
-use Rattle.order.specs.Cuts.{Halved}
-use Rattle.order.proofs.Good.{good-first, good-other}
+use Rattle.halving.specs.Rows.{GoodRows}
+use Rattle.halving.specs.Cuts.{Halved}
+use Rattle.halving.proofs.Good.{good-first, good-other}
 
 module _ {d : ℕ} {cs : List Float} where
   -- both halves of good rows are good

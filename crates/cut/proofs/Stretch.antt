@@ -11,9 +11,9 @@ use Rattle.lists.proofs.Put.{length-part, part-lent}
 use Rattle.definition.specs.Points.{coordinate}
 use Rattle.definition.specs.Cut.{longestAxis, planeOf, plane, cutKeys}
 use Rattle.definition.proofs.Cuts.{axis-below}
-use Rattle.order.specs.Rows.{GoodRows}
-use Rattle.order.specs.Cuts.{MiddleRow, Halved}
-use Rattle.order.proofs.Good.{good-inside}
+use Rattle.halving.specs.Rows.{GoodRows}
+use Rattle.halving.specs.Cuts.{MiddleRow, Halved}
+use Rattle.halving.proofs.Good.{good-inside}
 
 -- the plane is the coordinate of the middle row
 pub plane-is : (d : ℕ) (cs : List Float) (rows : List ℕ) (m : ℕ) → MiddleRow d cs (longestAxis d cs rows) rows m → coordinate d cs m (longestAxis d cs rows) ≡ plane d cs rows

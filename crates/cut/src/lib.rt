@@ -6,8 +6,8 @@ ghost use Rattle.lists.specs.Lists.{part};
 ghost use Rattle.lists.specs.Ascends.{All};
 ghost use Rattle.definition.specs.Points.{extent};
 ghost use Rattle.definition.specs.Cut.{longestAxis, plane};
-ghost use Rattle.order.specs.Rows.{GoodRows};
-ghost use Rattle.order.specs.Cuts.{Halved};
+ghost use Rattle.halving.specs.Rows.{GoodRows};
+ghost use Rattle.halving.specs.Cuts.{Halved};
 
 // Where a domain is cut: the axis, and the coordinate of the right row that comes first.
 pub struct Plane {
@@ -60,7 +60,7 @@ pub fn cut_stretch(
 {
     let end = start + count;
     let axis = longest_axis(points, dimensions, &work[start..end]);
-    let row = order::halves(points, dimensions, axis, work, start, count, spare);
+    let row = halving::halves(points, dimensions, axis, work, start, count, spare);
     let value = points[row * dimensions + axis];
     Plane { axis, value }
 }

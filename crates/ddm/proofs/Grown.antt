@@ -20,11 +20,11 @@ use Rattle.definition.specs.Tree.{Settings, Level, mostFine, levelsFrom, levels
 use Rattle.definition.specs.Packed.{buildStated, packedPoints, countsOf}
 use Rattle.definition.specs.Outcome.{TreeLists, lentSizes}
 use Rattle.definition.proofs.Steps.{fineOf, nextOf, levels-last, levels-end, levels-more}
-use Rattle.laws.proofs.Accepted.{Accepted}
+use Rattle.definition_laws.proofs.Accepted.{Accepted}
 use Rattle.definition.proofs.Sizes.{ends}
-use Rattle.level.specs.Fine.{Given}
-use Rattle.tree.specs.After.{levelSettings, levelsAfter, Space}
-use Rattle.tree.proofs.Fine.{first-points, levels-few}
+use Rattle.fine_level.specs.Fine.{Given}
+use Rattle.levels_loop.specs.After.{levelSettings, levelsAfter, Space}
+use Rattle.levels_loop.proofs.Fine.{first-points, levels-few}
 use Rattle.ddm.proofs.Counts.{per-level}
 
 -- ---- the levels depend on three of the settings

@@ -6,27 +6,27 @@ ghost use Rattle.definition.specs.Packed.{countsOf, packedPoints, packedOwn, pa
 ghost use Rattle.definition.specs.Refusals.{accepted};
 ghost use Rattle.definition.specs.Outcome.{zeroCounts, buildCall, buildAnswer, buildLists, RoomAfter};
 ghost use Rattle.config.specs.Params.{settingsOf};
-ghost use Rattle.demand.specs.Handed.{handed};
-ghost use Rattle.demand.specs.Demand3.{Demand3};
+ghost use Rattle.demand3.specs.Handed.{handed};
+ghost use Rattle.demand3.specs.Demand3.{Demand3};
 ghost use Rattle.ddm.specs.Build.{treeAnswer, listsOf};
-use checks::Checked;
-use checks::Lent;
+use build_checks::Checked;
+use build_checks::Lent;
 
 // The settings, and the other calls, each with its answer.
-pub use common::SampleAnswer;
-pub use common::farthest_point_sampling;
 pub use config::DDMParams;
 pub use config::SizePolicy;
 pub use leaf_rows::DomainRow;
 pub use leaf_rows::Which;
 pub use leaf_rows::row_test;
 pub use leaf_rows::rows_of;
-pub use levels::LevelSize;
-pub use levels::get_num_level_coarse_points;
-pub use numbers::RootAnswer;
-pub use numbers::square_root;
+pub use level_sizes::LevelSize;
+pub use level_sizes::get_num_level_coarse_points;
 pub use quotas::QuotaAnswer;
 pub use quotas::get_domain_coarse_quotas;
+pub use root::RootAnswer;
+pub use root::square_root;
+pub use sampling::SampleAnswer;
+pub use sampling::farthest_point_sampling;
 
 // What a build answers: the number of a refusal (0 for none) and its place; how many levels the tree has, and how many rows and
 // domains each of them has.
@@ -74,10 +74,10 @@ fn grow(
 {
     let n = points.len() / dimensions;
     let policy = params.coarse_threshold;
-    let c = levels::resolved_coarse_threshold(policy, n);
-    let k = levels::get_num_level_reductions(n, c, params.coarse_reduction_factor);
+    let c = level_sizes::resolved_coarse_threshold(policy, n);
+    let k = level_sizes::get_num_level_reductions(n, c, params.coarse_reduction_factor);
     stretches::number_rows(level_points, n);
-    let counts = tree::all_levels(
+    let counts = levels_loop::all_levels(
         points,
         dimensions,
         params.leaf_threshold as usize,
@@ -137,7 +137,7 @@ pub fn build(
         floats: floats.len(),
         wholes: wholes.len(),
     };
-    let checked = checks::check_build(points, dimensions, params, lent);
+    let checked = build_checks::check_build(points, dimensions, params, lent);
     match checked {
         Checked::Refused(number, place) => refusal(number, place),
         Checked::Accepted => grow(

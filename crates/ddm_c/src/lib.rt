@@ -7,21 +7,21 @@ ghost use lib.ListN.{length};
 ghost use Rattle.lists.specs.Lists.{put};
 ghost use Rattle.definition.specs.Refusals.{stretchVerdict};
 ghost use Rattle.definition.specs.Outcome.{numberOf, RoomAfter, rootAnswer, sizeAnswer, quotaCall, quotaAnswer, quotaOutput, sampleCall, sampleAnswer, sampleOutput, buildCall, buildAnswer, buildLists};
-ghost use Rattle.numbers.specs.Answers as numbers-answers;
-ghost use Rattle.levels.specs.Answers.{sizeReport};
+ghost use Rattle.root.specs.Answers as numbers-answers;
+ghost use Rattle.level_sizes.specs.Answers.{sizeReport};
 ghost use Rattle.quotas.specs.Answers.{quotaReport};
-ghost use Rattle.common.specs.Answers.{answerOf};
+ghost use Rattle.sampling.specs.Answers.{answerOf};
 ghost use Rattle.config.specs.Params.{policyOf};
 ghost use Rattle.ddm.specs.Build.{treeAnswer, listsOf};
 ghost use Rattle.ddm_c.specs.Settings.{policyFrom, settingsFrom};
 ghost use Rattle.ddm_c.specs.Slots.{unlessShort, numberAfter, slotAfter, slotFirst, valueSlot, quotaSlot, sampleSlot, buildSlot};
-use common::SampleAnswer;
 use config::DDMParams;
 use config::SizePolicy;
 use ddm::DDMTree;
-use levels::LevelSize;
-use numbers::RootAnswer;
+use level_sizes::LevelSize;
 use quotas::QuotaAnswer;
+use root::RootAnswer;
+use sampling::SampleAnswer;
 
 // The refusal's number of a root.
 fn root_number(answer: RootAnswer) -> usize
@@ -52,7 +52,7 @@ pub extern "C" fn ddm_square_root(x: f64, result: &mut [f64]) -> usize
     if result.len() < 1 {
         return 11;
     }
-    let answer = numbers::square_root(x);
+    let answer = root::square_root(x);
     result[0] = root_value(answer);
     root_number(answer)
 }
@@ -92,7 +92,7 @@ pub extern "C" fn ddm_level_size(a: usize, c: u32, r: u32, result: &mut [usize])
     if result.len() < 1 {
         return 11;
     }
-    let size = levels::get_num_level_coarse_points(a, c, r);
+    let size = level_sizes::get_num_level_coarse_points(a, c, r);
     result[0] = size_value(size);
     size_number(size)
 }
@@ -189,7 +189,7 @@ pub extern "C" fn ddm_sample(
     if result.len() < 2 {
         return 11;
     }
-    let answer = common::farthest_point_sampling(
+    let answer = sampling::farthest_point_sampling(
         points,
         dimensions,
         wanted,

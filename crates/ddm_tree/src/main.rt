@@ -47,7 +47,7 @@ fn main() {
         Got::Failed => os::fail(b"standard input"),
         Got::Bytes(n) => {
             let mut text = text_room();
-            let printed = job::printout(&input[..n], &mut text);
+            let printed = printout::printout(&input[..n], &mut text);
             let count = printed.count;
             if !io::write_all(libc::STDOUT_FILENO, &text[..count]) {
                 os::fail(b"standard output");

@@ -11,10 +11,10 @@ use Rattle.lists.proofs.All.{all-imp}
 use Rattle.definition.specs.Cut.{Domain, rootDomain, leftOf, rightOf, queueLeaves, leavesOf}
 use Rattle.definition.proofs.Steps.{queue-empty, queue-wait, queue-done}
 use Rattle.definition.proofs.Cuts.{Good, cutsFor, left-length, right-length, queue-enough, full-wait, cuts-wait, cuts-done}
-use Rattle.laws.proofs.Shape.{leaves-enough}
+use Rattle.definition_laws.proofs.Shape.{leaves-enough}
 use Rattle.queue.proofs.Kind.{Kind, Full}
-use Rattle.order.specs.Rows.{GoodRows}
-use Rattle.order.proofs.Good.{good-good}
+use Rattle.halving.specs.Rows.{GoodRows}
+use Rattle.halving.proofs.Good.{good-good}
 use Rattle.cut.proofs.Halves.{good-left, good-right}
 
 -- the leaves of the waiting domains, with fuel for the cuts that are still to be made

@@ -19,8 +19,8 @@ use Rattle.queue.proofs.Loop.{Inv, cutsLeft, inv-first, inv-next, inv-end, inv-
 use Rattle.queue.proofs.Loop.{turn-inside, turn-good, turn-same, turn-left, turn-right, turn-full, turn-rows, turn-leaves, turn-room, turn-end, turn-wait, turn-done}
 use Rattle.queue.proofs.View.{rowsIn, roomIn, rows-part, rows-length, room-length, start-at, count-at, rows-kept, room-put, first-rows, first-room, spare-length, spare-rows, spare-room}
 use Rattle.queue.proofs.Columns.{Boxes, boxes-first, boxes-now, boxes-wait, boxes-done, boxes-end}
-use Rattle.order.specs.Rows.{GoodRows}
-use Rattle.order.specs.Cuts.{Halved}
+use Rattle.halving.specs.Rows.{GoodRows}
+use Rattle.halving.specs.Cuts.{Halved}
 use Rattle.cut.proofs.Halves.{cut-is}
 use Rattle.leaves.proofs.Domains.{kind, leavesFrom, leaves-are}
 

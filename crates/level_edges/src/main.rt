@@ -1,6 +1,6 @@
 // Runs document 01's edges of the level arithmetic and the quotas, and prints what each call answers and leaves in its lists.
 use config::SizePolicy;
-use levels::LevelSize;
+use level_sizes::LevelSize;
 use printing::print_list;
 use quotas::QuotaAnswer;
 
@@ -15,7 +15,7 @@ fn print_auto(n: usize) {
     io::write_all(1, b"auto");
     print_number(n as u64);
     io::write_all(1, b":");
-    print_number(levels::resolved_coarse_threshold(SizePolicy::Auto, n) as u64);
+    print_number(level_sizes::resolved_coarse_threshold(SizePolicy::Auto, n) as u64);
     io::write_all(1, b"\n");
 }
 
@@ -29,7 +29,7 @@ fn print_reductions(n: u32, c: u32, f: u32) {
     print_number(c as u64);
     print_number(f as u64);
     io::write_all(1, b":");
-    print_number(levels::get_num_level_reductions(n as usize, c, f) as u64);
+    print_number(level_sizes::get_num_level_reductions(n as usize, c, f) as u64);
     io::write_all(1, b"\n");
 }
 
@@ -46,7 +46,7 @@ fn print_size(a: usize, c: u32, r: u32) {
     print_number(c as u64);
     print_number(r as u64);
     io::write_all(1, b":");
-    let s = levels::get_num_level_coarse_points(a, c, r);
+    let s = level_sizes::get_num_level_coarse_points(a, c, r);
     match s {
         LevelSize::Points(m) => print_number(m as u64),
         LevelSize::ZeroThreshold => print_refused(4),

@@ -19,9 +19,9 @@ use Rattle.lists.proofs.From.{list-at, from-mem, mem-from}
 use Rattle.lists.proofs.Members.{mem-at, mem-index, mem-map, map-mem, any-mem, mem-any, keep-mem, mem-keep, member-mem, mem-member, member-not}
 use Rattle.lists.proofs.Ascends.{ascends-keep, ascends-from, ascends-same}
 use Rattle.definition.specs.Overlaps.{nearest, Near, nearOf, lends, borrowedBy}
-use Rattle.rtree.proofs.Takes.{taken-active}
-use Rattle.owners.specs.Own.{Owned}
-use Rattle.pairs.specs.Pairs.{code, Sends, Collected}
+use Rattle.nearest_scan.proofs.Takes.{taken-active}
+use Rattle.overlap_owners.specs.Own.{Owned}
+use Rattle.overlap_pairs.specs.Pairs.{code, Sends, Collected}
 use Rattle.overlaps.specs.Codes.{codesFrom, Positions, Holds}
 use Rattle.overlaps.specs.Borrowed.{borrowedLists}
 use Rattle.overlaps.proofs.Codes.{codes-mem, mem-codes}

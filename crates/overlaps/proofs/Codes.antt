@@ -13,7 +13,7 @@ use Rattle.lists.proofs.All.{all-append, all-imp, all-map, all-mem}
 use Rattle.lists.proofs.Members.{mem-left, mem-right, mem-map, map-mem}
 use Rattle.lists.proofs.Map.{map-same}
 use Rattle.lists.proofs.Ascends.{ascends-append, ascends-map}
-use Rattle.pairs.specs.Pairs.{code}
+use Rattle.overlap_pairs.specs.Pairs.{code}
 use Rattle.overlaps.specs.Codes.{codesFrom, rowsOf}
 
 abbrev Small : List (List ℕ) → Type 0

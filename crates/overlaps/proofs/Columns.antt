@@ -14,7 +14,7 @@ use Rattle.lists.proofs.All.{all-at, all-imp, all-drop}
 use Rattle.lists.proofs.Put.{length-put, put-next-at, set-put, getD-put-before, getD-put-after}
 use Rattle.lists.proofs.Sums.{total-snoc}
 use Rattle.lists.proofs.Map.{map-snoc}
-use Rattle.pairs.specs.Pairs.{code}
+use Rattle.overlap_pairs.specs.Pairs.{code}
 use Rattle.overlaps.specs.Codes.{codesFrom, Reached, Positions}
 use Rattle.overlaps.specs.Borrowed.{withBorrowed}
 use Rattle.overlaps.proofs.Codes.{block-range, codes-above, drop-codes}

@@ -10,7 +10,7 @@ use lib.Seq.{getD-set-same, getD-set-other, getD-take, length-take-le}
 use Rattle.lists.specs.Ascends.{Ascends}
 use Rattle.lists.proofs.Ascends.{ascends-by-index}
 use Rattle.lists.proofs.Members.{mem-at, mem-index}
-use Rattle.heap.specs.Heap.{Sorted}
+use Rattle.sort.specs.Heap.{Sorted}
 use Rattle.overlaps.specs.Codes.{Distinct}
 
 -- k below i + 1 is i or below i

@@ -10,9 +10,9 @@ use lib.Ieee.{Float}
 use Rattle.lists.specs.Lists.{joined, part, put}
 use Rattle.lists.proofs.Map.{map-joined}
 use Rattle.lists.proofs.Put.{length-part}
-use Rattle.owners.specs.Own.{readOwn, Owned}
-use Rattle.owners.proofs.Read.{read-length}
-use Rattle.pairs.specs.Pairs.{Owners, Collected}
+use Rattle.overlap_owners.specs.Own.{readOwn, Owned}
+use Rattle.overlap_owners.proofs.Read.{read-length}
+use Rattle.overlap_pairs.specs.Pairs.{Owners, Collected}
 use Rattle.overlaps.specs.Codes.{Holds}
 use Rattle.overlaps.specs.Borrowed.{borrowedLists, withBorrowed, Stage}
 use Rattle.overlaps.proofs.Columns.{columns-map}

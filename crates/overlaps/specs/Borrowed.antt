@@ -6,8 +6,8 @@ use lib.Ieee.{Float}
 use Rattle.lists.specs.Lists.{put}
 use Rattle.definition.specs.Packed.{rowNumbers}
 use Rattle.definition.specs.Overlaps.{nearOf, borrowedBy}
-use Rattle.order.specs.Rows.{GoodRows}
-use Rattle.owners.specs.Own.{Leaves}
+use Rattle.halving.specs.Rows.{GoodRows}
+use Rattle.overlap_owners.specs.Own.{Leaves}
 
 -- what the leaves with these own rows borrow
 unfoldable pub borrowedLists : ℕ → List Float → ℕ → List ℕ → List (List ℕ) → List (List ℕ)

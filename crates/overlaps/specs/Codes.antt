@@ -4,7 +4,7 @@ use mathlib.Core.Path.{_≡_}
 use mathlib.Core.List.{List, [], _∷_, _++_, map, List·Memᴰ}
 use lib.ListN.{length, getD}
 use Rattle.lists.specs.Ascends.{All, Ascends}
-use Rattle.pairs.specs.Pairs.{code}
+use Rattle.overlap_pairs.specs.Pairs.{code}
 
 -- the numbers of the positions that each leaf has, from the leaf l on
 unfoldable pub codesFrom : ℕ → List (List ℕ) → List ℕ

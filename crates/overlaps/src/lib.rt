@@ -4,8 +4,8 @@ ghost use mathlib.Core.List.{List, map, List·Memᴰ};
 ghost use Prim.Native.Nat.{ℕ, _+_, _*_, _<_, _≤_, _%_};
 ghost use lib.ListN.{length, getD, take};
 ghost use Rattle.lists.specs.Lists.{put, joined};
-ghost use Rattle.heap.specs.Heap.{Sorted};
-ghost use Rattle.owners.specs.Own.{readOwn};
+ghost use Rattle.sort.specs.Heap.{Sorted};
+ghost use Rattle.overlap_owners.specs.Own.{readOwn};
 ghost use Rattle.overlaps.specs.Codes.{codesFrom, rowsOf, Distinct, Reached, Positions, Holds};
 ghost use Rattle.overlaps.specs.Borrowed.{borrowedLists, withBorrowed, Stage};
 
@@ -83,7 +83,7 @@ fn write_columns(codes: &[usize], domains: &mut [usize], first: usize, m: usize,
 fn order_once(codes: &mut [usize]) -> usize
     ensures { λ r. ⌜ (r ≤ length (now (codes .entry))) × Distinct (now (codes .entry)) (take r (now (codes .exit))) ⌝ }
 {
-    heap::sort(codes);
+    sort::sort(codes);
     drop_repeats(codes)
 }
 
@@ -139,8 +139,8 @@ pub fn overlaps(
     ensures domains { λ _. ⌜ now (domains .exit) ≡ withBorrowed bat (borrowedLists dimensions (now (points .entry)) neighbours (now (active .entry)) (readOwn (now (internals .entry)) (now (domains .entry)) first m)) first (now (domains .entry)) ⌝ }
     ensures most { λ r. ⌜ r ≤ 2 * length (now (active .entry)) * (neighbours + 1) ⌝ }
 {
-    owners::owners(active, internals, domains, first, m, work);
+    overlap_owners::owners(active, internals, domains, first, m, work);
     let a = active.len();
-    let end = pairs::collect(points, dimensions, neighbours, active, work);
+    let end = overlap_pairs::collect(points, dimensions, neighbours, active, work);
     lend(&mut work[a..end], active, domains, first, m, borrowed, bat)
 }

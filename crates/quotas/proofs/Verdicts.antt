@@ -9,7 +9,7 @@ use Rattle.definition.specs.Quotas.{heldSeats, quotas, quotasFor}
 use Rattle.definition.specs.Packed.{quotaStated}
 use Rattle.definition.specs.Refusals.{accepted, refused, verdict, mostPoints, quotaShort, quotaVerdict}
 use Rattle.definition.specs.Outcome.{Answer, Shared, numberOf, placeOf, valueOf, written, listAfter, RoomAfter, quotaCall, quotaAnswer, quotaOutput}
-use Rattle.levels.specs.Answers.{reports, refuses}
+use Rattle.level_sizes.specs.Answers.{reports, refuses}
 use Rattle.quotas.specs.Answers.{noSeats}
 
 -- what an outcome says of the answer, of the output and of the working room

@@ -1,6 +1,6 @@
 -- Document 01's numbers and values for each case of the answer. Definitions only.
 use Rattle.definition.specs.Outcome.{Answer, Shared}
-use Rattle.levels.specs.Answers.{reports, refuses}
+use Rattle.level_sizes.specs.Answers.{reports, refuses}
 use Rattle.quotas.specs.declared.QuotaAnswer.{QuotaAnswer}
 use Rattle.quotas.specs.declared.QuotaAnswer.the-variants.{Seated, TooManyPoints, ShortList}
 

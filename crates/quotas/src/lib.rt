@@ -10,7 +10,7 @@ ghost use Rattle.definition.specs.Outcome.{written, quotaCall, quotaAnswer, quo
 ghost use Rattle.quotas.specs.Answers.{quotaReport};
 ghost use Rattle.definition.proofs.SeatCut.{above, CutBy, extraBy};
 ghost use Rattle.quotas.specs.Small.{Small};
-use levels::LIMIT;
+use level_sizes::LIMIT;
 
 // The leaves that got a quota and the seats handed out in all, or why there are none. `quotaReport` gives document 01's
 // number of each refusal.

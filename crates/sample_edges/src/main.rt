@@ -1,7 +1,7 @@
 // Runs document 01's samples and each refusal of a sampling, and prints what each call answers and leaves in its lists.
 // (Refusal 8 needs a list longer than a program's stack holds.)
-use common::SampleAnswer;
 use printing::print_list;
+use sampling::SampleAnswer;
 
 // Writes a space and the number.
 fn print_number(n: u64) {
@@ -24,7 +24,7 @@ fn print_sample(
     io::write_all(1, b" from");
     print_number(seed as u64);
     io::write_all(1, b":");
-    let answer = common::farthest_point_sampling(
+    let answer = sampling::farthest_point_sampling(
         points,
         dimensions,
         wanted,

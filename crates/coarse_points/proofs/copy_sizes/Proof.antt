@@ -7,7 +7,7 @@ use lib.ListN.{length, take, drop, length-set}
 use lib.Seq.{take-at}
 use Rattle.lists.specs.Lists.{from}
 use Rattle.lists.proofs.From.{map-from-nil, front-below-suc, length-map-from}
-use Rattle.owners.specs.Own.{ownCount}
+use Rattle.overlap_owners.specs.Own.{ownCount}
 use Rattle.coarse_points.proofs.copy_sizes.Statement.{statement}
 use Rattle.coarse_points.proofs.copy_sizes.Tie as tie
 

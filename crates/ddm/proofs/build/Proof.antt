@@ -3,15 +3,15 @@ use mathlib.Core.Path.{sym, ap, _∙_}
 use borrow.Author.Needs.{needs}
 use Rattle.definition.specs.Outcome.{TreeLists}
 use Rattle.config.specs.Params.{settingsOf}
-use Rattle.checks.specs.Verdicts.{verdictOf}
-use Rattle.demand.proofs.Demand.{demand-3-of}
+use Rattle.build_checks.specs.Verdicts.{verdictOf}
+use Rattle.demand3.proofs.Demand.{demand-3-of}
 use Rattle.ddm.specs.Build.{listsOf}
 use Rattle.ddm.proofs.Outcomes.{room-refused, room-accepted, answer-refused, lists-refused, answer-accepted, lists-accepted}
 use Rattle.ddm.proofs.build.Statement.{statement}
 use Rattle.ddm.proofs.build.Tie as tie
 use Rattle.ddm.proofs.build.Reads as reads
 use Rattle.ddm.proofs.build.Lts as lts
-use Rattle.checks.proofs.check_build.Reads as check-build-reads
+use Rattle.build_checks.proofs.check_build.Reads as check-build-reads
 use Rattle.ddm.proofs.grow.Reads as grow-reads
 use Rattle.ddm.proofs.refusal.Reads as refusal-reads
 

@@ -10,7 +10,7 @@ use Rattle.lists.proofs.Put.{part-put-same, length-put}
 use Rattle.lists.proofs.From.{length-from}
 use Rattle.definition.specs.Tree.{Level}
 use Rattle.definition.specs.Packed.{Counts, countsOf, packedPoints, packedOwn, packedDomains, packedBoxes, packedBorrowed}
-use Rattle.laws.proofs.Accepted.{build-accepted}
+use Rattle.definition_laws.proofs.Accepted.{build-accepted}
 use Rattle.config.specs.Params.{settingsOf}
 use Rattle.ddm.specs.Build.{listsOf}
 use Rattle.ddm.proofs.Grown.{tree-is, all-rows, all-space, few-reductions, points-whole, counts-whole}
@@ -19,9 +19,9 @@ use Rattle.ddm.proofs.grow.Tie as tie
 use Rattle.ddm.proofs.grow.Reads as reads
 use Rattle.ddm.proofs.grow.Lts as lts
 use Rattle.stretches.proofs.number_rows.Reads as number-rows-reads
-use Rattle.levels.proofs.get_num_level_reductions.Reads as get-num-level-reductions-reads
-use Rattle.levels.proofs.resolved_coarse_threshold.Reads as resolved-coarse-threshold-reads
-use Rattle.tree.proofs.all_levels.Reads as all-levels-reads
+use Rattle.level_sizes.proofs.get_num_level_reductions.Reads as get-num-level-reductions-reads
+use Rattle.level_sizes.proofs.resolved_coarse_threshold.Reads as resolved-coarse-threshold-reads
+use Rattle.levels_loop.proofs.all_levels.Reads as all-levels-reads
 
 div-n : tie.Need-div-n
 div-n c =

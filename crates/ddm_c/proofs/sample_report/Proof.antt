@@ -1,5 +1,5 @@
 -- `ddm_c::sample_report` meets its contract. Assumes nothing.
-use Rattle.common.specs.Answers.{answerOf}
+use Rattle.sampling.specs.Answers.{answerOf}
 use borrow.Author.Needs.{needs}
 use Rattle.ddm_c.proofs.sample_report.Statement.{statement}
 use Rattle.ddm_c.proofs.sample_report.Tie as tie

@@ -2,7 +2,7 @@
 use mathlib.Core.Path.{sym}
 use native.Mathlib.Omega.{arith}
 use lib.Seq.{length-take-le}
-use Rattle.job.proofs.Joins.{count-fits}
+use Rattle.printout.proofs.Joins.{count-fits}
 use Rattle.ddm_tree.proofs.Reading.{bytes-within}
 use borrow.Author.Needs.{needs}
 use Rattle.ddm_tree.proofs.main.Statement.{statement}

@@ -1,0 +1,276 @@
+-- The tests of a build, group by group and refusal by refusal. Assumes nothing.
+use mathlib.Core.Path.{_≡_, refl, sym, ap, _∙_}
+use mathlib.Core.Bool.{Bool, true, false, not, _||_, cond, and-false}
+use mathlib.Core.List.{List, [], _∷_, _++_}
+use Prim.Native.Nat.{ℕ, zero, suc, _+_, _*_, _/_, _%_, _^_, _≤_, _<_}
+use native.Mathlib.Omega.{arith}
+use native.Mathlib.Nat.{mul-le-mul, mul-le-mul-left, le-trans, pow-le-pow-right, zero-div, zero-mod, zero-mul, div-add-mod'}
+use borrow.Author.Tests.{le-leb, lt-leb, lt-ltb, le-ltb, eq-eqb, ne-eqb, leb-true, leb-false}
+use lib.Dec.{leb, ltb, eqb}
+use lib.ListN.{length}
+use lib.Ieee.{Float}
+use lib.Ieee.Scale.{finite}
+use Rattle.lists.specs.Lists.{anyOf, least}
+use Rattle.lists.proofs.Least.{least-before, least-holds}
+use Rattle.definition.specs.Levels.{threshold, reductions}
+use Rattle.definition.specs.Tree.{Settings, pointCount}
+use Rattle.definition.specs.Packed.{BuildSizes, buildStated}
+use Rattle.definition.specs.Refusals.{Test, Verdict, accepted, refused, on, verdict, mostPoints, mostNeighbours, zeroThreshold, firstBad, notFinite, coordinatesMissing, settingsTests, pointsTests, buildTests, buildVerdict, buildShort}
+use Rattle.build_checks.specs.Verdicts.{numbered}
+
+-- ---- groups of tests
+
+-- the first verdict, or the second where the first is accepted
+abbrev pub andThen : Verdict → Verdict → Verdict
+andThen accepted v = v
+andThen (refused r) v = refused r
+
+pub verdict-append : (ts us : List Test) → verdict (ts ++ us) ≡ andThen (verdict ts) (verdict us)
+unfolding verdict
+verdict-append [] us = refl
+verdict-append (t ∷ ts) us = go (t .holds) (verdict-append ts us)
+  where
+    go : (b : Bool) → verdict (ts ++ us) ≡ andThen (verdict ts) (verdict us)
+        → cond b (refused (t .refusal)) (verdict (ts ++ us)) ≡ andThen (cond b (refused (t .refusal)) (verdict ts)) (verdict us)
+    go true e = refl
+    go false e = e
+
+-- the build's tests are the settings', the points', and 11 and 10
+pub build-groups : (s : Settings) (cs : List Float) (lent : BuildSizes)
+    → buildVerdict s cs lent
+    ≡ andThen (verdict (settingsTests s))
+    (andThen (verdict (pointsTests s (pointCount (s .dimension) cs) (coordinatesMissing (s .dimension) cs)))
+    (verdict (on (buildShort lent (buildStated (s .dimension) (pointCount (s .dimension) cs) (s .neighbours))) 11 ∷ notFinite cs ∷ [])))
+unfolding buildVerdict buildTests
+build-groups s cs lent =
+    verdict-append (settingsTests s) _
+    ∙ ap (andThen (verdict (settingsTests s)))
+    (verdict-append (pointsTests s (pointCount (s .dimension) cs) (coordinatesMissing (s .dimension) cs)) _)
+
+-- ---- the settings
+module _ (s : Settings) where
+  pub settings-low : s .dimension < 1 → numbered 1 ≡ verdict (settingsTests s)
+  unfolding verdict
+  settings-low h = simp (lt-leb 1 (s .dimension) h)
+
+  pub settings-high : 3 < s .dimension → numbered 1 ≡ verdict (settingsTests s)
+  unfolding verdict
+  settings-high h = simp (le-leb 1 (s .dimension) (omega arith), lt-leb (s .dimension) 3 h)
+
+  module _ (d1 : 1 ≤ s .dimension) (d3 : s .dimension ≤ 3) where
+    pub settings-2 : s .leaf ≡ 0 → numbered 2 ≡ verdict (settingsTests s)
+    unfolding verdict
+    settings-2 h = simp (le-leb 1 (s .dimension) d1, le-leb (s .dimension) 3 d3, eq-eqb (s .leaf) 0 h)
+
+    module _ (l : s .leaf ≡ 0 → ⊥) where
+      pub settings-3 : s .factor < 2 → numbered 3 ≡ verdict (settingsTests s)
+      unfolding verdict
+      settings-3 h = simp (le-leb 1 (s .dimension) d1, le-leb (s .dimension) 3 d3, ne-eqb (s .leaf) 0 l, lt-ltb (s .factor) 2 h)
+
+      module _ (f : 2 ≤ s .factor) where
+        pub settings-4 : zeroThreshold (s .policy) ≡ true → numbered 4 ≡ verdict (settingsTests s)
+        unfolding verdict
+        settings-4 h =
+            simp (le-leb 1 (s .dimension) d1, le-leb (s .dimension) 3 d3, ne-eqb (s .leaf) 0 l, le-ltb (s .factor) 2 f, h)
+
+        module _ (z : zeroThreshold (s .policy) ≡ false) where
+          pub settings-5 : mostNeighbours < s .neighbours → numbered 5 ≡ verdict (settingsTests s)
+          unfolding verdict
+          settings-5 h =
+              simp
+              (le-leb 1 (s .dimension) d1, le-leb (s .dimension) 3 d3, ne-eqb (s .leaf) 0 l, le-ltb (s .factor) 2 f, z, lt-ltb mostNeighbours (s .neighbours) h)
+
+          pub settings-fine : s .neighbours ≤ mostNeighbours → numbered 0 ≡ verdict (settingsTests s)
+          unfolding verdict
+          settings-fine h =
+              simp
+              (le-leb 1 (s .dimension) d1, le-leb (s .dimension) 3 d3, ne-eqb (s .leaf) 0 l, le-ltb (s .factor) 2 f, z, le-ltb mostNeighbours (s .neighbours) h)
+
+-- ---- the points: `count` coordinates
+module _ (s : Settings) (count : ℕ) where
+  abbrev pub rowsGiven : ℕ
+  rowsGiven = count / s .dimension
+
+  abbrev pub lacks : Bool
+  lacks = not (eqb (count % s .dimension) 0)
+
+  pub points-6 : count ≡ 0 → 1 ≤ s .dimension → numbered 6 ≡ verdict (pointsTests s rowsGiven lacks)
+  unfolding verdict
+  points-6 h d = simp (h, zero-div, zero-mod)
+
+  module _ (some : count ≡ 0 → ⊥) (d1 : 1 ≤ s .dimension) where
+    pub points-7 : (count % s .dimension ≡ 0 → ⊥) → numbered 7 ≡ verdict (pointsTests s rowsGiven lacks)
+    unfolding verdict
+    points-7 h = simp (ne-eqb (count % s .dimension) 0 h, and-false)
+
+    module _ (whole : count % s .dimension ≡ 0) where
+      rows-some : count / s .dimension ≡ 0 → ⊥
+      rows-some e = some (sym (div-add-mod' count (s .dimension)) ∙ rw (e, whole, zero-mul))
+
+      pub points-8 : mostPoints < rowsGiven → numbered 8 ≡ verdict (pointsTests s rowsGiven lacks)
+      unfolding verdict
+      points-8 h = simp (eq-eqb (count % s .dimension) 0 whole, ne-eqb (count / s .dimension) 0 rows-some, lt-ltb mostPoints (count / s .dimension) h)
+
+      module _ (few : rowsGiven ≤ mostPoints) where
+        pub points-9 : threshold (s .policy) rowsGiven * s .factor ^ 3 < rowsGiven → numbered 9 ≡ verdict (pointsTests s rowsGiven lacks)
+        unfolding verdict
+        points-9 h =
+            simp (
+              eq-eqb (count % s .dimension) 0 whole,
+              ne-eqb (count / s .dimension) 0 rows-some,
+              le-ltb mostPoints (count / s .dimension) few,
+              lt-ltb (threshold (s .policy) (count / s .dimension) * s .factor ^ 3) (count / s .dimension) h,
+            )
+
+        pub points-fine : rowsGiven ≤ threshold (s .policy) rowsGiven * s .factor ^ 3 → numbered 0 ≡ verdict (pointsTests s rowsGiven lacks)
+        unfolding verdict
+        points-fine h =
+            simp (
+              eq-eqb (count % s .dimension) 0 whole,
+              ne-eqb (count / s .dimension) 0 rows-some,
+              le-ltb mostPoints (count / s .dimension) few,
+              le-ltb (threshold (s .policy) (count / s .dimension) * s .factor ^ 3) (count / s .dimension) h,
+            )
+
+-- more than three reductions are asked for exactly where c * f ^ 3 is below n
+pub reductions-many : (n c f : ℕ) → 3 < reductions n c f → c * f ^ 3 < n
+unfolding reductions
+reductions-many n c f h = leb-false n (c * f ^ 3) (least-before (λ k. leb n (c * f ^ k)) 4 3 h)
+
+pub reductions-few : (n c f : ℕ) → 1 ≤ f → reductions n c f ≤ 3 → n ≤ c * f ^ 3
+unfolding reductions
+reductions-few n c f p h =
+    let k = least (λ k. leb n (c * f ^ k)) 4 in
+    le-trans (leb-true n (c * f ^ k) (least-holds (λ k. leb n (c * f ^ k)) 4 (omega arith)))
+    (mul-le-mul-left c (pow-le-pow-right p h))
+
+-- ---- the lists
+module _ (lent : BuildSizes) (d n q : ℕ) where
+  abbrev asked : BuildSizes
+  asked = buildStated d n q
+
+  pub short-1 : lent .points < 4 * n → true ≡ buildShort lent (buildStated d n q)
+  unfolding buildShort buildStated
+  short-1 h = simp (lt-ltb (lent .points) (4 * n) h)
+
+  module _ (a : 4 * n ≤ lent .points) where
+    pub short-2 : lent .internals < 4 * n → true ≡ buildShort lent (buildStated d n q)
+    unfolding buildShort buildStated
+    short-2 h = simp (le-ltb (lent .points) (4 * n) a, lt-ltb (lent .internals) (4 * n) h)
+
+    module _ (b : 4 * n ≤ lent .internals) where
+      pub short-3 : lent .domains < 4 * (6 * n + 1) → true ≡ buildShort lent (buildStated d n q)
+      unfolding buildShort buildStated
+      short-3 h = simp (le-ltb (lent .points) (4 * n) a, le-ltb (lent .internals) (4 * n) b, lt-ltb (lent .domains) (4 * (6 * n + 1)) h)
+
+      module _ (e : 4 * (6 * n + 1) ≤ lent .domains) where
+        pub short-4 : lent .boxes < 2 * d * (6 * n + 1) → true ≡ buildShort lent (buildStated d n q)
+        unfolding buildShort buildStated
+        short-4 h =
+            simp (
+              le-ltb (lent .points) (4 * n) a,
+              le-ltb (lent .internals) (4 * n) b,
+              le-ltb (lent .domains) (4 * (6 * n + 1)) e,
+              lt-ltb (lent .boxes) (2 * d * (6 * n + 1)) h,
+            )
+
+        module _ (f : 2 * d * (6 * n + 1) ≤ lent .boxes) where
+          pub short-5 : lent .borrowed < 6 * n * (q + 1) → true ≡ buildShort lent (buildStated d n q)
+          unfolding buildShort buildStated
+          short-5 h =
+              simp (
+                le-ltb (lent .points) (4 * n) a,
+                le-ltb (lent .internals) (4 * n) b,
+                le-ltb (lent .domains) (4 * (6 * n + 1)) e,
+                le-ltb (lent .boxes) (2 * d * (6 * n + 1)) f,
+                lt-ltb (lent .borrowed) (6 * n * (q + 1)) h,
+              )
+
+          module _ (g : 6 * n * (q + 1) ≤ lent .borrowed) where
+            pub short-6 : lent .floats < 32 * n → true ≡ buildShort lent (buildStated d n q)
+            unfolding buildShort buildStated
+            short-6 h =
+                simp (
+                  le-ltb (lent .points) (4 * n) a,
+                  le-ltb (lent .internals) (4 * n) b,
+                  le-ltb (lent .domains) (4 * (6 * n + 1)) e,
+                  le-ltb (lent .boxes) (2 * d * (6 * n + 1)) f,
+                  le-ltb (lent .borrowed) (6 * n * (q + 1)) g,
+                  lt-ltb (lent .floats) (32 * n) h,
+                )
+
+            pub short-7 : 32 * n ≤ lent .floats → ltb (lent .wholes) (32 * n + 8 * n * (q + 1)) ≡ buildShort lent (buildStated d n q)
+            unfolding buildShort buildStated
+            short-7 h =
+                simp (
+                  le-ltb (lent .points) (4 * n) a,
+                  le-ltb (lent .internals) (4 * n) b,
+                  le-ltb (lent .domains) (4 * (6 * n + 1)) e,
+                  le-ltb (lent .boxes) (2 * d * (6 * n + 1)) f,
+                  le-ltb (lent .borrowed) (6 * n * (q + 1)) g,
+                  le-ltb (lent .floats) (32 * n) h,
+                )
+
+-- a product of two small numbers
+pub small-product : (x y a b : ℕ) → x ≤ a → y ≤ b → x * y ≤ a * b
+small-product x y a b h g = mul-le-mul h g
+
+-- ---- the coordinates
+bad-from : (i : ℕ) (cs : List Float) → (i ≤ firstBad i cs) × (firstBad i cs ≤ i + length cs)
+unfolding firstBad
+bad-from i [] = (omega arith, omega arith)
+bad-from i (x ∷ xs) = go (finite x) (bad-from (suc i) xs)
+  where
+    go : (b : Bool) → (suc i ≤ firstBad (suc i) xs) × (firstBad (suc i) xs ≤ suc i + length xs)
+        → (i ≤ cond b (firstBad (suc i) xs) i) × (cond b (firstBad (suc i) xs) i ≤ i + length (x ∷ xs))
+    go true h = (omega arith, omega arith)
+    go false h = (omega arith, omega arith)
+
+-- some coordinate is not finite exactly where the first such position is inside the list
+pub bad-test : (i : ℕ) (cs : List Float) → anyOf (λ x. not (finite x)) cs ≡ ltb (firstBad i cs) (i + length cs)
+unfolding firstBad anyOf
+bad-test i [] = sym (le-ltb i (i + 0) (omega arith))
+bad-test i (x ∷ xs) = go (finite x) (bad-test (suc i) xs)
+  where
+    go : (b : Bool) → anyOf (λ x. not (finite x)) xs ≡ ltb (firstBad (suc i) xs) (suc i + length xs)
+        → (not b || anyOf (λ x. not (finite x)) xs) ≡ ltb (cond b (firstBad (suc i) xs) i) (i + length (x ∷ xs))
+    go true e = let m : suc i + length xs ≡ i + length (x ∷ xs) = omega arith in e ∙ ap (λ (k : ℕ). ltb (firstBad (suc i) xs) k) m
+    go false e = sym (lt-ltb i (i + length (x ∷ xs)) (omega arith))
+
+-- ---- 11 and 10
+module _ (short : Bool) (cs : List Float) where
+  pub last-11 : short ≡ true → refused (record { number = 11; place = 0 }) ≡ verdict (on short 11 ∷ notFinite cs ∷ [])
+  unfolding verdict
+  last-11 h = simp h
+
+  pub last-10 : short ≡ false → firstBad 0 cs < length cs
+      → refused (record { number = 10; place = firstBad 0 cs }) ≡ verdict (on short 11 ∷ notFinite cs ∷ [])
+  unfolding verdict
+  last-10 h g = simp (h, bad-test 0 cs, lt-ltb (firstBad 0 cs) (0 + length cs) (omega arith))
+
+  pub last-fine : short ≡ false → length cs ≤ firstBad 0 cs → accepted ≡ verdict (on short 11 ∷ notFinite cs ∷ [])
+  unfolding verdict
+  last-fine h g = simp (h, bad-test 0 cs, le-ltb (firstBad 0 cs) (0 + length cs) (omega arith))
+
+-- ---- the whole verdict from what the groups came to
+stops : (k : ℕ) (v w : Verdict) → numbered k ≡ v → 0 < k → refused (record { number = k; place = 0 }) ≡ andThen v w
+stops zero v w e h = absurd (omega arith)
+stops (suc k) v w e h = ap (λ (u : Verdict). andThen u w) e
+
+module _ (s : Settings) (cs : List Float) (lent : BuildSizes) (k : ℕ) (e : numbered k ≡ verdict (settingsTests s)) where
+  pub refused-settings : 0 < k → refused (record { number = k; place = 0 }) ≡ buildVerdict s cs lent
+  refused-settings h = stops k _ _ e h ∙ sym (build-groups s cs lent)
+
+  module _ (fine : k ≤ 0) (j : ℕ) (f : numbered j ≡ verdict (pointsTests s (pointCount (s .dimension) cs) (coordinatesMissing (s .dimension) cs))) where
+    settings-pass : accepted ≡ verdict (settingsTests s)
+    settings-pass = let z : k ≡ 0 = omega arith in rw z at e
+
+    pub refused-points : 0 < j → refused (record { number = j; place = 0 }) ≡ buildVerdict s cs lent
+    refused-points h = rw (build-groups s cs lent, ← settings-pass) (stops j _ _ f h)
+
+    pub passed-both : j ≤ 0 → buildVerdict s cs lent
+        ≡ verdict (on (buildShort lent (buildStated (s .dimension) (pointCount (s .dimension) cs) (s .neighbours))) 11 ∷ notFinite cs ∷ [])
+    passed-both h =
+        let z : j ≡ 0 = omega arith in
+        let p : accepted ≡ verdict (pointsTests s (pointCount (s .dimension) cs) (coordinatesMissing (s .dimension) cs)) = rw z at f in
+        rw (build-groups s cs lent, ← settings-pass, ← p)

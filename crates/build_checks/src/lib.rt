@@ -1,0 +1,146 @@
+// The refusals of a build, tried in document 01's order before anything is written.
+ghost use mathlib.Core.Path.{_≡_};
+ghost use mathlib.Core.Bool.{not};
+ghost use Prim.Native.Nat.{_/_, _%_, _≤_};
+ghost use lib.Dec.{eqb};
+ghost use Rattle.definition.specs.Packed.{buildStated};
+ghost use Rattle.definition.specs.Refusals.{verdict, settingsTests, pointsTests, zeroThreshold, buildShort, buildVerdict};
+ghost use Rattle.config.specs.Params.{policyOf, settingsOf};
+ghost use Rattle.build_checks.specs.Verdicts.{numbered, verdictOf, sizesOf};
+use config::DDMParams;
+use config::SizePolicy;
+
+// The most points that a build takes.
+const MOST_POINTS: usize = 1_048_576;
+
+// The most neighbours.
+const MOST_NEIGHBOURS: u32 = 64;
+
+// What the tests of a build come to: accepted, or refused with a number and a place.
+pub enum Checked {
+    Accepted,
+    Refused(usize, usize),
+}
+
+// The lengths of the lists lent to a build.
+pub struct Lent {
+    pub level_points: usize,
+    pub internals: usize,
+    pub domains: usize,
+    pub boxes: usize,
+    pub borrowed: usize,
+    pub floats: usize,
+    pub wholes: usize,
+}
+
+// Whether the coarse threshold is fixed at 0.
+fn zero_threshold(policy: SizePolicy) -> bool
+    ensures { λ r. ⌜ r ≡ zeroThreshold (policyOf policy) ⌝ }
+{
+    match policy {
+        SizePolicy::Auto => false,
+        SizePolicy::Fixed(c) => c == 0,
+    }
+}
+
+// The settings: the number of the first of 1 to 5 whose condition is met, or 0.
+fn settings_fault(dimensions: usize, params: DDMParams) -> usize
+    ensures number { λ r. ⌜ numbered r ≡ verdict (settingsTests (settingsOf dimensions params)) ⌝ }
+    ensures fine { λ r. ⌜ (r ≡ 0 → (1 ≤ dimensions) × (dimensions ≤ 3) × (2 ≤ params .«coarse_reduction_factor») × (params .«overlap_knn» ≤ 64)) ⌝ }
+{
+    if dimensions < 1 {
+        return 1;
+    }
+    if 3 < dimensions {
+        return 1;
+    }
+    if params.leaf_threshold == 0 {
+        return 2;
+    }
+    if params.coarse_reduction_factor < 2 {
+        return 3;
+    }
+    let policy = params.coarse_threshold;
+    if zero_threshold(policy) {
+        return 4;
+    }
+    if MOST_NEIGHBOURS < params.overlap_knn {
+        return 5;
+    }
+    0
+}
+
+// The points, of `count` coordinates: the number of the first of 6 to 9 whose condition is met, or 0.
+fn points_fault(count: usize, dimensions: usize, params: DDMParams) -> usize
+    requires { ⌜ (1 ≤ dimensions) × (2 ≤ params .«coarse_reduction_factor») ⌝ }
+    ensures number { λ r. ⌜ numbered r ≡ verdict (pointsTests (settingsOf dimensions params) (count / dimensions) (not (eqb (count % dimensions) 0))) ⌝ }
+    ensures fine { λ r. ⌜ (r ≡ 0 → count / dimensions ≤ 1048576) ⌝ }
+{
+    if count == 0 {
+        return 6;
+    }
+    if count % dimensions != 0 {
+        return 7;
+    }
+    let n = count / dimensions;
+    if MOST_POINTS < n {
+        return 8;
+    }
+    let policy = params.coarse_threshold;
+    let c = level_sizes::resolved_coarse_threshold(policy, n);
+    if 3 < level_sizes::get_num_level_reductions(n, c, params.coarse_reduction_factor) {
+        return 9;
+    }
+    0
+}
+
+// Whether one of the lists is shorter than n points on `dimensions` axes with this neighbour count ask for.
+fn is_short(lent: Lent, dimensions: usize, n: usize, neighbours: usize) -> bool
+    requires { ⌜ (dimensions ≤ 3) × (n ≤ 1048576) × (neighbours ≤ 64) ⌝ }
+    ensures { λ r. ⌜ r ≡ buildShort (sizesOf lent) (buildStated dimensions n neighbours) ⌝ }
+{
+    let rows = 6 * n + 1;
+    let taken = neighbours + 1;
+    if lent.level_points < 4 * n {
+        return true;
+    }
+    if lent.internals < 4 * n {
+        return true;
+    }
+    if lent.domains < 4 * rows {
+        return true;
+    }
+    if lent.boxes < 2 * dimensions * rows {
+        return true;
+    }
+    if lent.borrowed < 6 * n * taken {
+        return true;
+    }
+    if lent.floats < 32 * n {
+        return true;
+    }
+    lent.wholes < 32 * n + 8 * n * taken
+}
+
+// The tests of a build over all points, with lists of these lengths.
+pub fn check_build(points: &[f64], dimensions: usize, params: DDMParams, lent: Lent) -> Checked
+    ensures { λ r. ⌜ verdictOf r ≡ buildVerdict (settingsOf dimensions params) (now (points .entry)) (sizesOf lent) ⌝ }
+{
+    let settings = settings_fault(dimensions, params);
+    if 0 < settings {
+        return Checked::Refused(settings, 0);
+    }
+    let given = points_fault(points.len(), dimensions, params);
+    if 0 < given {
+        return Checked::Refused(given, 0);
+    }
+    let n = points.len() / dimensions;
+    if is_short(lent, dimensions, n, params.overlap_knn as usize) {
+        return Checked::Refused(11, 0);
+    }
+    let bad = root::first_not_finite(points);
+    if bad < points.len() {
+        return Checked::Refused(10, bad);
+    }
+    Checked::Accepted
+}

@@ -1,0 +1,52 @@
+-- One fine level over its active rows, by short names; what it asks. Definitions only.
+use Prim.Native.Nat.{ℕ, _+_, _*_, _≤_}
+use mathlib.Core.List.{List, map}
+use lib.ListN.{length}
+use lib.Ieee.{Float}
+use Rattle.lists.specs.Lists.{joined}
+use Rattle.definition.specs.Cut.{leavesOf}
+use Rattle.definition.specs.Tree.{Leaf, fineLevel, sentLists, nextActive}
+use Rattle.definition.specs.Packed.{rowNumbers, rowFloats}
+use Rattle.definition.specs.Refusals.{mostPoints, mostNeighbours}
+use Rattle.halving.specs.Rows.{GoodRows}
+
+-- the leaves of the fine level over the active rows
+abbrev pub leavesAt : ℕ → List Float → ℕ → ℕ → List ℕ → List Leaf
+leavesAt d cs leaf neighbours active = fineLevel d cs neighbours active (leavesOf d cs leaf active) .leaves
+
+-- the active rows of the level after it, `size` of them
+abbrev pub nextAt : ℕ → List Float → ℕ → ℕ → List ℕ → List ℕ
+nextAt d cs leaf size active = nextActive active (sentLists d cs (leavesOf d cs leaf active) size)
+
+-- the rows, borrowed rows and boxes of leaves, leaf by leaf
+abbrev pub ownIn : List Leaf → List ℕ
+ownIn fs = joined (map (λ f. f .own) fs)
+
+abbrev pub borrowedIn : List Leaf → List ℕ
+borrowedIn fs = joined (map (λ f. f .borrowed) fs)
+
+abbrev pub boxesIn : List Leaf → List Float
+boxesIn fs = joined (map (λ f. f .box) fs)
+
+-- what a level is built from: a few axes, a leaf threshold, a few neighbours, and some good active rows, not more than a build takes
+pub record Given (d : ℕ) (cs : List Float) (leaf neighbours : ℕ) (active : List ℕ) : Type 0 where
+  pub axes : 1 ≤ d
+  pub axes-few : d ≤ 3
+  pub leaf-some : 1 ≤ leaf
+  pub near : neighbours ≤ mostNeighbours
+  pub rows-some : 1 ≤ length active
+  pub rows-few : length active ≤ mostPoints
+  pub good : GoodRows d cs active
+
+-- where a level over `a` rows is written: from `at` on in the internals, from the domain row `first` on, and from `bat` on in the
+-- borrowed rows; the lists are long enough
+pub record Fits (d neighbours a : ℕ) (I D : List ℕ) (B : List Float) (L : List ℕ) (at first bat : ℕ) : Type 0 where
+  pub internals : at + a ≤ length I
+  pub domains : rowNumbers * (first + 2 * a) ≤ length D
+  pub boxes : rowFloats d * (first + 2 * a) ≤ length B
+  pub borrowed : bat + 2 * a * (neighbours + 1) ≤ length L
+
+-- the working room of a level over `a` rows
+pub record Room (neighbours a : ℕ) (W : List ℕ) (F : List Float) : Type 0 where
+  pub wholes : 32 * a + 8 * a * (neighbours + 1) ≤ length W
+  pub floats : 32 * a ≤ length F

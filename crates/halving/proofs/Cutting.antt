@@ -1,0 +1,260 @@
+-- A round of the search for the middle row, its end, and the cut of a stretch, step by step. Assumes nothing.
+use mathlib.Core.Path.{_≡_, refl, sym, ap, ap₂, _∙_, subst}
+use mathlib.Core.Logic.{⊎-elim}
+use mathlib.Core.Bool.{Bool, true, false, not}
+use mathlib.Core.List.{List, [], _∷_, _++_, List·Memᴰ, List·Memᴰ·eq-of-singleton}
+use Prim.Native.Nat.{ℕ, _+_, _-_, _*_, _/_, _≤_, _<_}
+use native.Mathlib.Nat.{add-zero}
+use native.Mathlib.Omega.{arith}
+use lib.ListN.{length, getD, set, take, drop, length-set, length-append, List·getD-append}
+use lib.Seq.{getD-take, length-take-le, take-length}
+use lib.Ieee.{Float}
+use Rattle.lists.specs.Lists.{keep, count, part, put}
+use Rattle.lists.specs.Ascends.{All, Ascends}
+use Rattle.lists.proofs.Tests.{same-or}
+use Rattle.lists.proofs.All.{all-mem}
+use Rattle.lists.proofs.Count.{length-keep, length-both}
+use Rattle.lists.proofs.Members.{mem-at}
+use Rattle.lists.proofs.Put.{set-put, length-put, length-part, put-over, put-comm, put-inside, part-put-same, part-put-before, part-lent, front-put, part-back}
+use Rattle.lists.proofs.Times.{Once}
+use Rattle.lists.proofs.Same.{Same, same-length}
+use Rattle.definition.specs.Keys.{firstRows, otherRows}
+use Rattle.argsort.specs.Rows.{FiniteOn, NoLater}
+use Rattle.sort.specs.Heap.{Sorted}
+use Rattle.halving.specs.Rows.{GoodRows}
+use Rattle.halving.specs.Cuts.{keysOn, onSide, MiddleRow, Halved, Room, Spent, Ranked, Round, Narrows}
+use Rattle.halving.proofs.Good.{good-keep, good-once, good-finite, good-inside, good-below, good-short}
+use Rattle.halving.proofs.Ranks.{aheadOf, ranked-low, ranked-high, sides, ranked-sorted, ranked-middle, middle-ranked, lefts-are, rights-are}
+use Rattle.halving.proofs.Turns.{back-most, back-end}
+use borrow.Rule.Slice.PartMut.{putMid}
+
+module _ {d : ℕ} {cs : List Float} {axis : ℕ} where
+  -- ---- a round: p is one of the first m rows, and c of them come before it
+  module _ {l : List ℕ} {m k at : ℕ} (r : Round d cs axis l m k at) where
+    abbrev rows : List ℕ
+    rows = take m l
+
+    abbrev p : ℕ
+    p = getD l at 0
+
+    pub round-front : length rows ≡ m
+    round-front = length-take-le m l (r .fits)
+
+    once : Once rows
+    once = good-once rows (r .good)
+
+    p-mem : List·Memᴰ p rows
+    p-mem = rw (← getD-take m l at 0 (r .there)) (mem-at rows at 0 (omega (arith, round-front, r .there)))
+
+    pub round-finite : FiniteOn d cs axis rows
+    round-finite = good-finite axis (r .axis-in) rows (r .good)
+
+    pub round-inside : p * d + axis < length cs
+    round-inside = good-inside axis (r .axis-in) rows (r .good) p p-mem
+
+    -- what is kept fits
+    short : (q : ℕ → Bool) → length (keep q rows) ≤ length l
+    short q = omega (arith, length-both q rows, round-front, r .fits)
+
+    kept-fits : (q : ℕ → Bool) (after : List ℕ) (n : ℕ) → n ≡ length (keep q rows) → after ≡ put l 0 (keep q rows) → n ≤ length after
+    kept-fits q after n u v = omega (arith, ap length v, length-put l 0 (keep q rows) (omega (arith, short q)), short q)
+
+    kept-front :
+        (q : ℕ → Bool) (after : List ℕ) (n : ℕ) → n ≡ length (keep q rows) → after ≡ put l 0 (keep q rows) → take n after ≡ keep q rows
+    kept-front q after n u v = ap (take n) v ∙ front-put l (keep q rows) n u
+
+    module _ (c : ℕ) (e : c ≡ aheadOf d cs axis rows p) where
+      -- p is the row itself
+      pub round-found : c ≡ k → Narrows d cs axis l m k (set l 0 p) 1 0
+      unfolding Ascends All
+      round-found q = record {
+        fits = omega (arith, length-set l 0 p, r .fits, r .there);
+        below = omega arith;
+        good =
+            rw one
+            (record { ascends = (tt, tt); inside = (all-mem (λ i. i * d + d ≤ length cs) rows (r .good .inside) p p-mem, tt); finite-all = r .good .finite-all; few = r .good .few });
+        leads = λ x z.
+            let y : x ≡ p = List·Memᴰ·eq-of-singleton (subst (λ (s : List ℕ). List·Memᴰ x s) one (z .inside)) in
+            rw y (record { inside = p-mem; ahead = sym e ∙ q });
+      }
+        where
+          one : take 1 (set l 0 p) ≡ p ∷ []
+          one = ap (take 1) (set-put l 0 p (omega (arith, r .fits, r .there))) ∙ front-put l (p ∷ []) 1 refl
+
+      -- the row is among those before p
+      pub round-low : k < c → (after : List ℕ) (n : ℕ) → n ≡ length (keep (onSide d cs axis p true) rows)
+          → after ≡ put l 0 (keep (onSide d cs axis p true) rows) → Narrows d cs axis l m k after n k
+      round-low h after n u v =
+          let low : ℕ → Bool = onSide d cs axis p true in
+          let f = kept-front low after n u v in
+          record {
+            fits = kept-fits low after n u v;
+            below = omega (arith, length-keep low rows);
+            good = rw f (good-keep low rows (r .good));
+            leads = λ x z. ranked-low d cs axis rows p x k (rw f at z);
+          }
+
+      -- the row is among those after p
+      pub round-high : (c ≡ k → ⊥) → c ≤ k → (after : List ℕ) (n : ℕ) → n ≡ length (keep (onSide d cs axis p false) rows)
+          → after ≡ put l 0 (keep (onSide d cs axis p false) rows) → Narrows d cs axis l m k after n (k - c - 1)
+      round-high ne h after n u v =
+          let high : ℕ → Bool = onSide d cs axis p false in
+          let f = kept-front high after n u v in
+          let s = sides d cs axis rows round-finite once p p-mem in
+          let less : c < k = past ne in
+          let back : aheadOf d cs axis rows p + 1 + (k - c - 1) ≡ k = omega arith in
+          record {
+            fits = kept-fits high after n u v;
+            below = omega (arith, round-front, r .below);
+            good = rw f (good-keep high rows (r .good));
+            leads = λ x z.
+                subst (λ (y : ℕ). Ranked d cs axis rows x y) back
+                (ranked-high d cs axis rows round-finite once p p-mem x (k - c - 1) (rw f at z));
+          }
+        where
+          past : (c ≡ k → ⊥) → c < k
+          past ne = ⊎-elim (λ (y : c ≡ k). absurd (ne y)) (λ w. omega arith) (same-or c k)
+
+  -- ---- the rounds
+  pub search-first :
+      (l : List ℕ) → 1 ≤ length l → GoodRows d cs l → Narrows d cs axis l (length l) (length l / 2) l (length l) (length l / 2)
+  search-first l h g = record { fits = omega arith; below = omega arith; good = rw (take-length l) g; leads = λ q r. r }
+
+  pub search-more : {l : List ℕ} {m k : ℕ} {l₁ : List ℕ} {n j : ℕ} {l₂ : List ℕ} {o i : ℕ}
+      → Narrows d cs axis l m k l₁ n j → Narrows d cs axis l₁ n j l₂ o i → Narrows d cs axis l m k l₂ o i
+  search-more a b = record { fits = b .fits; below = b .below; good = b .good; leads = λ q r. a .leads q (b .leads q r) }
+
+  -- ---- their end: the rows that are left are sorted
+  module _ {l l₁ : List ℕ} {n j : ℕ} (A : axis < d) (some : 1 ≤ length l) (g : GoodRows d cs l)
+      (N : Narrows d cs axis l (length l) (length l / 2) l₁ n j) where
+    pub end-asks : FiniteOn d cs axis (take n l₁) × All (λ i. i < 4294967296) (take n l₁) × (length (take n l₁) ≤ 4294967296)
+    end-asks = let k = N .good in (good-finite axis A (take n l₁) k, good-below axis A (take n l₁) k, good-short axis A (take n l₁) k)
+
+    pub end-front : length (take n l₁) ≡ n
+    end-front = length-take-le n l₁ (N .fits)
+
+    module _ (s : List ℕ) (sorted : Sorted (NoLater d cs axis) s) (same : Same s (take n l₁)) where
+      j-in : j < length s
+      j-in = omega (arith, same-length s (take n l₁) same, end-front, N .below)
+
+      pub end-inside : j < length (s ++ drop n l₁)
+      end-inside = omega (arith, length-append s (drop n l₁), j-in)
+
+      pub end-middle : MiddleRow d cs axis l (getD (s ++ drop n l₁) j 0)
+      end-middle =
+          let r =
+          ranked-sorted d cs axis s (take n l₁) sorted same (good-once (take n l₁) (N .good)) j (omega (arith, end-front, N .below)) in
+          let q = N .leads (getD s j 0) r in
+          rw (List·getD-append s (drop n l₁) 0 j j-in)
+          (ranked-middle d cs axis l (good-finite axis A l g) (good-once l g) some (getD s j 0) (rw (take-length l) at q))
+
+  -- ---- a stretch of a list with room behind it
+  module _ {w : List ℕ} {start count spare : ℕ} (r : Room d cs axis w start count spare) where
+    abbrev own : List ℕ
+    own = part w start count
+
+    own-length : length own ≡ count
+    own-length = length-part w start count (omega (arith, r .apart, r .fit))
+
+    own-finite : FiniteOn d cs axis own
+    own-finite = good-finite axis (r .axis-in) own (r .good)
+
+    -- the search in the spare room
+    module _ (w₁ : List ℕ) (e : w₁ ≡ put w spare own) where
+      lent : take (spare + count - spare) (drop spare w₁) ≡ own
+      lent =
+          part-lent w₁ spare count ∙ ap (λ (z : List ℕ). part z spare count) e
+          ∙ part-put-same w spare own count (omega (arith, r .fit)) own-length
+
+      pub lent-good : GoodRows d cs (take (spare + count - spare) (drop spare w₁))
+      lent-good = rw lent (r .good)
+
+      pub lent-some : 1 ≤ length (take (spare + count - spare) (drop spare w₁))
+      lent-some = rw lent (omega (arith, own-length, r .some))
+
+      pub lent-back : (ys : List ℕ) (m : ℕ) → length ys ≡ length (take (spare + count - spare) (drop spare w₁))
+          → MiddleRow d cs axis (take (spare + count - spare) (drop spare w₁)) m
+          → Spent w spare count (putMid spare (spare + count - spare) w₁ ys) × MiddleRow d cs axis own m
+      lent-back ys m n M =
+          let k : length ys ≡ count = n ∙ ap length lent ∙ own-length in (
+            record {
+              rest = ys;
+              long = k;
+              is =
+                  part-back w₁ spare count ys k ∙ ap (λ (z : List ℕ). put z spare ys) e
+                  ∙ put-over w spare own ys (omega (arith, r .fit)) (own-length ∙ sym k);
+            },
+            rw lent at M,
+          )
+
+    -- the rows are parted around the middle row, and the spare room is copied back
+    module _ {m : ℕ} (M : MiddleRow d cs axis own m) {w₁ : List ℕ} (S : Spent w spare count w₁) where
+      abbrev low : ℕ → Bool
+      low = onSide d cs axis m true
+
+      spent-length : length w₁ ≡ length w
+      spent-length = ap length (S .is) ∙ length-put w spare (S .rest) (omega (arith, S .long, r .fit))
+
+      spent-own : part w₁ start count ≡ own
+      spent-own =
+          ap (λ (z : List ℕ). part z start count) (S .is)
+          ∙ part-put-before w spare (S .rest) start count (omega (arith, r .fit)) (r .apart)
+
+      pub spent-finite : FiniteOn d cs axis (part w₁ start count)
+      spent-finite = rw spent-own own-finite
+
+      pub spent-room : spare + count ≤ length w₁
+      spent-room = omega (arith, spent-length, r .fit)
+
+      pub middle-inside : m * d + axis < length cs
+      middle-inside = good-inside axis (r .axis-in) own (r .good) m (M .inside)
+
+      -- the two sides
+      abbrev L : List ℕ
+      L = keep low own
+
+      abbrev R : List ℕ
+      R = keep (λ i. not (low i)) own
+
+      both-size : length L + length R ≡ count
+      both-size = length-both low own ∙ own-length
+
+      ranked : Ranked d cs axis own m (count / 2)
+      ranked = subst (λ (k : ℕ). Ranked d cs axis own m (k / 2)) own-length (middle-ranked d cs axis own m M)
+
+      L-is : L ≡ firstRows (count / 2) (keysOn d cs axis own)
+      L-is = lefts-are d cs axis own own-finite (good-once own (r .good)) (count / 2) m ranked
+
+      R-is : R ≡ otherRows (count / 2) (keysOn d cs axis own)
+      R-is = rights-are d cs axis own own-finite (good-once own (r .good)) (count / 2) m ranked
+
+      module _ {lo : ℕ} {w₂ : List ℕ} (u : lo ≡ length (keep low (part w₁ start count)))
+          (v : w₂ ≡ put (put w₁ start (keep low (part w₁ start count))) spare (keep (λ i. not (low i)) (part w₁ start count))) where
+        pub low-most : lo ≤ count
+        low-most = back-most low w₁ start count spare (r .apart) spent-room lo u
+
+        pub parted-length : length w₂ ≡ length w
+        parted-length =
+            let a : w₂ ≡ put (put w₁ start L) spare R = rw spent-own at v in
+            let b = length-put w₁ start L (omega (arith, both-size, spent-room, r .apart)) in
+            ap length a ∙ length-put (put w₁ start L) spare R (omega (arith, both-size, spent-room, b)) ∙ b ∙ spent-length
+
+        pub halved : (w₃ : List ℕ) → w₃ ≡ put w₂ (start + lo) (part w₂ spare (count - lo)) → Halved d cs axis w start count spare w₃
+        halved w₃ x =
+            let a = back-end low w₁ start count spare (r .apart) spent-room lo u w₂ w₃ v x in
+            let b : w₃ ≡ put (put w₁ start (L ++ R)) spare R = rw spent-own at a in
+            let n : length (L ++ R) ≡ count = length-append L R ∙ both-size in
+            let z = length-put w start (L ++ R) (omega (arith, r .apart, r .fit)) in
+            let c : put w₁ start (L ++ R) ≡ put (put w start (L ++ R)) spare (S .rest) =
+            ap (λ (y : List ℕ). put y start (L ++ R)) (S .is)
+            ∙ sym (put-comm w start (L ++ R) spare (S .rest) (omega (arith, r .apart)) (omega (arith, r .fit))) in
+            let f : put (put (put w start (L ++ R)) spare (S .rest)) spare R ≡ put (put w start (L ++ R)) spare (put (S .rest) 0 R) =
+            ap (λ (k : ℕ). put (put (put w start (L ++ R)) spare (S .rest)) k R) (sym (add-zero spare))
+            ∙ put-inside (put w start (L ++ R)) spare (S .rest) 0 R (omega (arith, r .fit)) (omega (arith, both-size, S .long)) in
+            record {
+              rest = put (S .rest) 0 R;
+              long = length-put (S .rest) 0 R (omega (arith, both-size, S .long)) ∙ S .long;
+              is =
+                  b ∙ ap (λ (y : List ℕ). put y spare R) c ∙ f
+                  ∙ ap₂ (λ (g h : List ℕ). put (put w start (g ++ h)) spare (put (S .rest) 0 R)) L-is R-is;
+            }

@@ -1,0 +1,82 @@
+// The pairs of rows that two leaves lend each other, each as a number: the leaf that borrows, and the position of the row.
+ghost use mathlib.Core.Path.{_≡_};
+ghost use Prim.Native.Nat.{_+_, _*_, _<_, _≤_};
+ghost use lib.ListN.{length, getD};
+ghost use Rattle.lists.specs.Lists.{put};
+ghost use Rattle.halving.specs.Rows.{GoodRows};
+ghost use Rattle.overlap_pairs.specs.Pairs.{sentBy, Room, Taken, Owners, Collected};
+
+// A leaf and a position as one number: leaf * POSITIONS + position.
+const POSITIONS: usize = 2097152;
+
+// The row at position p takes those at the positions `near`. Where two leaves own the two rows, each leaf gets the other's row:
+// their numbers are written from n on. The owners of the a active rows stand at the front of the list.
+fn send(near: &[usize], a: usize, p: usize, work: &mut [usize], n: usize) -> usize
+    requires { ⌜ Room (now near) a p (now work) n ⌝ }
+    ensures { λ r. ⌜ (r ≡ n + length (sentBy (λ i. getD (now (work .entry)) i 0) p (now (near .entry))))
+        × (now (work .exit) ≡ put (now (work .entry)) n (sentBy (λ i. getD (now (work .entry)) i 0) p (now (near .entry)))) ⌝ }
+{
+    let mine = work[p];
+    let mut w = n;
+    let mut k: usize = 0;
+    while k < near.len() {
+        let q = near[k];
+        k += 1;
+        let other = work[q];
+        if mine != other {
+            work[w] = mine * POSITIONS + q;
+            work[w + 1] = other * POSITIONS + p;
+            w += 2;
+        }
+    }
+    w
+}
+
+// What the row at position p sends.
+fn send_row(
+    points: &[f64],
+    dimensions: usize,
+    neighbours: usize,
+    active: &[usize],
+    p: usize,
+    work: &mut [usize],
+    n: usize,
+) -> usize
+    requires { ⌜ GoodRows dimensions (now points) (now active) × (neighbours ≤ 64) × (p < length (now active)) × Owners (length (now active)) (now work)
+        × (length (now active) ≤ n) × (n + 2 * (neighbours + 1) ≤ length (now work)) ⌝ }
+    ensures { λ r. ⌜ Taken dimensions (now (points .entry)) neighbours (now (active .entry)) p (now (work .entry)) (now (work .exit)) n r ⌝ }
+{
+    let mut near = [0usize; 66];
+    let mut far = [0.0f64; 66];
+    let count = nearest_scan::nearest(
+        points,
+        dimensions,
+        neighbours,
+        active,
+        active[p],
+        &mut near,
+        &mut far,
+    );
+    send(&near[..count], active.len(), p, work, n)
+}
+
+// What all active rows send, behind their owners: the answer is where it ends.
+pub fn collect(
+    points: &[f64],
+    dimensions: usize,
+    neighbours: usize,
+    active: &[usize],
+    work: &mut [usize],
+) -> usize
+    requires { ⌜ GoodRows dimensions (now points) (now active) × (neighbours ≤ 64) × Owners (length (now active)) (now work)
+        × (length (now active) + length (now active) * (2 * (neighbours + 1)) ≤ length (now work)) ⌝ }
+    ensures { λ r. ⌜ Collected dimensions (now (points .entry)) neighbours (now (active .entry)) (now (work .entry)) (length (now (active .entry))) (now (work .exit)) r ⌝ }
+{
+    let mut n = active.len();
+    let mut p: usize = 0;
+    while p < active.len() {
+        n = send_row(points, dimensions, neighbours, active, p, work, n);
+        p += 1;
+    }
+    n
+}

@@ -1,0 +1,133 @@
+-- The levels' texts one after the other, from the packed lists and the counts. Assumes nothing.
+use mathlib.Core.Path.{_≡_, refl, sym, ap, ap₂, _∙_}
+use mathlib.Core.Bool.{false}
+use Prim.Native.Nat.{ℕ, zero, suc, _+_, _-_, _≤_, _<_}
+use native.Mathlib.Nat.{add-zero, zero-add, add-suc}
+use native.Mathlib.Omega.{arith}
+use mathlib.Core.List.{List, [], _∷_, _++_, append-assoc, append-nil, map}
+use lib.ListN.{length, getD, take, drop, length-map}
+use Rattle.lists.specs.Lists.{from, total, joined}
+use Rattle.definition.specs.Tree.{Level}
+use Rattle.definition.specs.Printout.{levelLine, fineLines, coarseLines, levelsText}
+use Rattle.print_tree.specs.Unpack.{Packed, Holds, Stands, leavesAt, leafLine, boxPart, pointsLine, levelAt, levelsAt, fineLevelText, coarseLevelText}
+use Rattle.lists.proofs.Sums.{total-below}
+use Rattle.lists.proofs.From.{from-suc, length-from}
+use Rattle.lists.proofs.Map.{map-snoc}
+use Rattle.lists.proofs.Put.{part-lent}
+
+pub total-none : (xs : List ℕ) → 0 ≡ total (take 0 xs)
+unfolding total
+total-none xs = refl
+
+-- ---- levels' texts
+fineTexts : ℕ → List Level → List ℕ
+fineTexts s [] = []
+fineTexts s (l ∷ ls) = (levelLine s l ++ fineLines 0 (l .leaves)) ++ fineTexts (suc s) ls
+
+texts-one : (s : ℕ) (ls : List Level) (l : Level) → fineTexts s (ls ++ l ∷ []) ≡ fineTexts s ls ++ (levelLine (s + length ls) l ++ fineLines 0 (l .leaves))
+unfolding fineTexts
+texts-one s [] l = rw (append-nil, add-zero)
+texts-one s (m ∷ ls) l =
+    let here = levelLine s m ++ fineLines 0 (m .leaves) in
+    let number : suc s + length ls ≡ s + suc (length ls) = omega arith in
+    ap (λ (r : List ℕ). here ++ r) (texts-one (suc s) ls l)
+    ∙ sym (append-assoc here (fineTexts (suc s) ls) (levelLine (suc s + length ls) l ++ fineLines 0 (l .leaves)))
+    ∙ ap (λ (k : ℕ). (here ++ fineTexts (suc s) ls) ++ (levelLine k l ++ fineLines 0 (l .leaves))) number
+
+texts-last : (s : ℕ) (ls : List Level) (l : Level) → levelsText s (ls ++ l ∷ []) ≡ fineTexts s ls ++ (levelLine (s + length ls) l ++ coarseLines (l .leaves))
+unfolding fineTexts levelsText
+texts-last s [] l = rw add-zero
+texts-last s (m ∷ []) l = rw (add-suc, add-zero, append-nil)
+texts-last s (m ∷ n ∷ ls) l =
+    let here = levelLine s m ++ fineLines 0 (m .leaves) in
+    let number : suc s + suc (length ls) ≡ s + suc (suc (length ls)) = omega arith in
+    ap (λ (r : List ℕ). here ++ r) (texts-last (suc s) (n ∷ ls) l)
+    ∙ sym (append-assoc here (fineTexts (suc s) (n ∷ ls)) (levelLine (suc s + suc (length ls)) l ++ coarseLines (l .leaves)))
+    ∙ ap (λ (k : ℕ). (here ++ fineTexts (suc s) (n ∷ ls)) ++ (levelLine k l ++ coarseLines (l .leaves))) number
+
+module _ (p : Packed) (points rows counts : List ℕ) where
+  -- the first t levels, as fine ones
+  pub frontText : ℕ → List ℕ
+  frontText t = fineTexts 0 (levelsAt p points rows counts t)
+
+  pub fineAt : ℕ → List ℕ
+  fineAt t =
+      fineLevelText t (take (total (take t rows) + getD rows t 0 - total (take t rows)) (drop (total (take t rows)) points)) p (total (take t counts))
+      (getD counts t 0)
+
+  one-more : (t : ℕ) → levelsAt p points rows counts (t + 1) ≡ levelsAt p points rows counts t ++ levelAt p points rows counts t ∷ []
+  unfolding levelsAt
+  one-more t =
+      ap (map (levelAt p points rows counts)) (from-suc 0 t)
+      ∙ map-snoc (levelAt p points rows counts) (from 0 t) (0 + t)
+      ∙ ap (λ (k : ℕ). map (levelAt p points rows counts) (from 0 t) ++ levelAt p points rows counts k ∷ []) (zero-add t)
+
+  pub how-many : (t : ℕ) → length (levelsAt p points rows counts t) ≡ t
+  unfolding levelsAt
+  how-many t = length-map (from 0 t) (levelAt p points rows counts) ∙ length-from 0 t
+
+  pub front-none : frontText 0 ≡ []
+  unfolding frontText levelsAt fineTexts from
+  front-none = refl
+
+  line-at : (t : ℕ)
+      → levelLine t (levelAt p points rows counts t) ≡ pointsLine t (take (total (take t rows) + getD rows t 0 - total (take t rows)) (drop (total (take t rows)) points))
+  unfolding levelLine levelAt
+  line-at t = rw (← part-lent points (total (take t rows)) (getD rows t 0))
+
+  pub front-grows : (t : ℕ) → frontText (t + 1) ≡ frontText t ++ fineAt t
+  unfolding frontText fineAt fineLevelText levelAt
+  front-grows t =
+      ap (fineTexts 0) (one-more t)
+      ∙ texts-one 0 (levelsAt p points rows counts t) (levelAt p points rows counts t)
+      ∙ ap (λ (k : ℕ). fineTexts 0
+      (levelsAt p points rows counts t) ++ (levelLine k (levelAt p points rows counts t) ++ fineLines 0 (levelAt p points rows counts t .leaves)))
+      (zero-add _ ∙ how-many t)
+      ∙ ap (λ (l : List ℕ). fineTexts 0 (levelsAt p points rows counts t) ++ (l ++ fineLines 0 (levelAt p points rows counts t .leaves))) (line-at t)
+
+  one-domain : (j : ℕ) → coarseLines (leavesAt p j 1) ≡ leafLine false 0 p j
+  unfolding coarseLines leavesAt leafLine boxPart from joined
+  one-domain j = append-nil _
+
+  pub coarseAt : ℕ → List ℕ
+  coarseAt t = coarseLevelText t (take (total (take t rows) + getD rows t 0 - total (take t rows)) (drop (total (take t rows)) points)) p (total (take t counts))
+
+  pub levels-last : (t : ℕ) → getD counts t 0 ≡ 1 → levelsText 0 (levelsAt p points rows counts (t + 1)) ≡ frontText t ++ coarseAt t
+  unfolding frontText coarseAt coarseLevelText levelAt
+  levels-last t one =
+      ap (levelsText 0) (one-more t)
+      ∙ texts-last 0 (levelsAt p points rows counts t) (levelAt p points rows counts t)
+      ∙ ap (λ (k : ℕ). fineTexts 0
+      (levelsAt p points rows counts t) ++ (levelLine k (levelAt p points rows counts t) ++ coarseLines (levelAt p points rows counts t .leaves)))
+      (zero-add _ ∙ how-many t)
+      ∙ ap₂ (λ (l : List ℕ) (k : List ℕ). fineTexts 0 (levelsAt p points rows counts t) ++ (l ++ k)) (line-at t)
+      (ap (λ (k : ℕ). coarseLines (leavesAt p (total (take t counts)) k)) one ∙ one-domain (total (take t counts)))
+
+  -- ---- the same in the code's terms: a and j are the sums of the counts so far
+  module _ (t a j : ℕ) (ea : a ≡ total (take t rows)) (ej : j ≡ total (take t counts)) where
+    pub fine-here : fineAt t ≡ fineLevelText t (take (a + getD rows t 0 - a) (drop a points)) p j (getD counts t 0)
+    unfolding fineAt
+    fine-here = rw (ea, ej)
+
+    pub coarse-here : coarseAt t ≡ coarseLevelText t (take (a + getD rows t 0 - a) (drop a points)) p j
+    unfolding coarseAt
+    coarse-here = rw (ea, ej)
+
+    module _ (n : ℕ) (s : Stands p points rows counts n) (h : t < n) where
+      pub rows-here : a + getD rows t 0 ≤ length points
+      rows-here = omega (arith, total-below rows t n h, s .within)
+
+      pub held-here : (i : ℕ) → i < getD counts t 0 → Holds p (j + i)
+      held-here i g = s .held (j + i) (omega (arith, total-below counts t n h))
+
+      pub domains-here : j + getD counts t 0 ≤ length (p .domains)
+      domains-here = go (j + getD counts t 0) (omega (arith, total-below counts t n h))
+        where
+          go : (k : ℕ) → k ≤ total (take n counts) → k ≤ length (p .domains)
+          go zero g = omega arith
+          go (suc k) g = omega (arith, s .held k (omega arith) .row)
+
+  pub levels-whole : (n t : ℕ) → Stands p points rows counts n → t ≡ n - 1 → levelsText 0 (levelsAt p points rows counts n) ≡ frontText t ++ coarseAt t
+  levels-whole n t s e =
+      let f : n ≡ t + 1 = omega (arith, s .some) in
+      ap (λ (k : ℕ). levelsText 0 (levelsAt p points rows counts k)) f ∙ levels-last t (ap (λ (k : ℕ). getD counts k 0) e ∙ s .coarse)

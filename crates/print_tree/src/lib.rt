@@ -1,0 +1,254 @@
+// The printout of a tree, line by line, from the packed lists: each part is appended to a lent list of bytes at a position, and
+// the answer is the next position.
+ghost use Prim.Native.Nat.{ℕ, _+_, _<_};
+ghost use Rattle.definition.specs.Printout.{domainLine, fineLines, levelsText, treeText};
+ghost use Rattle.print_texts.specs.Wrote.{Wrote, Room};
+ghost use Rattle.print_tree.specs.Unpack.{leafOf, boxPart, pointsLine, packed, Holds, leafLine, leavesAt, fineLevelText, coarseLevelText, Stands, levelsAt};
+
+// The bounds of a box; a dash for the coarse domain's.
+fn write_box(fine: bool, bounds: &[f64], out: &mut [u8], at: usize) -> usize
+    requires { ⌜ Room (now out) at (boxPart fine (now bounds)) ⌝ }
+    ensures { λ r. ⌜ Wrote (now (out .entry)) at (boxPart fine (now (bounds .entry))) r (now (out .exit)) ⌝ }
+{
+    if fine {
+        return print_texts::write_bounds(bounds, out, at);
+    }
+    print_texts::write_text(b" -", out, at)
+}
+
+// The line of the domain number i.
+fn write_domain(
+    i: usize,
+    own: &[usize],
+    borrowed: &[usize],
+    fine: bool,
+    bounds: &[f64],
+    out: &mut [u8],
+    at: usize,
+) -> usize
+    requires { ⌜ Room (now out) at (domainLine i (leafOf (now own) (now borrowed) (now bounds)) (boxPart fine (now bounds))) ⌝ }
+    ensures { λ r. ⌜ Wrote (now (out .entry)) at (domainLine i (leafOf (now (own .entry)) (now (borrowed .entry)) (now (bounds .entry))) (boxPart fine (now (bounds .entry)))) r (now (out .exit)) ⌝ }
+{
+    let named = print_texts::write_numbered(b"domain ", i, out, at);
+    let owned = print_texts::write_listed(b" internal", own, out, named);
+    let lent = print_texts::write_listed(b" overlap", borrowed, out, owned);
+    let boxed = print_texts::write_text(b" box", out, lent);
+    let done = write_box(fine, bounds, out, boxed);
+    print_texts::write_byte(10, out, done)
+}
+
+// The line of the level number t.
+fn write_level(t: usize, rows: &[usize], out: &mut [u8], at: usize) -> usize
+    requires { ⌜ Room (now out) at (pointsLine t (now rows)) ⌝ }
+    ensures { λ r. ⌜ Wrote (now (out .entry)) at (pointsLine t (now (rows .entry))) r (now (out .exit)) ⌝ }
+{
+    let named = print_texts::write_numbered(b"level ", t, out, at);
+    let done = print_texts::write_listed(b" points", rows, out, named);
+    print_texts::write_byte(10, out, done)
+}
+
+// The line of a domain, from the domain row number j: its number is i.
+fn write_leaf(
+    fine: bool,
+    i: usize,
+    j: usize,
+    own: &[usize],
+    borrowed: &[usize],
+    domains: &[usize],
+    boxes: &[f64],
+    wide: usize,
+    out: &mut [u8],
+    at: usize,
+) -> usize
+    requires { ⌜ Holds (packed (now own) (now borrowed) (now domains) (now boxes) wide) j ⌝ }
+    requires { ⌜ Room (now out) at (leafLine fine i (packed (now own) (now borrowed) (now domains) (now boxes) wide) j) ⌝ }
+    ensures { λ r. ⌜ Wrote (now (out .entry)) at (leafLine fine i (packed (now (own .entry)) (now (borrowed .entry)) (now (domains .entry)) (now (boxes .entry)) wide) j) r (now (out .exit)) ⌝ }
+{
+    let o = domains[4 * j];
+    let oe = o + domains[4 * j + 1];
+    let b = domains[4 * j + 2];
+    let be = b + domains[4 * j + 3];
+    let x = wide * j;
+    let xe = x + wide;
+    write_domain(
+        i,
+        &own[o..oe],
+        &borrowed[b..be],
+        fine,
+        &boxes[x..xe],
+        out,
+        at,
+    )
+}
+
+// The lines of m fine domains, from the domain row number j on.
+fn write_leaves(
+    j: usize,
+    m: usize,
+    own: &[usize],
+    borrowed: &[usize],
+    domains: &[usize],
+    boxes: &[f64],
+    wide: usize,
+    out: &mut [u8],
+    at: usize,
+) -> usize
+    requires { ⌜ ((i : ℕ) → i < m → Holds (packed (now own) (now borrowed) (now domains) (now boxes) wide) (j + i)) ⌝ }
+    requires { ⌜ Room (now out) at (fineLines 0 (leavesAt (packed (now own) (now borrowed) (now domains) (now boxes) wide) j m)) ⌝ }
+    ensures { λ r. ⌜ Wrote (now (out .entry)) at (fineLines 0 (leavesAt (packed (now (own .entry)) (now (borrowed .entry)) (now (domains .entry)) (now (boxes .entry)) wide) j m)) r (now (out .exit)) ⌝ }
+{
+    let mut next = at;
+    let mut i = 0;
+    while i < m {
+        next = write_leaf(
+            true,
+            i,
+            j + i,
+            own,
+            borrowed,
+            domains,
+            boxes,
+            wide,
+            out,
+            next,
+        );
+        i += 1;
+    }
+    next
+}
+
+// The lines of the fine level number t: its rows, and m domains from the domain row number j on.
+fn write_fine(
+    t: usize,
+    rows: &[usize],
+    j: usize,
+    m: usize,
+    own: &[usize],
+    borrowed: &[usize],
+    domains: &[usize],
+    boxes: &[f64],
+    wide: usize,
+    out: &mut [u8],
+    at: usize,
+) -> usize
+    requires { ⌜ ((i : ℕ) → i < m → Holds (packed (now own) (now borrowed) (now domains) (now boxes) wide) (j + i)) ⌝ }
+    requires { ⌜ Room (now out) at (fineLevelText t (now rows) (packed (now own) (now borrowed) (now domains) (now boxes) wide) j m) ⌝ }
+    ensures { λ r. ⌜ Wrote (now (out .entry)) at (fineLevelText t (now (rows .entry)) (packed (now (own .entry)) (now (borrowed .entry)) (now (domains .entry)) (now (boxes .entry)) wide) j m) r (now (out .exit)) ⌝ }
+{
+    let next = write_level(t, rows, out, at);
+    write_leaves(j, m, own, borrowed, domains, boxes, wide, out, next)
+}
+
+// The lines of the coarse level number t, whose one domain is the domain row number j.
+fn write_coarse(
+    t: usize,
+    rows: &[usize],
+    j: usize,
+    own: &[usize],
+    borrowed: &[usize],
+    domains: &[usize],
+    boxes: &[f64],
+    wide: usize,
+    out: &mut [u8],
+    at: usize,
+) -> usize
+    requires { ⌜ Holds (packed (now own) (now borrowed) (now domains) (now boxes) wide) j ⌝ }
+    requires { ⌜ Room (now out) at (coarseLevelText t (now rows) (packed (now own) (now borrowed) (now domains) (now boxes) wide) j) ⌝ }
+    ensures { λ r. ⌜ Wrote (now (out .entry)) at (coarseLevelText t (now (rows .entry)) (packed (now (own .entry)) (now (borrowed .entry)) (now (domains .entry)) (now (boxes .entry)) wide) j) r (now (out .exit)) ⌝ }
+{
+    let next = write_level(t, rows, out, at);
+    write_leaf(false, 0, j, own, borrowed, domains, boxes, wide, out, next)
+}
+
+// The lines of all levels.
+fn write_levels(
+    levels: usize,
+    rows: &[usize],
+    counts: &[usize],
+    points: &[usize],
+    own: &[usize],
+    borrowed: &[usize],
+    domains: &[usize],
+    boxes: &[f64],
+    wide: usize,
+    out: &mut [u8],
+    at: usize,
+) -> usize
+    requires { ⌜ Stands (packed (now own) (now borrowed) (now domains) (now boxes) wide) (now points) (now rows) (now counts) levels ⌝ }
+    requires { ⌜ Room (now out) at (levelsText 0 (levelsAt (packed (now own) (now borrowed) (now domains) (now boxes) wide) (now points) (now rows) (now counts) levels)) ⌝ }
+    ensures { λ r. ⌜ Wrote (now (out .entry)) at (levelsText 0 (levelsAt (packed (now (own .entry)) (now (borrowed .entry)) (now (domains .entry)) (now (boxes .entry)) wide) (now (points .entry)) (now (rows .entry)) (now (counts .entry)) levels)) r (now (out .exit)) ⌝ }
+{
+    let last = levels - 1;
+    let mut next = at;
+    let mut t = 0;
+    let mut a = 0;
+    let mut j = 0;
+    while t < last {
+        let e = a + rows[t];
+        let m = counts[t];
+        next = write_fine(
+            t,
+            &points[a..e],
+            j,
+            m,
+            own,
+            borrowed,
+            domains,
+            boxes,
+            wide,
+            out,
+            next,
+        );
+        a = e;
+        j += m;
+        t += 1;
+    }
+    let e = a + rows[last];
+    write_coarse(
+        last,
+        &points[a..e],
+        j,
+        own,
+        borrowed,
+        domains,
+        boxes,
+        wide,
+        out,
+        next,
+    )
+}
+
+// The whole tree: its levels with their row and domain counts, and the packed lists.
+pub fn write_tree(
+    levels: usize,
+    rows: &[usize],
+    counts: &[usize],
+    points: &[usize],
+    own: &[usize],
+    borrowed: &[usize],
+    domains: &[usize],
+    boxes: &[f64],
+    wide: usize,
+    out: &mut [u8],
+    at: usize,
+) -> usize
+    requires { ⌜ Stands (packed (now own) (now borrowed) (now domains) (now boxes) wide) (now points) (now rows) (now counts) levels ⌝ }
+    requires { ⌜ Room (now out) at (treeText (levelsAt (packed (now own) (now borrowed) (now domains) (now boxes) wide) (now points) (now rows) (now counts) levels)) ⌝ }
+    ensures { λ r. ⌜ Wrote (now (out .entry)) at (treeText (levelsAt (packed (now (own .entry)) (now (borrowed .entry)) (now (domains .entry)) (now (boxes .entry)) wide) (now (points .entry)) (now (rows .entry)) (now (counts .entry)) levels)) r (now (out .exit)) ⌝ }
+{
+    let said = print_texts::write_numbered(b"levels ", levels, out, at);
+    let next = print_texts::write_byte(10, out, said);
+    write_levels(
+        levels,
+        rows,
+        counts,
+        points,
+        own,
+        borrowed,
+        domains,
+        boxes,
+        wide,
+        out,
+        next,
+    )
+}

@@ -1,0 +1,265 @@
+-- From the build's outcome to the text of a job, and from the reader's answer to the printout. Assumes nothing.
+use mathlib.Core.Path.{_≡_, sym, ap, _∙_}
+use mathlib.Core.Logic.{⊎-elim}
+use mathlib.Core.Bool.{false}
+use Prim.Native.Nat.{ℕ, _+_, _*_, _≤_, _<_}
+use native.Mathlib.Nat.{mul-le-mul, div-le-of-le-mul, mul-comm, le-refl, zero-add}
+use native.Mathlib.Omega.{arith}
+use mathlib.Core.List.{List}
+use lib.ListN.{length, take, replicate, length-replicate}
+use lib.Ieee.{Float}
+use borrow.Author.Tests.{le-ltb, lt-ltb}
+use Rattle.lists.proofs.Put.{put-zero}
+use Rattle.lists.proofs.Tests.{le-or-lt}
+use Rattle.definition.specs.Number.{plusZero}
+use Rattle.definition.specs.Tree as tree
+use Rattle.definition.specs.Packed.{Counts, BuildSizes, buildStated, rowFloats, countsOf, packedPoints, packedOwn, packedBorrowed, packedBoxes, packedDomains}
+use Rattle.definition.specs.Refusals.{Verdict, accepted, refused, verdict, buildShort, buildVerdict}
+use Rattle.definition.specs.Outcome.{Answer, numberOf, placeOf, valueOf, written, listAfter, TreeLists, lentSizes, buildCall, buildAnswer, treeListsAfter, buildLists}
+use Rattle.definition.specs.Stream.{job, streamPoints, jobIn}
+use Rattle.definition.specs.Printout.{treeText, refusalText, builtText, jobText, printout}
+use Rattle.definition_laws.proofs.Accepted.{LentEnough, build-zero}
+use Rattle.stream_laws.specs.Sizes.{Kept, KeptBy, mostBytes}
+use Rattle.stream_laws.proofs.Stream.{job-kept}
+use Rattle.stream_laws.proofs.Long.{job-long, refusal-long, printout-long}
+use Rattle.stream_laws.proofs.Shape.{tree-shaped}
+use Rattle.print_texts.specs.Wrote.{Wrote, Room, refusalOf}
+use Rattle.print_tree.specs.Unpack.{packed, Stands, levelsAt}
+use Rattle.print_tree.proofs.Packs.{tree-back, tree-stands}
+use Rattle.stream_reader.specs.declared.Settings.{Settings}
+use Rattle.stream_reader.specs.declared.Read.{Read}
+use Rattle.stream_reader.specs.declared.Read.the-variants.{Whole, Broken}
+use Rattle.stream_reader.specs.Reading.{settingsAre, jobOf, Within}
+use Rattle.printout.specs.Printing.{printCall, printAnswer, printOutput}
+
+-- ---- lists that are long enough
+none-short : (lent stated : BuildSizes) → LentEnough lent stated → buildShort lent stated ≡ false
+unfolding buildShort
+none-short lent stated e =
+    rw (
+      le-ltb (lent .points) (stated .points) (e .points),
+      le-ltb (lent .internals) (stated .internals) (e .internals),
+      le-ltb (lent .domains) (stated .domains) (e .domains),
+      le-ltb (lent .boxes) (stated .boxes) (e .boxes),
+      le-ltb (lent .borrowed) (stated .borrowed) (e .borrowed),
+      le-ltb (lent .floats) (stated .floats) (e .floats),
+      le-ltb (lent .wholes) (stated .wholes) (e .wholes),
+    )
+
+-- the same lists as stated
+as-stated : (stated : BuildSizes) → LentEnough stated stated
+as-stated stated =
+    record {
+      points = le-refl (stated .points);
+      internals = le-refl (stated .internals);
+      domains = le-refl (stated .domains);
+      boxes = le-refl (stated .boxes);
+      borrowed = le-refl (stated .borrowed);
+      floats = le-refl (stated .floats);
+      wholes = le-refl (stated .wholes);
+    }
+
+-- the program's lists, for 32 points on three axes with 16 neighbours
+pub record Roomy (lent : BuildSizes) : Type 0 where
+  pub points : lent .points ≡ 128
+  pub internals : lent .internals ≡ 128
+  pub domains : lent .domains ≡ 772
+  pub boxes : lent .boxes ≡ 1158
+  pub borrowed : lent .borrowed ≡ 3264
+  pub floats : lent .floats ≡ 1024
+  pub wholes : lent .wholes ≡ 5376
+
+roomy : (d n k : ℕ) (lent : BuildSizes) → d ≤ 3 → n ≤ 32 → k ≤ 16 → Roomy lent → LentEnough lent (buildStated d n k)
+unfolding buildStated
+roomy d n k lent hd hn hk r =
+    let a = mul-le-mul {n₁ = 2 * d} {m₁ = 6 * n + 1} {n₂ = 6} {m₂ = 193} (omega arith) (omega arith) in
+    let b = mul-le-mul {n₁ = 6 * n} {m₁ = k + 1} {n₂ = 192} {m₂ = 17} (omega arith) (omega arith) in
+    let c = mul-le-mul {n₁ = 8 * n} {m₁ = k + 1} {n₂ = 256} {m₂ = 17} (omega arith) (omega arith) in
+    record {
+      points = omega (arith, r .points);
+      internals = omega (arith, r .internals);
+      domains = omega (arith, r .domains);
+      boxes = omega (arith, r .boxes);
+      borrowed = omega (arith, r .borrowed);
+      floats = omega (arith, r .floats);
+      wholes = omega (arith, r .wholes);
+    }
+
+-- ---- a build in the program's lists
+module _ (s : tree.Settings) (cs : List Float) (old : TreeLists) (floats : List Float) (wholes : List ℕ) where
+  abbrev call : Verdict
+  call = buildCall s cs old floats wholes
+
+  abbrev stated : BuildSizes
+  stated = buildStated (s .dimension) (tree.pointCount (s .dimension) cs) (s .neighbours)
+
+  -- its verdict is that of a build in lists of the stated sizes
+  module _ (kept : Kept s cs) (rooms : Roomy (lentSizes old floats wholes)) where
+    pub as-printed : call ≡ buildVerdict s cs stated
+    unfolding buildVerdict
+    as-printed =
+        let few : tree.pointCount (s .dimension) cs ≤ streamPoints = div-le-of-le-mul (s .dimension) (rw mul-comm at (kept .points-few)) in
+        let a = none-short (lentSizes old floats wholes) stated (roomy (s .dimension) _ (s .neighbours) _ (kept .axes-few) few (kept .neighbours-few) rooms) in
+        rw (a, none-short stated stated (as-stated stated))
+
+    -- by its answer
+    module _ (r : Answer Counts) (e : r ≡ buildAnswer s cs old floats wholes) where
+      number-is : r .number ≡ numberOf call
+      unfolding buildAnswer
+      number-is = ap (λ (a : Answer Counts). a .number) e
+
+      place-is : r .place ≡ placeOf call
+      unfolding buildAnswer
+      place-is = ap (λ (a : Answer Counts). a .place) e
+
+      text-refused : (v : Verdict) → r .number ≡ numberOf v → r .place ≡ placeOf v → 0 < r .number → builtText v s cs ≡ refusalText (refusalOf (r .number) (r .place))
+      unfolding builtText numberOf placeOf
+      text-refused accepted en ep h = absurd (omega arith)
+      text-refused (refused q) en ep h = rw (en, ep)
+
+      pub job-refused : 0 < r .number → jobText (job s cs) ≡ refusalText (refusalOf (r .number) (r .place))
+      unfolding jobText
+      job-refused h = ap (λ (v : Verdict). builtText v s cs) (sym as-printed) ∙ text-refused call number-is place-is h
+
+      job-accepted : r .number ≤ 0 → call ≡ accepted
+      job-accepted h = build-zero s cs (lentSizes old floats wholes) (sym number-is ∙ (omega arith))
+
+      text-accepted : r .number ≤ 0 → jobText (job s cs) ≡ treeText (tree.levels s cs)
+      unfolding jobText builtText
+      text-accepted h = ap (λ (v : Verdict). builtText v s cs) (sym as-printed ∙ job-accepted h)
+
+      -- the counts and the lists of an accepted build hold the tree
+      module _ (h : r .number ≤ 0) (new : TreeLists) (f : new ≡ buildLists s cs old floats wholes) where
+        abbrev ls : List tree.Level
+        ls = tree.levels s cs
+
+        abbrev wide : ℕ
+        wide = rowFloats (s .dimension)
+
+        counts-are : r .value ≡ countsOf ls
+        unfolding buildAnswer valueOf
+        counts-are = ap (λ (a : Answer Counts). a .value) e ∙ rw (job-accepted h)
+
+        lists-are : new ≡ record {
+          points = written (packedPoints ls) (old .points);
+          internals = written (packedOwn ls) (old .internals);
+          domains = written (packedDomains ls) (old .domains);
+          boxes = written (packedBoxes ls) (old .boxes);
+          borrowed = written (packedBorrowed ls) (old .borrowed);
+        }
+        unfolding buildLists treeListsAfter listAfter
+        lists-are = f ∙ rw (job-accepted h)
+
+        pub tree-ready : Stands (packed (new .internals) (new .borrowed) (new .domains) (new .boxes) wide) (new .points) (r .value .rows) (r .value .domains) (r .value .levels)
+        unfolding countsOf
+        tree-ready =
+            rw (lists-are, counts-are)
+            (tree-stands ls wide (tree-shaped s cs) (old .internals) (old .borrowed) (old .domains) (old .points) (old .boxes))
+
+        pub job-tree : jobText (job s cs)
+            ≡ treeText (levelsAt (packed (new .internals) (new .borrowed) (new .domains) (new .boxes) wide) (new .points) (r .value .rows)
+            (r .value .domains) (r .value .levels))
+        unfolding countsOf
+        job-tree =
+            rw (lists-are, counts-are)
+            (text-accepted h ∙ ap treeText (sym (tree-back ls wide (tree-shaped s cs) (old .internals) (old .borrowed) (old .domains) (old .points) (old .boxes))))
+
+-- ---- the program's lists, as they are lent
+abbrev pub lentLists : TreeLists
+lentLists =
+    record {
+      points = replicate 128 0;
+      internals = replicate 128 0;
+      domains = replicate 772 0;
+      boxes = replicate 1158 plusZero;
+      borrowed = replicate 3264 0;
+    }
+
+pub rooms : Roomy (lentSizes lentLists (replicate 1024 plusZero) (replicate 5376 0))
+rooms =
+    record {
+      points = length-replicate {A = ℕ} 128 0;
+      internals = length-replicate {A = ℕ} 128 0;
+      domains = length-replicate {A = ℕ} 772 0;
+      boxes = length-replicate 1158 plusZero;
+      borrowed = length-replicate {A = ℕ} 3264 0;
+      floats = length-replicate 1024 plusZero;
+      wholes = length-replicate {A = ℕ} 5376 0;
+    }
+
+-- the same lists, list by list
+pub same-lists : (l : TreeLists) {p i d b : List ℕ} {x : List Float} → p ≡ l .points → i ≡ l .internals → d ≡ l .domains → x ≡ l .boxes → b ≡ l .borrowed
+    → record { points = p; internals = i; domains = d; boxes = x; borrowed = b } ≡ l
+same-lists l ep ei ed ex eb = rw (ep, ei, ed, ex, eb)
+
+-- ---- room for the texts
+pub room-for : (s : tree.Settings) (cs : List Float) (out : List ℕ) → Kept s cs → mostBytes ≤ length out → Room out 0 (jobText (job s cs))
+room-for s cs out h g = record { fits = omega (arith, job-long (job s cs) h) }
+
+pub refusal-room : (number place : ℕ) (out : List ℕ) → mostBytes ≤ length out → Room out 0 (refusalText (refusalOf number place))
+refusal-room number place out h = record { fits = omega (arith, refusal-long (refusalOf number place)) }
+
+-- ---- by the reader's answer
+module _ (r : Read) (cs : List Float) (bs : List ℕ) (h : jobOf r cs ≡ jobIn bs) where
+  printed-is : jobText (jobOf r cs) ≡ printout bs
+  unfolding printout
+  printed-is = ap jobText h
+
+  pub broken-here : (number place : ℕ) → r ≡ Broken number place → refusalText (refusalOf number place) ≡ printout bs
+  unfolding jobText
+  broken-here number place e = ap (λ (x : Read). jobText (jobOf x cs)) (sym e) ∙ printed-is
+
+  module _ (s : Settings) (n : ℕ) (e : r ≡ Whole s n) where
+    pub whole-here : jobText (job (settingsAre s) (take (n * s .dimensions) cs)) ≡ printout bs
+    whole-here = ap (λ (x : Read). jobText (jobOf x cs)) (sym e) ∙ printed-is
+
+    pub kept-here : Kept (settingsAre s) (take (n * s .dimensions) cs)
+    kept-here = go r e (rw (← h) at (job-kept bs))
+      where
+        go : (x : Read) → x ≡ Whole s n → KeptBy (jobOf x cs) → Kept (settingsAre s) (take (n * s .dimensions) cs)
+        go x f k = rw f at k
+
+    pub floats-here : Within r → n * s .dimensions ≤ 96
+    floats-here w =
+        let k : n ≤ streamPoints = rw e at w in
+        mul-le-mul {n₁ = n} {m₁ = s .dimensions} {n₂ = 32} {m₂ = 3} k (kept-here .axes-few)
+
+-- ---- the outcome of the whole call
+module _ (input output : List ℕ) where
+  pub call-short : length output < mostBytes → printCall output ≡ refused (refusalOf 11 0)
+  unfolding printCall verdict
+  call-short h = rw (lt-ltb (length output) mostBytes h)
+
+  call-long : mostBytes ≤ length output → printCall output ≡ accepted
+  unfolding printCall verdict
+  call-long h = rw (le-ltb (length output) mostBytes h)
+
+  pub answer-short : length output < mostBytes → record { number = 11; place = 0; value = 0 } ≡ printAnswer input output
+  unfolding printAnswer numberOf placeOf valueOf
+  answer-short h = rw (call-short h)
+
+  pub output-short : length output < mostBytes → output ≡ printOutput input output
+  unfolding printOutput listAfter
+  output-short h = rw (call-short h)
+
+  module _ (h : mostBytes ≤ length output) (r : ℕ) (after : List ℕ) (w : Wrote output 0 (printout input) r after) where
+    pub answer-long : record { number = 0; place = 0; value = r } ≡ printAnswer input output
+    unfolding printAnswer numberOf placeOf valueOf
+    answer-long = rw (call-long h, w .place, zero-add (length (printout input)))
+
+    pub output-long : after ≡ printOutput input output
+    unfolding printOutput listAfter written
+    output-long = w .same ∙ put-zero output (printout input) ∙ rw (call-long h)
+
+-- no call reports more bytes than the list has
+pub count-fits : (input output : List ℕ) (r : Answer ℕ) → r ≡ printAnswer input output → r .value ≤ length output
+unfolding printAnswer valueOf
+count-fits input output r e =
+    ⊎-elim
+    (λ (long : mostBytes ≤ length output).
+    let v : r .value ≡ length (printout input) = ap (λ (a : Answer ℕ). a .value) e ∙ rw (call-long input output long) in
+    omega (arith, printout-long input))
+    (λ (short : length output < mostBytes).
+    let v : r .value ≡ 0 = ap (λ (a : Answer ℕ). a .value) e ∙ rw (call-short input output short) in
+    omega arith)
+    (le-or-lt mostBytes (length output))

@@ -1,0 +1,107 @@
+// What the program prints for a job stream, as a function on lists: bytes in, bytes out, and the count of them back.
+use stream_reader::Read;
+use stream_reader::Settings;
+ghost use mathlib.Core.Path.{_≡_};
+ghost use Prim.Native.Nat.{_≤_};
+ghost use lib.ListN.{length};
+ghost use Rattle.definition.specs.Stream.{job};
+ghost use Rattle.definition.specs.Printout.{jobText, printout as printed};
+ghost use Rattle.stream_laws.specs.Sizes.{Kept, mostBytes};
+ghost use Rattle.stream_reader.specs.Reading.{settingsAre};
+ghost use Rattle.print_texts.specs.Wrote.{Wrote};
+ghost use Rattle.printout.specs.Printing.{printAnswer, printOutput, answerOf};
+
+// How many bytes were written, or the number of a refusal (11: the output list is short) and its place.
+pub struct Printed {
+    pub number: usize,
+    pub place: usize,
+    pub count: usize,
+}
+
+// The text of a job: of its tree, or of the build's refusal. The lists have the stated sizes for 32 points on three axes with 16
+// neighbours.
+fn write_job(s: Settings, cs: &[f64], out: &mut [u8]) -> usize
+    requires { ⌜ Kept (settingsAre s) (now cs) × (mostBytes ≤ length (now out)) ⌝ }
+    ensures { λ r. ⌜ Wrote (now (out .entry)) 0 (jobText (job (settingsAre s) (now (cs .entry)))) r (now (out .exit)) ⌝ }
+{
+    let mut points = [0usize; 128];
+    let mut internals = [0usize; 128];
+    let mut domains = [0usize; 772];
+    let mut boxes = [0.0; 1158];
+    let mut borrowed = [0usize; 3264];
+    let mut floats = [0.0; 1024];
+    let mut wholes = [0usize; 5376];
+    let d = s.dimensions;
+    let params = s.params;
+    let wide = 2 * d;
+    let tree = ddm::build(
+        cs,
+        d,
+        params,
+        &mut points,
+        &mut internals,
+        &mut domains,
+        &mut boxes,
+        &mut borrowed,
+        &mut floats,
+        &mut wholes,
+    );
+    let number = tree.number;
+    let place = tree.place;
+    if 0 < number {
+        return print_texts::write_refusal(number, place, out, 0);
+    }
+    let levels = tree.levels;
+    let rows = tree.rows;
+    let counts = tree.domains;
+    print_tree::write_tree(
+        levels,
+        &rows,
+        &counts,
+        &points,
+        &internals,
+        &borrowed,
+        &domains,
+        &boxes,
+        wide,
+        out,
+        0,
+    )
+}
+
+// The printout of a stream that is lent room for every printout.
+fn write_printout(input: &[u8], output: &mut [u8]) -> usize
+    requires { ⌜ mostBytes ≤ length (now output) ⌝ }
+    ensures { λ r. ⌜ Wrote (now (output .entry)) 0 (printed (now (input .entry))) r (now (output .exit)) ⌝ }
+{
+    let mut coords = [0.0; 96];
+    let read = stream_reader::read_job(input, &mut coords);
+    match read {
+        Read::Broken(number, place) => print_texts::write_refusal(number, place, output, 0),
+        Read::Whole(s, n) => {
+            let k = n * s.dimensions;
+            write_job(s, &coords[..k], output)
+        }
+    }
+}
+
+// What the program prints for a stream, written to the front of `output`, which is to have 131,072 bytes at least: no printout is
+// longer.
+pub fn printout(input: &[u8], output: &mut [u8]) -> Printed
+    ensures answer { λ r. ⌜ answerOf r ≡ printAnswer (now (input .entry)) (now (output .entry)) ⌝ }
+    ensures output { λ _. ⌜ now (output .exit) ≡ printOutput (now (input .entry)) (now (output .entry)) ⌝ }
+{
+    if output.len() < 131072 {
+        return Printed {
+            number: 11,
+            place: 0,
+            count: 0,
+        };
+    }
+    let count = write_printout(input, output);
+    Printed {
+        number: 0,
+        place: 0,
+        count,
+    }
+}

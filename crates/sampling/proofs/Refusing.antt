@@ -1,0 +1,188 @@
+-- The refusals of a sampling, and what holds where it is accepted. Assumes nothing.
+use mathlib.Core.Path.{_≡_, refl, sym, ap, _∙_}
+use mathlib.Core.Bool.{Bool, true, false, not, cond, _||_}
+use mathlib.Core.List.{List, [], _∷_}
+use Prim.Native.Nat.{ℕ, zero, suc, _+_, _*_, _/_, _≤_, _<_}
+use native.Mathlib.Nat.{zero-add, div-mul-le-self, le-trans, le-of-eq, mul-le-mul-right, suc-mul}
+use native.Mathlib.Omega.{arith}
+use borrow.Author.Tests.{ltb-false, leb-false, eqb-false, not-false}
+use lib.Dec.{ltb, leb, eqb}
+use lib.ListN.{length, getD, take, drop}
+use lib.Seq.{take-at}
+use lib.Ieee.{Float}
+use lib.Ieee.Scale.{finite}
+use Rattle.lists.specs.Lists.{anyOf, from, put}
+use Rattle.lists.specs.Ascends.{All, Ascends}
+use Rattle.lists.proofs.All.{all-of}
+use Rattle.lists.proofs.Ascends.{ascends-from}
+use Rattle.lists.proofs.From.{all-from, length-from, getD-from}
+use Rattle.lists.proofs.Put.{put-zero}
+use Rattle.lists.proofs.Members.{none-any}
+use Rattle.lists.proofs.Tests.{or-none}
+use Rattle.definition.specs.Packed.{sampleStated}
+use Rattle.definition.specs.Refusals.{on, Verdict, accepted, refused, wrongDimension, coordinatesMissing, firstBad, notFinite, mostPoints, sampleShort, sampleVerdict}
+use Rattle.definition.specs.Sampling.{sample}
+use Rattle.definition.specs.Outcome.{answered, numberOf, placeOf, valueOf, written, listAfter, RoomAfter, sampleCall, sampleAnswer, sampleOutput}
+use Rattle.definition_laws.proofs.Accepted.{passes, right-dimension}
+use Rattle.sampling.specs.declared.SampleAnswer.{SampleAnswer}
+use Rattle.sampling.specs.declared.SampleAnswer.the-variants.{Sampled, Refused}
+use Rattle.sampling.specs.Answers.{lentSizes, shown, answerOf}
+
+-- ---- 10: the first coordinate that is not finite stands inside the list where there is one
+abbrev bad : Float → Bool
+bad x = not (finite x)
+
+bad-some : (i : ℕ) (xs : List Float) → firstBad i xs < i + length xs → anyOf bad xs ≡ true
+unfolding firstBad anyOf
+bad-some i [] h = absurd (omega arith)
+bad-some i (x ∷ xs) h = go (finite x) h (bad-some (suc i) xs)
+  where
+    go : (t : Bool) → cond t (firstBad (suc i) xs) i < i + suc (length xs) → (firstBad (suc i) xs < suc i + length xs → anyOf bad xs ≡ true) → not t || anyOf bad xs ≡ true
+    go true b f = f (omega arith)
+    go false b f = refl
+
+bad-none : (i : ℕ) (xs : List Float) → i + length xs ≤ firstBad i xs → anyOf bad xs ≡ false
+unfolding firstBad anyOf
+bad-none i [] h = refl
+bad-none i (x ∷ xs) h = go (finite x) h (bad-none (suc i) xs)
+  where
+    go : (t : Bool) → i + suc (length xs) ≤ cond t (firstBad (suc i) xs) i → (suc i + length xs ≤ firstBad (suc i) xs → anyOf bad xs ≡ false) → not t || anyOf bad xs ≡ false
+    go true b f = f (omega arith)
+    go false b f = absurd (omega arith)
+
+pub bad-found : (cs : List Float) (p : ℕ) → p ≡ firstBad 0 cs → p < length cs → anyOf (λ x. not (finite x)) cs ≡ true
+bad-found cs p e h = bad-some 0 cs (omega (arith, e))
+
+pub bad-nowhere : (cs : List Float) (p : ℕ) → p ≡ firstBad 0 cs → length cs ≤ p → anyOf (λ x. not (finite x)) cs ≡ false
+bad-nowhere cs p e h = bad-none 0 cs (omega (arith, e))
+
+-- ---- an accepted call
+zero-one : {A : Type 0} → _≡_ {A = ℕ} 0 1 → A
+zero-one e = absurd (omega arith)
+
+sampled-count : (v : Verdict) (wanted count : ℕ) → shown v wanted ≡ Sampled count → (v ≡ accepted) × (wanted ≡ count)
+unfolding shown
+sampled-count accepted wanted count e = (refl, cc)
+sampled-count (refused r) wanted count e = let z : _≡_ {A = ℕ} 0 1 = cc in zero-one z
+
+above-zero : (n : ℕ) → (n ≡ 0 → ⊥) → 0 < n
+above-zero zero h = absurd (h refl)
+above-zero (suc n) h = omega arith
+
+pub record Accepted (d : ℕ) (cs : List Float) (wanted seed o f w : ℕ) : Type 0 where
+  pub axes : (1 ≤ d) × (d ≤ 3)
+  pub few : length cs / d ≤ 1048576
+  pub some-wanted : 0 < wanted
+  pub wanted-in : wanted ≤ length cs / d
+  pub seed-in : seed < length cs / d
+  pub output : wanted ≤ o
+  pub floats : 2 * (length cs / d) ≤ f
+  pub wholes : length cs / d ≤ w
+  pub finites : All (λ x. finite x ≡ true) cs
+
+call-accepted : (d : ℕ) (cs : List Float) (wanted seed o f w : ℕ) → sampleVerdict d cs wanted seed (lentSizes o f w) ≡ accepted → Accepted d cs wanted seed o f w
+unfolding sampleVerdict sampleShort sampleStated
+call-accepted d cs wanted seed o f w e =
+    let n = length cs / d in
+    let p1 = passes (on (wrongDimension d) 1) _ e in
+    let p2 = passes (on (eqb (length cs) 0) 6) _ (p1 .1) in
+    let p3 = passes (on (coordinatesMissing d cs) 7) _ (p2 .1) in
+    let p4 = passes (on (ltb mostPoints n) 8) _ (p3 .1) in
+    let p5 = passes (on (eqb wanted 0 || ltb n wanted || leb n seed) 13) _ (p4 .1) in
+    let p6 = passes (on (ltb o wanted || ltb f (2 * n) || ltb w n) 11) _ (p5 .1) in
+    let p7 = passes (notFinite cs) _ (p6 .1) in
+    let a = or-none (eqb wanted 0 || ltb n wanted) (leb n seed) (p5 .0) in
+    let b = or-none (eqb wanted 0) (ltb n wanted) (a .0) in
+    let s = or-none (ltb o wanted || ltb f (2 * n)) (ltb w n) (p6 .0) in
+    let t = or-none (ltb o wanted) (ltb f (2 * n)) (s .0) in
+    record {
+      axes = right-dimension d (p1 .0);
+      few = ltb-false mostPoints n (p4 .0);
+      some-wanted = above-zero wanted (eqb-false wanted 0 (b .0));
+      wanted-in = ltb-false n wanted (b .1);
+      seed-in = leb-false n seed (a .1);
+      output = ltb-false o wanted (t .0);
+      floats = ltb-false f (2 * n) (t .1);
+      wholes = ltb-false w n (s .1);
+      finites = all-of (λ x. finite x ≡ true) cs (λ x m. not-false (finite x) (none-any bad cs (p7 .0) m));
+    }
+
+-- what holds once the answer is a count
+pub accepted-call : (d : ℕ) (cs : List Float) (wanted seed o f w count : ℕ) (x : SampleAnswer)
+    → x ≡ shown (sampleVerdict d cs wanted seed (lentSizes o f w)) wanted → x ≡ Sampled count
+    → (sampleVerdict d cs wanted seed (lentSizes o f w) ≡ accepted) × (wanted ≡ count) × Accepted d cs wanted seed o f w
+accepted-call d cs wanted seed o f w count x e h =
+    let c = sampled-count (sampleVerdict d cs wanted seed (lentSizes o f w)) wanted count (sym e ∙ h) in
+    (c .0, c .1, call-accepted d cs wanted seed o f w (c .0))
+
+-- ---- all rows of the point list
+
+all-inside : (d : ℕ) (cs : List Float) → All (λ i. i * d + d ≤ length cs) (from 0 (length cs / d))
+all-inside d cs =
+    all-from (λ i. i * d + d ≤ length cs) 0 (length cs / d)
+    (λ i l h. le-trans (le-of-eq (sym (suc-mul i d))) (le-trans (mul-le-mul-right d (omega arith)) (div-mul-le-self (length cs) d)))
+
+-- their numbers stand at the front of the list that they were written to
+pub numbered : (n : ℕ) (w l : List ℕ) → l ≡ put w 0 (from 0 n) → take n l ≡ from 0 n
+numbered n w l e = ap (take n) (e ∙ put-zero w (from 0 n)) ∙ take-at (from 0 n) (drop (length (from 0 n)) w) n (length-from 0 n)
+
+module _ (d : ℕ) (cs : List Float) (wanted seed o f w count : ℕ) (a : Accepted d cs wanted seed o f w) (e : wanted ≡ count) (rows : List ℕ) (r : rows ≡ from 0 (length cs / d)) where
+  -- what the sampling of a list of rows asks
+  pub call-ready : (Ascends rows × All (λ i. i * d + d ≤ length cs) rows)
+      × (All (λ x. finite x ≡ true) cs × (((0 < count) × (count ≤ length rows) × (seed < length rows)) × ((0 + count ≤ o) × (length rows ≤ f))))
+  call-ready =
+      let n : length rows ≡ length cs / d = ap length r ∙ length-from 0 (length cs / d) in (
+        (rw r (ascends-from 0 (length cs / d)), rw r (all-inside d cs)),
+        (
+          a .finites,
+          (
+            (omega (arith, a .some-wanted), omega (arith, a .wanted-in), omega (arith, a .seed-in)),
+            (omega (arith, a .output), omega (arith, a .floats)),
+          ),
+        ),
+      )
+
+  -- what it writes
+  pub call-written : (old new : List ℕ) → new ≡ put old 0 (sample d cs rows count (getD rows seed 0)) → new ≡ written (sample d cs (from 0 (length cs / d)) wanted seed) old
+  unfolding written
+  call-written old new h =
+      let s : getD (from 0 (length cs / d)) seed 0 ≡ seed = getD-from 0 (length cs / d) seed 0 (a .seed-in) ∙ zero-add seed in
+      h
+      ∙ ap (put old 0) (rw (r, s, ← e))
+      ∙ put-zero old (sample d cs (from 0 (length cs / d)) wanted seed)
+
+-- ---- the outcome of a call
+module _ (d : ℕ) (cs : List Float) (wanted seed : ℕ) (out : List ℕ) (floats : List Float) (wholes : List ℕ) where
+  refused-with : (v : Verdict) (number place : ℕ) → shown v wanted ≡ Refused number place → (xs : List ℕ)
+      → (answerOf (Refused number place) ≡ answered v wanted 0) × ((out ≡ listAfter v xs out) × (RoomAfter v floats floats × RoomAfter v wholes wholes))
+  unfolding shown answerOf numberOf placeOf valueOf listAfter RoomAfter
+  refused-with accepted number place e xs = let z : _≡_ {A = ℕ} 0 1 = cc in zero-one z
+  refused-with (refused r) number place e xs =
+      let n : r .number ≡ number = cc in
+      let p : r .place ≡ place = cc in
+      (rw (n, p), (refl, (refl, refl)))
+
+  -- a refusal leaves each list as it was
+  pub call-refused : (number place : ℕ) → shown (sampleCall d cs wanted seed out floats wholes) wanted ≡ Refused number place
+      → (answerOf (Refused number place) ≡ sampleAnswer d cs wanted seed out floats wholes)
+      × ((out ≡ sampleOutput d cs wanted seed out floats wholes)
+      × (RoomAfter (sampleCall d cs wanted seed out floats wholes) floats floats × RoomAfter (sampleCall d cs wanted seed out floats wholes) wholes wholes))
+  unfolding sampleAnswer sampleOutput
+  call-refused number place e = refused-with (sampleCall d cs wanted seed out floats wholes) number place e _
+
+  accepted-with : (v : Verdict) (count : ℕ) → v ≡ accepted → wanted ≡ count → (xs new : List ℕ) → new ≡ written xs out
+      → (floats′ : List Float) → length floats′ ≡ length floats → (wholes′ : List ℕ) → length wholes′ ≡ length wholes
+      → (answerOf (Sampled count) ≡ answered v wanted 0) × ((new ≡ listAfter v xs out) × (RoomAfter v floats floats′ × RoomAfter v wholes wholes′))
+  unfolding answerOf numberOf placeOf valueOf listAfter RoomAfter
+  accepted-with v count e w xs new h floats′ f wholes′ g = rw (e, w) (refl, (h, (f, g)))
+
+  -- an accepted call writes the sample, and keeps the lengths of its working room
+  pub call-sampled : (count : ℕ) → sampleCall d cs wanted seed out floats wholes ≡ accepted → wanted ≡ count
+      → (new : List ℕ) → new ≡ written (sample d cs (from 0 (length cs / d)) wanted seed) out
+      → (floats′ : List Float) → length floats′ ≡ length floats → (wholes′ : List ℕ) → length wholes′ ≡ length wholes
+      → (answerOf (Sampled count) ≡ sampleAnswer d cs wanted seed out floats wholes)
+      × ((new ≡ sampleOutput d cs wanted seed out floats wholes)
+      × (RoomAfter (sampleCall d cs wanted seed out floats wholes) floats floats′ × RoomAfter (sampleCall d cs wanted seed out floats wholes) wholes wholes′))
+  unfolding sampleAnswer sampleOutput
+  call-sampled count e w new h floats′ f wholes′ g =
+      accepted-with (sampleCall d cs wanted seed out floats wholes) count e w (sample d cs (from 0 (length cs / d)) wanted seed) new h floats′ f wholes′ g

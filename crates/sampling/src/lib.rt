@@ -1,0 +1,141 @@
+// The public call of sampling: its refusals, and the sampling of all rows of a point list.
+ghost use mathlib.Core.Path.{_≡_};
+ghost use mathlib.Core.Bool.{_||_};
+ghost use Prim.Native.Nat.{_≤_};
+ghost use lib.Dec.{eqb, ltb, leb};
+ghost use Rattle.definition.specs.Packed.{sampleStated};
+ghost use Rattle.definition.specs.Refusals.{wrongDimension, sampleShort, sampleVerdict};
+ghost use Rattle.definition.specs.Outcome.{sampleCall, sampleAnswer, sampleOutput, RoomAfter};
+ghost use Rattle.sampling.specs.Answers.{lentSizes, shown, answerOf};
+use distances::LocalIdx;
+
+// What a sampling answers: the count of rows written, or a refusal's number and place.
+pub enum SampleAnswer {
+    Sampled(usize),
+    Refused(u8, usize),
+}
+
+// Whether the dimension is not 1, 2 or 3.
+fn wrong_dimension(dimensions: usize) -> bool
+    ensures { λ r. ⌜ r ≡ wrongDimension dimensions ⌝ }
+{
+    if dimensions < 1 {
+        return true;
+    }
+    if 3 < dimensions {
+        return true;
+    }
+    false
+}
+
+// Whether none is wanted, more than there are, or the seed is no row.
+fn wrong_choice(rows: usize, wanted: usize, seed: usize) -> bool
+    ensures { λ r. ⌜ r ≡ (eqb wanted 0 || ltb rows wanted || leb rows seed) ⌝ }
+{
+    if wanted == 0 {
+        return true;
+    }
+    if rows < wanted {
+        return true;
+    }
+    rows <= seed
+}
+
+// Whether a lent list is shorter than stated.
+fn lists_short(rows: usize, wanted: usize, output: usize, floats: usize, wholes: usize) -> bool
+    requires { ⌜ rows ≤ 1048576 ⌝ }
+    ensures { λ r. ⌜ r ≡ sampleShort (lentSizes output floats wholes) (sampleStated rows wanted) ⌝ }
+{
+    if output < wanted {
+        return true;
+    }
+    if floats < 2 * rows {
+        return true;
+    }
+    wholes < rows
+}
+
+// The refusal of a sampling, or the count of rows to be written. `output`, `floats` and `wholes` are the lengths of the
+// lent lists.
+fn sampling_verdict(
+    points: &[f64],
+    dimensions: usize,
+    wanted: usize,
+    seed: usize,
+    output: usize,
+    floats: usize,
+    wholes: usize,
+) -> SampleAnswer
+    ensures { λ r. ⌜ r ≡ shown (sampleVerdict dimensions (now (points .entry)) wanted seed (lentSizes output floats wholes)) wanted ⌝ }
+{
+    if wrong_dimension(dimensions) {
+        return SampleAnswer::Refused(1, 0);
+    }
+    let count = points.len();
+    if count == 0 {
+        return SampleAnswer::Refused(6, 0);
+    }
+    if count % dimensions != 0 {
+        return SampleAnswer::Refused(7, 0);
+    }
+    let rows = count / dimensions;
+    if 1048576 < rows {
+        return SampleAnswer::Refused(8, 0);
+    }
+    if wrong_choice(rows, wanted, seed) {
+        return SampleAnswer::Refused(13, 0);
+    }
+    if lists_short(rows, wanted, output, floats, wholes) {
+        return SampleAnswer::Refused(11, 0);
+    }
+    let place = root::first_not_finite(points);
+    if place < count {
+        return SampleAnswer::Refused(10, place);
+    }
+    SampleAnswer::Sampled(wanted)
+}
+
+// Farthest point sampling of all rows, from the row `seed` on: `wanted` rows are written to the front of `out`. The working
+// room, 2 floats and 1 whole number per row, is left free but for its length. A refusal writes to no list.
+pub fn farthest_point_sampling(
+    points: &[f64],
+    dimensions: usize,
+    wanted: usize,
+    seed: usize,
+    out: &mut [usize],
+    floats: &mut [f64],
+    wholes: &mut [usize],
+) -> SampleAnswer
+    ensures answer { λ r. ⌜ answerOf r ≡ sampleAnswer dimensions (now (points .entry)) wanted seed (now (out .entry)) (now (floats .entry)) (now (wholes .entry)) ⌝ }
+    ensures output { λ _. ⌜ now (out .exit) ≡ sampleOutput dimensions (now (points .entry)) wanted seed (now (out .entry)) (now (floats .entry)) (now (wholes .entry)) ⌝ }
+    ensures floats { λ _. ⌜ RoomAfter (sampleCall dimensions (now (points .entry)) wanted seed (now (out .entry)) (now (floats .entry)) (now (wholes .entry))) (now (floats .entry)) (now (floats .exit)) ⌝ }
+    ensures wholes { λ _. ⌜ RoomAfter (sampleCall dimensions (now (points .entry)) wanted seed (now (out .entry)) (now (floats .entry)) (now (wholes .entry))) (now (wholes .entry)) (now (wholes .exit)) ⌝ }
+{
+    let answer = sampling_verdict(
+        points,
+        dimensions,
+        wanted,
+        seed,
+        out.len(),
+        floats.len(),
+        wholes.len(),
+    );
+    match answer {
+        SampleAnswer::Refused(number, place) => SampleAnswer::Refused(number, place),
+        SampleAnswer::Sampled(count) => {
+            let rows = points.len() / dimensions;
+            stretches::number_rows(wholes, rows);
+            sampling_rounds::sample_rows(
+                points,
+                dimensions,
+                &wholes[..rows],
+                count,
+                LocalIdx(seed),
+                out,
+                0,
+                floats,
+            );
+            SampleAnswer::Sampled(count)
+        }
+    }
+}

@@ -1,0 +1,110 @@
+-- The order of the values that are kept for the rows. Assumes nothing.
+use mathlib.Core.Path.{_≡_, refl}
+use mathlib.Core.Logic.{inl, inr}
+use mathlib.Core.Bool.{Bool, true, false, cond}
+use Prim.Native.Nat.{_+_, _*_}
+use native.Mathlib.Omega.{arith}
+use borrow.Author.Tests.{lt-ltb}
+use lib.IntN.{negsuc}
+use lib.Ieee.{Float, inf, binary64, up, down, lt, neg, mul, ofBits, fits}
+use lib.Ieee.Fits.{down-pos, mul-fits}
+use Rattle.lists.proofs.Tests.{clash}
+use Rattle.definition.specs.Number.{times}
+use Rattle.root_laws.specs.Sorts.{notNegative, good}
+use Rattle.root_laws.proofs.Operations.{round-nn}
+use Rattle.root_laws.proofs.Order.{Good, top, num, view, both, lt-irrefl, lt-asym, le-le}
+use Rattle.sampling_rounds.specs.Rounds.{lesser, minusOne, Kept}
+
+below-of : {x : Float} → Good x → lt minusOne x ≡ true
+unfolding lt neg ofBits
+below-of top = refl
+below-of (num m e) = lt-ltb 0 (1 * down e + m * up e * 1) (omega (arith, down-pos e))
+
+-- -1 is below every square, and none is below it
+pub one-below : (x : Float) → good x ≡ true → lt minusOne x ≡ true
+one-below x g = below-of (view x g)
+
+above-of : {x : Float} → Good x → lt x minusOne ≡ false
+unfolding lt neg ofBits
+above-of top = refl
+above-of (num m e) = refl
+
+pub none-below : (x : Float) → good x ≡ true → lt x minusOne ≡ false
+none-below x g = above-of (view x g)
+
+one-itself : lt minusOne minusOne ≡ false
+unfolding lt neg ofBits
+one-itself = refl
+
+pub one-not-good : good minusOne ≡ false
+unfolding neg ofBits
+one-not-good = refl
+
+-- ---- on the kept values `lt` is a strict order of numbers
+
+pub kept-above : (x : Float) → Kept x → lt x minusOne ≡ false
+kept-above x (inl e) = rw e one-itself
+kept-above x (inr g) = none-below x g
+
+pub kept-irr : (x : Float) → Kept x → lt x x ≡ false
+kept-irr x (inl e) = rw e one-itself
+kept-irr x (inr g) = lt-irrefl x g
+
+-- x ≤ y ≤ z
+pub kept-le : (x y z : Float) → Kept x → Kept y → Kept z → lt y x ≡ false → lt z y ≡ false → lt z x ≡ false
+kept-le x y z (inl e) b c h k = rw e (kept-above z c)
+kept-le x y z (inr f) (inl e) c h k = clash (one-below x f) (rw e at h)
+kept-le x y z (inr f) (inr g) (inl e) h k = clash (one-below y g) (rw e at k)
+kept-le x y z (inr f) (inr g) (inr i) h k = le-le x y z f g i h k
+
+pub kept-asym : (x y : Float) → Kept x → Kept y → lt x y ≡ true → lt y x ≡ false
+kept-asym x y (inl e) b h = rw e (kept-above y b)
+kept-asym x y (inr f) (inl e) h = clash h (rw e (none-below x f))
+kept-asym x y (inr f) (inr g) h = lt-asym x y f g h
+
+-- a kept value that -1 is not below is -1
+pub kept-least : (x : Float) → Kept x → lt minusOne x ≡ false → x ≡ minusOne
+kept-least x (inl e) h = e
+kept-least x (inr g) h = clash (one-below x g) h
+
+-- a kept value above another one is a square
+pub kept-good : (x y : Float) → Kept x → Kept y → lt x y ≡ true → good y ≡ true
+kept-good x y k (inl e) h = clash h (rw e (kept-above x k))
+kept-good x y k (inr g) h = g
+
+-- ---- the lesser of a square and a kept value
+
+pub lesser-kept : (x y : Float) → good x ≡ true → Kept y → Kept (lesser x y)
+lesser-kept x y g k = go (lt x y)
+  where
+    go : (b : Bool) → Kept (cond b x y)
+    go true = inr g
+    go false = k
+
+-- a chosen row stays chosen
+pub lesser-one : (x : Float) → good x ≡ true → lesser x minusOne ≡ minusOne
+lesser-one x g = rw (none-below x g)
+
+inf-of : {x : Float} → Good x → lesser x (inf false) ≡ x
+unfolding lt
+inf-of top = refl
+inf-of (num m e) = refl
+
+-- each square is the lesser of itself and infinity
+pub lesser-inf : (x : Float) → good x ≡ true → lesser x (inf false) ≡ x
+lesser-inf x g = inf-of (view x g)
+
+-- ---- a value a little below a square
+
+-- the literal 0.999999999999999
+abbrev pub nearOne : Float
+nearOne = ofBits binary64 0x3fef_ffff_ffff_fff7
+
+near-of : {x : Float} → Good x → notNegative (times x nearOne) ≡ true
+unfolding mul ofBits
+near-of top = refl
+near-of (num m e) = round-nn binary64 (m * up e * (0x1f_ffff_ffff_fff7 * up (negsuc 52))) (down e * down (negsuc 52))
+
+pub near-good : (x : Float) → good x ≡ true → good (times x nearOne) ≡ true
+near-good x g =
+    both (notNegative (times x nearOne)) (fits binary64 (times x nearOne)) (near-of (view x g)) (mul-fits binary64 x nearOne)

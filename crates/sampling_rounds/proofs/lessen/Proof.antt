@@ -1,0 +1,137 @@
+-- `sampling_rounds::lessen` meets its contract. The loop's invariant: the squares passed are lessened (`Passed`), and `most`
+-- is the greatest of them (`Seen`). Assumes nothing.
+use mathlib.Core.Path.{_≡_, subst}
+use mathlib.Core.Logic.{⊎-elim}
+use Prim.Native.Nat.{ℕ, _≤_, _-_}
+use native.Mathlib.Nat.{le-antisymm}
+use native.Mathlib.Omega.{arith}
+use borrow.Author.Needs.{needs}
+use lib.ListN.{length}
+use Rattle.sampling_rounds.specs.Rounds.{lessened}
+use Rattle.extents.proofs.Rows.{row-fits}
+use Rattle.sampling_rounds.proofs.Passes.{Passed, Seen, passed-none, passed-more, seen-none, seen-greater, seen-other, seen-all, lessened-at, lessened-kept}
+use Rattle.sampling_rounds.proofs.lessen.Statement.{statement}
+use Rattle.sampling_rounds.proofs.lessen.Tie as tie
+
+abbrev Inv-loop : tie.InvT-loop
+Inv-loop points dimensions rows least₀ from row place₀ most₀ second₀ i₀ least place most second i =
+    (i ≤ length rows) × ((length rows ≤ length least₀) × (Passed (lessened dimensions points rows from least₀) least₀ least i
+    × Seen (lessened dimensions points rows from least₀) i place most second))
+
+abbrev μ-loop : tie.MeasureT-loop
+μ-loop points dimensions rows least₀ from row place₀ most₀ second₀ i₀ least place most second i = length rows - i
+
+mul-row : tie.Need-mul-row Inv-loop μ-loop
+mul-row c = search needs
+
+shared-slice-read-row : tie.Need-shared-slice-read-row Inv-loop μ-loop
+shared-slice-read-row c = search needs
+
+loop-holds : tie.Need-loop-holds Inv-loop μ-loop
+loop-holds c = let s = c .before .before .before .before in
+    (omega arith, (s .pre .1 .1 .0 .1, (passed-none _ _, seen-none _)))
+
+mul-least : tie.Need-mul-least Inv-loop μ-loop
+mul-least c = search needs
+
+shared-slice-read-least : tie.Need-shared-slice-read-least Inv-loop μ-loop
+shared-slice-read-least c = search needs
+
+distance-sq-requires : tie.Need-distance-sq-requires Inv-loop μ-loop
+distance-sq-requires c κs = let s = c .before .before .before .before .before .before .before in
+    let fits = row-fits (s .args .dimensions) (s .args .points .now) (s .args .rows .now) (s .pre .0) in
+    (fits (s .args .last .0) (s .pre .1 .1 .0 .0), fits (c .before .before .loop .i) (c .before .loop-test .taken))
+
+mul-lesser-of : tie.Need-mul-lesser-of Inv-loop μ-loop
+mul-lesser-of c = search needs
+
+slice-read-lesser-of : tie.Need-slice-read-lesser-of Inv-loop μ-loop
+slice-read-lesser-of c = search needs
+
+lesser-of-requires : tie.Need-lesser-of-requires Inv-loop μ-loop
+lesser-of-requires c κs = search needs
+
+mul-least-2 : tie.Need-mul-least-2 Inv-loop μ-loop
+mul-least-2 c = search needs
+
+slice-write-least : tie.Need-slice-write-least Inv-loop μ-loop
+slice-write-least c = search needs
+
+add-i : tie.Need-add-i Inv-loop μ-loop
+add-i c = search needs
+
+loop-less : tie.Need-loop-less Inv-loop μ-loop
+loop-less c = search needs
+
+loop-again : tie.Need-loop-again Inv-loop μ-loop
+loop-again c = let s = c .before .before .before .before .before .before .before .before .before .before .before in
+    let a = s .args in
+    let l = c .before .before .before .before .before .before .loop in
+    let h = c .before .before .before .before .before .loop-test .taken in
+    let p = l .inv .1 .1 .0 in
+    let v = lessened (a .dimensions) (a .points .now) (a .rows .now) (a .last .0) (a .least .now) in
+    let k = lessened-kept _ _ _ _ (a .least .now) (s .pre .0) (s .pre .1 .0) (s .pre .1 .1 .0 .0) (s .pre .1 .1 .1) in
+    let e : c .before .lesser-of .result ≡ v (l .i) =
+    lessened-at _ _ _ _ _ (l .i) _ _ _ (c .before .before .before .distance-sq .ensures) (p .left (l .i) (omega arith)) (c .before .lesser-of .ensures) in
+    let q = passed-more v (a .least .now) (l .least) (l .i) (c .before .lesser-of .result) p (omega (arith, h, l .inv, p .same)) e in
+    ⊎-elim
+    (λ w. (
+      omega (arith, h),
+      (
+        l .inv .1 .0,
+        (
+          q,
+          rw (w .1, w .2, w .3)
+              (seen-greater v (l .i) (l .place) (l .most) (l .second) (l .inv .1 .1 .1) (c .before .lesser-of .result) e (λ j b. k j (omega (arith, h))) (w .0 .taken)),
+        ),
+      ),
+    ))
+    (λ w. (
+      omega (arith, h),
+      (
+        l .inv .1 .0,
+        (
+          q,
+          rw (w .1, w .2, w .3)
+              (seen-other v (l .i) (l .place) (l .most) (l .second) (l .inv .1 .1 .1) (c .before .lesser-of .result) e (w .0 .left)),
+        ),
+      ),
+    ))
+    (c .if1 .came)
+
+same-length : tie.Need-same-length Inv-loop μ-loop
+same-length c = c .before .loop .inv .1 .1 .0 .same
+
+returns : tie.Need-returns Inv-loop μ-loop
+returns c = let s = c .before .before .before .before .before .before in
+    let a = s .args in
+    let l = c .before .loop in
+    let v = lessened (a .dimensions) (a .points .now) (a .rows .now) (a .last .0) (a .least .now) in
+    let e : l .i ≡ length (a .rows .now) = le-antisymm (l .inv .0) (c .loop-test .left) in (
+      (λ i h. l .inv .1 .1 .0 .done i (omega (arith, e))),
+      seen-all v _ _ _ _ (subst (λ (n : ℕ). Seen v n (l .place) (l .most) (l .second)) e (l .inv .1 .1 .1)) (omega (arith, s .pre .1 .1 .0))
+          (lessened-kept _ _ _ _ (a .least .now) (s .pre .0) (s .pre .1 .0) (s .pre .1 .1 .0 .0) (s .pre .1 .1 .1)),
+    )
+
+pub lessen-spec : {M : Type 1} → statement M
+lessen-spec =
+    tie.close
+    (tie.spec
+    Inv-loop
+    μ-loop
+    mul-row
+    shared-slice-read-row
+    loop-holds
+    mul-least
+    shared-slice-read-least
+    distance-sq-requires
+    mul-lesser-of
+    slice-read-lesser-of
+    lesser-of-requires
+    mul-least-2
+    slice-write-least
+    add-i
+    loop-less
+    loop-again
+    same-length
+    returns)

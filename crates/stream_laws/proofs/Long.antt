@@ -1,0 +1,275 @@
+-- How long a printout can be. A stream has at most 32 points, so each row has at most two digits; a level has at most four leaves for
+-- each row, and three levels at most are fine. Assumes nothing.
+use mathlib.Core.Path.{_≡_, refl, ap, _∙_}
+use mathlib.Core.Bool.{Bool, true, false, cond}
+use mathlib.Core.Logic.{⊎-elim}
+use Prim.Native.Nat.{ℕ, zero, suc, _+_, _*_, _/_, _%_, _^_, _≤_, _<_}
+use native.Mathlib.Nat.{pow-succ', div-le-of-le-mul, mul-comm}
+use native.Mathlib.Omega.{arith}
+use mathlib.Core.List.{List, [], _∷_, _++_, map, map-map}
+use lib.ListN.{length, replicate, length-append, length-map}
+use lib.Dec.{ltb}
+use borrow.Author.Tests.{lt-ltb}
+use lib.Ieee.{Float, binary64, toBits}
+use Rattle.lists.specs.Lists.{keep, joined, from, total}
+use Rattle.lists.specs.Ascends.{All}
+use Rattle.lists.proofs.Tests.{le-or-lt}
+use Rattle.lists.proofs.All.{all-keep, all-mem}
+use Rattle.lists.proofs.Count.{count-len, length-keep}
+use Rattle.lists.proofs.From.{all-from, length-from}
+use Rattle.lists.proofs.Joined.{length-joined}
+use Rattle.lists.proofs.Sums.{sum-most}
+use Rattle.definition.specs.Number.{plusZero}
+use Rattle.definition.specs.Levels.{threshold, reductions}
+use Rattle.definition.specs.Cut.{Domain, rootDomain, cutKeys, leftOf, rightOf, queueLeaves, leavesOf}
+use Rattle.definition.specs.Overlaps.{nearOf, borrowedBy}
+use Rattle.definition.specs.Tree.{Settings, Leaf, Level, coarseLevel, fineLevel, mostFine, nextActive, levelsFrom, levelsOver, pointCount, levels}
+use Rattle.definition.specs.Refusals.{Refusal, Verdict, accepted, refused}
+use Rattle.definition.specs.Stream.{Job, job, broken, streamPoints, jobIn}
+use Rattle.definition.specs.Printout.{ascii, digitOf, decimal, decimalOnto, hexOnto, rowsText, boxText, domainLine, fineLines, coarseLines, levelLine, levelsText, treeText, refusalText, builtText, jobText, printout}
+use Rattle.definition.proofs.Halves.{first-rows, other-rows}
+use Rattle.definition.proofs.Cuts.{leaves-all}
+use Rattle.definition.proofs.Steps.{fineOf, nextOf, queue-wait, queue-done, levels-last, levels-end, levels-more}
+use Rattle.definition_laws.proofs.Shape.{leaves-boxes}
+use Rattle.stream_laws.proofs.Shape.{levels-shaped}
+use Rattle.stream_laws.specs.Sizes.{Kept, KeptBy, mostBytes}
+use Rattle.stream_laws.proofs.Stream.{job-kept}
+
+-- ---- numbers
+onto-long : (k n : ℕ) (after : List ℕ) → length (decimalOnto k n after) ≤ suc k + length after
+unfolding decimalOnto
+onto-long zero n after = omega arith
+onto-long (suc k) n after = go (ltb n 10) (onto-long k (n / 10) (digitOf (n % 10) ∷ after))
+  where
+    go : (b : Bool) → length (decimalOnto k (n / 10) (digitOf (n % 10) ∷ after)) ≤ suc k + suc (length after)
+        → length (cond b (digitOf n ∷ after) (decimalOnto k (n / 10) (digitOf (n % 10) ∷ after))) ≤ suc (suc k) + length after
+    go true h = omega arith
+    go false h = omega arith
+
+pub decimal-long : (n : ℕ) → length (decimal n) ≤ 20
+unfolding decimal
+decimal-long n = onto-long 19 n []
+
+-- a number below 10 ^ m has at most m digits
+onto-short : (m k n : ℕ) (after : List ℕ) → n < 10 ^ suc m → length (decimalOnto k n after) ≤ suc m + length after
+unfolding decimalOnto
+onto-short m zero n after h = omega arith
+onto-short zero (suc k) n after h = rw (lt-ltb n 10 h) (omega arith)
+onto-short (suc m) (suc k) n after h = go (ltb n 10) (onto-short m k (n / 10) (digitOf (n % 10) ∷ after) (omega (arith, rw (pow-succ' 10 (suc m)) at h)))
+  where
+    go : (b : Bool) → length (decimalOnto k (n / 10) (digitOf (n % 10) ∷ after)) ≤ suc m + suc (length after)
+        → length (cond b (digitOf n ∷ after) (decimalOnto k (n / 10) (digitOf (n % 10) ∷ after))) ≤ suc (suc m) + length after
+    go true h = omega arith
+    go false h = omega arith
+
+decimal-short : (m n : ℕ) → n < 10 ^ suc m → length (decimal n) ≤ suc m
+unfolding decimal
+decimal-short m n h = omega (arith, onto-short m 19 n [] h)
+
+hex-long : (k n : ℕ) (after : List ℕ) → length (hexOnto k n after) ≡ k + length after
+unfolding hexOnto
+hex-long zero n after = omega arith
+hex-long (suc k) n after = hex-long k (n / 16) (digitOf (n % 16) ∷ after) ∙ (omega arith)
+
+-- ---- a text for each element: no longer than the longest of them for each
+each-long : {A : Type 0} (f : A → List ℕ) (most : ℕ) (P : A → Type 0) → ((x : A) → P x → length (f x) ≤ most)
+    → (xs : List A) → All P xs → length (joined (map f xs)) ≤ length xs * most
+each-long f most P h xs a =
+    omega (
+      arith,
+      length-joined (map f xs) ∙ ap total (map-map length f xs),
+      sum-most (λ x. length (f x)) most xs (λ x m. h x (all-mem P xs a x m)),
+    )
+
+-- ---- rows: at most 32, each below 32
+pub record Small (rows : List ℕ) : Type 0 where
+  pub below : All (λ (i : ℕ). i < streamPoints) rows
+  pub few : length rows ≤ streamPoints
+
+small-keep : (p : ℕ → Bool) (rows : List ℕ) → Small rows → Small (keep p rows)
+small-keep p rows s =
+    record {
+      below = all-keep (λ (i : ℕ). i < streamPoints) p rows (s .below);
+      few = omega (arith, s .few, length-keep p rows, count-len p rows);
+    }
+
+small-from : (n : ℕ) → n ≤ streamPoints → Small (from 0 n)
+small-from n h = record { below = all-from (λ (i : ℕ). i < streamPoints) 0 n (λ i a b. omega arith); few = omega (arith, length-from 0 n) }
+
+small-none : Small []
+unfolding All
+small-none = record { below = tt; few = omega arith }
+
+rows-long : (rows : List ℕ) → Small rows → length (rowsText rows) ≤ 96
+unfolding rowsText ascii
+rows-long [] s = omega arith
+rows-long (i ∷ rows) s =
+    omega (arith, s .few, each-long (λ j. 32 ∷ decimal j) 3 (λ (i : ℕ). i < streamPoints) (λ j h. omega (arith, decimal-short 1 j (omega arith))) (i ∷ rows) (s .below))
+
+-- ---- domains
+module _ (d : ℕ) (cs : List Float) where
+  left-small : (q : Domain) → Small (q .rows) → Small (leftOf d cs q .rows)
+  unfolding leftOf cutKeys
+  left-small q s = rw (first-rows _ (length (q .rows) / 2) (q .rows)) (small-keep _ (q .rows) s)
+
+  right-small : (q : Domain) → Small (q .rows) → Small (rightOf d cs q .rows)
+  unfolding rightOf cutKeys
+  right-small q s = rw (other-rows _ (length (q .rows) / 2) (q .rows)) (small-keep _ (q .rows) s)
+
+  leaves-rows : (leaf : ℕ) (active : List ℕ) → Small active → All (λ (q : Domain). Small (q .rows)) (leavesOf d cs leaf active)
+  unfolding rootDomain
+  leaves-rows leaf active s = leaves-all d cs (λ (q : Domain). Small (q .rows)) left-small right-small leaf active s
+
+  queue-many : (leaf fuel : ℕ) (qs : List Domain) → length (queueLeaves d cs leaf fuel qs) ≤ 2 * fuel
+  unfolding queueLeaves
+  queue-many leaf zero qs = omega arith
+  queue-many leaf (suc fuel) [] = omega arith
+  queue-many leaf (suc fuel) (q ∷ qs) =
+      ⊎-elim
+      (λ (big : 2 * leaf ≤ length (q .rows)). rw (queue-wait d cs leaf fuel q qs big)
+      (omega (arith, queue-many leaf fuel (qs ++ leftOf d cs q ∷ rightOf d cs q ∷ []))))
+      (λ (small : length (q .rows) < 2 * leaf). rw (queue-done d cs leaf fuel q qs small) (omega (arith, queue-many leaf fuel qs)))
+      (le-or-lt (2 * leaf) (length (q .rows)))
+
+  leaves-many : (leaf : ℕ) (active : List ℕ) → length active ≤ streamPoints → length (leavesOf d cs leaf active) ≤ 128
+  unfolding leavesOf
+  leaves-many leaf active h = omega (arith, queue-many leaf (2 * length active) (rootDomain d cs active ∷ []))
+
+-- ---- lines
+box-long : (b : List Float) → length (boxText b) ≡ 17 * length b
+unfolding boxText joined
+box-long [] = omega arith
+box-long (x ∷ b) =
+    omega (arith, box-long b, hex-long 16 (toBits binary64 x) [], length-append (32 ∷ hexOnto 16 (toBits binary64 x) []) (boxText b))
+
+-- a leaf whose line is not long
+record Brief (f : Leaf) : Type 0 where
+  own : Small (f .own)
+  borrowed : Small (f .borrowed)
+  box : length (f .box) ≤ 6
+
+domain-long : (i : ℕ) (f : Leaf) (box : List ℕ) → Small (f .own) → Small (f .borrowed) → i < 1000 → length (domainLine i f box) ≤ 224 + length box
+unfolding domainLine ascii
+domain-long i f box h g small = simp length-append (omega (arith, decimal-short 2 i small, rows-long (f .own) h, rows-long (f .borrowed) g))
+
+level-long : (t : ℕ) (l : Level) → Small (l .points) → length (levelLine t l) ≤ 130
+unfolding levelLine ascii
+level-long t l s = simp length-append (omega (arith, decimal-long t, rows-long (l .points) s))
+
+fine-long : (i : ℕ) (fs : List Leaf) → i + length fs ≤ 1000 → All Brief fs → length (fineLines i fs) ≤ 326 * length fs
+unfolding fineLines All
+fine-long i [] h a = omega arith
+fine-long i (f ∷ fs) h a =
+    omega (
+      arith,
+      length-append (domainLine i f (boxText (f .box))) (fineLines (suc i) fs),
+      domain-long i f (boxText (f .box)) (a .0 .own) (a .0 .borrowed) (omega arith),
+      box-long (f .box),
+      a .0 .box,
+      fine-long (suc i) fs (omega arith) (a .1),
+    )
+
+-- ---- levels
+dash-long : length (ascii " -") ≡ 2
+unfolding ascii
+dash-long = refl
+
+-- a level before others
+more-text : (t : ℕ) (l : Level) (ls : List Level) → 1 ≤ length ls → levelsText t (l ∷ ls) ≡ levelLine t l ++ fineLines 0 (l .leaves) ++ levelsText (suc t) ls
+unfolding levelsText
+more-text t l [] h = absurd (omega arith)
+more-text t l (m ∷ ls) h = refl
+
+module _ (s : Settings) (cs : List Float) (axes : s .dimension ≤ 3) where
+  module _ (active : List ℕ) (a : Small active) where
+    abbrev leafFrom : Domain → Leaf
+    leafFrom q =
+        record { own = q .rows; borrowed = borrowedBy (map (nearOf (s .dimension) cs (s .neighbours) active) active) active (q .rows); box = q .box }
+
+    leaves-brief : (qs : List Domain) → All (λ (q : Domain). Small (q .rows)) qs → All (λ (q : Domain). length (q .box) ≡ 2 * s .dimension) qs
+        → All Brief (map leafFrom qs)
+    unfolding All borrowedBy
+    leaves-brief [] h g = tt
+    leaves-brief (q ∷ qs) h g =
+        (record { own = h .0; borrowed = small-keep _ active a; box = omega (arith, g .0) }, leaves-brief qs (h .1) (g .1))
+
+    fine-level-long : (t : ℕ) → length (levelLine t (fineOf s cs active)) + length (fineLines 0 (fineOf s cs active .leaves)) ≤ 41858
+    unfolding fineLevel
+    fine-level-long t =
+        let d = s .dimension in
+        let qs = leavesOf d cs (s .leaf) active in
+        let brief = leaves-brief qs (leaves-rows d cs (s .leaf) active a) (leaves-boxes d cs (s .leaf) active) in
+        let many = leaves-many d cs (s .leaf) active (a .few) in
+        let same = length-map qs leafFrom in
+        omega (arith, level-long t (fineOf s cs active) a, fine-long 0 (map leafFrom qs) (omega arith) brief)
+
+    coarse-long : (t : ℕ) → length (levelsText t (coarseLevel (s .dimension) active ∷ [])) ≤ 356
+    unfolding levelsText coarseLevel coarseLines joined
+    coarse-long t =
+        let f : Leaf = record { own = active; borrowed = []; box = replicate (2 * s .dimension) plusZero } in
+        let l : Level = record { points = active; leaves = f ∷ [] } in
+        omega (
+          arith,
+          length-append (levelLine t l) (domainLine 0 f (ascii " -") ++ []),
+          length-append (domainLine 0 f (ascii " -")) [],
+          level-long t l a,
+          domain-long 0 f (ascii " -") a small-none (omega arith),
+          dash-long,
+        )
+
+  next-small : (c k built : ℕ) (active : List ℕ) → Small active → Small (nextOf s cs c k built active)
+  unfolding nextActive
+  next-small c k built active a = small-keep _ active a
+
+  levels-long : (c k fuel built t : ℕ) (active : List ℕ) → Small active → length (levelsText t (levelsFrom s cs c k fuel built active)) ≤ 356 + 41858 * fuel
+  levels-long c k zero built t active a = rw (levels-last s cs c k built active) (coarse-long active a t)
+  levels-long c k (suc fuel) built t active a =
+      ⊎-elim
+      (λ (few : length active ≤ c). rw (levels-end s cs c k fuel built active few) (omega (arith, coarse-long active a t)))
+      (λ (many : c < length active). rw (levels-more s cs c k fuel built active many)
+      (let l = fineOf s cs active in
+      let ls = levelsFrom s cs c k fuel (suc built) (nextOf s cs c k built active) in
+      omega (
+        arith,
+        ap length (more-text t l ls (levels-shaped s cs c k fuel (suc built) (nextOf s cs c k built active) .some)),
+        length-append (levelLine t l ++ fineLines 0 (l .leaves)) (levelsText (suc t) ls),
+        length-append (levelLine t l) (fineLines 0 (l .leaves)),
+        fine-level-long active a t,
+        levels-long c k fuel (suc built) (suc t) (nextOf s cs c k built active) (next-small c k built active a),
+      )))
+      (le-or-lt (length active) c)
+
+-- ---- the whole printout
+module _ (s : Settings) (cs : List Float) (kept : Kept s cs) where
+  tree-long : length (treeText (levels s cs)) ≤ mostBytes
+  unfolding treeText levels levelsOver ascii
+  tree-long =
+      let active = from 0 (pointCount (s .dimension) cs) in
+      let c = threshold (s .policy) (length active) in
+      let k = reductions (length active) c (s .factor) in
+      let few : pointCount (s .dimension) cs ≤ streamPoints = div-le-of-le-mul (s .dimension) (rw mul-comm at (kept .points-few)) in
+      simp length-append
+      (omega (
+        arith,
+        levels-long s cs (kept .axes-few) c k mostFine 0 0 active (small-from (pointCount (s .dimension) cs) few),
+        decimal-long (length (levelsFrom s cs c k mostFine 0 active)),
+      ))
+
+pub refusal-long : (r : Refusal) → length (refusalText r) ≤ 53
+unfolding refusalText ascii
+refusal-long r = simp length-append (omega (arith, decimal-long (r .number), decimal-long (r .place)))
+
+built-long : (v : Verdict) (s : Settings) (cs : List Float) → Kept s cs → length (builtText v s cs) ≤ mostBytes
+unfolding builtText
+built-long accepted s cs kept = tree-long s cs kept
+built-long (refused r) s cs kept = omega (arith, refusal-long r)
+
+pub job-long : (j : Job) → KeptBy j → length (jobText j) ≤ mostBytes
+unfolding jobText
+job-long (job s cs) kept = built-long _ s cs kept
+job-long (broken r) kept = omega (arith, refusal-long r)
+
+-- no printout is longer than 131,072 bytes
+pub printout-long : (bs : List ℕ) → length (printout bs) ≤ mostBytes
+unfolding printout
+printout-long bs = job-long (jobIn bs) (job-kept bs)

@@ -1,0 +1,89 @@
+-- `stream_reader::read_point` meets its contract. Assumes nothing.
+use Rattle.stream_reader.proofs.Records.{point-none, point-step}
+use Rattle.definition.specs.Stream.{coordinatesAt}
+use Rattle.lists.specs.Lists.{put}
+use lib.ListN.{length, drop, length-set}
+use Prim.Native.Nat.{_-_, _≤_}
+use mathlib.Core.Path.{_≡_}
+use native.Mathlib.Omega.{arith}
+use borrow.Author.Needs.{needs}
+use Rattle.stream_reader.proofs.read_point.Statement.{statement}
+use Rattle.stream_reader.proofs.read_point.Tie as tie
+
+abbrev Inv-loop : tie.InvT-loop
+Inv-loop d input at coords₀ k a₀ coords a = (coords ≡ put coords₀ k (coordinatesAt a 2 (drop at input))) × (a ≤ d) × (length coords ≡ length coords₀)
+
+abbrev μ-loop : tie.MeasureT-loop
+μ-loop d input at coords₀ k a₀ coords a = d - a
+
+loop-holds : tie.Need-loop-holds Inv-loop μ-loop
+loop-holds c = (point-none (c .before .before .args .at) (c .before .before .args .input .now) _ _, search needs, search needs)
+
+mul-little-at : tie.Need-mul-little-at Inv-loop μ-loop
+mul-little-at c = search needs
+
+add-little-at : tie.Need-add-little-at Inv-loop μ-loop
+add-little-at c = search needs
+
+add-little-at-2 : tie.Need-add-little-at-2 Inv-loop μ-loop
+add-little-at-2 c = search needs
+
+little-at-requires : tie.Need-little-at-requires Inv-loop μ-loop
+little-at-requires c κs = omega (arith, c .before .before .before .before .pre)
+
+float-of-requires : tie.Need-float-of-requires Inv-loop μ-loop
+float-of-requires c κs = search needs
+
+add-coords : tie.Need-add-coords Inv-loop μ-loop
+add-coords c = search needs
+
+mul-coords : tie.Need-mul-coords Inv-loop μ-loop
+mul-coords c = search needs
+
+slice-write-coords : tie.Need-slice-write-coords Inv-loop μ-loop
+slice-write-coords c = search needs
+
+add-a : tie.Need-add-a Inv-loop μ-loop
+add-a c = search needs
+
+loop-less : tie.Need-loop-less Inv-loop μ-loop
+loop-less c = search needs
+
+loop-again : tie.Need-loop-again Inv-loop μ-loop
+loop-again c =
+    let start = c .before .before .before .before .before .before in
+    let turn = c .before .before .before in (
+      point-step (start .args .at) (start .args .input .now) _ _ (start .args .k) (turn .loop .a) _ _ (turn .loop .inv .0) (search needs)
+          (c .before .little-at .ensures .0) (c .float-of .ensures),
+      search needs,
+      simp length-set (search needs),
+    )
+
+same-length : tie.Need-same-length Inv-loop μ-loop
+same-length c = search needs
+
+returns : tie.Need-returns Inv-loop μ-loop
+returns c =
+    let e : c .before .loop .a ≡ c .before .before .before .before .args .d = search needs in
+    rw (← e) (c .before .loop .inv .0)
+
+pub read-point-spec : {M : Type 1} → statement M
+read-point-spec =
+    tie.close
+    (tie.spec
+    Inv-loop
+    μ-loop
+    loop-holds
+    mul-little-at
+    add-little-at
+    add-little-at-2
+    little-at-requires
+    float-of-requires
+    add-coords
+    mul-coords
+    slice-write-coords
+    add-a
+    loop-less
+    loop-again
+    same-length
+    returns)

@@ -1,0 +1,27 @@
+-- The reader's answers as the definition has them. Definitions only.
+use Prim.Native.Nat.{ℕ, _*_, _≤_}
+use mathlib.Core.List.{List}
+use lib.ListN.{take}
+use lib.Ieee.{Float}
+use Rattle.config.specs.Params.{settingsOf}
+use Rattle.definition.specs.Tree as tree
+use Rattle.definition.specs.Stream.{Mark, Job, job, broken, streamPoints}
+use Rattle.stream_reader.specs.declared.Settings.{Settings}
+use Rattle.stream_reader.specs.declared.Read.{Read}
+use Rattle.stream_reader.specs.declared.Read.the-variants.{Whole, Broken}
+
+abbrev pub markOf : ℕ → ℕ → Mark
+markOf first second = record { first = first; second = second }
+
+abbrev pub settingsAre : Settings → tree.Settings
+settingsAre s = settingsOf (s .dimensions) (s .params)
+
+-- the job that an answer stands for, the coordinates being at the front of cs
+abbrev pub jobOf : Read → List Float → Job
+jobOf (Whole s n) cs = job (settingsAre s) (take (n * s .dimensions) cs)
+jobOf (Broken number place) cs = broken (record { number = number; place = place })
+
+-- a whole job has at most 32 points
+abbrev pub Within : Read → Type 0
+Within (Whole s n) = n ≤ streamPoints
+Within (Broken number place) = Unit {0}
