@@ -18,3 +18,4 @@ pub mod OneLevel
 pub mod WorkedSamples
 pub mod WorkedExamples
 pub mod WrongLookalikes
+pub mod RefusedCalls

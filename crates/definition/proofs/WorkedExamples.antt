@@ -46,9 +46,36 @@ pub record Examples : Type 0 where
   auto1 : threshold auto 1 ≡ 512
   auto16384 : threshold auto 16384 ≡ 512
   auto16385 : threshold auto 16385 ≡ 513
-  -- c = 1, f = 2
-  run8 : buildAnswer (onLine 1 1) (line (from 0 8)) (nines 8) (floatRoom 8) (wholeRoom 8) ≡ built 4 (8 ∷ 4 ∷ 2 ∷ 1 ∷ []) (16 ∷ 8 ∷ 4 ∷ 1 ∷ [])
+  -- c = 1, f = 2; where the leaf threshold is 1, each row's domain is cut once more, and every other leaf is empty
+  run8 : buildAnswer (onLine 4 1) (line (from 0 8)) (nines 8) (floatRoom 8) (wholeRoom 8) ≡ built 4 (8 ∷ 4 ∷ 2 ∷ 1 ∷ []) (4 ∷ 2 ∷ 2 ∷ 1 ∷ [])
+  run8-lists :
+      buildLists (onLine 4 1) (line (from 0 8)) (nines 8) (floatRoom 8) (wholeRoom 8)
+      ≡ record {
+        points = 0 ∷ 1 ∷ 2 ∷ 3 ∷ 4 ∷ 5 ∷ 6 ∷ 7 ∷ 0 ∷ 2 ∷ 4 ∷ 6 ∷ 0 ∷ 4 ∷ 0 ∷ replicate 17 9;
+        internals = 0 ∷ 1 ∷ 2 ∷ 3 ∷ 4 ∷ 5 ∷ 6 ∷ 7 ∷ 0 ∷ 2 ∷ 4 ∷ 6 ∷ 0 ∷ 4 ∷ 0 ∷ replicate 17 9;
+        domains =
+            (0 ∷ 2 ∷ 0 ∷ 1 ∷ []) ++ (2 ∷ 2 ∷ 1 ∷ 2 ∷ []) ++ (4 ∷ 2 ∷ 3 ∷ 2 ∷ []) ++ (6 ∷ 2 ∷ 5 ∷ 1 ∷ [])
+            ++ (8 ∷ 2 ∷ 6 ∷ 1 ∷ []) ++ (10 ∷ 2 ∷ 7 ∷ 1 ∷ [])
+            ++ (12 ∷ 1 ∷ 8 ∷ 1 ∷ []) ++ (13 ∷ 1 ∷ 9 ∷ 1 ∷ [])
+            ++ (14 ∷ 1 ∷ 10 ∷ 0 ∷ [])
+            ++ replicate 160 9;
+        boxes = line (0 ∷ 2 ∷ 2 ∷ 4 ∷ 4 ∷ 6 ∷ 6 ∷ 7 ∷ 0 ∷ 4 ∷ 4 ∷ 6 ∷ 0 ∷ 4 ∷ 4 ∷ 4 ∷ 0 ∷ 0 ∷ replicate 80 9);
+        borrowed = 2 ∷ 1 ∷ 4 ∷ 3 ∷ 6 ∷ 5 ∷ 4 ∷ 2 ∷ 4 ∷ 0 ∷ replicate 86 9;
+      }
   run3 : buildAnswer (onLine 1 1) (line (from 0 3)) (nines 3) (floatRoom 3) (wholeRoom 3) ≡ built 3 (3 ∷ 2 ∷ 1 ∷ 0 ∷ []) (6 ∷ 4 ∷ 1 ∷ 0 ∷ [])
+  run3-lists :
+      buildLists (onLine 1 1) (line (from 0 3)) (nines 3) (floatRoom 3) (wholeRoom 3)
+      ≡ record {
+        points = 0 ∷ 1 ∷ 2 ∷ 0 ∷ 1 ∷ 0 ∷ replicate 6 9;
+        internals = 0 ∷ 1 ∷ 2 ∷ 0 ∷ 1 ∷ 0 ∷ replicate 6 9;
+        domains =
+            (0 ∷ 0 ∷ 0 ∷ 0 ∷ []) ++ (0 ∷ 1 ∷ 0 ∷ 1 ∷ []) ++ (1 ∷ 0 ∷ 1 ∷ 0 ∷ []) ++ (1 ∷ 1 ∷ 1 ∷ 2 ∷ []) ++ (2 ∷ 0 ∷ 3 ∷ 0 ∷ []) ++ (2 ∷ 1 ∷ 3 ∷ 1 ∷ [])
+            ++ (3 ∷ 0 ∷ 4 ∷ 0 ∷ []) ++ (3 ∷ 1 ∷ 4 ∷ 1 ∷ []) ++ (4 ∷ 0 ∷ 5 ∷ 0 ∷ []) ++ (4 ∷ 1 ∷ 5 ∷ 1 ∷ [])
+            ++ (5 ∷ 1 ∷ 6 ∷ 0 ∷ [])
+            ++ replicate 32 9;
+        boxes = line (0 ∷ 0 ∷ 0 ∷ 1 ∷ 1 ∷ 1 ∷ 1 ∷ 2 ∷ 2 ∷ 2 ∷ 2 ∷ 2 ∷ 0 ∷ 0 ∷ 0 ∷ 1 ∷ 1 ∷ 1 ∷ 1 ∷ 1 ∷ 0 ∷ 0 ∷ replicate 16 9);
+        borrowed = 1 ∷ 0 ∷ 2 ∷ 1 ∷ 1 ∷ 0 ∷ replicate 30 9;
+      }
   -- level size alone
   size3 : sizeAnswer 3 2 2 ≡ reports 2
   size10 : sizeAnswer 10 3 2 ≡ reports 6
@@ -79,7 +106,9 @@ examples =
       auto16384 = refl;
       auto16385 = refl;
       run8 = refl;
+      run8-lists = refl;
       run3 = refl;
+      run3-lists = refl;
       size3 = refl;
       size10 = refl;
       quota5302 = refl;
