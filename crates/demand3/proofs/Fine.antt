@@ -42,7 +42,7 @@ module _ (s : Settings) (cs : List Float) (n : ℕ) (pos : 0 < s .dimension) (lp
   nears = map (nearOf (s .dimension) cs (s .neighbours) (listed h l)) (listed h l)
 
   -- the level's lists are those of the definition's level over the rows that it lists
-  pub record Holds : Type 0 where
+  pub record IsLevel : Type 0 where
     pub good : Good (s .dimension) cs (listed h l)
     pub outnumbers : coarseAt s n < length (listed h l)
     pub leaf-count : leavesOn h l ≡ length qs
@@ -51,7 +51,7 @@ module _ (s : Settings) (cs : List Float) (n : ℕ) (pos : 0 < s .dimension) (lp
     pub box : (i : ℕ) → i < leavesOn h l → boxOf (s .dimension) h l i ≡ getD qs i noDomain .box
     pub next : listed h (suc l) ≡ nextOf s cs (coarseAt s n) (reductionCount s n) l (listed h l)
 
-  module _ (holds : Holds) where
+  module _ (holds : IsLevel) where
     abbrev S : ℕ
     S = size s cs n h l
 

@@ -11,13 +11,13 @@ use lib.Ieee.{Float}
 use Rattle.lists.specs.Lists.{keep, member, from, joined}
 use Rattle.lists.proofs.Times.{times}
 use Rattle.definition.specs.Number.{plusZero}
+use Rattle.definition.specs.Points.{boxWidth}
 use Rattle.definition.specs.Levels.{threshold, reductions, levelSize}
 use Rattle.definition.specs.Quotas.{nonempty, quotas}
 use Rattle.definition.specs.Cut.{leavesOf}
 use Rattle.definition.specs.Overlaps.{nearOf, borrowedBy}
 use Rattle.definition.specs.Sampling.{sentBy}
 use Rattle.definition.specs.Tree.{Settings, reductionsLeft, mostFine, pointCount}
-use Rattle.definition.specs.Packed.{rowFloats}
 use Rattle.definition.specs.Outcome.{TreeLists, buildAnswer, buildLists}
 use Rattle.demand3.specs.Handed.{Handed, handed, levelCount, rowsOn, leavesOn, HasNext, listed, domainRow, ownOf, borrowedOf, boxOf, ownLists, leafSizes, leafBoxes}
 
@@ -137,7 +137,7 @@ module _ (s : Settings) (cs : List Float) (n : ℕ) (h : Handed) (l : ℕ) where
     pub one-domain : leavesOn h l ≡ 1
     pub holds-all : ownOf h l 0 ≡ listed h l
     pub borrows-none : borrowedOf h l 0 ≡ []
-    pub no-box : boxOf (s .dimension) h l 0 ≡ replicate (rowFloats (s .dimension)) plusZero
+    pub no-box : boxOf (s .dimension) h l 0 ≡ replicate (boxWidth (s .dimension)) plusZero
 
 -- ---- the demand, for a build over a first active list
 

@@ -12,13 +12,13 @@ use lib.Ieee.{Float, nan, binary64, toBits}
 use Rattle.definition.specs.Packed.{Counts}
 use Rattle.definition.specs.Tree.{Settings}
 use Rattle.definition.proofs.WorkedSamples.{opened, line, onLine, nines, floatRoom, wholeRoom}
-use Rattle.demand3.specs.Handed.{Handed, listed, rowAt, rowNumber, domainRow, ownOf, borrowedOf, boxOf, ownLists, leafSizes, leafBoxes}
+use Rattle.demand3.specs.Handed.{Handed, listed, rowNumber, domainRow, ownOf, borrowedOf, boxOf, ownLists, leafSizes, leafBoxes}
 use Rattle.demand3.specs.Demand3.{shareOf, WholePart, OneMore, sentOf, sentUp, Demand3, handedBack}
 use Rattle.demand3.proofs.Demand.{demand-3}
 
 -- To unfold this is to unfold every definition that its line names.
 all-open : ℕ
-unfolding opened listed rowAt rowNumber domainRow ownOf borrowedOf boxOf ownLists leafSizes leafBoxes shareOf sentOf sentUp
+unfolding opened listed rowNumber domainRow ownOf borrowedOf boxOf ownLists leafSizes leafBoxes shareOf sentOf sentUp
 all-open = 0
 
 abbrev four : List Float
