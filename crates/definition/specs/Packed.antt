@@ -4,6 +4,7 @@ use mathlib.Core.List.{List, [], _∷_, _++_, map}
 use lib.ListN.{length, take}
 use lib.Ieee.{Float}
 use Rattle.lists.specs.Lists.{joined}
+use Rattle.definition.specs.Points.{boxWidth}
 use Rattle.definition.specs.Tree.{Leaf, Level}
 
 -- ---- a domain row
@@ -15,12 +16,12 @@ pub record DomainRow : Type 0 where
   pub borrowedStart : ℕ
   pub borrowedCount : ℕ
 
--- the strides of a domain row: whole numbers, and floats for its box (2 per axis)
+-- the strides of a domain row: its whole numbers, and its floats, which are the bounds of its box
 abbrev pub rowNumbers : ℕ
 rowNumbers = 4
 
 abbrev pub rowFloats : ℕ → ℕ
-rowFloats d = 2 * d
+rowFloats d = boxWidth d
 
 -- the whole numbers of a domain row, in their order
 abbrev pub numbersOf : DomainRow → List ℕ

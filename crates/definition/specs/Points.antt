@@ -58,6 +58,10 @@ lowerBound d cs rows a = leastOf (column d cs rows a)
 abbrev pub upperBound : ℕ → List Float → List ℕ → ℕ → Float
 upperBound d cs rows a = greatestOf (column d cs rows a)
 
+-- how many bounds a box has on d axes
+abbrev pub boxWidth : ℕ → ℕ
+boxWidth d = 2 * d
+
 -- A box, as lent: the lower bound on each axis, then the upper bound on each axis. These are the rows' extents.
 unfoldable pub extents : ℕ → List Float → List ℕ → List Float
 extents d cs rows = map (lowerBound d cs rows) (from 0 d) ++ map (upperBound d cs rows) (from 0 d)

@@ -1,5 +1,5 @@
 -- The levels of the tree, over a first active list (module 7). Definitions only.
-use Prim.Native.Nat.{ℕ, zero, suc, _*_, _/_, _-_, max}
+use Prim.Native.Nat.{ℕ, zero, suc, _/_, _-_, max}
 use mathlib.Core.Bool.{cond}
 use mathlib.Core.List.{List, [], _∷_, map, zipWith}
 use lib.ListN.{length, replicate}
@@ -7,6 +7,7 @@ use lib.Dec.{leb}
 use lib.Ieee.{Float}
 use Rattle.lists.specs.Lists.{keep, member, from, joined}
 use Rattle.definition.specs.Number.{plusZero}
+use Rattle.definition.specs.Points.{boxWidth}
 use Rattle.definition.specs.Levels.{Policy, threshold, reductions, levelSize}
 use Rattle.definition.specs.Quotas.{quotas}
 use Rattle.definition.specs.Cut.{Domain, leavesOf}
@@ -35,7 +36,7 @@ pub record Level : Type 0 where
 -- the coarse level: a single domain holding all active rows, no overlaps, and +0 for each bound of the box it does not have
 unfoldable pub coarseLevel : ℕ → List ℕ → Level
 coarseLevel d active =
-    record { points = active; leaves = record { own = active; borrowed = []; box = replicate (2 * d) plusZero } ∷ [] }
+    record { points = active; leaves = record { own = active; borrowed = []; box = replicate (boxWidth d) plusZero } ∷ [] }
 
 -- a fine level over the cut's leaves
 unfoldable pub fineLevel : ℕ → List Float → ℕ → List ℕ → List Domain → Level

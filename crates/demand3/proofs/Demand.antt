@@ -16,7 +16,8 @@ use Rattle.definition.specs.Number.{plusZero}
 use Rattle.definition.specs.Cut.{Domain, leavesOf}
 use Rattle.definition.specs.Overlaps.{nearOf, borrowedBy}
 use Rattle.definition.specs.Tree.{Settings, Leaf, Level, coarseLevel, fineLevel, mostFine, levelsOver, pointCount, levels}
-use Rattle.definition.specs.Packed.{Counts, rowFloats, leavesIn, packedPoints, packedOwn, packedDomains, packedBoxes, packedBorrowed}
+use Rattle.definition.specs.Points.{boxWidth}
+use Rattle.definition.specs.Packed.{Counts, leavesIn, packedPoints, packedOwn, packedDomains, packedBoxes, packedBorrowed}
 use Rattle.definition.specs.Refusals.{accepted}
 use Rattle.definition.specs.Outcome.{Answer, TreeLists, lentSizes, written, listAfter, valueOf, treeListsAfter, buildCall, buildAnswer, buildLists}
 use Rattle.definition.proofs.Cuts.{Good}
@@ -27,10 +28,12 @@ use Rattle.definition.proofs.Next.{noDomain}
 use Rattle.definition.proofs.Sizes.{reductions-few, reductions-reach}
 use Rattle.demand3.specs.Handed.{Handed, handed, levelCount, rowsOn, leavesOn, HasNext, listed}
 use Rattle.demand3.specs.Demand3.{Counted, coarseAt, reductionCount, CoarseLevel, Demand3Over, Demand3, handedBack}
-use Rattle.demand3.proofs.Unpack.{noLevel, noLeaf, Packs, levels-are, rows-on, leaves-on, listed-is, own-count-is, borrowed-count-is, own-is, borrowed-is, box-is}
+use Rattle.packed.proofs.Counts.{noLevel}
+use Rattle.packed.proofs.Unpacked.{noLeaf}
+use Rattle.demand3.proofs.Unpack.{PackedIn, levels-are, rows-on, leaves-on, listed-is, own-count-is, borrowed-count-is, own-is, borrowed-is, box-is}
 use Rattle.demand3.proofs.Levels.{Levelled, levelled, IsFine, first-active, some-levels, fine-at, coarse-at}
 use Rattle.demand3.proofs.Answered.{answered-zero}
-use Rattle.demand3.proofs.Fine.{Holds, fine-level}
+use Rattle.demand3.proofs.Fine.{IsLevel, fine-level}
 
 -- where n rows outnumber c, a reduction is made
 some-reduction : (n c f k : ℕ) → n ≤ c * f ^ k → c < n → 0 < k
@@ -40,7 +43,7 @@ some-reduction n c f k reach h =
 -- ---- lists and counts that hold the tree over a first active list
 module _ (s : Settings) (cs : List Float) (first : List ℕ) (pos : 0 < s .dimension) (lp : 1 ≤ s .leaf) (cp : 1 ≤ coarseAt s (length first))
     (reach : length first ≤ coarseAt s (length first) * s .factor ^ 3) (good : Good (s .dimension) cs first)
-    (h : Handed) (packs : Packs (levelsOver s cs first) h) where
+    (h : Handed) (packs : PackedIn (s .dimension) (levelsOver s cs first) h) where
   abbrev n : ℕ
   n = length first
 
@@ -59,33 +62,30 @@ module _ (s : Settings) (cs : List Float) (first : List ℕ) (pos : 0 < s .dimen
       let few = reductions-few n c (s .factor) reach in
       levelled s cs c k pos lp cp mostFine 0 first good (some-reduction n c (s .factor) k (reductions-reach n c (s .factor) few)) (omega arith)
 
-  boxes-full : All (λ (f : Leaf). length (f .box) ≡ rowFloats (s .dimension)) (leavesIn (levelsOver s cs first))
-  boxes-full = packed-fit s cs first pos lp good .bounds
-
   -- ---- how the lists read
   abbrev levelAt : ℕ → Level
   levelAt l = getD ls l noLevel
 
   listed-at : (l : ℕ) → listed h l ≡ levelAt l .points
-  listed-at l = listed-is ls h packs l
+  listed-at l = listed-is (s .dimension) ls h packs l
 
   rows-at : (l : ℕ) → rowsOn h l ≡ length (levelAt l .points)
-  rows-at l = rows-on ls h packs l
+  rows-at l = rows-on (s .dimension) ls h packs l
 
   leaves-at : (l : ℕ) → leavesOn h l ≡ length (levelAt l .leaves)
-  leaves-at l = leaves-on ls h packs l
+  leaves-at l = leaves-on (s .dimension) ls h packs l
 
   is-counted : (l : ℕ) → Counted h l
   is-counted l = record {
     of-level = ap length (listed-at l) ∙ sym (rows-at l);
-    of-own = λ i m. let z : i < length (levelAt l .leaves) = omega (arith, leaves-at l) in ap length (own-is ls h packs l i z) ∙ sym (own-count-is ls h packs l i z);
-    of-borrowed = λ i m. let z : i < length (levelAt l .leaves) = omega (arith, leaves-at l) in ap length (borrowed-is ls h packs l i z) ∙ sym (borrowed-count-is ls h packs l i z);
+    of-own = λ i m. let z : i < length (levelAt l .leaves) = omega (arith, leaves-at l) in ap length (own-is (s .dimension) ls h packs l i z) ∙ sym (own-count-is (s .dimension) ls h packs l i z);
+    of-borrowed = λ i m. let z : i < length (levelAt l .leaves) = omega (arith, leaves-at l) in ap length (borrowed-is (s .dimension) ls h packs l i z) ∙ sym (borrowed-count-is (s .dimension) ls h packs l i z);
   }
 
   -- ---- a level that has a next one
   module _ (l : ℕ) (m : HasNext h l) where
     fine : IsFine s cs c k (0 + l) (levelAt l) (levelAt (suc l))
-    fine = fine-at s cs c k the-levels l (omega (arith, m, levels-are ls h packs))
+    fine = fine-at s cs c k the-levels l (omega (arith, m, levels-are (s .dimension) ls h packs))
 
     abbrev qs : List Domain
     qs = leavesOf (s .dimension) cs (s .leaf) (listed h l)
@@ -109,40 +109,40 @@ module _ (s : Settings) (cs : List Float) (first : List ℕ) (pos : 0 < s .dimen
     leaf-is : (i : ℕ) → i < leavesOn h l → getD (levelAt l .leaves) i noLeaf ≡ leafOf (getD qs i noDomain)
     leaf-is i z = ap (λ (x : List Leaf). getD x i noLeaf) leaves-are ∙ getD-map-in leafOf qs i noDomain noLeaf (omega (arith, z, count-is))
 
-    held : Holds s cs n pos lp cp h l
+    held : IsLevel s cs n pos lp cp h l
     held = record {
       good = subst (λ (x : List ℕ). Good (s .dimension) cs x) (sym (listed-at l)) (fine .good);
       outnumbers = subst (λ (x : List ℕ). c < length x) (sym (listed-at l)) (fine .outnumbers);
       leaf-count = count-is;
-      own = λ i z. own-is ls h packs l i (omega (arith, leaves-at l)) ∙ ap (λ (f : Leaf). f .own) (leaf-is i z);
-      borrowed = λ i z. borrowed-is ls h packs l i (omega (arith, leaves-at l)) ∙ ap (λ (f : Leaf). f .borrowed) (leaf-is i z);
-      box = λ i z. box-is ls h packs l i (omega (arith, leaves-at l)) (s .dimension) boxes-full ∙ ap (λ (f : Leaf). f .box) (leaf-is i z);
+      own = λ i z. own-is (s .dimension) ls h packs l i (omega (arith, leaves-at l)) ∙ ap (λ (f : Leaf). f .own) (leaf-is i z);
+      borrowed = λ i z. borrowed-is (s .dimension) ls h packs l i (omega (arith, leaves-at l)) ∙ ap (λ (f : Leaf). f .borrowed) (leaf-is i z);
+      box = λ i z. box-is (s .dimension) ls h packs l i (omega (arith, leaves-at l)) ∙ ap (λ (f : Leaf). f .box) (leaf-is i z);
       next = listed-at (suc l) ∙ fine .sent ∙ ap₂ (λ (j : ℕ) (x : List ℕ). nextOf s cs c k j x) (zero-add l) (sym (listed-at l));
     }
 
   -- ---- the last level
   count-some : 1 ≤ levelCount h
-  count-some = omega (arith, levels-are ls h packs, some-levels s cs c k the-levels)
+  count-some = omega (arith, levels-are (s .dimension) ls h packs, some-levels s cs c k the-levels)
 
   is-coarse : CoarseLevel s cs n h (levelCount h - 1)
   unfolding coarseLevel
   is-coarse =
       let l = levelCount h - 1 in
-      let last = coarse-at s cs c k the-levels l (omega (arith, count-some, levels-are ls h packs)) in
+      let last = coarse-at s cs c k the-levels l (omega (arith, count-some, levels-are (s .dimension) ls h packs)) in
       let one : leavesOn h l ≡ 1 = leaves-at l ∙ ap (λ (x : Level). length (x .leaves)) (last .0) in
       let z : 0 < length (levelAt l .leaves) = omega (arith, leaves-at l) in
-      let leaf : getD (levelAt l .leaves) 0 noLeaf ≡ record { own = levelAt l .points; borrowed = []; box = replicate (2 * s .dimension) plusZero } =
+      let leaf : getD (levelAt l .leaves) 0 noLeaf ≡ record { own = levelAt l .points; borrowed = []; box = replicate (boxWidth (s .dimension)) plusZero } =
       ap (λ (x : Level). getD (x .leaves) 0 noLeaf) (last .0) in
       record {
         few = omega (arith, ap length (listed-at l), last .1);
         one-domain = one;
-        holds-all = own-is ls h packs l 0 z ∙ ap (λ (f : Leaf). f .own) leaf ∙ sym (listed-at l);
-        borrows-none = borrowed-is ls h packs l 0 z ∙ ap (λ (f : Leaf). f .borrowed) leaf;
-        no-box = box-is ls h packs l 0 z (s .dimension) boxes-full ∙ ap (λ (f : Leaf). f .box) leaf;
+        holds-all = own-is (s .dimension) ls h packs l 0 z ∙ ap (λ (f : Leaf). f .own) leaf ∙ sym (listed-at l);
+        borrows-none = borrowed-is (s .dimension) ls h packs l 0 z ∙ ap (λ (f : Leaf). f .borrowed) leaf;
+        no-box = box-is (s .dimension) ls h packs l 0 z ∙ ap (λ (f : Leaf). f .box) leaf;
       }
 
   beyond : (l : ℕ) → levelCount h ≤ l → levelAt l ≡ noLevel
-  beyond l m = List·getD-eq-default ls noLevel (omega (arith, levels-are ls h packs))
+  beyond l m = List·getD-eq-default ls noLevel (omega (arith, levels-are (s .dimension) ls h packs))
 
   outnumbering : (l : ℕ) → c < rowsOn h l → HasNext h l
   outnumbering l m =
@@ -151,7 +151,7 @@ module _ (s : Settings) (cs : List Float) (first : List ℕ) (pos : 0 < s .dimen
       ⊎-elim
       (λ (gone : levelCount h ≤ l). let e = rows-at l ∙ ap (λ (x : Level). length (x .points)) (beyond l gone) in absurd (omega arith))
       (λ (at : l < levelCount h).
-      absurd (omega (arith, rows-at l, coarse-at s cs c k the-levels l (omega (arith, levels-are ls h packs)) .1)))
+      absurd (omega (arith, rows-at l, coarse-at s cs c k the-levels l (omega (arith, levels-are (s .dimension) ls h packs)) .1)))
       (le-or-lt (levelCount h) l))
       (λ p. p)
       (le-or-lt (levelCount h) (suc l))
@@ -163,7 +163,7 @@ module _ (s : Settings) (cs : List Float) (first : List ℕ) (pos : 0 < s .dimen
     next-outnumbers = λ l m. omega (arith, rows-at l, fine l m .outnumbers);
     outnumbers-next = outnumbering;
     some-level = count-some;
-    few-levels = omega (arith, levels-are ls h packs, packs .few);
+    few-levels = omega (arith, levels-are (s .dimension) ls h packs, packs .few);
     last-coarse = is-coarse;
     counted = is-counted;
     none-beyond = λ l m. (rows-at l ∙ ap (λ (x : Level). length (x .points)) (beyond l m), leaves-at l ∙ ap (λ (x : Level). length (x .leaves)) (beyond l m));
@@ -173,13 +173,15 @@ module _ (s : Settings) (cs : List Float) (first : List ℕ) (pos : 0 < s .dimen
 
 -- what it hands back holds the tree over all points
 handed-packs : (s : Settings) (cs : List Float) (old : TreeLists) (floats : List Float) (wholes : List ℕ) → buildCall s cs old floats wholes ≡ accepted
-    → length (levels s cs) ≤ 4 → Packs (levels s cs) (handedBack s cs old floats wholes)
+    → length (levels s cs) ≤ suc mostFine → All (λ (f : Leaf). length (f .box) ≡ boxWidth (s .dimension)) (leavesIn (levels s cs))
+    → PackedIn (s .dimension) (levels s cs) (handedBack s cs old floats wholes)
 unfolding buildLists buildAnswer treeListsAfter listAfter valueOf written
-handed-packs s cs old floats wholes e few = record {
+handed-packs s cs old floats wholes e few boxed = record {
   few = few;
+  boxed = boxed;
   counts = rw e;
   points-rest = drop (length (packedPoints (levels s cs))) (old .points);
-  points = rw e;
+  points-are = rw e;
   internals-rest = drop (length (packedOwn (levels s cs))) (old .internals);
   internals = rw e;
   domains-rest = drop (length (packedDomains (levels s cs))) (old .domains);
@@ -204,7 +206,8 @@ demand-3 s cs old floats wholes e =
     (subst (λ (i : ℕ). 1 ≤ coarseAt s i) is (p .coarse-some))
     (subst (λ (i : ℕ). i ≤ coarseAt s i * s .factor ^ 3) is (p .reaches))
     (a .good) (handedBack s cs old floats wholes)
-    (handed-packs s cs old floats wholes e (packed-fit s cs first (p .axes) (p .leaf-some) (a .good) .few))
+    (handed-packs s cs old floats wholes e (packed-fit s cs first (p .axes) (p .leaf-some) (a .good) .few)
+    (packed-fit s cs first (p .axes) (p .leaf-some) (a .good) .bounds))
 
 -- The same of an answer and five lists of which a contract says that they are the definition's.
 module _ (s : Settings) (cs : List Float) (old : TreeLists) (floats : List Float) (wholes : List ℕ) (answer : Answer Counts)

@@ -7,7 +7,7 @@ use native.Mathlib.Omega.{arith}
 use native.Mathlib.Nat.{zero-add}
 use lib.ListN.{length, getD, length-map}
 use lib.Ieee.{Float}
-use Rattle.lists.specs.Lists.{from, joined}
+use Rattle.lists.specs.Lists.{keep, member, from, joined}
 use Rattle.lists.proofs.Map.{getD-map-in}
 use Rattle.lists.proofs.From.{map-from-at, zip-from-at}
 use Rattle.lists.proofs.Times.{times}
@@ -15,7 +15,7 @@ use Rattle.definition.specs.Quotas.{quotas}
 use Rattle.definition.specs.Cut.{Domain, leavesOf}
 use Rattle.definition.specs.Overlaps.{Near, nearOf, borrowedBy}
 use Rattle.definition.specs.Sampling.{sentBy}
-use Rattle.definition.specs.Tree.{Settings, sentLists}
+use Rattle.definition.specs.Tree.{Settings, sentLists, nextActive}
 use Rattle.definition.proofs.Cuts.{Good, sizesOf}
 use Rattle.definition.proofs.Steps.{nextOf}
 use Rattle.definition.proofs.Next.{noDomain}
@@ -42,7 +42,7 @@ module _ (s : Settings) (cs : List Float) (n : ℕ) (pos : 0 < s .dimension) (lp
   nears = map (nearOf (s .dimension) cs (s .neighbours) (listed h l)) (listed h l)
 
   -- the level's lists are those of the definition's level over the rows that it lists
-  pub record Holds : Type 0 where
+  pub record IsLevel : Type 0 where
     pub good : Good (s .dimension) cs (listed h l)
     pub outnumbers : coarseAt s n < length (listed h l)
     pub leaf-count : leavesOn h l ≡ length qs
@@ -51,7 +51,7 @@ module _ (s : Settings) (cs : List Float) (n : ℕ) (pos : 0 < s .dimension) (lp
     pub box : (i : ℕ) → i < leavesOn h l → boxOf (s .dimension) h l i ≡ getD qs i noDomain .box
     pub next : listed h (suc l) ≡ nextOf s cs (coarseAt s n) (reductionCount s n) l (listed h l)
 
-  module _ (holds : Holds) where
+  module _ (holds : IsLevel) where
     abbrev S : ℕ
     S = size s cs n h l
 
@@ -125,6 +125,10 @@ module _ (s : Settings) (cs : List Float) (n : ℕ) (pos : 0 < s .dimension) (lp
     up : (r : ℕ) → times r (listed h (suc l)) ≡ times r (sentUp s cs n h l)
     up r = ap (times r) (holds .next) ∙ level .next-lists-sent r ∙ ap (times r) (sym sent-all)
 
+    in-order : listed h (suc l) ≡ keep (λ i. member i (sentUp s cs n h l)) (listed h l)
+    unfolding nextActive
+    in-order = holds .next ∙ ap (λ (x : List ℕ). keep (λ i. member i x) (listed h l)) (sym sent-all)
+
     next-le : (r : ℕ) → times r (listed h (suc l)) ≤ times r (listed h l)
     next-le r = omega (arith, ap (times r) (holds .next), level .next-once r)
 
@@ -153,6 +157,7 @@ module _ (s : Settings) (cs : List Float) (n : ℕ) (pos : 0 < s .dimension) (lp
         from-this = λ r m. omega (arith, next-le r);
       };
       next-lists-sent = up;
+      next-order = in-order;
       next-size = size-next;
       sends-own = sent-from;
       sends-share = share;

@@ -14,7 +14,7 @@ use Rattle.definition.proofs.Steps.{fineOf, nextOf, sentOf, levels-last, levels
 use Rattle.definition.proofs.Levels.{next-good}
 use Rattle.definition.proofs.OneLevel.{one-level}
 use Rattle.definition.proofs.Sizes.{sized}
-use Rattle.demand3.proofs.Unpack.{noLevel}
+use Rattle.packed.proofs.Counts.{noLevel}
 
 -- the levels over the active rows, `built` fine levels standing before them
 pub data Levelled (s : Settings) (cs : List Float) (c k : ℕ) : ℕ → List ℕ → List Level → Type 0 where

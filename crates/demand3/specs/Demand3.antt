@@ -8,16 +8,16 @@ use mathlib.Core.List.{List, [], map}
 use lib.ListN.{length, getD, replicate}
 use lib.Dec.{leb}
 use lib.Ieee.{Float}
-use Rattle.lists.specs.Lists.{from, joined}
+use Rattle.lists.specs.Lists.{keep, member, from, joined}
 use Rattle.lists.proofs.Times.{times}
 use Rattle.definition.specs.Number.{plusZero}
+use Rattle.definition.specs.Points.{boxWidth}
 use Rattle.definition.specs.Levels.{threshold, reductions, levelSize}
 use Rattle.definition.specs.Quotas.{nonempty, quotas}
 use Rattle.definition.specs.Cut.{leavesOf}
 use Rattle.definition.specs.Overlaps.{nearOf, borrowedBy}
 use Rattle.definition.specs.Sampling.{sentBy}
 use Rattle.definition.specs.Tree.{Settings, reductionsLeft, mostFine, pointCount}
-use Rattle.definition.specs.Packed.{rowFloats}
 use Rattle.definition.specs.Outcome.{TreeLists, buildAnswer, buildLists}
 use Rattle.demand3.specs.Handed.{Handed, handed, levelCount, rowsOn, leavesOn, HasNext, listed, domainRow, ownOf, borrowedOf, boxOf, ownLists, leafSizes, leafBoxes}
 
@@ -109,9 +109,11 @@ module _ (s : Settings) (cs : List Float) (n : ℕ) (h : Handed) (l : ℕ) where
   pub record FineLevel : Type 0 where
     -- each active row is internal to exactly one leaf, once, and no other row to any; no leaf borrows its own row, or one row twice
     pub rows : Rows h l
-    -- The next level lists exactly the rows sent up, each once (so no row is sent by two leaves), S of them and fewer than before.
+    -- The next level lists exactly the rows sent up, each once (so no row is sent by two leaves), S of them and fewer than before, in
+    -- the order that they have here: seeds and ties further down go by it.
     pub next : NextRows h l
     pub next-lists-sent : (r : ℕ) → times r (listed h (suc l)) ≡ times r sentUp
+    pub next-order : listed h (suc l) ≡ keep (λ i. member i sentUp) (listed h l)
     pub next-size : length (listed h (suc l)) ≡ size
     -- a nonempty leaf of w rows sends, of its own rows, the whole part of its share, or one more where the share isn't whole, never
     -- above w; an empty leaf sends none
@@ -135,7 +137,7 @@ module _ (s : Settings) (cs : List Float) (n : ℕ) (h : Handed) (l : ℕ) where
     pub one-domain : leavesOn h l ≡ 1
     pub holds-all : ownOf h l 0 ≡ listed h l
     pub borrows-none : borrowedOf h l 0 ≡ []
-    pub no-box : boxOf (s .dimension) h l 0 ≡ replicate (rowFloats (s .dimension)) plusZero
+    pub no-box : boxOf (s .dimension) h l 0 ≡ replicate (boxWidth (s .dimension)) plusZero
 
 -- ---- the demand, for a build over a first active list
 

@@ -1,12 +1,13 @@
--- What a build hands back, and how a reader takes levels and leaves out of it: by the reported counts and the domain rows alone.
+-- What a build hands back, and its levels and leaves as a reader finds them: by the reported counts and the domain rows alone.
 -- Nothing here says how a tree is computed. Definitions only.
-use Prim.Native.Nat.{ℕ, suc, _+_, _*_, _<_}
+use Prim.Native.Nat.{ℕ, suc, _+_, _<_}
 use mathlib.Core.List.{List, map}
-use lib.ListN.{length, getD, take}
+use lib.ListN.{length, getD}
 use lib.Ieee.{Float}
-use Rattle.lists.specs.Lists.{total, from, part}
-use Rattle.definition.specs.Packed.{Counts, DomainRow, rowNumbers, rowFloats}
+use Rattle.lists.specs.Lists.{from}
+use Rattle.definition.specs.Packed.{Counts, DomainRow}
 use Rattle.definition.specs.Outcome.{Answer, TreeLists}
+use Rattle.packed.specs.Reading.{rowAt, ownAt, borrowedAt, boxAt, upTo, pointsAt}
 
 -- the five lists after the call, and the counts that it reports
 pub record Handed : Type 0 where
@@ -33,40 +34,28 @@ leavesOn h l = getD (h .counts .domains) l 0
 abbrev pub HasNext : Handed → ℕ → Type 0
 HasNext h l = suc l < levelCount h
 
--- the rows that level l lists: its stretch of the level points, which starts where those of the levels before it end
+-- the rows that level l lists
 unfoldable pub listed : Handed → ℕ → List ℕ
-listed h l = part (h .lists .points) (total (take l (h .counts .rows))) (rowsOn h l)
+listed h l = pointsAt (h .lists .points) (h .counts .rows) l
 
 -- ---- leaves
 
--- the position of leaf i of level l among the domain rows of all levels
-unfoldable pub rowAt : Handed → ℕ → ℕ → ℕ
-rowAt h l i = total (take l (h .counts .domains)) + i
+-- the number of the domain row of leaf i of level l, among those of all levels
+unfoldable pub rowNumber : Handed → ℕ → ℕ → ℕ
+rowNumber h l i = upTo (h .counts .domains) l + i
 
--- number k of its domain row, from 0
-unfoldable pub rowNumber : Handed → ℕ → ℕ → ℕ → ℕ
-rowNumber h l i k = getD (h .lists .domains) (rowNumbers * rowAt h l i + k) 0
-
--- its domain row
+-- that row, the leaf's own (internal) rows, the rows that it borrows, and its box on d axes
 unfoldable pub domainRow : Handed → ℕ → ℕ → DomainRow
-domainRow h l i =
-    record {
-      ownStart = rowNumber h l i 0;
-      ownCount = rowNumber h l i 1;
-      borrowedStart = rowNumber h l i 2;
-      borrowedCount = rowNumber h l i 3;
-    }
+domainRow h l i = rowAt (h .lists .domains) (rowNumber h l i)
 
--- its own (internal) rows, and the rows that it borrows
 unfoldable pub ownOf : Handed → ℕ → ℕ → List ℕ
-ownOf h l i = part (h .lists .internals) (domainRow h l i .ownStart) (domainRow h l i .ownCount)
+ownOf h l i = ownAt (h .lists .internals) (h .lists .domains) (rowNumber h l i)
 
 unfoldable pub borrowedOf : Handed → ℕ → ℕ → List ℕ
-borrowedOf h l i = part (h .lists .borrowed) (domainRow h l i .borrowedStart) (domainRow h l i .borrowedCount)
+borrowedOf h l i = borrowedAt (h .lists .borrowed) (h .lists .domains) (rowNumber h l i)
 
--- its box, on d axes
 unfoldable pub boxOf : ℕ → Handed → ℕ → ℕ → List Float
-boxOf d h l i = part (h .lists .boxes) (rowFloats d * rowAt h l i) (rowFloats d)
+boxOf d h l i = boxAt d (h .lists .boxes) (rowNumber h l i)
 
 -- ---- all leaves of level l, in their order: the own rows of each, how many these are, and the boxes
 unfoldable pub ownLists : Handed → ℕ → List (List ℕ)

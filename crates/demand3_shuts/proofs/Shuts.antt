@@ -1,22 +1,24 @@
--- What demand 3 shuts out. Document 01's example (points 0, 1, 3, 7 on a line; leaf 2, one neighbour, factor 2, Fixed 2) has it with
--- its right lists, and no longer with lists that are wrong in one thing. Each is computed. Assumes nothing.
-use Prim.Native.Nat.{ℕ, _≤_, _<_}
+-- What demand 3 shuts out: for each of its fields lists that are wrong in one thing, and that this field refuses. The right lists have
+-- it: those of document 01's example (points 0, 1, 3, 7 on a line; leaf 2, one neighbour, factor 2, Fixed 2), and those of a tree with
+-- two fine levels. Each is computed. No lists can break `sends-within` and `empty-sends-none`: what a leaf sends up is the definition's
+-- sampling of the rows that the lists name, whatever these are. Assumes nothing.
+use Prim.Native.Nat.{ℕ, _+_, _*_, _≤_, _<_}
 use mathlib.Core.Path.{_≡_, refl, ap, subst}
 use mathlib.Core.List.{List, [], _∷_, _++_}
 use mathlib.Core.Logic.{_⊎_, ⊎-elim}
 use native.Mathlib.Omega.{arith}
-use lib.ListN.{getD, replicate}
+use lib.ListN.{length, getD, replicate}
 use lib.Ieee.{Float, nan, binary64, toBits}
 use Rattle.definition.specs.Packed.{Counts}
 use Rattle.definition.specs.Tree.{Settings}
 use Rattle.definition.proofs.WorkedSamples.{opened, line, onLine, nines, floatRoom, wholeRoom}
-use Rattle.demand3.specs.Handed.{Handed, listed, rowAt, rowNumber, domainRow, ownOf, borrowedOf, boxOf, ownLists, leafSizes, leafBoxes}
+use Rattle.demand3.specs.Handed.{Handed, listed, rowNumber, domainRow, ownOf, borrowedOf, boxOf, ownLists, leafSizes, leafBoxes}
 use Rattle.demand3.specs.Demand3.{shareOf, WholePart, OneMore, sentOf, sentUp, Demand3, handedBack}
 use Rattle.demand3.proofs.Demand.{demand-3}
 
 -- To unfold this is to unfold every definition that its line names.
 all-open : ℕ
-unfolding opened listed rowAt rowNumber domainRow ownOf borrowedOf boxOf ownLists leafSizes leafBoxes shareOf sentOf sentUp
+unfolding opened listed rowNumber domainRow ownOf borrowedOf boxOf ownLists leafSizes leafBoxes shareOf sentOf sentUp
 all-open = 0
 
 abbrev four : List Float
@@ -81,6 +83,12 @@ points-but p c = handed p internals domains boxes borrowed c
 abbrev internals-but : List ℕ → Handed
 internals-but i = handed points i domains boxes borrowed two
 
+abbrev domains-but : List ℕ → Handed
+domains-but d = handed points internals d boxes borrowed two
+
+abbrev boxes-but : List ℕ → Handed
+boxes-but b = handed points internals domains b borrowed two
+
 abbrev borrowed-but : List ℕ → Handed
 borrowed-but b = handed points internals domains boxes b two
 
@@ -92,12 +100,25 @@ pub not-unwritten : Demand3 set four (handed [] [] [] [] [] two) → ⊥
 unfolding all-open
 not-unwritten h = let e : _≡_ {A = ℕ} 9 0 = ap (λ (l : List ℕ). getD l 0 5) (h .first-lists-all) in omega arith
 
--- the second level is missing
+-- five levels are counted
+pub not-many : Demand3 set four (points-but points (counts 5 (4 ∷ 2 ∷ 0 ∷ 0 ∷ []) (4 ∷ 1 ∷ 0 ∷ 0 ∷ []))) → ⊥
+not-many h = let e : 5 ≤ 4 = h .few-levels in omega arith
+
+-- a level follows one that has c rows
+pub not-after-coarse : Demand3 set four (points-but (0 ∷ 1 ∷ 2 ∷ 3 ∷ 0 ∷ 1 ∷ 0 ∷ []) (counts 3 (4 ∷ 2 ∷ 1 ∷ 0 ∷ []) (4 ∷ 1 ∷ 1 ∷ 0 ∷ []))) → ⊥
+unfolding all-open
+not-after-coarse h = let e : 2 < 2 = h .next-outnumbers 1 (omega arith) in omega arith
+
+-- the second level is missing: the first has more than c rows, and so is neither the last nor a coarse one
+pub not-coarse : Demand3 set four (points-but (0 ∷ 1 ∷ 2 ∷ 3 ∷ []) (counts 1 (4 ∷ 0 ∷ 0 ∷ 0 ∷ []) (4 ∷ 0 ∷ 0 ∷ 0 ∷ []))) → ⊥
+unfolding all-open
+not-coarse h = let e : 4 ≤ 2 = h .last-coarse .few in omega arith
+
 pub not-ended : Demand3 set four (points-but (0 ∷ 1 ∷ 2 ∷ 3 ∷ []) (counts 1 (4 ∷ 0 ∷ 0 ∷ 0 ∷ []) (4 ∷ 0 ∷ 0 ∷ 0 ∷ []))) → ⊥
 unfolding all-open
 not-ended h = let e : 2 ≤ 1 = h .outnumbers-next 0 (omega arith) in omega arith
 
--- it lists a row twice, drops one, lists one that was not sent up, one more than S, or all of them again
+-- it lists a row twice, drops one, lists one that was not sent up, or is not on the level above, one more than S, or all of them again
 pub not-repeated : Demand3 set four (points-but (0 ∷ 1 ∷ 2 ∷ 3 ∷ 0 ∷ 0 ∷ []) two) → ⊥
 unfolding all-open
 not-repeated h = let e : 2 ≤ 1 = h .each-fine 0 (omega arith) .next .each-once 0 in omega arith
@@ -109,6 +130,10 @@ not-dropped h = let e : _≡_ {A = ℕ} 1 2 = h .each-fine 0 (omega arith) .next
 pub not-unsent : Demand3 set four (points-but (0 ∷ 1 ∷ 2 ∷ 3 ∷ 0 ∷ 2 ∷ []) two) → ⊥
 unfolding all-open
 not-unsent h = let e : _≡_ {A = ℕ} 1 0 = h .each-fine 0 (omega arith) .next-lists-sent 2 in omega arith
+
+pub not-elsewhere : Demand3 set four (points-but (0 ∷ 1 ∷ 2 ∷ 3 ∷ 0 ∷ 8 ∷ []) two) → ⊥
+unfolding all-open
+not-elsewhere h = let e : 0 < 0 = h .each-fine 0 (omega arith) .next .from-this 8 (omega arith) in omega arith
 
 pub not-one-more : Demand3 set four (points-but (0 ∷ 1 ∷ 2 ∷ 3 ∷ 0 ∷ 1 ∷ 2 ∷ []) (counts 2 (4 ∷ 3 ∷ 0 ∷ 0 ∷ []) (4 ∷ 1 ∷ 0 ∷ 0 ∷ []))) → ⊥
 unfolding all-open
@@ -123,7 +148,19 @@ pub not-counted : Demand3 set four (points-but points (counts 2 (4 ∷ 30 ∷ 0 
 unfolding all-open
 not-counted h = let e : _≡_ {A = ℕ} 12 30 = h .counted 1 .of-level in omega arith
 
--- a count beyond the last level
+-- a leaf's own rows, or the rows that it borrows, are said to go past their list
+pub not-own-counted : Demand3 set four (domains-but (0 ∷ 1 ∷ 0 ∷ 1 ∷ 1 ∷ 1 ∷ 1 ∷ 2 ∷ 2 ∷ 1 ∷ 3 ∷ 2 ∷ 3 ∷ 1 ∷ 5 ∷ 1 ∷ 4 ∷ 30 ∷ 6 ∷ 0 ∷ [])) → ⊥
+unfolding all-open
+not-own-counted h = let e : _≡_ {A = ℕ} 12 30 = h .counted 1 .of-own 0 (omega arith) in omega arith
+
+pub not-borrowed-counted : Demand3 set four (domains-but (0 ∷ 1 ∷ 0 ∷ 1 ∷ 1 ∷ 1 ∷ 1 ∷ 2 ∷ 2 ∷ 1 ∷ 3 ∷ 2 ∷ 3 ∷ 1 ∷ 5 ∷ 90 ∷ 4 ∷ 2 ∷ 6 ∷ 0 ∷ [])) → ⊥
+unfolding all-open
+not-borrowed-counted h = let e : _≡_ {A = ℕ} 43 90 = h .counted 0 .of-borrowed 3 (omega arith) in omega arith
+
+-- rows, or leaves, are counted beyond the last level
+pub not-leaves-beyond : Demand3 set four (points-but points (counts 2 (4 ∷ 2 ∷ 0 ∷ 0 ∷ []) (4 ∷ 1 ∷ 1 ∷ 0 ∷ []))) → ⊥
+not-leaves-beyond h = let e : _≡_ {A = ℕ} 1 0 = h .none-beyond 2 (omega arith) .1 in omega arith
+
 pub not-beyond : Demand3 set four (points-but points (counts 2 (4 ∷ 2 ∷ 1 ∷ 0 ∷ []) (4 ∷ 1 ∷ 0 ∷ 0 ∷ []))) → ⊥
 not-beyond h = let e : _≡_ {A = ℕ} 1 0 = h .none-beyond 2 (omega arith) .0 in omega arith
 
@@ -146,6 +183,19 @@ pub not-renumbered : Demand3 set four (internals-but (0 ∷ 2 ∷ 1 ∷ 3 ∷ 0 
 unfolding all-open
 not-renumbered h = let e : _≡_ {A = ℕ} 2 1 = ap (λ (x : List (List ℕ)). getD (getD x 1 []) 0 9) (h .each-fine 0 (omega arith) .leaves-are) in omega arith
 
+-- the coarse level has two domains; its domain borrows a row; it has a box
+pub not-two-coarse : Demand3 set four (points-but points (counts 2 (4 ∷ 2 ∷ 0 ∷ 0 ∷ []) (4 ∷ 2 ∷ 0 ∷ 0 ∷ []))) → ⊥
+unfolding all-open
+not-two-coarse h = let e : _≡_ {A = ℕ} 2 1 = h .last-coarse .one-domain in omega arith
+
+pub not-coarse-borrowing : Demand3 set four (domains-but (0 ∷ 1 ∷ 0 ∷ 1 ∷ 1 ∷ 1 ∷ 1 ∷ 2 ∷ 2 ∷ 1 ∷ 3 ∷ 2 ∷ 3 ∷ 1 ∷ 5 ∷ 1 ∷ 4 ∷ 2 ∷ 5 ∷ 1 ∷ [])) → ⊥
+unfolding all-open
+not-coarse-borrowing h = let e : _≡_ {A = ℕ} 1 0 = ap length (h .last-coarse .borrows-none) in omega arith
+
+pub not-coarse-boxed : Demand3 set four (boxes-but (0 ∷ 1 ∷ 1 ∷ 3 ∷ 3 ∷ 7 ∷ 7 ∷ 7 ∷ 0 ∷ 1 ∷ [])) → ⊥
+unfolding all-open
+not-coarse-boxed h = let e : _≡_ {A = ℕ} 0x3ff0000000000000 0 = ap (λ (x : List Float). toBits binary64 (getD x 1 nan)) (h .last-coarse .no-box) in omega arith
+
 -- the coarse domain repeats a row
 pub not-below : Demand3 set four (internals-but (0 ∷ 1 ∷ 2 ∷ 3 ∷ 0 ∷ 0 ∷ [])) → ⊥
 unfolding all-open
@@ -165,11 +215,46 @@ unfolding all-open
 not-far h = let e : _≡_ {A = ℕ} 3 1 = ap (λ (x : List ℕ). getD x 0 9) (h .each-fine 0 (omega arith) .borrowed-are 0 (omega arith)) in omega arith
 
 -- boxes measured from the leaves' own points: 0 0 for the first
-pub not-measured : Demand3 set four (handed points internals domains (0 ∷ 0 ∷ 1 ∷ 1 ∷ 3 ∷ 3 ∷ 7 ∷ 7 ∷ 0 ∷ 0 ∷ []) borrowed two) → ⊥
+pub not-measured : Demand3 set four (boxes-but (0 ∷ 0 ∷ 1 ∷ 1 ∷ 3 ∷ 3 ∷ 7 ∷ 7 ∷ 0 ∷ 0 ∷ [])) → ⊥
 unfolding all-open
 not-measured h =
     let e : _≡_ {A = ℕ} 0 0x3ff0000000000000 = ap (λ (x : List (List Float)). toBits binary64 (getD (getD x 0 []) 1 nan)) (h .each-fine 0 (omega arith) .boxes-are) in
     omega arith
+
+-- ---- two fine levels: the points 0 to 5, with leaf 4
+
+abbrev six : List Float
+six = line (0 ∷ 1 ∷ 2 ∷ 3 ∷ 4 ∷ 5 ∷ [])
+
+-- with these rows on the levels, and the same for the leaves' own rows
+abbrev in-six : List ℕ → Handed
+in-six rows =
+    record {
+      lists = record {
+        points = rows ++ replicate 12 9;
+        internals = rows ++ replicate 12 9;
+        domains =
+            0 ∷ 3 ∷ 0 ∷ 1 ∷ 3 ∷ 3 ∷ 1 ∷ 1 ∷ 6 ∷ 2 ∷ 2 ∷ 0 ∷ 8 ∷ 2 ∷ 2 ∷ 0 ∷ 10 ∷ 2 ∷ 2 ∷ 0 ∷ replicate 128 9;
+        boxes = line (0 ∷ 3 ∷ 3 ∷ 5 ∷ 0 ∷ 3 ∷ 3 ∷ 4 ∷ 0 ∷ 0 ∷ replicate 64 9);
+        borrowed = 3 ∷ 2 ∷ replicate 70 9;
+      };
+      counts = counts 3 (6 ∷ 4 ∷ 2 ∷ 0 ∷ []) (2 ∷ 2 ∷ 1 ∷ 0 ∷ []);
+    }
+
+-- a build hands these back, and so they have demand 3
+is-six : handedBack (onLine 4 2) six (nines 6) (floatRoom 6) (wholeRoom 6) ≡ in-six (0 ∷ 1 ∷ 2 ∷ 3 ∷ 4 ∷ 5 ∷ 0 ∷ 1 ∷ 3 ∷ 4 ∷ 0 ∷ 3 ∷ [])
+unfolding all-open
+is-six = refl
+
+pub six-has-it : Demand3 (onLine 4 2) six (in-six (0 ∷ 1 ∷ 2 ∷ 3 ∷ 4 ∷ 5 ∷ 0 ∷ 1 ∷ 3 ∷ 4 ∷ 0 ∷ 3 ∷ []))
+unfolding all-open
+six-has-it = subst (Demand3 (onLine 4 2) six) is-six (demand-3 (onLine 4 2) six (nines 6) (floatRoom 6) (wholeRoom 6) refl)
+
+-- The second level lists the rows sent up in another order. Seeds then fall on other rows, and the third level lists 1 and 4 in place
+-- of 0 and 3. Every other field holds of these lists.
+pub not-out-of-order : Demand3 (onLine 4 2) six (in-six (0 ∷ 1 ∷ 2 ∷ 3 ∷ 4 ∷ 5 ∷ 1 ∷ 0 ∷ 4 ∷ 3 ∷ 1 ∷ 4 ∷ [])) → ⊥
+unfolding all-open
+not-out-of-order h = let e : _≡_ {A = ℕ} 1 0 = ap (λ (x : List ℕ). getD x 0 9) (h .each-fine 0 (omega arith) .next-order) in omega arith
 
 -- ---- shares
 
@@ -196,6 +281,40 @@ is-even = refl
 pub not-uneven : Demand3 (onLine 3 2) four (pair 0 1) → ⊥
 unfolding all-open
 not-uneven h = let e : _≡_ {A = ℕ} 0 1 = h .each-fine 0 (omega arith) .sent-shows 0 (omega arith) 1 (omega arith) in omega arith
+
+-- whoever sends q rows of a share of more than q + 1 sends too few
+too-few : (q top bottom : ℕ) → WholePart q (record { top = top; bottom = bottom }) ⊎ OneMore q (record { top = top; bottom = bottom }) → (q + 1) * bottom ≤ top → ⊥
+too-few q top bottom h m = ⊎-elim (λ w. omega (arith, w .no-less)) (λ w. omega (arith, w .one-more, w .is-part .no-less, ap (λ (k : ℕ). (k + 1) * bottom) (w .one-more))) h
+
+-- with c = 3 the second level lists three rows; these are the leaves' own rows on the first level, and the counts of the first leaf's
+-- and the second's
+abbrev trio : List ℕ → ℕ → ℕ → Handed
+trio own v w =
+    record {
+      lists = record {
+        points = 0 ∷ 1 ∷ 2 ∷ 3 ∷ 0 ∷ 1 ∷ 2 ∷ replicate 9 9;
+        internals = own ++ 0 ∷ 1 ∷ 2 ∷ replicate 9 9;
+        domains = 0 ∷ v ∷ 0 ∷ 1 ∷ 2 ∷ w ∷ 1 ∷ 1 ∷ 4 ∷ 3 ∷ 2 ∷ 0 ∷ replicate 88 9;
+        boxes = line (0 ∷ 3 ∷ 3 ∷ 7 ∷ 0 ∷ 0 ∷ replicate 44 9);
+        borrowed = 2 ∷ 1 ∷ replicate 46 9;
+      };
+      counts = counts 2 (4 ∷ 3 ∷ 0 ∷ 0 ∷ []) (2 ∷ 1 ∷ 0 ∷ 0 ∷ []);
+    }
+
+is-trio : handedBack (onLine 3 3) four (nines 4) (floatRoom 4) (wholeRoom 4) ≡ trio (0 ∷ 1 ∷ 2 ∷ 3 ∷ []) 2 2
+unfolding all-open
+is-trio = refl
+
+-- the first leaf holds row 1 twice, and of three rows sent up two are its own: the second of these is no row of its own
+pub not-sent-by-none : Demand3 (onLine 3 3) four (trio (1 ∷ 1 ∷ 2 ∷ 3 ∷ []) 2 2) → ⊥
+unfolding all-open
+not-sent-by-none h = let e : 1 ≤ 0 = h .each-fine 0 (omega arith) .sends-own 0 (omega arith) 0 in omega arith
+
+-- The first leaf is said to hold six rows and the second none. Of three rows sent up of four, a leaf of six has a share of
+-- ((4 - 1) + (3 - 1)(6 - 1)) / (4 - 1), 13 thirds, and it sends three.
+pub not-shared-out : Demand3 (onLine 3 3) four (trio (0 ∷ 1 ∷ 2 ∷ 3 ∷ []) 6 0) → ⊥
+unfolding all-open
+not-shared-out h = too-few 3 13 3 (h .each-fine 0 (omega arith) .sends-share 0 (omega arith) (omega arith)) (omega arith)
 
 -- of a share of 5/2 come 2 or 3, and of a share of 4/2 only 2
 abbrev Sends : ℕ → ℕ → Type 0

@@ -1,0 +1,3 @@
+-- A packed tree read back.
+pub mod Counts
+pub mod Unpacked

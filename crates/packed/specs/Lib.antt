@@ -1,0 +1,3 @@
+-- How packed lists are read and written.
+pub mod Reading
+pub mod Rows

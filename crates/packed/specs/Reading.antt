@@ -1,0 +1,116 @@
+-- How packed lists are read: a domain row, what it names, a level, and the whole tree. This is the one reading: the demand, the
+-- printout and the stages of a level speak of packed lists through it. Definitions only.
+use Prim.Native.Nat.{ℕ, _+_, _-_, _*_, _≤_, _<_}
+use mathlib.Core.Path.{_≡_}
+use mathlib.Core.List.{List, map}
+use lib.ListN.{length, getD, take}
+use lib.Ieee.{Float}
+use Rattle.lists.specs.Lists.{total, from, part}
+use Rattle.definition.specs.Points.{boxWidth}
+use Rattle.definition.specs.Tree.{Leaf, Level}
+use Rattle.definition.specs.Packed.{Counts, DomainRow, rowNumbers, rowFloats}
+
+-- ---- the domain row number j of a list of domain rows
+
+-- where the leaf's own rows start and how many they are, then the same of the rows that it borrows
+abbrev pub ownStart : List ℕ → ℕ → ℕ
+ownStart domains j = getD domains (rowNumbers * j) 0
+
+abbrev pub ownCount : List ℕ → ℕ → ℕ
+ownCount domains j = getD domains (rowNumbers * j + 1) 0
+
+abbrev pub borrowedStart : List ℕ → ℕ → ℕ
+borrowedStart domains j = getD domains (rowNumbers * j + 2) 0
+
+abbrev pub borrowedCount : List ℕ → ℕ → ℕ
+borrowedCount domains j = getD domains (rowNumbers * j + 3) 0
+
+abbrev pub rowAt : List ℕ → ℕ → DomainRow
+rowAt domains j =
+    record {
+      ownStart = ownStart domains j;
+      ownCount = ownCount domains j;
+      borrowedStart = borrowedStart domains j;
+      borrowedCount = borrowedCount domains j;
+    }
+
+-- ---- what it names: the leaf's own rows, the rows that it borrows, and its box on d axes
+
+abbrev pub ownAt : List ℕ → List ℕ → ℕ → List ℕ
+ownAt internals domains j = part internals (ownStart domains j) (ownCount domains j)
+
+abbrev pub borrowedAt : List ℕ → List ℕ → ℕ → List ℕ
+borrowedAt borrowed domains j = part borrowed (borrowedStart domains j) (borrowedCount domains j)
+
+abbrev pub boxAt : ℕ → List Float → ℕ → List Float
+boxAt d boxes j = part boxes (rowFloats d * j) (boxWidth d)
+
+-- the own rows of the m leaves from the domain row number `first` on
+unfoldable pub readOwn : List ℕ → List ℕ → ℕ → ℕ → List (List ℕ)
+readOwn internals domains first m = map (λ l. ownAt internals domains (first + l)) (from 0 m)
+
+-- ---- leaves
+
+-- the lists that hold leaves on so many axes
+pub record Packed : Type 0 where
+  pub internals : List ℕ
+  pub borrowed : List ℕ
+  pub domains : List ℕ
+  pub boxes : List Float
+  pub dimension : ℕ
+
+abbrev pub packed : List ℕ → List ℕ → List ℕ → List Float → ℕ → Packed
+packed internals borrowed domains boxes d =
+    record { internals = internals; borrowed = borrowed; domains = domains; boxes = boxes; dimension = d }
+
+-- the leaf of the domain row number j
+unfoldable pub leafAt : Packed → ℕ → Leaf
+leafAt p j =
+    record {
+      own = ownAt (p .internals) (p .domains) j;
+      borrowed = borrowedAt (p .borrowed) (p .domains) j;
+      box = boxAt (p .dimension) (p .boxes) j;
+    }
+
+-- m leaves from the domain row number j on
+unfoldable pub leavesAt : Packed → ℕ → ℕ → List Leaf
+leavesAt p j m = map (leafAt p) (from j m)
+
+-- ---- levels, by the row and domain counts per level
+
+-- how many come before the level number l
+abbrev pub upTo : List ℕ → ℕ → ℕ
+upTo counts l = total (take l counts)
+
+-- the rows that it lists: its stretch of the level points, which starts where those of the levels before it end
+abbrev pub pointsAt : List ℕ → List ℕ → ℕ → List ℕ
+pointsAt points rows l = part points (upTo rows l) (getD rows l 0)
+
+unfoldable pub levelAt : Packed → List ℕ → Counts → ℕ → Level
+levelAt p points c l =
+    record {
+      points = pointsAt points (c .rows) l;
+      leaves = leavesAt p (upTo (c .domains) l) (getD (c .domains) l 0);
+    }
+
+-- the first n levels
+unfoldable pub levelsAt : Packed → List ℕ → Counts → ℕ → List Level
+levelsAt p points c n = map (levelAt p points c) (from 0 n)
+
+-- ---- what has to stand in the lists before a reader may go by them
+
+-- the domain row number j, with its stretches and its box
+pub record RowFits (p : Packed) (j : ℕ) : Type 0 where
+  pub row : rowNumbers * (j + 1) ≤ length (p .domains)
+  pub own : ownStart (p .domains) j + ownCount (p .domains) j ≤ length (p .internals)
+  pub borrowed : borrowedStart (p .domains) j + borrowedCount (p .domains) j ≤ length (p .borrowed)
+  pub box : rowFloats (p .dimension) * j + boxWidth (p .dimension) ≤ length (p .boxes)
+
+-- as many levels as are counted; the last one is coarse, with one domain
+pub record Stands (p : Packed) (points : List ℕ) (c : Counts) : Type 0 where
+  pub some : 1 ≤ c .levels
+  pub rowed : c .levels ≤ length (c .rows)
+  pub counted : c .levels ≤ length (c .domains)
+  pub within : upTo (c .rows) (c .levels) ≤ length points
+  pub fits : (j : ℕ) → j < upTo (c .domains) (c .levels) → RowFits p j
+  pub coarse : getD (c .domains) (c .levels - 1) 0 ≡ 1

@@ -1,0 +1,80 @@
+// Domain rows in the lent lists: their strides, and a row read and written. No other crate knows which of a row's numbers says what.
+ghost use mathlib.Core.Path.{_≡_};
+ghost use Prim.Native.Nat.{_+_, _*_, _≤_};
+ghost use lib.ListN.{length};
+ghost use Rattle.definition.specs.Points.{boxWidth};
+ghost use Rattle.definition.specs.Packed.{rowNumbers, rowFloats};
+ghost use Rattle.packed.specs.Rows.{rowOf, IsRow, putRow, putOwn, putBorrowed};
+
+// How many whole numbers a domain row has.
+pub const ROW_NUMBERS: usize = 4;
+
+// Which of them says what. Where the own rows start is the first.
+const OWN_COUNT: usize = 1;
+
+const BORROWED_START: usize = 2;
+
+const BORROWED_COUNT: usize = 3;
+
+// A domain row: where the leaf's stretch of each list starts, and how many rows it has there.
+pub struct DomainRow {
+    pub internal_start: usize,
+    pub internal_count: usize,
+    pub borrowed_start: usize,
+    pub borrowed_count: usize,
+}
+
+// How many bounds a box has.
+pub fn box_width(dimensions: usize) -> usize
+    requires { ⌜ dimensions ≤ 3 ⌝ }
+    ensures { λ r. ⌜ r ≡ boxWidth dimensions ⌝ }
+{
+    2 * dimensions
+}
+
+// How many floats a domain row has: those of its box.
+pub fn row_floats(dimensions: usize) -> usize
+    requires { ⌜ dimensions ≤ 3 ⌝ }
+    ensures { λ r. ⌜ r ≡ rowFloats dimensions ⌝ }
+{
+    box_width(dimensions)
+}
+
+// The domain row number k, by value.
+pub fn read_row(domains: &[usize], k: usize) -> DomainRow
+    requires { ⌜ rowNumbers * (k + 1) ≤ length (now domains) ⌝ }
+    ensures { λ r. ⌜ IsRow r (now (domains .entry)) k ⌝ }
+{
+    let at = ROW_NUMBERS * k;
+    DomainRow {
+        internal_start: domains[at],
+        internal_count: domains[at + OWN_COUNT],
+        borrowed_start: domains[at + BORROWED_START],
+        borrowed_count: domains[at + BORROWED_COUNT],
+    }
+}
+
+// Writes start and count of the own rows to the domain row number k.
+pub fn put_own(domains: &mut [usize], k: usize, start: usize, count: usize)
+    requires { ⌜ rowNumbers * (k + 1) ≤ length (now domains) ⌝ }
+    ensures { λ _. ⌜ now (domains .exit) ≡ putOwn (now (domains .entry)) k start count ⌝ }
+{
+    stretches::put_pair(domains, ROW_NUMBERS * k, start, count);
+}
+
+// Writes start and count of the borrowed rows to the domain row number k.
+pub fn put_borrowed(domains: &mut [usize], k: usize, start: usize, count: usize)
+    requires { ⌜ rowNumbers * (k + 1) ≤ length (now domains) ⌝ }
+    ensures { λ _. ⌜ now (domains .exit) ≡ putBorrowed (now (domains .entry)) k start count ⌝ }
+{
+    stretches::put_pair(domains, ROW_NUMBERS * k + BORROWED_START, start, count);
+}
+
+// Writes the domain row number k.
+pub fn put_row(domains: &mut [usize], k: usize, row: DomainRow)
+    requires { ⌜ rowNumbers * (k + 1) ≤ length (now domains) ⌝ }
+    ensures { λ _. ⌜ now (domains .exit) ≡ putRow (now (domains .entry)) k (rowOf row) ⌝ }
+{
+    put_own(domains, k, row.internal_start, row.internal_count);
+    put_borrowed(domains, k, row.borrowed_start, row.borrowed_count);
+}
