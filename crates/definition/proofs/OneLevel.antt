@@ -1,7 +1,7 @@
 -- DEMAND 3 OF ONE FINE LEVEL, over the definition's own lists: each field is a line of the demand. crates/demand reads the same out of
 -- the lists that a build hands back. Assumes nothing.
 use mathlib.Core.Path.{_≡_, subst}
-use mathlib.Core.List.{List, map}
+use mathlib.Core.List.{List}
 use Prim.Native.Nat.{ℕ, _≤_, _<_, min}
 use native.Mathlib.Omega.{arith}
 use lib.ListN.{length, getD}
@@ -13,7 +13,7 @@ use Rattle.definition.specs.Levels.{levelSize}
 use Rattle.definition.specs.Quotas.{quotas}
 use Rattle.definition.specs.Fair.{Fair}
 use Rattle.definition.specs.Cut.{Domain, leavesOf}
-use Rattle.definition.specs.Overlaps.{Near, nearOf, borrowedBy}
+use Rattle.definition.specs.Overlaps.{borrowedBy}
 use Rattle.definition.specs.Sampling.{sentBy}
 use Rattle.definition.specs.Tree.{Settings, reductionsLeft}
 use Rattle.definition.proofs.Cuts.{Good, rowsOf, sizesOf, leaves-times, leaves-sum}
@@ -26,12 +26,9 @@ use Rattle.definition.proofs.Levels.{next-times}
 use Rattle.definition.proofs.Next.{Dealt, noDomain, rows-at, next-sent, next-length, next-at}
 
 module _ (s : Settings) (cs : List Float) (c k built : ℕ) (active : List ℕ) where
-  -- the level's leaves, the rows that each active row takes, S, and the quotas of the leaves
+  -- the level's leaves, S, and the quotas of the leaves
   abbrev leaves : List Domain
   leaves = leavesOf (s .dimension) cs (s .leaf) active
-
-  abbrev nears : List Near
-  nears = map (nearOf (s .dimension) cs (s .neighbours) active) active
 
   abbrev size : ℕ
   size = levelSize (length active) c (reductionsLeft k built)
@@ -39,9 +36,12 @@ module _ (s : Settings) (cs : List Float) (c k built : ℕ) (active : List ℕ) 
   abbrev shares : List ℕ
   shares = quotas (sizesOf (leavesOf (s .dimension) cs (s .leaf) active)) (levelSize (length active) c (reductionsLeft k built))
 
-  -- the own rows of leaf i, and the rows that it sends up
+  -- the own rows of leaf i, the rows that it borrows, and those that it sends up
   abbrev own : ℕ → List ℕ
   own i = getD leaves i noDomain .rows
+
+  abbrev borrowed : ℕ → List ℕ
+  borrowed i = borrowedBy (s .dimension) cs (s .neighbours) active (own i)
 
   abbrev sent : ℕ → List ℕ
   sent i = sentBy (s .dimension) cs (own i) (getD shares i 0)
@@ -51,8 +51,8 @@ module _ (s : Settings) (cs : List Float) (c k built : ℕ) (active : List ℕ) 
     pub once : Once active
     pub internal-once : (r : ℕ) → times r (rowsOf leaves) ≡ times r active
     -- no leaf borrows its own row, or one row twice
-    pub borrows-not-own : (i r : ℕ) → 0 < times r (own i) → times r (borrowedBy nears active (own i)) ≡ 0
-    pub borrows-once : (i : ℕ) → Once (borrowedBy nears active (own i))
+    pub borrows-not-own : (i r : ℕ) → 0 < times r (own i) → times r (borrowed i) ≡ 0
+    pub borrows-once : (i : ℕ) → Once (borrowed i)
     -- the next level lists exactly the rows sent up, each once, S of them and fewer than before
     pub next-lists-sent : (r : ℕ) → times r (nextOf s cs c k built active) ≡ times r (joined (sentOf s cs c k built active))
     pub next-once : (r : ℕ) → times r (nextOf s cs c k built active) ≤ times r active
@@ -97,8 +97,8 @@ module _ (s : Settings) (cs : List Float) (c k built : ℕ) (active : List ℕ) 
     one-level = record {
       once = good .once;
       internal-once = internal;
-      borrows-not-own = λ i. Borrowed.borrows-not-own nears active (own i);
-      borrows-once = λ i. Borrowed.borrows-once nears active (own i) (good .once);
+      borrows-not-own = λ i. Borrowed.borrows-not-own (s .dimension) cs (s .neighbours) active (own i);
+      borrows-once = λ i. Borrowed.borrows-once (s .dimension) cs (s .neighbours) active (own i) (good .once);
       next-lists-sent = next-sent (s .dimension) cs pos (s .leaf) lp active good some size dealt;
       next-once = next-times active (sentOf s cs c k built active);
       next-size = next-length (s .dimension) cs pos (s .leaf) lp active good some size dealt;

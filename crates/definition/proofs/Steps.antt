@@ -7,7 +7,8 @@ use lib.ListN.{length}
 use lib.Ieee.{Float}
 use Rattle.definition.specs.Levels.{levelSize}
 use Rattle.definition.specs.Cut.{Domain, leftOf, rightOf, queueLeaves, leavesOf}
-use Rattle.definition.specs.Tree.{Settings, Level, coarseLevel, fineLevel, sentLists, nextActive, reductionsLeft, levelsFrom}
+use Rattle.definition.specs.Overlaps.{borrowedBy}
+use Rattle.definition.specs.Tree.{Settings, Leaf, Level, coarseLevel, fineLevel, sentLists, nextActive, reductionsLeft, levelsFrom}
 
 -- ---- the queue
 module _ (d : ℕ) (cs : List Float) (leaf fuel : ℕ) where
@@ -29,6 +30,10 @@ module _ (d : ℕ) (cs : List Float) (leaf fuel : ℕ) where
   queue-done q qs h = rw (lt-leb (2 * leaf) (length (q .rows)) h)
 
 -- ---- the levels
+
+-- the leaf that a fine level makes of a domain of the cut
+abbrev pub fineLeaf : ℕ → List Float → ℕ → List ℕ → Domain → Leaf
+fineLeaf d cs neighbours active q = record { own = q .rows; borrowed = borrowedBy d cs neighbours active (q .rows); box = q .box }
 
 -- a fine level over its active rows
 abbrev pub fineOf : Settings → List Float → List ℕ → Level

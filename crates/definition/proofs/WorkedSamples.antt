@@ -13,7 +13,7 @@ use Rattle.definition.specs.Keys.{keyed, before, rank, firstRows, otherR
 use Rattle.definition.specs.Levels.{threshold, reductions, exactSize, levelSize}
 use Rattle.definition.specs.Number.{wholeRoot, halves, rootOfUnits, squareRoot}
 use Rattle.definition.specs.Outcome.{numberOf, placeOf, valueOf, written, listAfter, rootAnswer, sizeAnswer, quotaAnswer, quotaOutput, sampleAnswer, sampleOutput, buildAnswer, treeListsAfter, buildLists, askedVerdict, rowTest, rowsAsked}
-use Rattle.definition.specs.Overlaps.{nearest, nearOf, lends, borrowedBy}
+use Rattle.definition.specs.Overlaps.{nearest, paired, borrowedBy}
 use Rattle.definition.specs.Packed.{leavesIn, packedPoints, packedOwn, packedBorrowed, packedBoxes, stretches, packedDomains, perLevel, countsOf, buildStated, sampleStated, quotaStated}
 use Rattle.definition.specs.Points.{distanceSq, distance, rowsSq, rowsApart, leastOf, greatestOf, extents, extent}
 use Rattle.definition.specs.Printout.{ascii, decimalOnto, decimal, hexOnto, rowsText, boxText, domainLine, fineLines, coarseLines, levelLine, levelsText, treeText, refusalText, builtText, jobText, printout}
@@ -63,5 +63,5 @@ fourPoints =
 
 -- To unfold this is to unfold every definition that its line names.
 unfoldable pub opened : ℕ
-unfolding ofInt ofBits toBits round size add sub mul div lt eq isNan zipWith keep count anyOf member best leastFrom total from joined part put rootDomain longestAxis cutKeys planeOf plane leftOf rightOf queueLeaves leavesOf keyed before rank firstRows otherRows keyAt nearestRow farthestRow threshold reductions exactSize levelSize wholeRoot halves rootOfUnits squareRoot numberOf placeOf valueOf written listAfter rootAnswer sizeAnswer quotaAnswer quotaOutput sampleAnswer sampleOutput buildAnswer treeListsAfter buildLists askedVerdict rowTest rowsAsked nearest nearOf lends borrowedBy leavesIn packedPoints packedOwn packedBorrowed packedBoxes stretches packedDomains perLevel countsOf buildStated sampleStated quotaStated distanceSq distance rowsSq rowsApart leastOf greatestOf extents extent ascii decimalOnto decimal hexOnto rowsText boxText domainLine fineLines coarseLines levelLine levelsText treeText refusalText builtText jobText printout leavesBefore seatsOf quotasFor quotas verdict firstBad buildShort sampleShort quotaShort buildTests buildVerdict sampleVerdict sizeVerdict quotaVerdict stretchVerdict rootVerdict gap pick sampleMore sample sumFrom centroid fromCentroid seedOf sentBy little coordinatesAt policyFits settingsIn readPoints held jobIn coarseLevel fineLevel sentLists nextActive levelsFrom levelsOver levels line onLine nines floatRoom wholeRoom bytes fourPoints
+unfolding ofInt ofBits toBits round size add sub mul div lt eq isNan zipWith keep count anyOf member best leastFrom total from joined part put rootDomain longestAxis cutKeys planeOf plane leftOf rightOf queueLeaves leavesOf keyed before rank firstRows otherRows keyAt nearestRow farthestRow threshold reductions exactSize levelSize wholeRoot halves rootOfUnits squareRoot numberOf placeOf valueOf written listAfter rootAnswer sizeAnswer quotaAnswer quotaOutput sampleAnswer sampleOutput buildAnswer treeListsAfter buildLists askedVerdict rowTest rowsAsked nearest paired borrowedBy leavesIn packedPoints packedOwn packedBorrowed packedBoxes stretches packedDomains perLevel countsOf buildStated sampleStated quotaStated distanceSq distance rowsSq rowsApart leastOf greatestOf extents extent ascii decimalOnto decimal hexOnto rowsText boxText domainLine fineLines coarseLines levelLine levelsText treeText refusalText builtText jobText printout leavesBefore seatsOf quotasFor quotas verdict firstBad buildShort sampleShort quotaShort buildTests buildVerdict sampleVerdict sizeVerdict quotaVerdict stretchVerdict rootVerdict gap pick sampleMore sample sumFrom centroid fromCentroid seedOf sentBy little coordinatesAt policyFits settingsIn readPoints held jobIn coarseLevel fineLevel sentLists nextActive levelsFrom levelsOver levels line onLine nines floatRoom wholeRoom bytes fourPoints
 opened = 0

@@ -2,7 +2,6 @@
 use Prim.Native.Nat.{ℕ, suc}
 use mathlib.Core.Bool.{Bool, not, _&&_, _||_}
 use mathlib.Core.List.{List}
-use lib.Dec.{eqb}
 use lib.Ieee.{Float}
 use Rattle.lists.specs.Lists.{keep, member, anyOf}
 use Rattle.definition.specs.Points.{rowsSq}
@@ -12,19 +11,10 @@ use Rattle.definition.specs.Keys.{keyed, firstRows}
 unfoldable pub nearest : ℕ → List Float → ℕ → List ℕ → ℕ → List ℕ
 nearest d cs neighbours active i = firstRows (suc neighbours) (keyed (rowsSq d cs i) active)
 
--- an active row with the rows that it takes
-pub record Near : Type 0 where
-  pub row : ℕ
-  pub taken : List ℕ
+-- one of the two rows takes the other
+unfoldable pub paired : ℕ → List Float → ℕ → List ℕ → ℕ → ℕ → Bool
+paired d cs neighbours active i j = member j (nearest d cs neighbours active i) || member i (nearest d cs neighbours active j)
 
-unfoldable pub nearOf : ℕ → List Float → ℕ → List ℕ → ℕ → Near
-nearOf d cs neighbours active i = record { row = i; taken = nearest d cs neighbours active i }
-
--- Of a taker and a row that it takes, each goes to the other's leaf: the leaf of the rows `own` gets j because e is its
--- own and takes j, or because e is j and takes one of its own.
-unfoldable pub lends : List ℕ → ℕ → Near → Bool
-lends own j e = (member (e .row) own && member j (e .taken)) || (eqb (e .row) j && anyOf (λ i. member i own) (e .taken))
-
--- what the leaf that owns the rows `own` borrows of the other owners' rows, ascending and without repeats
-unfoldable pub borrowedBy : List Near → List ℕ → List ℕ → List ℕ
-borrowedBy nears active own = keep (λ j. not (member j own) && anyOf (lends own j) nears) active
+-- what the leaf that owns the rows `own` borrows: each other active row that is paired with one of its own, ascending and without repeats
+unfoldable pub borrowedBy : ℕ → List Float → ℕ → List ℕ → List ℕ → List ℕ
+borrowedBy d cs neighbours active own = keep (λ j. not (member j own) && anyOf (λ i. paired d cs neighbours active i j) own) active

@@ -34,7 +34,7 @@ unfoldable pub rowsSq : ℕ → List Float → ℕ → ℕ → Float
 rowsSq d cs i j = distanceSq d (coordinate d cs i) (coordinate d cs j)
 
 unfoldable pub rowsApart : ℕ → List Float → ℕ → ℕ → Float
-rowsApart d cs i j = squareRoot (rowsSq d cs i j)
+rowsApart d cs i j = distance d (coordinate d cs i) (coordinate d cs j)
 
 -- ---- extents
 

@@ -92,7 +92,7 @@ module _ (d : ℕ) (cs : List Float) (f : (x : Float) → List·Memᴰ x cs → 
       finite-sq-good d (coordinate d cs i) (coordinate d cs j) (coordinate-finite i h) (coordinate-finite j k)
 
   pub rows-apart-good : (i j : ℕ) → i * d + d ≤ length cs → j * d + d ≤ length cs → good (rowsApart d cs i j) ≡ true
-  unfolding rowsApart
+  unfolding rowsApart distance rowsSq
   rows-apart-good i j h k = root-good (rowsSq d cs i j) (rows-sq-good i j h k)
 
   module _ (rows : List ℕ) (g : (i : ℕ) → List·Memᴰ i rows → i * d + d ≤ length cs) where

@@ -15,11 +15,10 @@ use Rattle.lists.proofs.From.{length-from}
 use Rattle.definition.specs.Number.{plusZero}
 use Rattle.definition.specs.Levels.{threshold, reductions}
 use Rattle.definition.specs.Cut.{Domain, leavesOf}
-use Rattle.definition.specs.Overlaps.{nearOf, borrowedBy}
 use Rattle.definition.specs.Tree.{Settings, Leaf, Level, coarseLevel, fineLevel, nextActive, mostFine, levelsFrom, levelsOver, pointCount, levels}
 use Rattle.definition.specs.Packed.{leavesIn, packedPoints, packedOwn, packedDomains, packedBoxes, packedBorrowed, stretches, rowNumbers, rowFloats, mostRows, BuildSizes, buildStated}
 use Rattle.definition.specs.Refusals.{accepted, buildVerdict}
-use Rattle.definition.proofs.Steps.{fineOf}
+use Rattle.definition.proofs.Steps.{fineLeaf, fineOf}
 use Rattle.definition.proofs.Cuts.{Good, leaves-sum}
 use Rattle.definition_laws.proofs.Shape.{leaves-most, leaves-boxes}
 use Rattle.definition_laws.proofs.Overlaps.{level-borrowed}
@@ -96,7 +95,7 @@ module _ (s : Settings) (cs : List Float) (pos : 0 < s .dimension) (lp : 1 ≤ s
     qs = leavesOf (s .dimension) cs (s .leaf) active
 
     abbrev toLeaf : Domain → Leaf
-    toLeaf q = record { own = q .rows; borrowed = borrowedBy (map (nearOf (s .dimension) cs (s .neighbours) active) active) active (q .rows); box = q .box }
+    toLeaf = fineLeaf (s .dimension) cs (s .neighbours) active
 
     fine-points : length (fineOf s cs active .points) ≤ n
     unfolding fineLevel
@@ -129,7 +128,7 @@ module _ (s : Settings) (cs : List Float) (pos : 0 < s .dimension) (lp : 1 ≤ s
   unfolding fineLevel
   fine-boxes active =
       all-map (λ (f : Leaf). length (f .box) ≡ 2 * s .dimension)
-      (λ (q : Domain). record { own = q .rows; borrowed = borrowedBy (map (nearOf (s .dimension) cs (s .neighbours) active) active) active (q .rows); box = q .box })
+      (fineLeaf (s .dimension) cs (s .neighbours) active)
       (leavesOf (s .dimension) cs (s .leaf) active) (leaves-boxes (s .dimension) cs (s .leaf) active)
 
   -- ---- the coarse level

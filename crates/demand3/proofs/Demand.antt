@@ -14,7 +14,6 @@ use Rattle.lists.proofs.Map.{getD-map-in}
 use Rattle.lists.proofs.From.{length-from}
 use Rattle.definition.specs.Number.{plusZero}
 use Rattle.definition.specs.Cut.{Domain, leavesOf}
-use Rattle.definition.specs.Overlaps.{nearOf, borrowedBy}
 use Rattle.definition.specs.Tree.{Settings, Leaf, Level, coarseLevel, fineLevel, mostFine, levelsOver, pointCount, levels}
 use Rattle.definition.specs.Points.{boxWidth}
 use Rattle.definition.specs.Packed.{Counts, leavesIn, packedPoints, packedOwn, packedDomains, packedBoxes, packedBorrowed}
@@ -23,7 +22,7 @@ use Rattle.definition.specs.Outcome.{Answer, TreeLists, lentSizes, written, lis
 use Rattle.definition.proofs.Cuts.{Good}
 use Rattle.definition_laws.proofs.Accepted.{build-accepted}
 use Rattle.definition_laws.proofs.Fit.{packed-fit}
-use Rattle.definition.proofs.Steps.{fineOf, nextOf}
+use Rattle.definition.proofs.Steps.{fineLeaf, fineOf, nextOf}
 use Rattle.definition.proofs.Next.{noDomain}
 use Rattle.definition.proofs.Sizes.{reductions-few, reductions-reach}
 use Rattle.demand3.specs.Handed.{Handed, handed, levelCount, rowsOn, leavesOn, HasNext, listed}
@@ -91,23 +90,18 @@ module _ (s : Settings) (cs : List Float) (first : List ℕ) (pos : 0 < s .dimen
     qs = leavesOf (s .dimension) cs (s .leaf) (listed h l)
 
     -- the leaf that the level makes of a domain
-    abbrev leafOf : Domain → Leaf
-    leafOf q =
-        record {
-          own = q .rows;
-          borrowed = borrowedBy (map (nearOf (s .dimension) cs (s .neighbours) (listed h l)) (listed h l)) (listed h l) (q .rows);
-          box = q .box;
-        }
+    abbrev toLeaf : Domain → Leaf
+    toLeaf = fineLeaf (s .dimension) cs (s .neighbours) (listed h l)
 
-    leaves-are : levelAt l .leaves ≡ map leafOf qs
+    leaves-are : levelAt l .leaves ≡ map toLeaf qs
     unfolding fineLevel
     leaves-are = ap (λ (x : Level). x .leaves) (fine .fine) ∙ ap (λ (x : List ℕ). fineOf s cs x .leaves) (sym (listed-at l))
 
     count-is : leavesOn h l ≡ length qs
-    count-is = leaves-at l ∙ ap length leaves-are ∙ length-map qs leafOf
+    count-is = leaves-at l ∙ ap length leaves-are ∙ length-map qs toLeaf
 
-    leaf-is : (i : ℕ) → i < leavesOn h l → getD (levelAt l .leaves) i noLeaf ≡ leafOf (getD qs i noDomain)
-    leaf-is i z = ap (λ (x : List Leaf). getD x i noLeaf) leaves-are ∙ getD-map-in leafOf qs i noDomain noLeaf (omega (arith, z, count-is))
+    leaf-is : (i : ℕ) → i < leavesOn h l → getD (levelAt l .leaves) i noLeaf ≡ toLeaf (getD qs i noDomain)
+    leaf-is i z = ap (λ (x : List Leaf). getD x i noLeaf) leaves-are ∙ getD-map-in toLeaf qs i noDomain noLeaf (omega (arith, z, count-is))
 
     held : IsLevel s cs n pos lp cp h l
     held = record {

@@ -13,7 +13,7 @@ use Rattle.lists.proofs.From.{map-from-at, zip-from-at}
 use Rattle.lists.proofs.Times.{times}
 use Rattle.definition.specs.Quotas.{quotas}
 use Rattle.definition.specs.Cut.{Domain, leavesOf}
-use Rattle.definition.specs.Overlaps.{Near, nearOf, borrowedBy}
+use Rattle.definition.specs.Overlaps.{borrowedBy}
 use Rattle.definition.specs.Sampling.{sentBy}
 use Rattle.definition.specs.Tree.{Settings, sentLists, nextActive}
 use Rattle.definition.proofs.Cuts.{Good, sizesOf}
@@ -38,16 +38,13 @@ module _ (s : Settings) (cs : List Float) (n : ℕ) (pos : 0 < s .dimension) (lp
   abbrev qs : List Domain
   qs = leavesOf (s .dimension) cs (s .leaf) (listed h l)
 
-  abbrev nears : List Near
-  nears = map (nearOf (s .dimension) cs (s .neighbours) (listed h l)) (listed h l)
-
   -- the level's lists are those of the definition's level over the rows that it lists
   pub record IsLevel : Type 0 where
     pub good : Good (s .dimension) cs (listed h l)
     pub outnumbers : coarseAt s n < length (listed h l)
     pub leaf-count : leavesOn h l ≡ length qs
     pub own : (i : ℕ) → i < leavesOn h l → ownOf h l i ≡ getD qs i noDomain .rows
-    pub borrowed : (i : ℕ) → i < leavesOn h l → borrowedOf h l i ≡ borrowedBy nears (listed h l) (getD qs i noDomain .rows)
+    pub borrowed : (i : ℕ) → i < leavesOn h l → borrowedOf h l i ≡ borrowedBy (s .dimension) cs (s .neighbours) (listed h l) (getD qs i noDomain .rows)
     pub box : (i : ℕ) → i < leavesOn h l → boxOf (s .dimension) h l i ≡ getD qs i noDomain .box
     pub next : listed h (suc l) ≡ nextOf s cs (coarseAt s n) (reductionCount s n) l (listed h l)
 
@@ -166,5 +163,5 @@ module _ (s : Settings) (cs : List Float) (n : ℕ) (pos : 0 < s .dimension) (lp
       sent-shows = shows;
       leaves-are = owns;
       boxes-are = boxes;
-      borrowed-are = λ i k. holds .borrowed i k ∙ ap (borrowedBy nears rows) (sym (holds .own i k));
+      borrowed-are = λ i k. holds .borrowed i k ∙ ap (borrowedBy d cs (s .neighbours) rows) (sym (holds .own i k));
     }

@@ -15,7 +15,7 @@ use Rattle.definition.specs.Points.{boxWidth}
 use Rattle.definition.specs.Levels.{threshold, reductions, levelSize}
 use Rattle.definition.specs.Quotas.{nonempty, quotas}
 use Rattle.definition.specs.Cut.{leavesOf}
-use Rattle.definition.specs.Overlaps.{nearOf, borrowedBy}
+use Rattle.definition.specs.Overlaps.{borrowedBy}
 use Rattle.definition.specs.Sampling.{sentBy}
 use Rattle.definition.specs.Tree.{Settings, reductionsLeft, mostFine, pointCount}
 use Rattle.definition.specs.Outcome.{TreeLists, buildAnswer, buildLists}
@@ -128,8 +128,7 @@ module _ (s : Settings) (cs : List Float) (n : ℕ) (h : Handed) (l : ℕ) where
     -- the leaves (own rows and boxes) and the rows borrowed are those of document 01; S and the rows sent up are, by `size` and `sentOf`
     pub leaves-are : ownLists h l ≡ map (λ q. q .rows) (leavesOf (s .dimension) cs (s .leaf) (listed h l))
     pub boxes-are : leafBoxes (s .dimension) h l ≡ map (λ q. q .box) (leavesOf (s .dimension) cs (s .leaf) (listed h l))
-    pub borrowed-are : (i : ℕ) → i < leavesOn h l
-        → borrowedOf h l i ≡ borrowedBy (map (nearOf (s .dimension) cs (s .neighbours) (listed h l)) (listed h l)) (listed h l) (ownOf h l i)
+    pub borrowed-are : (i : ℕ) → i < leavesOn h l → borrowedOf h l i ≡ borrowedBy (s .dimension) cs (s .neighbours) (listed h l) (ownOf h l i)
 
   -- ---- the coarse level: at most c rows, in a single domain that holds them all, without overlaps and with +0 for a box
   pub record CoarseLevel : Type 0 where

@@ -19,12 +19,13 @@ use Rattle.lists.proofs.From.{map-below-same}
 use Rattle.lists.proofs.Times.{times, times-keep-in, times-keep-out, once-keep, once-length}
 use Rattle.lists.proofs.Map.{zip-map}
 use Rattle.definition.specs.Cut.{Domain, leavesOf}
-use Rattle.definition.specs.Overlaps.{nearOf, borrowedBy}
+use Rattle.definition.specs.Overlaps.{borrowedBy}
 use Rattle.definition.specs.Quotas.{quotas}
 use Rattle.definition.specs.Sampling.{sentBy}
 use Rattle.definition.specs.Tree.{Leaf, fineLevel, sentLists}
 use Rattle.definition.specs.Packed.{stretches}
 use Rattle.definition.proofs.Cuts.{Good, leaves-times, leaves-sum}
+use Rattle.definition.proofs.Steps.{fineLeaf}
 use Rattle.definition_laws.proofs.Shape.{leaves-most}
 use Rattle.queue.specs.Rows.{withOwn}
 use Rattle.halving.proofs.Good.{good-good}
@@ -45,7 +46,7 @@ module _ (d : ℕ) (cs : List Float) (leaf neighbours : ℕ) (active : List ℕ)
   qs = leavesOf d cs leaf active
 
   abbrev toLeaf : Domain → Leaf
-  toLeaf q = record { own = q .rows; borrowed = borrowedBy (map (nearOf d cs neighbours active) active) active (q .rows); box = q .box }
+  toLeaf = fineLeaf d cs neighbours active
 
   pub level-own : map (λ (f : Leaf). f .own) (leavesAt d cs leaf neighbours active) ≡ rowsIn (leavesOf d cs leaf active)
   unfolding fineLevel
@@ -55,7 +56,7 @@ module _ (d : ℕ) (cs : List Float) (leaf neighbours : ℕ) (active : List ℕ)
   unfolding fineLevel borrowedLists
   level-borrowed =
       map-map (λ (f : Leaf). f .borrowed) toLeaf qs
-      ∙ sym (map-map (borrowedBy (map (nearOf d cs neighbours active) active) active) (λ (q : Domain). q .rows) qs)
+      ∙ sym (map-map (borrowedBy d cs neighbours active) (λ (q : Domain). q .rows) qs)
 
   pub level-box : map (λ (f : Leaf). f .box) (leavesAt d cs leaf neighbours active) ≡ map (λ (q : Domain). q .box) (leavesOf d cs leaf active)
   unfolding fineLevel

@@ -16,7 +16,7 @@ use Rattle.lists.specs.Lists.{keep, count, from, put, part}
 use Rattle.lists.specs.Ascends.{Ascends}
 use Rattle.lists.proofs.All.{all-at, all-take, all-mem}
 use Rattle.lists.proofs.Count.{count-map, count-keep, keep-same, keep-map}
-use Rattle.lists.proofs.Members.{mem-map, map-mem, keep-mem}
+use Rattle.lists.proofs.Members.{mem-map, map-mem}
 use Rattle.lists.proofs.From.{map-at}
 use Rattle.lists.proofs.Ascends.{ascends-at, ascends-same}
 use Rattle.lists.proofs.Same.{same-mem}
@@ -166,13 +166,3 @@ module _ (d : ℕ) (cs : List Float) (active : List ℕ) (row neighbours : ℕ) 
       (same-mem (nearest d cs neighbours active row) (map (λ q. getD active q 0) near) (λ p. sym (f .taken p)) (getD active q 0) i) in
       let e : q ≡ r .0 = ascends-same active q (r .0) up h (all-mem (λ q. q < length active) near (f .within) (r .0) (r .1)) (r .2) in
       subst (λ (z : ℕ). List·Memᴰ z near) (sym e) (r .1)
-
--- the rows taken are active
-pub taken-active : (d : ℕ) (cs : List Float) (neighbours : ℕ) (active : List ℕ) (row : ℕ) (z : ℕ) → List·Memᴰ z (nearest d cs neighbours active row) → List·Memᴰ z active
-unfolding nearest firstRows keyed
-taken-active d cs neighbours active row z i =
-    let key : ℕ → Key = λ i. record { value = rowsSq d cs row i; row = i } in
-    let ks = map key active in
-    let r = map-mem (λ (k : Key). k .row) (keep (λ k. ltb (rank ks k) (suc neighbours)) ks) i in
-    let u = map-mem key active ((keep-mem (λ k. ltb (rank ks k) (suc neighbours)) ks (r .1)) .0) in
-    subst (λ (y : ℕ). List·Memᴰ y active) (sym (r .2 ∙ ap (λ (k : Key). k .row) (u .2))) (u .1)

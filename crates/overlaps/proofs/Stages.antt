@@ -10,6 +10,7 @@ use lib.Ieee.{Float}
 use Rattle.lists.specs.Lists.{joined, part, put}
 use Rattle.lists.proofs.Map.{map-joined}
 use Rattle.lists.proofs.Put.{length-part}
+use Rattle.lists.proofs.Same.{same-mem}
 use Rattle.overlap_owners.specs.Own.{readOwn, Owned}
 use Rattle.overlap_owners.proofs.Read.{read-length}
 use Rattle.overlap_pairs.specs.Pairs.{Owners, Collected}
@@ -60,7 +61,7 @@ module _ (d : ℕ) (cs : List Float) (neighbours : ℕ) (active I D : List ℕ) 
     pub stage-holds : Holds m (length active) codes positions
     stage-holds =
         subst (λ (k : ℕ). Holds k (length active) codes positions) (read-length I D first m)
-        (collected-holds d cs neighbours active own (S .rows .ascends) owner O work r c)
+        (collected-holds d cs neighbours active own (same-mem (joined own) active (S .leaves .shared)) owner O work r c)
 
     abbrev lists : List (List ℕ)
     lists = borrowedLists d cs neighbours active own

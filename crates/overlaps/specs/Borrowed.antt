@@ -5,15 +5,13 @@ use lib.ListN.{length}
 use lib.Ieee.{Float}
 use Rattle.lists.specs.Lists.{put}
 use Rattle.definition.specs.Packed.{rowNumbers}
-use Rattle.definition.specs.Overlaps.{nearOf, borrowedBy}
+use Rattle.definition.specs.Overlaps.{borrowedBy}
 use Rattle.halving.specs.Rows.{GoodRows}
 use Rattle.overlap_owners.specs.Own.{Leaves}
 
 -- what the leaves with these own rows borrow
 unfoldable pub borrowedLists : ℕ → List Float → ℕ → List ℕ → List (List ℕ) → List (List ℕ)
-borrowedLists d cs neighbours active own =
-    let nears = map (nearOf d cs neighbours active) active in
-    map (borrowedBy nears active) own
+borrowedLists d cs neighbours active own = map (borrowedBy d cs neighbours active) own
 
 -- the domain rows after start and count of borrowed lists, packed from `at` on, were written to them from the k-th on
 unfoldable pub withBorrowed : ℕ → List (List ℕ) → ℕ → List ℕ → List ℕ

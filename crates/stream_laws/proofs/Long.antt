@@ -22,14 +22,14 @@ use Rattle.lists.proofs.Sums.{sum-most}
 use Rattle.definition.specs.Number.{plusZero}
 use Rattle.definition.specs.Levels.{threshold, reductions}
 use Rattle.definition.specs.Cut.{Domain, rootDomain, cutKeys, leftOf, rightOf, queueLeaves, leavesOf}
-use Rattle.definition.specs.Overlaps.{nearOf, borrowedBy}
+use Rattle.definition.specs.Overlaps.{borrowedBy}
 use Rattle.definition.specs.Tree.{Settings, Leaf, Level, coarseLevel, fineLevel, mostFine, nextActive, levelsFrom, levelsOver, pointCount, levels}
 use Rattle.definition.specs.Refusals.{Refusal, Verdict, accepted, refused}
 use Rattle.definition.specs.Stream.{Job, job, broken, streamPoints, jobIn}
 use Rattle.definition.specs.Printout.{ascii, digitOf, decimal, decimalOnto, hexOnto, rowsText, boxText, domainLine, fineLines, coarseLines, levelLine, levelsText, treeText, refusalText, builtText, jobText, printout}
 use Rattle.definition.proofs.Halves.{first-rows, other-rows}
 use Rattle.definition.proofs.Cuts.{leaves-all}
-use Rattle.definition.proofs.Steps.{fineOf, nextOf, queue-wait, queue-done, levels-last, levels-end, levels-more}
+use Rattle.definition.proofs.Steps.{fineLeaf, fineOf, nextOf, queue-wait, queue-done, levels-last, levels-end, levels-more}
 use Rattle.definition_laws.proofs.Shape.{leaves-boxes}
 use Rattle.stream_laws.proofs.Shape.{levels-shaped}
 use Rattle.stream_laws.specs.Sizes.{Kept, KeptBy, mostBytes}
@@ -183,8 +183,7 @@ more-text t l (m ∷ ls) h = refl
 module _ (s : Settings) (cs : List Float) (axes : s .dimension ≤ 3) where
   module _ (active : List ℕ) (a : Small active) where
     abbrev leafFrom : Domain → Leaf
-    leafFrom q =
-        record { own = q .rows; borrowed = borrowedBy (map (nearOf (s .dimension) cs (s .neighbours) active) active) active (q .rows); box = q .box }
+    leafFrom = fineLeaf (s .dimension) cs (s .neighbours) active
 
     leaves-brief : (qs : List Domain) → All (λ (q : Domain). Small (q .rows)) qs → All (λ (q : Domain). length (q .box) ≡ 2 * s .dimension) qs
         → All Brief (map leafFrom qs)

@@ -12,11 +12,10 @@ use Rattle.lists.proofs.Tests.{le-or-lt}
 use Rattle.lists.proofs.All.{all-append, all-map}
 use Rattle.definition.specs.Number.{plusZero}
 use Rattle.definition.specs.Levels.{threshold, reductions}
-use Rattle.definition.specs.Cut.{Domain, leavesOf}
-use Rattle.definition.specs.Overlaps.{nearOf, borrowedBy}
+use Rattle.definition.specs.Cut.{leavesOf}
 use Rattle.definition.specs.Tree.{Settings, Leaf, Level, coarseLevel, fineLevel, mostFine, levelsFrom, levelsOver, pointCount, levels}
 use Rattle.definition.specs.Packed.{rowFloats, leavesIn}
-use Rattle.definition.proofs.Steps.{fineOf, nextOf, levels-last, levels-end, levels-more}
+use Rattle.definition.proofs.Steps.{fineLeaf, fineOf, nextOf, levels-last, levels-end, levels-more}
 use Rattle.definition_laws.proofs.Shape.{leaves-boxes}
 
 -- how many leaves a level has
@@ -50,9 +49,8 @@ fine-wide : (s : Settings) (cs : List Float) (active : List ℕ) → All (λ (f 
 unfolding fineLevel
 fine-wide s cs active =
     let d = s .dimension in
-    let nears = map (nearOf d cs (s .neighbours) active) active in
     all-map (λ (f : Leaf). length (f .box) ≡ rowFloats d)
-    (λ (q : Domain). record { own = q .rows; borrowed = borrowedBy nears active (q .rows); box = q .box })
+    (fineLeaf d cs (s .neighbours) active)
     (leavesOf d cs (s .leaf) active) (leaves-boxes d cs (s .leaf) active)
 
 module _ (s : Settings) (cs : List Float) (c k : ℕ) where
