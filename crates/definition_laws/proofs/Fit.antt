@@ -21,7 +21,7 @@ use Rattle.definition.specs.Refusals.{accepted, buildVerdict}
 use Rattle.definition.proofs.Steps.{fineLeaf, fineOf}
 use Rattle.definition.proofs.Cuts.{Good, leaves-sum}
 use Rattle.definition_laws.proofs.Shape.{leaves-most, leaves-boxes}
-use Rattle.definition_laws.proofs.Overlaps.{level-borrowed}
+use Rattle.definition_laws.proofs.Overlaps.{borrowed-most}
 use Rattle.definition_laws.proofs.Accepted.{LentEnough, Accepted, build-accepted}
 use Rattle.definition.proofs.Levels.{next-short, next-good, levels-all, levels-sum}
 
@@ -120,7 +120,7 @@ module _ (s : Settings) (cs : List Float) (pos : 0 < s .dimension) (lp : 1 ≤ s
         let h : 2 * length active ≤ 2 * n = omega (arith, q .1) in
         omega (
           arith,
-          level-borrowed (s .dimension) cs (s .leaf) (s .neighbours) active pos lp (q .0) some,
+          borrowed-most (s .dimension) cs (s .leaf) (s .neighbours) active pos lp (q .0) some,
           mul-le-mul-right (s .neighbours + 1) h,
         )
 

@@ -93,10 +93,10 @@ borrowed-paired d cs neighbours active own =
     )
 
 -- THE LAW: in a level at most 2 times the active rows times the neighbour count and 1
-pub level-borrowed : (d : ℕ) (cs : List Float) (leaf neighbours : ℕ) (active : List ℕ) → 0 < d → 1 ≤ leaf → Good d cs active → 1 ≤ length active
+pub borrowed-most : (d : ℕ) (cs : List Float) (leaf neighbours : ℕ) (active : List ℕ) → 0 < d → 1 ≤ leaf → Good d cs active → 1 ≤ length active
     → total (map (λ (f : Leaf). length (f .borrowed)) (fineLevel d cs neighbours active (leavesOf d cs leaf active) .leaves)) ≤ 2 * length active * (neighbours + 1)
 unfolding fineLevel paired
-level-borrowed d cs leaf neighbours active pos lp g some =
+borrowed-most d cs leaf neighbours active pos lp g some =
     let qs = leavesOf d cs leaf active in
     let owns = map (λ (q : Domain). q .rows) qs in
     let borrowed : List ℕ → ℕ = λ own. length (borrowedBy d cs neighbours active own) in

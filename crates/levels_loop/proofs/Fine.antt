@@ -23,7 +23,7 @@ use Rattle.definition.specs.Packed.{packedPoints}
 use Rattle.definition.proofs.Steps.{fineOf, nextOf, levels-last, levels-end, levels-more}
 use Rattle.definition.proofs.Cuts.{Good, sizesOf, leaves-sum}
 use Rattle.definition_laws.proofs.Shape.{leaves-boxes}
-use Rattle.definition_laws.proofs.Overlaps.{level-borrowed}
+use Rattle.definition_laws.proofs.Overlaps.{borrowed-most}
 use Rattle.definition.proofs.Next.{Dealt, next-length}
 use Rattle.definition.proofs.Sizes.{sized}
 use Rattle.definition.proofs.Fairness.{fair}
@@ -54,7 +54,7 @@ module _ (d : ℕ) (cs : List Float) (leaf neighbours : ℕ) (active : List ℕ)
         arith,
         length-joined (map (λ (f : Leaf). f .borrowed) (leavesAt d cs leaf neighbours active)),
         ap total (map-map length (λ (f : Leaf). f .borrowed) (leavesAt d cs leaf neighbours active)),
-        level-borrowed d cs leaf neighbours active (g .axes) (g .leaf-some) good (g .rows-some),
+        borrowed-most d cs leaf neighbours active (g .axes) (g .leaf-some) good (g .rows-some),
       )
 
   pub boxes-all : length (boxesIn (leavesAt d cs leaf neighbours active)) ≡ 2 * d * length (leavesAt d cs leaf neighbours active)

@@ -26,8 +26,8 @@ use Rattle.definition.specs.Overlaps.{nearest}
 use Rattle.definition.proofs.Order.{before-irr, before-trans, before-or}
 use Rattle.definition_laws.proofs.Finite.{rows-known}
 use Rattle.halving.specs.Rows.{GoodRows}
-use Rattle.nearest_scan.specs.Near.{Spot, apart, keyOf, sooner, Found}
-use Rattle.nearest_scan.proofs.Placed.{sortedOf, first-kept, count-sorted, all-sorted, ordered-take, ordered-sorted}
+use Rattle.nearest_scan.specs.Near.{Spot, apart, positionKey, sooner, Found}
+use Rattle.nearest_scan.proofs.Placed.{sortedOf, first-kept, count-sorted, sorted-below, ordered-take, ordered-sorted}
 use Rattle.nearest_scan.proofs.Scans.{Scanned, scan-none, scan-more, scan-full}
 
 or-none : (b c : Bool) → b || (c && false) ≡ b
@@ -45,11 +45,11 @@ module _ (d : ℕ) (cs : List Float) (active : List ℕ) (row : ℕ) (rows : Goo
   -- ---- the order of positions
   pub sooner-irr : (a : ℕ) → bef a a ≡ false
   unfolding sooner
-  sooner-irr a = before-irr (keyOf d cs active row a)
+  sooner-irr a = before-irr (positionKey d cs active row a)
 
   pub sooner-trans : (a b c : ℕ) → bef a b ≡ true → bef b c ≡ true → bef a c ≡ true
   unfolding sooner
-  sooner-trans a b c = before-trans (keyOf d cs active row a) (keyOf d cs active row b) (keyOf d cs active row c)
+  sooner-trans a b c = before-trans (positionKey d cs active row a) (positionKey d cs active row b) (positionKey d cs active row c)
 
   known : (p : ℕ) → p < n → isNan (apart d cs active row p) ≡ false
   known p h =
@@ -60,7 +60,7 @@ module _ (d : ℕ) (cs : List Float) (active : List ℕ) (row : ℕ) (rows : Goo
   pub sooner-or : (p q : ℕ) → p < n → q < n → (p ≡ q → ⊥) → (bef p q ≡ true) ⊎ (bef q p ≡ true)
   unfolding sooner
   sooner-or p q h g e =
-      before-or (keyOf d cs active row p) (keyOf d cs active row q) (known p h) (known q g) (λ s. e (ascends-same active p q (rows .ascends) h g s))
+      before-or (positionKey d cs active row p) (positionKey d cs active row q) (known p h) (known q g) (λ s. e (ascends-same active p q (rows .ascends) h g s))
 
   -- the later of two positions comes first only by its value
   pub sooner-late : (p q : ℕ) → q < p → p < n → bef p q ≡ lt (apart d cs active row p) (apart d cs active row q)
@@ -74,8 +74,8 @@ module _ (d : ℕ) (cs : List Float) (active : List ℕ) (row : ℕ) (rows : Goo
     abbrev Turn : List ℕ → List Float → ℕ → ℕ → Type 0
     Turn = Scanned (apart d cs active row) bef (neighbours + 1) n near₀ far₀
 
-    pub turn-none : Turn near₀ far₀ 0 0
-    turn-none = scan-none (apart d cs active row) bef (neighbours + 1) n sooner-irr sooner-trans sooner-or sooner-late near₀ far₀ room room2
+    pub near-none : Turn near₀ far₀ 0 0
+    near-none = scan-none (apart d cs active row) bef (neighbours + 1) n sooner-irr sooner-trans sooner-or sooner-late near₀ far₀ room room2
 
     module _ (near : List ℕ) (far : List Float) (c t : ℕ) (s : Turn near far c t) (here : t < n) (value : Float) (ev : value ≡ apart d cs active row t)
         (r : ℕ) (spot : Spot far c value r) (near' : List ℕ) (far' : List Float)
@@ -86,35 +86,35 @@ module _ (d : ℕ) (cs : List Float) (active : List ℕ) (row : ℕ) (rows : Goo
       far-at : far' ≡ put far r (apart d cs active row t ∷ part far r (c - r))
       far-at = ef ∙ ap (λ (x : Float). put far r (x ∷ part far r (c - r))) ev
 
-      pub turn-more : c < neighbours + 1 → Turn near' far' (c + 1) (t + 1)
-      turn-more = scan-more (apart d cs active row) bef (neighbours + 1) n sooner-irr sooner-trans sooner-or sooner-late near₀ far₀ room room2 near far c t s here r spot-at near' far' far-at en
+      pub near-more : c < neighbours + 1 → Turn near' far' (c + 1) (t + 1)
+      near-more = scan-more (apart d cs active row) bef (neighbours + 1) n sooner-irr sooner-trans sooner-or sooner-late near₀ far₀ room room2 near far c t s here r spot-at near' far' far-at en
 
-      pub turn-full : neighbours + 1 ≤ c → Turn near' far' c (t + 1)
-      turn-full = scan-full (apart d cs active row) bef (neighbours + 1) n sooner-irr sooner-trans sooner-or sooner-late near₀ far₀ room room2 near far c t s here r spot-at near' far' far-at en
+      pub near-full : neighbours + 1 ≤ c → Turn near' far' c (t + 1)
+      near-full = scan-full (apart d cs active row) bef (neighbours + 1) n sooner-irr sooner-trans sooner-or sooner-late near₀ far₀ room room2 near far c t s here r spot-at near' far' far-at en
 
   -- ---- the definition, by positions
   abbrev fewer : ℕ → ℕ → Bool
   fewer m q = ltb (count (λ p. bef p q) (from 0 n)) m
 
-  keys-are : keyed (rowsSq d cs row) active ≡ map (keyOf d cs active row) (from 0 n)
+  keys-are : keyed (rowsSq d cs row) active ≡ map (positionKey d cs active row) (from 0 n)
   unfolding keyed
   keys-are = map-at (λ i. record { value = rowsSq d cs row i; row = i }) active 0
 
-  rank-is : (q : ℕ) → rank (map (keyOf d cs active row) (from 0 n)) (keyOf d cs active row q) ≡ count (λ p. bef p q) (from 0 n)
+  rank-is : (q : ℕ) → rank (map (positionKey d cs active row) (from 0 n)) (positionKey d cs active row q) ≡ count (λ p. bef p q) (from 0 n)
   unfolding rank sooner
-  rank-is q = count-map (keyOf d cs active row) (λ k. before k (keyOf d cs active row q)) (from 0 n)
+  rank-is q = count-map (positionKey d cs active row) (λ k. before k (positionKey d cs active row q)) (from 0 n)
 
-  pub nearest-is : (neighbours : ℕ) → nearest d cs neighbours active row ≡ map (λ q. getD active q 0) (keep (fewer (suc neighbours)) (from 0 n))
+  pub nearest-positions : (neighbours : ℕ) → nearest d cs neighbours active row ≡ map (λ q. getD active q 0) (keep (fewer (suc neighbours)) (from 0 n))
   unfolding nearest firstRows
-  nearest-is neighbours =
-      let ks = map (keyOf d cs active row) (from 0 n) in
+  nearest-positions neighbours =
+      let ks = map (positionKey d cs active row) (from 0 n) in
       ap (firstRows (suc neighbours)) keys-are
-      ∙ ap (map (λ (k : Key). k .row)) (keep-map (keyOf d cs active row) (λ k. ltb (rank ks k) (suc neighbours)) (from 0 n)
-      ∙ ap (map (keyOf d cs active row)) (keep-same (λ q. ltb (rank ks (keyOf d cs active row q)) (suc neighbours)) (fewer (suc neighbours)) (from 0 n)
+      ∙ ap (map (λ (k : Key). k .row)) (keep-map (positionKey d cs active row) (λ k. ltb (rank ks k) (suc neighbours)) (from 0 n)
+      ∙ ap (map (positionKey d cs active row)) (keep-same (λ q. ltb (rank ks (positionKey d cs active row q)) (suc neighbours)) (fewer (suc neighbours)) (from 0 n)
       (λ q i. ap (λ (c : ℕ). ltb c (suc neighbours)) (rank-is q))))
       ∙ map-map (keep (fewer (suc neighbours)) (from 0 n))
     where
-      map-map : (l : List ℕ) → map (λ (k : Key). k .row) (map (keyOf d cs active row) l) ≡ map (λ q. getD active q 0) l
+      map-map : (l : List ℕ) → map (λ (k : Key). k .row) (map (positionKey d cs active row) l) ≡ map (λ q. getD active q 0) l
       map-map [] = refl
       map-map (x ∷ l) = ap (λ (r : List ℕ). getD active x 0 ∷ r) (map-map l)
 
@@ -139,13 +139,13 @@ module _ (d : ℕ) (cs : List Float) (active : List ℕ) (row : ℕ) (rows : Goo
       let r : take c near ≡ take m l = s .rows ∙ ap (λ (k : ℕ). take m (sortedOf bef k)) e in (
         s .most,
         record {
-          within = rw r (all-take (λ q. q < n) m l (all-sorted bef n));
+          within = rw r (all-take (λ q. q < n) m l (sorted-below bef n));
           ordered = rw r (ordered-take bef m l (ordered-sorted bef sooner-irr sooner-trans n sooner-or n (omega arith)));
           taken = λ p.
               ap (λ (x : List ℕ). count p (map (λ q. getD active q 0) x)) r
               ∙ count-map (λ q. getD active q 0) p (take m l) ∙ first-count (λ q. p (getD active q 0)) m
               ∙ sym (count-map (λ q. getD active q 0) p (keep (fewer m) (from 0 n)))
-              ∙ ap (count p) (ap (λ (k : ℕ). map (λ q. getD active q 0) (keep (fewer k) (from 0 n))) (add-one neighbours) ∙ sym (nearest-is neighbours));
+              ∙ ap (count p) (ap (λ (k : ℕ). map (λ q. getD active q 0) (keep (fewer k) (from 0 n))) (add-one neighbours) ∙ sym (nearest-positions neighbours));
           values = s .vals ∙ ap (λ (k : ℕ). map (apart d cs active row) (take m (sortedOf bef k))) e ∙ sym (ap (map (apart d cs active row)) r);
         },
       )

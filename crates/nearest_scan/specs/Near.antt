@@ -28,12 +28,12 @@ module _ (d : ℕ) (cs : List Float) (active : List ℕ) (row : ℕ) where
   apart q = rowsSq d cs row (getD active q 0)
 
   -- that row, ordered by its distance
-  abbrev pub keyOf : ℕ → Key
-  keyOf q = record { value = apart q; row = getD active q 0 }
+  abbrev pub positionKey : ℕ → Key
+  positionKey q = record { value = apart q; row = getD active q 0 }
 
   -- the row at p comes before the one at q
   unfoldable pub sooner : ℕ → ℕ → Bool
-  sooner p q = before (keyOf p) (keyOf q)
+  sooner p q = before (positionKey p) (positionKey q)
 
   -- positions in order, whose rows are those that the definition takes, each once; with their squared distances
   pub record Found (neighbours : ℕ) (near : List ℕ) (far : List Float) : Type 0 where

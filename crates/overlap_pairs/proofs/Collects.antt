@@ -15,8 +15,8 @@ use Rattle.lists.proofs.Members.{mem-left, mem-right}
 use Rattle.definition.specs.Overlaps.{nearest}
 use Rattle.nearest_scan.specs.Near.{Found}
 use Rattle.nearest_scan.proofs.Takes.{found-taken, taken-found}
-use Rattle.overlap_pairs.specs.Pairs.{code, sentBy, Owners, Room, Taken, Sends, Collected}
-use Rattle.overlap_pairs.proofs.Sends.{sent-length, sent-mem, mem-sent}
+use Rattle.overlap_pairs.specs.Pairs.{code, pairsOf, Owners, PairRoom, Taken, PairCode, Collected}
+use Rattle.overlap_pairs.proofs.Sends.{pairs-length, pairs-mem, mem-pairs}
 
 module _ (d : ℕ) (cs : List Float) (neighbours : ℕ) (active : List ℕ) (up : Ascends active) (old : List ℕ) where
   abbrev a : ℕ
@@ -52,11 +52,11 @@ module _ (d : ℕ) (cs : List Float) (neighbours : ℕ) (active : List ℕ) (up 
   module _ (work : List ℕ) (p n : ℕ) (c : Collected d cs neighbours active old p work n) (here : p < a) (room : n + 2 * (neighbours + 1) ≤ length work)
       (work' : List ℕ) (r : ℕ) (t : Taken d cs neighbours active p work work' n r) where
     xs : List ℕ
-    xs = sentBy (λ i. getD work i 0) p (t .near)
+    xs = pairsOf (λ i. getD work i 0) p (t .near)
 
     short : length xs ≤ 2 * (neighbours + 1)
     unfolding xs
-    short = omega (arith, sent-length (λ i. getD work i 0) p (t .near), t .few)
+    short = omega (arith, pairs-length (λ i. getD work i 0) p (t .near), t .few)
 
     end : r ≡ n + length xs
     unfolding xs
@@ -76,10 +76,10 @@ module _ (d : ℕ) (cs : List Float) (neighbours : ℕ) (active : List ℕ) (up 
     collect-long = let h = short in ap length list ∙ length-put work n xs (omega arith)
 
     -- ---- what is new
-    new-only : (z : ℕ) → List·Memᴰ z xs → Sends d cs neighbours active own (p + 1) z
+    new-only : (z : ℕ) → List·Memᴰ z xs → PairCode d cs neighbours active own (p + 1) z
     unfolding xs
     new-only z i =
-        let s = sent-mem (λ i. getD work i 0) p z (t .near) i in
+        let s = pairs-mem (λ i. getD work i 0) p z (t .near) i in
         let f = found-taken d cs active (getD active p 0) neighbours (t .near) (t .far) (t .found) (s .0) (s .1) in
         let ep = own-at p here in
         let eq = own-at (s .0) (f .0) in
@@ -93,14 +93,14 @@ module _ (d : ℕ) (cs : List Float) (neighbours : ℕ) (active : List ℕ) (up 
           is = ⊎-elim (λ e. inl (e ∙ ap (λ (l : ℕ). code l (s .0)) ep)) (λ e. inr (e ∙ ap (λ (l : ℕ). code l p) eq)) (s .3);
         }
 
-    new-all : (z : ℕ) (s : Sends d cs neighbours active own (p + 1) z) → s .from ≡ p → List·Memᴰ z xs
+    new-all : (z : ℕ) (s : PairCode d cs neighbours active own (p + 1) z) → s .from ≡ p → List·Memᴰ z xs
     unfolding xs
     new-all z s e =
         let k : List·Memᴰ (s .to) (t .near) = taken-found d cs active (getD active p 0) neighbours (t .near) (t .far) (t .found) up (s .to) (s .within)
         (subst (λ (i : ℕ). List·Memᴰ (getD active (s .to) 0) (nearest d cs neighbours active (getD active i 0))) e (s .takes)) in
         let ef : own (s .from) ≡ getD work p 0 = ap own e ∙ sym (own-at p here) in
         let et : own (s .to) ≡ getD work (s .to) 0 = sym (own-at (s .to) (s .within)) in
-        mem-sent (λ i. getD work i 0) p z (t .near) (s .to) k (λ q. s .apart (ef ∙ q ∙ sym et))
+        mem-pairs (λ i. getD work i 0) p z (t .near) (s .to) k (λ q. s .apart (ef ∙ q ∙ sym et))
         (⊎-elim (λ q. inl (q ∙ ap (λ (l : ℕ). code l (s .to)) ef)) (λ q. inr (q ∙ ap (λ (l : ℕ). code l (s .from)) et ∙ ap (λ (j : ℕ). code (getD work (s .to) 0) j) e)) (s .is))
 
     pub collect-more : Collected d cs neighbours active old (p + 1) work' r
@@ -123,12 +123,12 @@ module _ (d : ℕ) (cs : List Float) (neighbours : ℕ) (active : List ℕ) (up 
               (eq-or-lt-of-le (below o)));
         }
       where
-        below : {z : ℕ} (o : Sends d cs neighbours active own (p + 1) z) → o .from ≤ p
+        below : {z : ℕ} (o : PairCode d cs neighbours active own (p + 1) z) → o .from ≤ p
         below o = let b = o .below in omega arith
 
 -- what is found of one row can be sent
 pub row-room : (d : ℕ) (cs : List Float) (neighbours : ℕ) (active : List ℕ) (row p : ℕ) (work : List ℕ) (n : ℕ) (near : List ℕ) (far : List Float)
     → Owners (length active) work → length active ≤ n → n + 2 * (neighbours + 1) ≤ length work → p < length active → length near ≤ neighbours + 1
-    → Found d cs active row neighbours near far → Room near (length active) p work n
+    → Found d cs active row neighbours near far → PairRoom near (length active) p work n
 row-room d cs neighbours active row p work n near far o s r h l f =
     record { owners = o; start = s; fits = omega arith; here = h; within = λ k g. all-at (λ q. q < length active) near k 0 (f .within) g }

@@ -13,7 +13,7 @@ use Rattle.lists.specs.Lists.{joined, put}
 use Rattle.lists.proofs.Put.{put-nil, put-snoc, getD-put-before}
 use Rattle.lists.proofs.Joined.{joined-map-more}
 use Rattle.lists.proofs.Members.{joined-mem, mem-joined, mem-map, map-mem}
-use Rattle.overlap_pairs.specs.Pairs.{code, pairOf, sentBy, Room}
+use Rattle.overlap_pairs.specs.Pairs.{code, pairOf, pairsOf, PairRoom}
 
 module _ (own : ℕ → ℕ) (p : ℕ) where
   pair-apart : (q : ℕ) → (own p ≡ own q → ⊥) → pairOf own p q ≡ code (own p) q ∷ code (own q) p ∷ []
@@ -32,16 +32,16 @@ module _ (own : ℕ → ℕ) (p : ℕ) where
       go true = omega arith
       go false = omega arith
 
-  pub sent-length : (xs : List ℕ) → length (sentBy own p xs) ≤ 2 * length xs
-  unfolding sentBy joined
-  sent-length [] = omega arith
-  sent-length (x ∷ xs) = rw length-append (omega (arith, pair-length x, sent-length xs))
+  pub pairs-length : (xs : List ℕ) → length (pairsOf own p xs) ≤ 2 * length xs
+  unfolding pairsOf joined
+  pairs-length [] = omega arith
+  pairs-length (x ∷ xs) = rw length-append (omega (arith, pair-length x, pairs-length xs))
 
   -- ---- who sends a number
-  pub sent-mem : (z : ℕ) (xs : List ℕ) → List·Memᴰ z (sentBy own p xs)
+  pub pairs-mem : (z : ℕ) (xs : List ℕ) → List·Memᴰ z (pairsOf own p xs)
       → (q : ℕ) × List·Memᴰ q xs × (own p ≡ own q → ⊥) × ((z ≡ code (own p) q) ⊎ (z ≡ code (own q) p))
-  unfolding sentBy pairOf
-  sent-mem z xs i =
+  unfolding pairsOf pairOf
+  pairs-mem z xs i =
       let r = joined-mem (map (pairOf own p) xs) i in
       let u = map-mem (pairOf own p) xs (r .1) in
       let t = go (u .0) (eqb (own p) (own (u .0))) refl (subst (λ (l : List ℕ). List·Memᴰ z l) (u .2) (r .2)) in
@@ -52,28 +52,28 @@ module _ (own : ℕ → ℕ) (p : ℕ) where
       go q true e i = absurd (List·Memᴰ·not-nil i)
       go q false e i = (eqb-false (own p) (own q) e, ⊎-elim inl (λ j. ⊎-elim inr (λ k. absurd (List·Memᴰ·not-nil k)) (List·Memᴰ·cases-cons j)) (List·Memᴰ·cases-cons i))
 
-  pub mem-sent : (z : ℕ) (xs : List ℕ) (q : ℕ) → List·Memᴰ q xs → (own p ≡ own q → ⊥) → (z ≡ code (own p) q) ⊎ (z ≡ code (own q) p) → List·Memᴰ z (sentBy own p xs)
-  unfolding sentBy
-  mem-sent z xs q i n e =
+  pub mem-pairs : (z : ℕ) (xs : List ℕ) (q : ℕ) → List·Memᴰ q xs → (own p ≡ own q → ⊥) → (z ≡ code (own p) q) ⊎ (z ≡ code (own q) p) → List·Memᴰ z (pairsOf own p xs)
+  unfolding pairsOf
+  mem-pairs z xs q i n e =
       mem-joined (map (pairOf own p) xs) (mem-map (pairOf own p) xs i) (rw (pair-apart q n) (⊎-elim (λ a. List·Memᴰ·head a) (λ a. List·Memᴰ·tail (List·Memᴰ·head a)) e))
 
 -- ---- the turns: what the first k of the positions send stands from n to w
 pub record Sent (near : List ℕ) (p : ℕ) (work₀ : List ℕ) (n : ℕ) (work : List ℕ) (w k : ℕ) : Type 0 where
   pub inside : k ≤ length near
-  pub end : w ≡ n + length (sentBy (λ i. getD work₀ i 0) p (take k near))
-  pub most : length (sentBy (λ i. getD work₀ i 0) p (take k near)) ≤ 2 * k
+  pub end : w ≡ n + length (pairsOf (λ i. getD work₀ i 0) p (take k near))
+  pub most : length (pairsOf (λ i. getD work₀ i 0) p (take k near)) ≤ 2 * k
   pub long : length work ≡ length work₀
-  pub list : work ≡ put work₀ n (sentBy (λ i. getD work₀ i 0) p (take k near))
+  pub list : work ≡ put work₀ n (pairsOf (λ i. getD work₀ i 0) p (take k near))
 
-module _ (near : List ℕ) (a p : ℕ) (work₀ : List ℕ) (n : ℕ) (R : Room near a p work₀ n) where
+module _ (near : List ℕ) (a p : ℕ) (work₀ : List ℕ) (n : ℕ) (R : PairRoom near a p work₀ n) where
   abbrev own : ℕ → ℕ
   own i = getD work₀ i 0
 
-  bound : (k : ℕ) → k ≤ length near → length (sentBy own p (take k near)) ≤ 2 * k
-  bound k h = omega (arith, sent-length own p (take k near), length-take-le k near h)
+  bound : (k : ℕ) → k ≤ length near → length (pairsOf own p (take k near)) ≤ 2 * k
+  bound k h = omega (arith, pairs-length own p (take k near), length-take-le k near h)
 
   pub send-none : Sent near p work₀ n work₀ n 0
-  unfolding sentBy joined
+  unfolding pairsOf joined
   send-none = record { inside = omega arith; end = omega arith; most = omega arith; long = refl; list = sym (put-nil work₀ n) }
 
   module _ (work : List ℕ) (w k : ℕ) (s : Sent near p work₀ n work w k) where
@@ -81,7 +81,7 @@ module _ (near : List ℕ) (a p : ℕ) (work₀ : List ℕ) (n : ℕ) (R : Room 
     pub send-stay : (i : ℕ) → i < a → getD work i 0 ≡ getD work₀ i 0
     send-stay i h =
         let b = R .start in let f = R .fits in
-        rw (s .list) (getD-put-before work₀ n (sentBy own p (take k near)) i 0 (omega arith) (omega arith))
+        rw (s .list) (getD-put-before work₀ n (pairsOf own p (take k near)) i 0 (omega arith) (omega arith))
 
     module _ (here : k < length near) where
       abbrev q : ℕ
@@ -96,22 +96,22 @@ module _ (near : List ℕ) (a p : ℕ) (work₀ : List ℕ) (n : ℕ) (R : Room 
           let f = R .fits in let e = s .end in let m = s .most in let l = s .long in
           (R .owners .small p (R .here), rw send-owner (R .owners .small q (R .within k here)), R .within k here, R .owners .few, omega arith)
 
-      more : sentBy own p (take (k + 1) near) ≡ sentBy own p (take k near) ++ pairOf own p q
-      unfolding sentBy
+      more : pairsOf own p (take (k + 1) near) ≡ pairsOf own p (take k near) ++ pairOf own p q
+      unfolding pairsOf
       more = joined-map-more (pairOf own p) near k 0 here
 
       pub send-skip : own p ≡ getD work q 0 → Sent near p work₀ n work w (k + 1)
       send-skip e =
-          let t : sentBy own p (take (k + 1) near) ≡ sentBy own p (take k near) = more ∙ rw (pair-same own p q (e ∙ send-owner), append-nil) in
+          let t : pairsOf own p (take (k + 1) near) ≡ pairsOf own p (take k near) = more ∙ rw (pair-same own p q (e ∙ send-owner), append-nil) in
           record { inside = omega arith; end = rw t (s .end); most = bound (k + 1) (omega arith); long = s .long; list = rw t (s .list) }
 
       pub send-pair : (own p ≡ getD work q 0 → ⊥)
           → Sent near p work₀ n (set (set work w (code (own p) q)) (w + 1) (code (getD work q 0) p)) (w + 2) (k + 1)
       send-pair e =
-          let xs = sentBy own p (take k near) in
+          let xs = pairsOf own p (take k near) in
           let x = code (own p) q in
           let y = code (own q) p in
-          let t : sentBy own p (take (k + 1) near) ≡ (xs ++ x ∷ []) ++ y ∷ [] = more ∙ rw (pair-apart own p q (λ z. e (z ∙ sym send-owner)), append-assoc) in
+          let t : pairsOf own p (take (k + 1) near) ≡ (xs ++ x ∷ []) ++ y ∷ [] = more ∙ rw (pair-apart own p q (λ z. e (z ∙ sym send-owner)), append-assoc) in
           let r = s .most in
           let u = s .end in
           let f = R .fits in
@@ -125,9 +125,9 @@ module _ (near : List ℕ) (a p : ℕ) (work₀ : List ℕ) (n : ℕ) (R : Room 
                 (put-snoc work₀ n (xs ++ x ∷ []) y (w + 1) (simp length-append (omega arith)) (omega arith));
           }
 
-    pub send-end : length near ≤ k → (w ≡ n + length (sentBy own p near)) × (work ≡ put work₀ n (sentBy own p near))
+    pub send-end : length near ≤ k → (w ≡ n + length (pairsOf own p near)) × (work ≡ put work₀ n (pairsOf own p near))
     send-end h =
         let i = s .inside in
         let e : k ≡ length near = omega arith in
         let t : take k near ≡ near = ap (λ (j : ℕ). take j near) e ∙ take-length near in
-        (s .end ∙ ap (λ (l : List ℕ). n + length (sentBy own p l)) t, s .list ∙ ap (λ (l : List ℕ). put work₀ n (sentBy own p l)) t)
+        (s .end ∙ ap (λ (l : List ℕ). n + length (pairsOf own p l)) t, s .list ∙ ap (λ (l : List ℕ). put work₀ n (pairsOf own p l)) t)

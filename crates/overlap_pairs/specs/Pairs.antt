@@ -20,9 +20,9 @@ code leaf q = leaf * 2097152 + q
 unfoldable pub pairOf : (ℕ → ℕ) → ℕ → ℕ → List ℕ
 pairOf own p q = cond (eqb (own p) (own q)) [] (code (own p) q ∷ code (own q) p ∷ [])
 
--- and it takes each of these
-unfoldable pub sentBy : (ℕ → ℕ) → ℕ → List ℕ → List ℕ
-sentBy own p qs = joined (map (pairOf own p) qs)
+-- the row at p takes each of these
+unfoldable pub pairsOf : (ℕ → ℕ) → ℕ → List ℕ → List ℕ
+pairsOf own p qs = joined (map (pairOf own p) qs)
 
 -- the owners of a active rows at the front of the list: each fits a number
 pub record Owners (a : ℕ) (work : List ℕ) : Type 0 where
@@ -31,7 +31,7 @@ pub record Owners (a : ℕ) (work : List ℕ) : Type 0 where
   pub small : (i : ℕ) → i < a → getD work i 0 < 2097152
 
 -- positions within the active rows, and room from n on for what they send
-pub record Room (near : List ℕ) (a p : ℕ) (work : List ℕ) (n : ℕ) : Type 0 where
+pub record PairRoom (near : List ℕ) (a p : ℕ) (work : List ℕ) (n : ℕ) : Type 0 where
   pub owners : Owners a work
   pub start : a ≤ n
   pub fits : n + 2 * length near ≤ length work
@@ -45,11 +45,11 @@ module _ (d : ℕ) (cs : List Float) (neighbours : ℕ) (active : List ℕ) wher
     pub far : List Float
     pub found : Found d cs active (getD active p 0) neighbours near far
     pub few : length near ≤ neighbours + 1
-    pub end : r ≡ n + length (sentBy (λ i. getD old i 0) p near)
-    pub list : new ≡ put old n (sentBy (λ i. getD old i 0) p near)
+    pub end : r ≡ n + length (pairsOf (λ i. getD old i 0) p near)
+    pub list : new ≡ put old n (pairsOf (λ i. getD old i 0) p near)
 
-  -- z is sent by one of the first n positions: `from` takes `to`, and two leaves own them
-  pub record Sends (own : ℕ → ℕ) (n z : ℕ) : Type 0 where
+  -- z is a number of a pair: one of the first n positions, `from`, takes `to`, and two leaves own them
+  pub record PairCode (own : ℕ → ℕ) (n z : ℕ) : Type 0 where
     pub from : ℕ
     pub to : ℕ
     pub below : from < n
@@ -63,5 +63,5 @@ module _ (d : ℕ) (cs : List Float) (neighbours : ℕ) (active : List ℕ) wher
     pub start : length active ≤ r
     pub few : r ≤ length active + n * (2 * (neighbours + 1))
     pub stay : (i : ℕ) → i < length active → getD new i 0 ≡ getD old i 0
-    pub only : (z : ℕ) → List·Memᴰ z (part new (length active) (r - length active)) → Sends (λ i. getD old i 0) n z
-    pub all : (z : ℕ) → Sends (λ i. getD old i 0) n z → List·Memᴰ z (part new (length active) (r - length active))
+    pub only : (z : ℕ) → List·Memᴰ z (part new (length active) (r - length active)) → PairCode (λ i. getD old i 0) n z
+    pub all : (z : ℕ) → PairCode (λ i. getD old i 0) n z → List·Memᴰ z (part new (length active) (r - length active))

@@ -4,7 +4,7 @@ ghost use Prim.Native.Nat.{_+_, _*_, _<_, _≤_};
 ghost use lib.ListN.{length, getD};
 ghost use Rattle.lists.specs.Lists.{put};
 ghost use Rattle.halving.specs.Rows.{GoodRows};
-ghost use Rattle.overlap_pairs.specs.Pairs.{sentBy, Room, Taken, Owners, Collected};
+ghost use Rattle.overlap_pairs.specs.Pairs.{pairsOf, PairRoom, Taken, Owners, Collected};
 
 // A leaf and a position as one number: leaf * POSITIONS + position.
 const POSITIONS: usize = 2097152;
@@ -12,9 +12,9 @@ const POSITIONS: usize = 2097152;
 // The row at position p takes those at the positions `near`. Where two leaves own the two rows, each leaf gets the other's row:
 // their numbers are written from n on. The owners of the a active rows stand at the front of the list.
 fn send(near: &[usize], a: usize, p: usize, work: &mut [usize], n: usize) -> usize
-    requires { ⌜ Room (now near) a p (now work) n ⌝ }
-    ensures { λ r. ⌜ (r ≡ n + length (sentBy (λ i. getD (now (work .entry)) i 0) p (now (near .entry))))
-        × (now (work .exit) ≡ put (now (work .entry)) n (sentBy (λ i. getD (now (work .entry)) i 0) p (now (near .entry)))) ⌝ }
+    requires { ⌜ PairRoom (now near) a p (now work) n ⌝ }
+    ensures { λ r. ⌜ (r ≡ n + length (pairsOf (λ i. getD (now (work .entry)) i 0) p (now (near .entry))))
+        × (now (work .exit) ≡ put (now (work .entry)) n (pairsOf (λ i. getD (now (work .entry)) i 0) p (now (near .entry)))) ⌝ }
 {
     let mine = work[p];
     let mut w = n;

@@ -19,8 +19,8 @@ use Rattle.lists.proofs.Members.{mem-at, mem-index, mem-joined, any-mem, mem-an
 use Rattle.lists.proofs.Ascends.{ascends-keep, ascends-from}
 use Rattle.definition.specs.Overlaps.{nearest, paired, borrowedBy}
 use Rattle.overlap_owners.specs.Own.{Owned}
-use Rattle.overlap_pairs.specs.Pairs.{code, Sends, Collected}
-use Rattle.overlaps.specs.Codes.{codesFrom, Positions, Holds}
+use Rattle.overlap_pairs.specs.Pairs.{code, PairCode, Collected}
+use Rattle.overlaps.specs.Codes.{codesFrom, Positions, Encoded}
 use Rattle.overlaps.specs.Borrowed.{borrowedLists}
 use Rattle.overlaps.proofs.Codes.{codes-mem, mem-codes}
 
@@ -101,7 +101,7 @@ module _ (d : ℕ) (cs : List Float) (neighbours : ℕ) (active : List ℕ) (own
         zero-plus k = omega arith
 
     -- what is sent is borrowed: the taker's leaf borrows the row that it takes, and the other leaf borrows the taker
-    sent-borrowed : (z : ℕ) → Sends d cs neighbours active leaf (length active) z → List·Memᴰ z (codesFrom 0 positionsOf)
+    sent-borrowed : (z : ℕ) → PairCode d cs neighbours active leaf (length active) z → List·Memᴰ z (codesFrom 0 positionsOf)
     unfolding paired
     sent-borrowed z s =
         let p = s .from in
@@ -119,7 +119,7 @@ module _ (d : ℕ) (cs : List Float) (neighbours : ℕ) (active : List ℕ) (own
         (s .is)
 
     -- what is borrowed is sent: of an own row and the borrowed one, either takes the other
-    borrowed-sent : (l q : ℕ) → l < length own → q < length active → borrows (getD own l []) q ≡ true → Sends d cs neighbours active leaf (length active) (code l q)
+    borrowed-sent : (l q : ℕ) → l < length own → q < length active → borrows (getD own l []) q ≡ true → PairCode d cs neighbours active leaf (length active) (code l q)
     unfolding paired
     borrowed-sent l q g h b =
         let rows = getD own l [] in
@@ -151,9 +151,9 @@ module _ (d : ℕ) (cs : List Float) (neighbours : ℕ) (active : List ℕ) (own
         (or-cases (member (row q) takes) (member (row p) taken) (subst (λ (i : ℕ). paired d cs neighbours active i (row q) ≡ true) (sym (o .2)) (r .2)))
 
     -- THE LAW: the numbers collected are those of the positions borrowed
-    pub collected-holds : (work : List ℕ) (r : ℕ) → Collected d cs neighbours active owner (length active) work r
-        → Holds (length own) (length active) (part work (length active) (r - length active)) positionsOf
-    collected-holds work r c =
+    pub collected-encoded : (work : List ℕ) (r : ℕ) → Collected d cs neighbours active owner (length active) work r
+        → Encoded (length own) (length active) (part work (length active) (r - length active)) positionsOf
+    collected-encoded work r c =
         record {
           lists = positions-are;
           more = λ z i. sent-borrowed z (c .only z i);
@@ -162,7 +162,7 @@ module _ (d : ℕ) (cs : List Float) (neighbours : ℕ) (active : List ℕ) (own
               let n = positions-are .number in
               let g : k .0 < length own = omega (arith, k .2) in
               let j = keep-mem (borrows (getD own (k .0) [])) (from 0 (length active)) (rw (position-at (k .0) g) at (k .3)) in
-              c .all z (subst (λ (y : ℕ). Sends d cs neighbours active leaf (length active) y) (sym (k .4 ∙ ap (λ (x : ℕ). code x (k .1)) (zero-plus (k .0))))
+              c .all z (subst (λ (y : ℕ). PairCode d cs neighbours active leaf (length active) y) (sym (k .4 ∙ ap (λ (x : ℕ). code x (k .1)) (zero-plus (k .0))))
               (borrowed-sent (k .0) (k .1) g (omega (arith, from-mem 0 (length active) (j .0))) (j .1)));
         }
       where

@@ -14,7 +14,7 @@ use Rattle.lists.proofs.Members.{mem-left, mem-right, mem-map, map-mem}
 use Rattle.lists.proofs.Map.{map-same}
 use Rattle.lists.proofs.Ascends.{ascends-append, ascends-map}
 use Rattle.overlap_pairs.specs.Pairs.{code}
-use Rattle.overlaps.specs.Codes.{codesFrom, rowsOf}
+use Rattle.overlaps.specs.Codes.{codesFrom, codedRows}
 
 abbrev Small : List (List ℕ) → Type 0
 Small ls = All (λ l. All (λ q. q < 2097152) l) ls
@@ -67,8 +67,8 @@ mem-codes l (ps ∷ ls) (suc i) q h m =
     shifted l i = omega arith
 
 -- ---- rows and lengths
-pub rows-codes : (active : List ℕ) (l : ℕ) (ls : List (List ℕ)) → Small ls → rowsOf active (codesFrom l ls) ≡ joined (map (map (λ q. getD active q 0)) ls)
-unfolding codesFrom rowsOf joined All
+pub rows-codes : (active : List ℕ) (l : ℕ) (ls : List (List ℕ)) → Small ls → codedRows active (codesFrom l ls) ≡ joined (map (map (λ q. getD active q 0)) ls)
+unfolding codesFrom codedRows joined All
 rows-codes active l [] h = refl
 rows-codes active l (ps ∷ ls) h =
     let f : ℕ → ℕ = λ c. getD active (c % 2097152) 0 in

@@ -10,7 +10,7 @@ use Rattle.lists.proofs.All.{all-imp}
 use Rattle.lists.proofs.Members.{mem-at}
 use Rattle.lists.proofs.Same.{Same, same-mem, same-length}
 use Rattle.lists.proofs.Ascends.{ascends-unique}
-use Rattle.overlaps.specs.Codes.{codesFrom, rowsOf, Distinct, Positions, Holds}
+use Rattle.overlaps.specs.Codes.{codesFrom, codedRows, Distinct, Positions, Encoded}
 use Rattle.overlaps.proofs.Codes.{codes-ascend, rows-codes, length-codes}
 
 -- the same numbers in another order
@@ -22,7 +22,7 @@ same-distinct old mid new s d = record {
   short = (let h = d .short in omega (arith, same-length mid old s));
 }
 
-module _ (m n : ℕ) (few : n ≤ 2097152) (codes : List ℕ) (ls : List (List ℕ)) (H : Holds m n codes ls) where
+module _ (m n : ℕ) (few : n ≤ 2097152) (codes : List ℕ) (ls : List (List ℕ)) (H : Encoded m n codes ls) where
   -- positions below n are below 2 ^ 21
   pub small-lists : Positions m 2097152 ls
   small-lists =
@@ -39,8 +39,8 @@ module _ (m n : ℕ) (few : n ≤ 2097152) (codes : List ℕ) (ls : List (List �
         ascends-unique new (codesFrom 0 ls) (d .ascends) (codes-ascend 0 ls (small-lists .below) (small-lists .ascend))
         (λ z i. H .more z (d .less z i)) (λ z i. d .more z (H .less z i))
 
-    pub distinct-rows : (active : List ℕ) → rowsOf active new ≡ joined (map (map (λ q. getD active q 0)) ls)
-    distinct-rows active = ap (rowsOf active) distinct-codes ∙ rows-codes active 0 ls (small-lists .below)
+    pub distinct-rows : (active : List ℕ) → codedRows active new ≡ joined (map (map (λ q. getD active q 0)) ls)
+    distinct-rows active = ap (codedRows active) distinct-codes ∙ rows-codes active 0 ls (small-lists .below)
 
     pub distinct-length : length new ≡ length (joined ls)
     distinct-length = ap length distinct-codes ∙ length-codes 0 ls

@@ -14,10 +14,10 @@ use Rattle.lists.proofs.Same.{same-mem}
 use Rattle.overlap_owners.specs.Own.{readOwn, Owned}
 use Rattle.overlap_owners.proofs.Read.{read-length}
 use Rattle.overlap_pairs.specs.Pairs.{Owners, Collected}
-use Rattle.overlaps.specs.Codes.{Holds}
+use Rattle.overlaps.specs.Codes.{Encoded}
 use Rattle.overlaps.specs.Borrowed.{borrowedLists, withBorrowed, Stage}
 use Rattle.overlaps.proofs.Columns.{columns-map}
-use Rattle.overlaps.proofs.Borrows.{positionsOf, positions-rows, collected-holds}
+use Rattle.overlaps.proofs.Borrows.{positionsOf, positions-rows, collected-encoded}
 
 -- the room, as the stages count it
 pub twice : (a k : ℕ) → 2 * a * (k + 1) ≡ a * (2 * (k + 1))
@@ -58,10 +58,10 @@ module _ (d : ℕ) (cs : List Float) (neighbours : ℕ) (active I D : List ℕ) 
     abbrev positions : List (List ℕ)
     positions = positionsOf d cs neighbours active own
 
-    pub stage-holds : Holds m (length active) codes positions
-    stage-holds =
-        subst (λ (k : ℕ). Holds k (length active) codes positions) (read-length I D first m)
-        (collected-holds d cs neighbours active own (same-mem (joined own) active (S .leaves .shared)) owner O work r c)
+    pub stage-encoded : Encoded m (length active) codes positions
+    stage-encoded =
+        subst (λ (k : ℕ). Encoded k (length active) codes positions) (read-length I D first m)
+        (collected-encoded d cs neighbours active own (same-mem (joined own) active (S .leaves .shared)) owner O work r c)
 
     abbrev lists : List (List ℕ)
     lists = borrowedLists d cs neighbours active own

@@ -12,8 +12,8 @@ codesFrom l [] = []
 codesFrom l (ps ∷ pss) = map (code l) ps ++ codesFrom (suc l) pss
 
 -- the row of each number
-unfoldable pub rowsOf : List ℕ → List ℕ → List ℕ
-rowsOf active codes = map (λ c. getD active (c % 2097152) 0) codes
+unfoldable pub codedRows : List ℕ → List ℕ → List ℕ
+codedRows active codes = map (λ c. getD active (c % 2097152) 0) codes
 
 -- `new` is `old` in order and without its repeats
 pub record Distinct (old new : List ℕ) : Type 0 where
@@ -36,7 +36,7 @@ pub record Positions (m n : ℕ) (ls : List (List ℕ)) : Type 0 where
   pub below : All (λ l. All (λ q. q < n) l) ls
 
 -- the list holds their numbers, in any order and with repeats
-pub record Holds (m n : ℕ) (codes : List ℕ) (ls : List (List ℕ)) : Type 0 where
+pub record Encoded (m n : ℕ) (codes : List ℕ) (ls : List (List ℕ)) : Type 0 where
   pub lists : Positions m n ls
   pub more : (z : ℕ) → List·Memᴰ z codes → List·Memᴰ z (codesFrom 0 ls)
   pub less : (z : ℕ) → List·Memᴰ z (codesFrom 0 ls) → List·Memᴰ z codes

@@ -6,7 +6,7 @@ ghost use lib.ListN.{length, getD, take};
 ghost use Rattle.lists.specs.Lists.{put, joined};
 ghost use Rattle.sort.specs.Heap.{Sorted};
 ghost use Rattle.overlap_owners.specs.Own.{readOwn};
-ghost use Rattle.overlaps.specs.Codes.{codesFrom, rowsOf, Distinct, Reached, Positions, Holds};
+ghost use Rattle.overlaps.specs.Codes.{codesFrom, codedRows, Distinct, Reached, Positions, Encoded};
 ghost use Rattle.overlaps.specs.Borrowed.{borrowedLists, withBorrowed, Stage};
 
 // A leaf and a position as one number: leaf * POSITIONS + position.
@@ -36,7 +36,7 @@ fn drop_repeats(codes: &mut [usize]) -> usize
 // Writes the row of each number, from `bat` on.
 fn write_rows(codes: &[usize], active: &[usize], borrowed: &mut [usize], bat: usize)
     requires { ⌜ (bat + length (now codes) ≤ length (now borrowed)) × ((k : ℕ) → k < length (now codes) → getD (now codes) k 0 % 2097152 < length (now active)) ⌝ }
-    ensures { λ _. ⌜ now (borrowed .exit) ≡ put (now (borrowed .entry)) bat (rowsOf (now (active .entry)) (now (codes .entry))) ⌝ }
+    ensures { λ _. ⌜ now (borrowed .exit) ≡ put (now (borrowed .entry)) bat (codedRows (now (active .entry)) (now (codes .entry))) ⌝ }
 {
     let mut k: usize = 0;
     while k < codes.len() {
@@ -101,10 +101,10 @@ fn lend(
     requires { ⌜ (length (now active) ≤ 2097152) × (m ≤ 2097152) × (4 * (first + m) ≤ length (now domains))
         × (bat + length (now codes) ≤ length (now borrowed))
         × ((z : ℕ) → List·Memᴰ z (now codes) → z % 2097152 < length (now active)) ⌝ }
-    ensures number { λ r. ⌜ ((ls : List (List ℕ)) → Holds m (length (now (active .entry))) (now (codes .entry)) ls → r ≡ length (joined ls)) ⌝ }
-    ensures rows { λ _. ⌜ ((ls : List (List ℕ)) → Holds m (length (now (active .entry))) (now (codes .entry)) ls
+    ensures number { λ r. ⌜ ((ls : List (List ℕ)) → Encoded m (length (now (active .entry))) (now (codes .entry)) ls → r ≡ length (joined ls)) ⌝ }
+    ensures rows { λ _. ⌜ ((ls : List (List ℕ)) → Encoded m (length (now (active .entry))) (now (codes .entry)) ls
         → now (borrowed .exit) ≡ put (now (borrowed .entry)) bat (joined (map (map (λ q. getD (now (active .entry)) q 0)) ls))) ⌝ }
-    ensures columns { λ _. ⌜ ((ls : List (List ℕ)) → Holds m (length (now (active .entry))) (now (codes .entry)) ls
+    ensures columns { λ _. ⌜ ((ls : List (List ℕ)) → Encoded m (length (now (active .entry))) (now (codes .entry)) ls
         → now (domains .exit) ≡ withBorrowed bat ls first (now (domains .entry))) ⌝ }
     ensures most { λ r. ⌜ r ≤ length (now (codes .entry)) ⌝ }
 {

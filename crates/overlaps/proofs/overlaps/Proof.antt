@@ -3,7 +3,7 @@ use Prim.Native.Nat.{_+_, _*_, _≤_}
 use mathlib.Core.Path.{_≡_}
 use lib.ListN.{length}
 use Rattle.lists.specs.Lists.{part}
-use Rattle.overlaps.proofs.Stages.{twice, stage-owners, stage-length, stage-inside, stage-holds, stage-number, stage-borrowed, stage-domains}
+use Rattle.overlaps.proofs.Stages.{twice, stage-owners, stage-length, stage-inside, stage-encoded, stage-number, stage-borrowed, stage-domains}
 use Rattle.overlaps.proofs.Borrows.{positionsOf}
 use Rattle.overlap_owners.specs.Own.{readOwn}
 use native.Mathlib.Omega.{arith}
@@ -102,7 +102,7 @@ returns c =
     let ls = positionsOf (a .dimensions) (a .points .now) (a .neighbours) (a .active .now) (readOwn (a .internals .now) (a .domains .now) (a .first)
     (a .m)) in
     let l = c .before .before .before .before .before .before .lend in
-    let H = stage-holds (a .dimensions) (a .points .now) (a .neighbours) (a .active .now) (a .internals .now) (a .domains .now) (a .first) (a .m) (s
+    let H = stage-encoded (a .dimensions) (a .points .now) (a .neighbours) (a .active .now) (a .internals .now) (a .domains .now) (a .first) (a .m) (s
     .pre .0) W (f .ensures) h U (g .result) (g .ensures) r in (
       stage-number (a .dimensions) (a .points .now) (a .neighbours) (a .active .now) (a .internals .now) (a .domains .now) (a .first) (a .m) (s .pre
           .0) W (f .ensures) h U (g .result) (g .ensures) r (l .result) (l .ensures .0 ls H),

@@ -5,19 +5,19 @@ use mathlib.Core.Path.{_≡_}
 use Prim.Native.Nat.{_-_, _≤_}
 use lib.ListN.{length, take}
 use Rattle.lists.specs.Lists.{put}
-use Rattle.overlaps.specs.Codes.{rowsOf}
-use Rattle.overlaps.proofs.Rows.{rows-none, rows-more, rows-end}
+use Rattle.overlaps.specs.Codes.{codedRows}
+use Rattle.overlaps.proofs.Rows.{coded-none, coded-more, coded-end}
 use Rattle.overlaps.proofs.write_rows.Statement.{statement}
 use Rattle.overlaps.proofs.write_rows.Tie as tie
 
 abbrev Inv-loop : tie.InvT-loop
-Inv-loop codes active borrowed₀ bat k₀ borrowed k = (k ≤ length codes) × (length borrowed ≡ length borrowed₀) × (borrowed ≡ put borrowed₀ bat (rowsOf active (take k codes)))
+Inv-loop codes active borrowed₀ bat k₀ borrowed k = (k ≤ length codes) × (length borrowed ≡ length borrowed₀) × (borrowed ≡ put borrowed₀ bat (codedRows active (take k codes)))
 
 abbrev μ-loop : tie.MeasureT-loop
 μ-loop codes active borrowed₀ bat k₀ borrowed k = length codes - k
 
 loop-holds : tie.Need-loop-holds Inv-loop μ-loop
-loop-holds c = let a = c .args in (omega arith, omega arith, rows-none (a .codes .now) (a .active .now) (a .borrowed .now) (a .bat) (c .pre .0))
+loop-holds c = let a = c .args in (omega arith, omega arith, coded-none (a .codes .now) (a .active .now) (a .borrowed .now) (a .bat) (c .pre .0))
 
 mul-borrowed : tie.Need-mul-borrowed Inv-loop μ-loop
 mul-borrowed c = omega arith
@@ -51,7 +51,7 @@ loop-again c =
     let s = c .before .before .before .before in (
       omega arith,
       search needs,
-      rows-more (s .args .codes .now) (s .args .active .now) (s .args .borrowed .now) (s .args .bat) (s .pre .0) (c .before
+      coded-more (s .args .codes .now) (s .args .active .now) (s .args .borrowed .now) (s .args .bat) (s .pre .0) (c .before
           .before .before .loop .borrowed) (c .before .before .before .loop .k) (c .before .before .loop-test .taken) (c .before .before .before .loop .inv
           .2),
     )
@@ -62,7 +62,7 @@ same-length c = c .before .loop .inv .1
 returns : tie.Need-returns Inv-loop μ-loop
 returns c =
     let s = c .before .before in
-    rows-end (s .args .codes .now) (s .args .active .now) (s .args .borrowed .now) (s .args .bat) (s .pre .0) (c .before .loop .borrowed) (c .before
+    coded-end (s .args .codes .now) (s .args .active .now) (s .args .borrowed .now) (s .args .bat) (s .pre .0) (c .before .loop .borrowed) (c .before
     .loop .k) (c .before .loop .inv .0) (c .loop-test .left) (c .before .loop .inv .2)
 
 pub write-rows-spec : {M : Type 1} → statement M
