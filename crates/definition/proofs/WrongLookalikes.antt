@@ -12,7 +12,7 @@ use Rattle.definition.specs.Quotas.{quotas}
 use Rattle.definition.specs.Sampling.{seedOf}
 use Rattle.definition.specs.Overlaps.{nearest}
 use Rattle.definition.specs.Tree.{Settings, Level, levels, levelsFrom}
-use Rattle.definition.specs.Outcome.{rootAnswer, sampleOutput}
+use Rattle.definition.specs.Outcome.{rootAnswer, quotaAnswer, sampleOutput}
 use Rattle.definition.proofs.WorkedSamples.{opened, line, onLine}
 
 -- the rows of each leaf of a level, the box of each, and the rows of each level
@@ -77,6 +77,8 @@ pub record Lookalikes : Type 0 where
   seededByRoot : seedOf 2 (line (0 ∷ 4 ∷ 1 ∷ 5 ∷ 4 ∷ 1 ∷ [])) (from 0 3) ≡ 0
   -- the seed is the row nearest the centroid, 2.75, and not the first row
   seedInside : seedOf 1 (line (0 ∷ 1 ∷ 3 ∷ 7 ∷ [])) (from 0 4) ≡ 2
+  -- the centroid's sum runs in row order, each step rounded, and comes to -1 here: backwards it would be 1, and the seed row 1
+  seedByRowOrder : seedOf 1 (floats (0x4340000000000000 ∷ 0x3ff0000000000000 ∷ 0xbff0000000000000 ∷ 0xc340000000000000 ∷ [])) (from 0 4) ≡ 2
   -- neighbours go by the squares: by roots row 1 would be taken
   nearestBySquare : nearest 2 sameRootTurned 1 (from 0 3) 0 ≡ 0 ∷ 2 ∷ []
   -- equal distances: the lower rows are taken
@@ -91,8 +93,11 @@ pub record Lookalikes : Type 0 where
   remainingShared : quotas (4 ∷ 2 ∷ []) 4 ≡ 3 ∷ 1 ∷ []
   -- equal remainders: the seat goes to the lower leaf
   lowerLeaf : quotas (2 ∷ 2 ∷ 2 ∷ []) 4 ≡ 2 ∷ 1 ∷ 1 ∷ []
-  -- S is held to the total: 7 more seats would be shared
+  -- S is held to the total: 5 seats more would be shared, and 9 reported
   heldToTotal : quotas (2 ∷ 2 ∷ []) 9 ≡ 2 ∷ 2 ∷ []
+  heldReported :
+      quotaAnswer (2 ∷ 2 ∷ []) 9 (replicate 2 9) (replicate 2 9)
+      ≡ record { number = 0; place = 0; value = record { leaves = 2; seats = 4 } }
   -- the least m with m^r at least c a^(r - 1): rounded to the nearest, the root of 30 would give 5
   sizeNotNearest : levelSize 10 3 2 ≡ 6
   -- Auto is held to 4,096: the ceiling would be 4,097
@@ -121,6 +126,7 @@ lookalikes =
       sampledByRoot = refl;
       seededByRoot = refl;
       seedInside = refl;
+      seedByRowOrder = refl;
       nearestBySquare = refl;
       lowerRow = refl;
       duplicatesCount = refl;
@@ -129,6 +135,7 @@ lookalikes =
       remainingShared = refl;
       lowerLeaf = refl;
       heldToTotal = refl;
+      heldReported = refl;
       sizeNotNearest = refl;
       autoHeld = refl;
       reductionsReach = refl;
