@@ -9,8 +9,7 @@ use Rattle.lists.specs.Lists.{from}
 use Rattle.definition.specs.Levels.{auto, threshold}
 use Rattle.definition.specs.Packed.{Counts}
 use Rattle.definition.specs.Outcome.{Answer, Shared, rootAnswer, sizeAnswer, quotaAnswer, quotaOutput, sampleAnswer, sampleOutput, buildAnswer, buildLists}
-use Rattle.definition.specs.Printout.{ascii, printout}
-use Rattle.definition.proofs.WorkedSamples.{opened, line, onLine, nines, floatRoom, wholeRoom, fourPoints}
+use Rattle.definition.proofs.WorkedSamples.{opened, line, onLine, nines, floatRoom, wholeRoom}
 
 -- an accepted call that reports x
 abbrev reports : {A : Type 0} → A → Answer A
@@ -25,11 +24,7 @@ abbrev shared : ℕ → ℕ → Answer Shared
 shared leaves seats = reports (record { leaves = leaves; seats = seats })
 
 pub record Examples : Type 0 where
-  -- the four-point job, byte for byte
-  printed :
-      printout fourPoints
-      ≡ ascii "levels 2\nlevel 0 points 0 1 2 3\ndomain 0 internal 0 overlap 1 box 0000000000000000 3ff0000000000000\ndomain 1 internal 1 overlap 0 2 box 3ff0000000000000 4008000000000000\ndomain 2 internal 2 overlap 1 3 box 4008000000000000 401c000000000000\ndomain 3 internal 3 overlap 2 box 401c000000000000 401c000000000000\nlevel 1 points 0 1\ndomain 0 internal 0 1 overlap - box -\n"
-  -- the same tree in lists that held nines: packed, and what stands past it stays
+  -- the tree of the points 0, 1, 3, 7 in lists that held nines: packed, and what stands past it stays
   packed :
       buildLists (onLine 2 2) (line (0 ∷ 1 ∷ 3 ∷ 7 ∷ [])) (nines 4) (floatRoom 4) (wholeRoom 4)
       ≡ record {
@@ -99,7 +94,6 @@ pub examples : Examples
 unfolding opened
 examples =
     record {
-      printed = refl;
       packed = refl;
       counted = refl;
       auto1 = refl;

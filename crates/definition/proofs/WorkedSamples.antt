@@ -1,6 +1,6 @@
 -- Inputs of the tables of examples, and the one name that opens every definition for computing. Assumes nothing.
-use Prim.Native.Nat.{ℕ, zero, suc, _%_, _/_}
-use mathlib.Core.List.{List, [], _∷_, _++_, map, zipWith}
+use Prim.Native.Nat.{ℕ}
+use mathlib.Core.List.{List, map, zipWith}
 use lib.IntN.{pos}
 use lib.ListN.{replicate}
 use lib.Ieee.{Float, binary64, ofInt, ofBits, toBits, round, size, add, sub, mul, div, lt, eq, isNan}
@@ -16,11 +16,9 @@ use Rattle.definition.specs.Outcome.{numberOf, placeOf, valueOf, written
 use Rattle.definition.specs.Overlaps.{nearest, paired, borrowedBy}
 use Rattle.definition.specs.Packed.{leavesIn, packedPoints, packedOwn, packedBorrowed, packedBoxes, stretches, packedDomains, perLevel, countsOf, buildStated, sampleStated, quotaStated}
 use Rattle.definition.specs.Points.{distanceSq, distance, rowsSq, rowsApart, leastOf, greatestOf, extents, extent}
-use Rattle.definition.specs.Printout.{ascii, decimalOnto, decimal, hexOnto, rowsText, boxText, domainLine, fineLines, coarseLines, levelLine, levelsText, treeText, refusalText, builtText, jobText, printout}
 use Rattle.definition.specs.Quotas.{leavesBefore, seatsOf, quotasFor, quotas}
 use Rattle.definition.specs.Refusals.{verdict, firstBad, buildShort, sampleShort, quotaShort, buildTests, buildVerdict, sampleVerdict, sizeVerdict, quotaVerdict, stretchVerdict, rootVerdict}
 use Rattle.definition.specs.Sampling.{gap, pick, sampleMore, sample, sumFrom, centroid, fromCentroid, seedOf, sentBy}
-use Rattle.definition.specs.Stream.{little, coordinatesAt, policyFits, settingsIn, readPoints, held, jobIn}
 use Rattle.definition.specs.Tree.{coarseLevel, fineLevel, sentLists, nextActive, levelsFrom, levelsOver, levels}
 
 -- whole numbers as points on a line
@@ -50,18 +48,7 @@ floatRoom n = line (replicate ((buildStated 1 n 1) .floats) 9)
 unfoldable pub wholeRoom : ℕ → List ℕ
 wholeRoom n = replicate ((buildStated 1 n 1) .wholes) 9
 
--- k bytes of n, the lowest first
-unfoldable pub bytes : ℕ → ℕ → List ℕ
-bytes zero n = []
-bytes (suc k) n = n % 256 ∷ bytes k (n / 256)
-
--- the job stream of the points 0, 1, 3, 7 with leaf 2, neighbours 1, factor 2 and Fixed 2
-unfoldable pub fourPoints : List ℕ
-fourPoints =
-    0x53 ∷ 0x54 ∷ 1 ∷ [] ++ bytes 4 2 ++ bytes 4 1 ++ bytes 4 2 ++ 1 ∷ [] ++ bytes 4 2
-    ++ joined (map (λ x. 0x50 ∷ 0x54 ∷ bytes 8 (toBits binary64 x)) (line (0 ∷ 1 ∷ 3 ∷ 7 ∷ [])))
-
 -- To unfold this is to unfold every definition that its line names.
 unfoldable pub opened : ℕ
-unfolding ofInt ofBits toBits round size add sub mul div lt eq isNan zipWith keep count anyOf member best leastFrom total from joined part put rootDomain longestAxis cutKeys planeOf plane leftOf rightOf queueLeaves leavesOf keyed before rank firstRows otherRows keyAt nearestRow farthestRow threshold reductions exactSize levelSize wholeRoot halves rootOfUnits squareRoot numberOf placeOf valueOf written listAfter rootAnswer sizeAnswer quotaAnswer quotaOutput sampleAnswer sampleOutput buildAnswer treeListsAfter buildLists askedVerdict rowTest rowsAsked nearest paired borrowedBy leavesIn packedPoints packedOwn packedBorrowed packedBoxes stretches packedDomains perLevel countsOf buildStated sampleStated quotaStated distanceSq distance rowsSq rowsApart leastOf greatestOf extents extent ascii decimalOnto decimal hexOnto rowsText boxText domainLine fineLines coarseLines levelLine levelsText treeText refusalText builtText jobText printout leavesBefore seatsOf quotasFor quotas verdict firstBad buildShort sampleShort quotaShort buildTests buildVerdict sampleVerdict sizeVerdict quotaVerdict stretchVerdict rootVerdict gap pick sampleMore sample sumFrom centroid fromCentroid seedOf sentBy little coordinatesAt policyFits settingsIn readPoints held jobIn coarseLevel fineLevel sentLists nextActive levelsFrom levelsOver levels line onLine nines floatRoom wholeRoom bytes fourPoints
+unfolding ofInt ofBits toBits round size add sub mul div lt eq isNan zipWith keep count anyOf member best leastFrom total from joined part put rootDomain longestAxis cutKeys planeOf plane leftOf rightOf queueLeaves leavesOf keyed before rank firstRows otherRows keyAt nearestRow farthestRow threshold reductions exactSize levelSize wholeRoot halves rootOfUnits squareRoot numberOf placeOf valueOf written listAfter rootAnswer sizeAnswer quotaAnswer quotaOutput sampleAnswer sampleOutput buildAnswer treeListsAfter buildLists askedVerdict rowTest rowsAsked nearest paired borrowedBy leavesIn packedPoints packedOwn packedBorrowed packedBoxes stretches packedDomains perLevel countsOf buildStated sampleStated quotaStated distanceSq distance rowsSq rowsApart leastOf greatestOf extents extent leavesBefore seatsOf quotasFor quotas verdict firstBad buildShort sampleShort quotaShort buildTests buildVerdict sampleVerdict sizeVerdict quotaVerdict stretchVerdict rootVerdict gap pick sampleMore sample sumFrom centroid fromCentroid seedOf sentBy coarseLevel fineLevel sentLists nextActive levelsFrom levelsOver levels line onLine nines floatRoom wholeRoom
 opened = 0

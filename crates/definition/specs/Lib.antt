@@ -11,8 +11,6 @@ pub mod Tree
 pub mod Packed
 pub mod Refusals
 pub mod Outcome
-pub mod Stream
-pub mod Printout
 -- What the laws of level sizes and quotas say.
 pub mod Fair
 pub mod LevelLaws

@@ -7,7 +7,7 @@ use native.Mathlib.Omega.{arith}
 use mathlib.Core.List.{List, [], _∷_, _++_, append-assoc}
 use borrow.Author.Tests.{lt-ltb, le-ltb}
 use lib.Ieee.{Float, toBits, binary64}
-use Rattle.definition.specs.Printout.{digitOf, decimal, decimalOnto, hexOnto}
+use Rattle.formats.specs.Printout.{digitOf, decimal, decimalOnto, hexOnto}
 
 pub digit-low : (n : ℕ) → n < 10 → digitOf n ≡ 48 + n
 digit-low n h = rw (lt-ltb n 10 h)

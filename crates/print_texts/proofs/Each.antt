@@ -8,7 +8,7 @@ use lib.Seq.{take-all}
 use lib.Ieee.{Float, toBits, binary64}
 use Rattle.lists.specs.Lists.{joined}
 use Rattle.lists.proofs.Joined.{joined-append, joined-map-more}
-use Rattle.definition.specs.Printout.{rowsText, boxText, decimal, hexOnto, ascii}
+use Rattle.formats.specs.Printout.{rowsText, boxText, decimal, hexOnto, ascii}
 use Rattle.print_texts.specs.Wrote.{Wrote, Room}
 use Rattle.print_texts.proofs.Texts.{spelt, room-spelt, room-first, room-next, wrote-then}
 
@@ -49,10 +49,10 @@ pub bounds-text : (b : List Float) → boxText b ≡ joined (map boundText b)
 unfolding boxText
 bounds-text b = refl
 
-pub rows-none : (xs : List ℕ) → length xs ≡ 0 → rowsText xs ≡ 32 ∷ 45 ∷ []
+pub rows-dash : (xs : List ℕ) → length xs ≡ 0 → rowsText xs ≡ 32 ∷ 45 ∷ []
 unfolding rowsText ascii
-rows-none [] e = refl
-rows-none (x ∷ xs) e = absurd (omega arith)
+rows-dash [] e = refl
+rows-dash (x ∷ xs) e = absurd (omega arith)
 
 pub rows-some : (xs : List ℕ) → (length xs ≡ 0 → ⊥) → rowsText xs ≡ joined (map rowText xs)
 unfolding rowsText

@@ -1,6 +1,5 @@
 -- Laws on texts that are written one after the other, and on the texts themselves.
 pub mod Texts
 pub mod Digits
-pub mod Nan
 pub mod Each
 pub mod Writing

@@ -8,7 +8,7 @@ use native.Mathlib.Numerals.{add-one}
 use lib.Seq.{take-suc, take-length}
 use Rattle.lists.proofs.Joined.{joined-append, joined-snoc}
 use Rattle.lists.specs.Lists.{joined}
-use Rattle.definition.specs.Printout.{ascii, decimal, refusalText}
+use Rattle.formats.specs.Printout.{ascii, decimal, refusalText}
 use Rattle.print_texts.specs.Wrote.{Wrote, Room, refusalOf}
 use Rattle.print_texts.proofs.Texts.{spelt, room-spelt, room-first, room-next, wrote-then, wrote-none}
 

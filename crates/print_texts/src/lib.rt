@@ -3,7 +3,7 @@ ghost use mathlib.Core.Path.{_≡_};
 ghost use mathlib.Core.List.{[], _∷_, _++_};
 ghost use Prim.Native.Nat.{_<_};
 ghost use lib.Ieee.{toBits, binary64};
-ghost use Rattle.definition.specs.Printout.{digitOf, decimal, hexOnto, rowsText, boxText, refusalText};
+ghost use Rattle.formats.specs.Printout.{digitOf, decimal, hexOnto, rowsText, boxText, refusalText};
 ghost use Rattle.print_texts.specs.Wrote.{Wrote, Room, refusalOf};
 
 // One byte.
@@ -62,17 +62,6 @@ fn write_hex(k: usize, n: u64, out: &mut [u8], at: usize) -> usize
     write_byte(low, out, next)
 }
 
-// The bits of a float; not-a-number has one pattern here.
-fn bits_of(x: f64) -> u64
-    ensures { λ r. ⌜ r ≡ toBits binary64 x ⌝ }
-{
-    if x == x {
-        f64::to_bits(x)
-    } else {
-        0x7ff8_0000_0000_0000
-    }
-}
-
 // A space and the number.
 fn write_row(n: usize, out: &mut [u8], at: usize) -> usize
     requires { ⌜ Room (now out) at (32 ∷ decimal n) ⌝ }
@@ -105,7 +94,7 @@ fn write_bound(x: f64, out: &mut [u8], at: usize) -> usize
     ensures { λ r. ⌜ Wrote (now (out .entry)) at (32 ∷ hexOnto 16 (toBits binary64 x) []) r (now (out .exit)) ⌝ }
 {
     let next = write_byte(32, out, at);
-    write_hex(16, bits_of(x), out, next)
+    write_hex(16, bytes_out::bits_of(x), out, next)
 }
 
 // The same for each bound.

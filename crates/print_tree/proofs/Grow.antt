@@ -9,7 +9,7 @@ use mathlib.Core.List.{List, [], _∷_, _++_, append-assoc, append-nil, map}
 use lib.ListN.{length, length-append, length-map}
 use Rattle.lists.specs.Lists.{from}
 use Rattle.definition.specs.Tree.{Leaf}
-use Rattle.definition.specs.Printout.{domainLine, boxText, fineLines}
+use Rattle.formats.specs.Printout.{domainLine, boxText, fineLines}
 use Rattle.lists.proofs.From.{from-suc, length-from}
 use Rattle.lists.proofs.Map.{map-snoc}
 use Rattle.print_texts.specs.Wrote.{Wrote, Room}

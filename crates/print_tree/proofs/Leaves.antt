@@ -4,7 +4,7 @@ use mathlib.Core.Bool.{Bool}
 use Prim.Native.Nat.{ℕ, _+_, _-_, _*_}
 use lib.ListN.{getD, take, drop}
 use Rattle.lists.proofs.Put.{part-lent}
-use Rattle.definition.specs.Printout.{domainLine}
+use Rattle.formats.specs.Printout.{domainLine}
 use Rattle.print_tree.specs.Unpack.{Packed, leafOf, leafAt, leafLine, boxPart}
 
 module _ (fine : Bool) (i : ℕ) (p : Packed) (j : ℕ) where

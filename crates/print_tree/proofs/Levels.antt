@@ -8,7 +8,7 @@ use mathlib.Core.List.{List, [], _∷_, _++_, append-assoc, append-nil, map}
 use lib.ListN.{length, getD, take, drop, length-map}
 use Rattle.lists.specs.Lists.{from, total, joined}
 use Rattle.definition.specs.Tree.{Level}
-use Rattle.definition.specs.Printout.{levelLine, fineLines, coarseLines, levelsText}
+use Rattle.formats.specs.Printout.{levelLine, fineLines, coarseLines, levelsText}
 use Rattle.print_tree.specs.Unpack.{Packed, Holds, Stands, leavesAt, leafLine, boxPart, pointsLine, levelAt, levelsAt, fineLevelText, coarseLevelText}
 use Rattle.lists.proofs.Sums.{total-below}
 use Rattle.lists.proofs.From.{from-suc, length-from}

@@ -7,7 +7,7 @@ use lib.Ieee.{Float}
 use lib.ListN.{length}
 use Rattle.lists.specs.Lists.{joined}
 use Rattle.definition.specs.Tree.{Leaf, Level}
-use Rattle.definition.specs.Printout.{ascii, decimal, rowsText, boxText, domainLine, levelLine, levelsText, treeText}
+use Rattle.formats.specs.Printout.{ascii, decimal, rowsText, boxText, domainLine, levelLine, levelsText, treeText}
 use Rattle.print_tree.specs.Unpack.{boxPart, pointsLine}
 
 abbrev pub domainTexts : ℕ → Leaf → List ℕ → List (List ℕ)

@@ -7,7 +7,7 @@ use lib.Ieee.{Float}
 use mathlib.Core.Path.{_≡_}
 use Rattle.lists.specs.Lists.{from, part, total}
 use Rattle.definition.specs.Tree.{Leaf, Level}
-use Rattle.definition.specs.Printout.{ascii, boxText, levelLine, domainLine, fineLines}
+use Rattle.formats.specs.Printout.{ascii, boxText, levelLine, domainLine, fineLines}
 
 abbrev pub leafOf : List ℕ → List ℕ → List Float → Leaf
 leafOf own borrowed box = record { own = own; borrowed = borrowed; box = box }

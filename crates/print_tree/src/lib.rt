@@ -1,7 +1,7 @@
 // The printout of a tree, line by line, from the packed lists: each part is appended to a lent list of bytes at a position, and
 // the answer is the next position.
 ghost use Prim.Native.Nat.{ℕ, _+_, _<_};
-ghost use Rattle.definition.specs.Printout.{domainLine, fineLines, levelsText, treeText};
+ghost use Rattle.formats.specs.Printout.{domainLine, fineLines, levelsText, treeText};
 ghost use Rattle.print_texts.specs.Wrote.{Wrote, Room};
 ghost use Rattle.print_tree.specs.Unpack.{leafOf, boxPart, pointsLine, packed, Holds, leafLine, leavesAt, fineLevelText, coarseLevelText, Stands, levelsAt};
 

@@ -16,11 +16,11 @@ use Rattle.definition.specs.Tree as tree
 use Rattle.definition.specs.Packed.{Counts, BuildSizes, buildStated, rowFloats, countsOf, packedPoints, packedOwn, packedBorrowed, packedBoxes, packedDomains}
 use Rattle.definition.specs.Refusals.{Verdict, accepted, refused, verdict, buildShort, buildVerdict}
 use Rattle.definition.specs.Outcome.{Answer, numberOf, placeOf, valueOf, written, listAfter, TreeLists, lentSizes, buildCall, buildAnswer, treeListsAfter, buildLists}
-use Rattle.definition.specs.Stream.{job, streamPoints, jobIn}
-use Rattle.definition.specs.Printout.{treeText, refusalText, builtText, jobText, printout}
+use Rattle.formats.specs.Stream.{job, streamPoints, jobIn}
+use Rattle.formats.specs.Printout.{treeText, refusalText, builtText, jobText, printout}
 use Rattle.definition_laws.proofs.Accepted.{LentEnough, build-zero}
-use Rattle.stream_laws.specs.Sizes.{Kept, KeptBy, mostBytes}
-use Rattle.stream_laws.proofs.Stream.{job-kept}
+use Rattle.stream_laws.specs.Sizes.{JobLimits, WithinLimits, mostBytes}
+use Rattle.stream_laws.proofs.Stream.{job-limits}
 use Rattle.stream_laws.proofs.Long.{job-long, refusal-long, printout-long}
 use Rattle.stream_laws.proofs.Shape.{tree-shaped}
 use Rattle.print_texts.specs.Wrote.{Wrote, Room, refusalOf}
@@ -94,12 +94,12 @@ module _ (s : tree.Settings) (cs : List Float) (old : TreeLists) (floats : List 
   stated = buildStated (s .dimension) (tree.pointCount (s .dimension) cs) (s .neighbours)
 
   -- its verdict is that of a build in lists of the stated sizes
-  module _ (kept : Kept s cs) (rooms : Roomy (lentSizes old floats wholes)) where
+  module _ (limits : JobLimits s cs) (rooms : Roomy (lentSizes old floats wholes)) where
     pub as-printed : call ≡ buildVerdict s cs stated
     unfolding buildVerdict
     as-printed =
-        let few : tree.pointCount (s .dimension) cs ≤ streamPoints = div-le-of-le-mul (s .dimension) (rw mul-comm at (kept .points-few)) in
-        let a = none-short (lentSizes old floats wholes) stated (roomy (s .dimension) _ (s .neighbours) _ (kept .axes-few) few (kept .neighbours-few) rooms) in
+        let few : tree.pointCount (s .dimension) cs ≤ streamPoints = div-le-of-le-mul (s .dimension) (rw mul-comm at (limits .points-few)) in
+        let a = none-short (lentSizes old floats wholes) stated (roomy (s .dimension) _ (s .neighbours) _ (limits .axes-few) few (limits .neighbours-few) rooms) in
         rw (a, none-short stated stated (as-stated stated))
 
     -- by its answer
@@ -193,7 +193,7 @@ pub same-lists : (l : TreeLists) {p i d b : List ℕ} {x : List Float} → p ≡
 same-lists l ep ei ed ex eb = rw (ep, ei, ed, ex, eb)
 
 -- ---- room for the texts
-pub room-for : (s : tree.Settings) (cs : List Float) (out : List ℕ) → Kept s cs → mostBytes ≤ length out → Room out 0 (jobText (job s cs))
+pub room-for : (s : tree.Settings) (cs : List Float) (out : List ℕ) → JobLimits s cs → mostBytes ≤ length out → Room out 0 (jobText (job s cs))
 room-for s cs out h g = record { fits = omega (arith, job-long (job s cs) h) }
 
 pub refusal-room : (number place : ℕ) (out : List ℕ) → mostBytes ≤ length out → Room out 0 (refusalText (refusalOf number place))
@@ -213,16 +213,16 @@ module _ (r : Read) (cs : List Float) (bs : List ℕ) (h : jobOf r cs ≡ jobIn 
     pub whole-here : jobText (job (settingsAre s) (take (n * s .dimensions) cs)) ≡ printout bs
     whole-here = ap (λ (x : Read). jobText (jobOf x cs)) (sym e) ∙ printed-is
 
-    pub kept-here : Kept (settingsAre s) (take (n * s .dimensions) cs)
-    kept-here = go r e (rw (← h) at (job-kept bs))
+    pub limits-here : JobLimits (settingsAre s) (take (n * s .dimensions) cs)
+    limits-here = go r e (rw (← h) at (job-limits bs))
       where
-        go : (x : Read) → x ≡ Whole s n → KeptBy (jobOf x cs) → Kept (settingsAre s) (take (n * s .dimensions) cs)
+        go : (x : Read) → x ≡ Whole s n → WithinLimits (jobOf x cs) → JobLimits (settingsAre s) (take (n * s .dimensions) cs)
         go x f k = rw f at k
 
     pub floats-here : Within r → n * s .dimensions ≤ 96
     floats-here w =
         let k : n ≤ streamPoints = rw e at w in
-        mul-le-mul {n₁ = n} {m₁ = s .dimensions} {n₂ = 32} {m₂ = 3} k (kept-here .axes-few)
+        mul-le-mul {n₁ = n} {m₁ = s .dimensions} {n₂ = 32} {m₂ = 3} k (limits-here .axes-few)
 
 -- ---- the outcome of the whole call
 module _ (input output : List ℕ) where

@@ -5,7 +5,7 @@ use lib.ListN.{length}
 use lib.Dec.{ltb}
 use Rattle.definition.specs.Refusals.{Verdict, on, verdict}
 use Rattle.definition.specs.Outcome.{Answer, answered, listAfter}
-use Rattle.definition.specs.Printout as text
+use Rattle.formats.specs.Printout as text
 use Rattle.stream_laws.specs.Sizes.{mostBytes}
 use Rattle.printout.specs.declared.Printed.{Printed}
 
@@ -21,5 +21,5 @@ unfoldable pub printOutput : List ℕ → List ℕ → List ℕ
 printOutput input output = listAfter (printCall output) (text.printout input) output
 
 -- an answer's number, place and count
-abbrev pub answerOf : Printed → Answer ℕ
-answerOf p = record { number = p .number; place = p .place; value = p .count }
+abbrev pub printedAnswer : Printed → Answer ℕ
+printedAnswer p = record { number = p .number; place = p .place; value = p .count }

@@ -4,12 +4,12 @@ use stream_reader::Settings;
 ghost use mathlib.Core.Path.{_≡_};
 ghost use Prim.Native.Nat.{_≤_};
 ghost use lib.ListN.{length};
-ghost use Rattle.definition.specs.Stream.{job};
-ghost use Rattle.definition.specs.Printout.{jobText, printout as printed};
-ghost use Rattle.stream_laws.specs.Sizes.{Kept, mostBytes};
+ghost use Rattle.formats.specs.Stream.{job};
+ghost use Rattle.formats.specs.Printout.{jobText, printout as printed};
+ghost use Rattle.stream_laws.specs.Sizes.{JobLimits, mostBytes};
 ghost use Rattle.stream_reader.specs.Reading.{settingsAre};
 ghost use Rattle.print_texts.specs.Wrote.{Wrote};
-ghost use Rattle.printout.specs.Printing.{printAnswer, printOutput, answerOf};
+ghost use Rattle.printout.specs.Printing.{printAnswer, printOutput, printedAnswer};
 
 // How many bytes were written, or the number of a refusal (11: the output list is short) and its place.
 pub struct Printed {
@@ -21,7 +21,7 @@ pub struct Printed {
 // The text of a job: of its tree, or of the build's refusal. The lists have the stated sizes for 32 points on three axes with 16
 // neighbours.
 fn write_job(s: Settings, cs: &[f64], out: &mut [u8]) -> usize
-    requires { ⌜ Kept (settingsAre s) (now cs) × (mostBytes ≤ length (now out)) ⌝ }
+    requires { ⌜ JobLimits (settingsAre s) (now cs) × (mostBytes ≤ length (now out)) ⌝ }
     ensures { λ r. ⌜ Wrote (now (out .entry)) 0 (jobText (job (settingsAre s) (now (cs .entry)))) r (now (out .exit)) ⌝ }
 {
     let mut points = [0usize; 128];
@@ -88,7 +88,7 @@ fn write_printout(input: &[u8], output: &mut [u8]) -> usize
 // What the program prints for a stream, written to the front of `output`, which is to have 131,072 bytes at least: no printout is
 // longer.
 pub fn printout(input: &[u8], output: &mut [u8]) -> Printed
-    ensures answer { λ r. ⌜ answerOf r ≡ printAnswer (now (input .entry)) (now (output .entry)) ⌝ }
+    ensures answer { λ r. ⌜ printedAnswer r ≡ printAnswer (now (input .entry)) (now (output .entry)) ⌝ }
     ensures output { λ _. ⌜ now (output .exit) ≡ printOutput (now (input .entry)) (now (output .entry)) ⌝ }
 {
     if output.len() < 131072 {

@@ -17,11 +17,12 @@ use Rattle.lists.proofs.From.{map-below-same}
 use Rattle.lists.proofs.Take.{drop-take}
 use Rattle.definition.specs.Tree.{Settings}
 use Rattle.definition.specs.Refusals.{wrongDimension}
-use Rattle.definition.specs.Stream.{Job, broken, brokenAt, Mark, little, field, coordinatesAt, whole, pointMark, pointSize, settingsMark, settingsSize, policyFits, settingsIn, streamPoints, readPoints, held, jobIn}
-use Rattle.definition.specs.Printout.{jobText, printout}
+use Rattle.formats.specs.Bytes.{Mark, markSize, Field, past, little, field, valueAt, whole, floatAt, floatSize}
+use Rattle.formats.specs.Stream.{Job, broken, brokenAt, coordinatesAt, pointMark, pointSize, settingsMark, settingsSize, dimensionField, leafField, neighboursField, factorField, policyField, thresholdField, policyFits, settingsIn, streamPoints, readPoints, held, jobIn}
+use Rattle.formats.specs.Printout.{jobText, printout}
 use Rattle.stream_laws.specs.Sizes.{decisive}
 use Rattle.definition_laws.proofs.Accepted.{right-dimension}
-use Rattle.stream_laws.proofs.Stream.{read-cut, read-full, read-more}
+use Rattle.stream_laws.proofs.Stream.{points-cut, points-full, points-more}
 
 -- ---- a number, a record and a point that end within the first n bytes
 little-take : (k n : ℕ) (bs : List ℕ) → k ≤ n → little k (take n bs) ≡ little k bs
@@ -35,6 +36,9 @@ module _ (n : ℕ) (bs : List ℕ) where
   field-take : (k at : ℕ) → at + k ≤ n → field k at (take n bs) ≡ field k at bs
   field-take k at h = rw (drop-take at n bs) (little-take k (n - at) (drop at bs) (omega arith))
 
+  value-take : (f : Field) → past f ≤ n → valueAt f (take n bs) ≡ valueAt f bs
+  value-take f h = field-take (f .width) (f .offset) h
+
   long-take : (size : ℕ) → size ≤ n → leb size (length (take n bs)) ≡ leb size (length bs)
   long-take size h =
       ⊎-elim
@@ -45,11 +49,11 @@ module _ (n : ℕ) (bs : List ℕ) where
   whole-take : (m : Mark) (size : ℕ) → 2 ≤ size → size ≤ n → whole m size (take n bs) ≡ whole m size bs
   whole-take m size g h = rw (long-take size h, getD-take n bs 0 0 (omega arith), getD-take n bs 1 0 (omega arith))
 
-  point-take : (d : ℕ) → pointSize d ≤ n → coordinatesAt d 2 (take n bs) ≡ coordinatesAt d 2 bs
+  point-take : (d : ℕ) → pointSize d ≤ n → coordinatesAt d markSize (take n bs) ≡ coordinatesAt d markSize bs
   unfolding coordinatesAt
   point-take d h =
-      map-below-same (λ a. ofBits binary64 (field 8 (2 + 8 * a) (take n bs))) (λ a. ofBits binary64 (field 8 (2 + 8 * a) bs)) d
-      (λ a below. ap (ofBits binary64) (field-take 8 (2 + 8 * a) (omega arith)))
+      map-below-same (λ a. floatAt (markSize + floatSize * a) (take n bs)) (λ a. floatAt (markSize + floatSize * a) bs) d
+      (λ a below. ap (ofBits binary64) (field-take floatSize (markSize + floatSize * a) (omega arith)))
 
   some-take : 0 < n → 0 < length bs → 0 < length (take n bs)
   some-take h g = go n bs h g
@@ -74,8 +78,8 @@ module _ (s : Settings) where
         (λ (some : length bs ≡ 0 → ⊥). ⊎-elim
         (λ (there : whole pointMark size bs ≡ true). f (above (length bs) some) there)
         (λ (cut : whole pointMark size bs ≡ false).
-        read-cut s (take n bs) cs room at (some-take n bs (omega arith) (above (length bs) some)) (whole-take n bs pointMark size (omega arith) long ∙ cut)
-        ∙ sym (read-cut s bs cs room at (above (length bs) some) cut))
+        points-cut s (take n bs) cs room at (some-take n bs (omega arith) (above (length bs) some)) (whole-take n bs pointMark size (omega arith) long ∙ cut)
+        ∙ sym (points-cut s bs cs room at (above (length bs) some) cut))
         (true-or-false (whole pointMark size bs)))
         (same-or (length bs) 0)
       where
@@ -86,55 +90,55 @@ module _ (s : Settings) where
   points-take zero at n bs cs h =
       let long : size ≤ n = omega (arith, suc-mul 0 size) in
       same-point zero at n bs cs long
-      (λ some there. read-full s (take n bs) cs at (some-take n bs (omega arith) some) (whole-take n bs pointMark size (omega arith) long ∙ there)
-      ∙ sym (read-full s bs cs at some there))
+      (λ some there. points-full s (take n bs) cs at (some-take n bs (omega arith) some) (whole-take n bs pointMark size (omega arith) long ∙ there)
+      ∙ sym (points-full s bs cs at some there))
   points-take (suc room) at n bs cs h =
       let long : size ≤ n = omega (arith, suc-mul (suc room) size, suc-mul room size) in
       let rest : suc room * size ≤ n - size = omega (arith, suc-mul (suc room) size) in
       let d = s .dimension in
       same-point (suc room) at n bs cs long
-      (λ some there. read-more s (take n bs) cs room at (some-take n bs (omega arith) some) (whole-take n bs pointMark size (omega arith) long ∙ there)
+      (λ some there. points-more s (take n bs) cs room at (some-take n bs (omega arith) some) (whole-take n bs pointMark size (omega arith) long ∙ there)
       ∙ ap₂ (λ (l : List ℕ) (x : List Float). readPoints s room (at + size) l (cs ++ x)) (drop-take size n bs) (point-take n bs d long)
-      ∙ points-take room (at + size) (n - size) (drop size bs) (cs ++ coordinatesAt d 2 bs) rest
-      ∙ sym (read-more s bs cs room at some there))
+      ∙ points-take room (at + size) (n - size) (drop size bs) (cs ++ coordinatesAt d markSize bs) rest
+      ∙ sym (points-more s bs cs room at some there))
 
 -- ---- the settings
 settings-take : (n : ℕ) (bs : List ℕ) → settingsSize ≤ n → settingsIn (take n bs) ≡ settingsIn bs
 unfolding settingsIn
 settings-take n bs h =
     rw (
-      field-take n bs 1 2 (omega arith),
-      field-take n bs 4 3 (omega arith),
-      field-take n bs 4 7 (omega arith),
-      field-take n bs 4 11 (omega arith),
-      field-take n bs 1 15 (omega arith),
-      field-take n bs 4 16 (omega arith),
+      value-take n bs dimensionField (omega arith),
+      value-take n bs leafField (omega arith),
+      value-take n bs neighboursField (omega arith),
+      value-take n bs factorField (omega arith),
+      value-take n bs policyField (omega arith),
+      value-take n bs thresholdField (omega arith),
     )
 
-dimension-in : (bs : List ℕ) → settingsIn bs .dimension ≡ field 1 2 bs
+dimension-in : (bs : List ℕ) → settingsIn bs .dimension ≡ valueAt dimensionField bs
 unfolding settingsIn
 dimension-in bs = refl
 
 policy-take : (n : ℕ) (bs : List ℕ) → settingsSize ≤ n → policyFits (take n bs) ≡ policyFits bs
 unfolding policyFits
-policy-take n bs h = rw (field-take n bs 1 15 (omega arith), field-take n bs 4 16 (omega arith))
+policy-take n bs h = rw (value-take n bs policyField (omega arith), value-take n bs thresholdField (omega arith))
 
 pub front-decides : (n : ℕ) (bs : List ℕ) → decisive ≤ n → jobIn (take n bs) ≡ jobIn bs
 unfolding jobIn
 front-decides n bs h =
     let a = policy-take n bs (omega arith) in
     let b = whole-take n bs settingsMark settingsSize (omega arith) (omega arith) in
-    let c = field-take n bs 1 2 (omega arith) in
+    let c = value-take n bs dimensionField (omega arith) in
     let e = settings-take n bs (omega arith) in
     rw (a, b, c, e)
-    (ap (λ (p : Job). cond (whole settingsMark settingsSize bs && policyFits bs) p (brokenAt 0)) (points (wrongDimension (field 1 2 bs)) refl))
+    (ap (λ (p : Job). cond (whole settingsMark settingsSize bs && policyFits bs) p (brokenAt 0)) (points (wrongDimension (valueAt dimensionField bs)) refl))
   where
-    points : (b : Bool) → wrongDimension (field 1 2 bs) ≡ b
+    points : (b : Bool) → wrongDimension (valueAt dimensionField bs) ≡ b
         → cond b (broken (record { number = 1; place = 0 })) (held (readPoints (settingsIn bs) streamPoints settingsSize (drop settingsSize (take n bs)) []))
         ≡ cond b (broken (record { number = 1; place = 0 })) (held (readPoints (settingsIn bs) streamPoints settingsSize (drop settingsSize bs) []))
     points true e = refl
     points false e =
-        let d = right-dimension (field 1 2 bs) e in
+        let d = right-dimension (valueAt dimensionField bs) e in
         let most : suc streamPoints * pointSize (settingsIn bs .dimension) ≤ n - settingsSize = omega (arith, dimension-in bs) in
         ap held
         (ap (λ (l : List ℕ). readPoints (settingsIn bs) streamPoints settingsSize l []) (drop-take settingsSize n bs)

@@ -25,15 +25,15 @@ use Rattle.definition.specs.Cut.{Domain, rootDomain, cutKeys, leftOf, rightOf, 
 use Rattle.definition.specs.Overlaps.{borrowedBy}
 use Rattle.definition.specs.Tree.{Settings, Leaf, Level, coarseLevel, fineLevel, mostFine, nextActive, levelsFrom, levelsOver, pointCount, levels}
 use Rattle.definition.specs.Refusals.{Refusal, Verdict, accepted, refused}
-use Rattle.definition.specs.Stream.{Job, job, broken, streamPoints, jobIn}
-use Rattle.definition.specs.Printout.{ascii, digitOf, decimal, decimalOnto, hexOnto, rowsText, boxText, domainLine, fineLines, coarseLines, levelLine, levelsText, treeText, refusalText, builtText, jobText, printout}
+use Rattle.formats.specs.Stream.{Job, job, broken, streamPoints, jobIn}
+use Rattle.formats.specs.Printout.{ascii, digitOf, decimal, decimalOnto, hexOnto, rowsText, boxText, domainLine, fineLines, coarseLines, levelLine, levelsText, treeText, refusalText, builtText, jobText, printout}
 use Rattle.definition.proofs.Halves.{first-rows, other-rows}
 use Rattle.definition.proofs.Cuts.{leaves-all}
 use Rattle.definition.proofs.Steps.{fineLeaf, fineOf, nextOf, queue-wait, queue-done, levels-last, levels-end, levels-more}
 use Rattle.definition_laws.proofs.Shape.{leaves-boxes}
 use Rattle.stream_laws.proofs.Shape.{levels-shaped}
-use Rattle.stream_laws.specs.Sizes.{Kept, KeptBy, mostBytes}
-use Rattle.stream_laws.proofs.Stream.{job-kept}
+use Rattle.stream_laws.specs.Sizes.{JobLimits, WithinLimits, mostBytes}
+use Rattle.stream_laws.proofs.Stream.{job-limits}
 
 -- ---- numbers
 onto-long : (k n : ℕ) (after : List ℕ) → length (decimalOnto k n after) ≤ suc k + length after
@@ -82,25 +82,25 @@ each-long f most P h xs a =
     )
 
 -- ---- rows: at most 32, each below 32
-pub record Small (rows : List ℕ) : Type 0 where
+pub record FewRows (rows : List ℕ) : Type 0 where
   pub below : All (λ (i : ℕ). i < streamPoints) rows
   pub few : length rows ≤ streamPoints
 
-small-keep : (p : ℕ → Bool) (rows : List ℕ) → Small rows → Small (keep p rows)
-small-keep p rows s =
+few-keep : (p : ℕ → Bool) (rows : List ℕ) → FewRows rows → FewRows (keep p rows)
+few-keep p rows s =
     record {
       below = all-keep (λ (i : ℕ). i < streamPoints) p rows (s .below);
       few = omega (arith, s .few, length-keep p rows, count-len p rows);
     }
 
-small-from : (n : ℕ) → n ≤ streamPoints → Small (from 0 n)
-small-from n h = record { below = all-from (λ (i : ℕ). i < streamPoints) 0 n (λ i a b. omega arith); few = omega (arith, length-from 0 n) }
+few-from : (n : ℕ) → n ≤ streamPoints → FewRows (from 0 n)
+few-from n h = record { below = all-from (λ (i : ℕ). i < streamPoints) 0 n (λ i a b. omega arith); few = omega (arith, length-from 0 n) }
 
-small-none : Small []
+few-none : FewRows []
 unfolding All
-small-none = record { below = tt; few = omega arith }
+few-none = record { below = tt; few = omega arith }
 
-rows-long : (rows : List ℕ) → Small rows → length (rowsText rows) ≤ 96
+rows-long : (rows : List ℕ) → FewRows rows → length (rowsText rows) ≤ 96
 unfolding rowsText ascii
 rows-long [] s = omega arith
 rows-long (i ∷ rows) s =
@@ -108,17 +108,17 @@ rows-long (i ∷ rows) s =
 
 -- ---- domains
 module _ (d : ℕ) (cs : List Float) where
-  left-small : (q : Domain) → Small (q .rows) → Small (leftOf d cs q .rows)
+  left-few : (q : Domain) → FewRows (q .rows) → FewRows (leftOf d cs q .rows)
   unfolding leftOf cutKeys
-  left-small q s = rw (first-rows _ (length (q .rows) / 2) (q .rows)) (small-keep _ (q .rows) s)
+  left-few q s = rw (first-rows _ (length (q .rows) / 2) (q .rows)) (few-keep _ (q .rows) s)
 
-  right-small : (q : Domain) → Small (q .rows) → Small (rightOf d cs q .rows)
+  right-few : (q : Domain) → FewRows (q .rows) → FewRows (rightOf d cs q .rows)
   unfolding rightOf cutKeys
-  right-small q s = rw (other-rows _ (length (q .rows) / 2) (q .rows)) (small-keep _ (q .rows) s)
+  right-few q s = rw (other-rows _ (length (q .rows) / 2) (q .rows)) (few-keep _ (q .rows) s)
 
-  leaves-rows : (leaf : ℕ) (active : List ℕ) → Small active → All (λ (q : Domain). Small (q .rows)) (leavesOf d cs leaf active)
+  leaves-rows : (leaf : ℕ) (active : List ℕ) → FewRows active → All (λ (q : Domain). FewRows (q .rows)) (leavesOf d cs leaf active)
   unfolding rootDomain
-  leaves-rows leaf active s = leaves-all d cs (λ (q : Domain). Small (q .rows)) left-small right-small leaf active s
+  leaves-rows leaf active s = leaves-all d cs (λ (q : Domain). FewRows (q .rows)) left-few right-few leaf active s
 
   queue-many : (leaf fuel : ℕ) (qs : List Domain) → length (queueLeaves d cs leaf fuel qs) ≤ 2 * fuel
   unfolding queueLeaves
@@ -144,15 +144,15 @@ box-long (x ∷ b) =
 
 -- a leaf whose line is not long
 record Brief (f : Leaf) : Type 0 where
-  own : Small (f .own)
-  borrowed : Small (f .borrowed)
+  own : FewRows (f .own)
+  borrowed : FewRows (f .borrowed)
   box : length (f .box) ≤ 6
 
-domain-long : (i : ℕ) (f : Leaf) (box : List ℕ) → Small (f .own) → Small (f .borrowed) → i < 1000 → length (domainLine i f box) ≤ 224 + length box
+domain-long : (i : ℕ) (f : Leaf) (box : List ℕ) → FewRows (f .own) → FewRows (f .borrowed) → i < 1000 → length (domainLine i f box) ≤ 224 + length box
 unfolding domainLine ascii
 domain-long i f box h g small = simp length-append (omega (arith, decimal-short 2 i small, rows-long (f .own) h, rows-long (f .borrowed) g))
 
-level-long : (t : ℕ) (l : Level) → Small (l .points) → length (levelLine t l) ≤ 130
+level-long : (t : ℕ) (l : Level) → FewRows (l .points) → length (levelLine t l) ≤ 130
 unfolding levelLine ascii
 level-long t l s = simp length-append (omega (arith, decimal-long t, rows-long (l .points) s))
 
@@ -181,16 +181,16 @@ more-text t l [] h = absurd (omega arith)
 more-text t l (m ∷ ls) h = refl
 
 module _ (s : Settings) (cs : List Float) (axes : s .dimension ≤ 3) where
-  module _ (active : List ℕ) (a : Small active) where
+  module _ (active : List ℕ) (a : FewRows active) where
     abbrev leafFrom : Domain → Leaf
     leafFrom = fineLeaf (s .dimension) cs (s .neighbours) active
 
-    leaves-brief : (qs : List Domain) → All (λ (q : Domain). Small (q .rows)) qs → All (λ (q : Domain). length (q .box) ≡ 2 * s .dimension) qs
+    leaves-brief : (qs : List Domain) → All (λ (q : Domain). FewRows (q .rows)) qs → All (λ (q : Domain). length (q .box) ≡ 2 * s .dimension) qs
         → All Brief (map leafFrom qs)
     unfolding All borrowedBy
     leaves-brief [] h g = tt
     leaves-brief (q ∷ qs) h g =
-        (record { own = h .0; borrowed = small-keep _ active a; box = omega (arith, g .0) }, leaves-brief qs (h .1) (g .1))
+        (record { own = h .0; borrowed = few-keep _ active a; box = omega (arith, g .0) }, leaves-brief qs (h .1) (g .1))
 
     fine-level-long : (t : ℕ) → length (levelLine t (fineOf s cs active)) + length (fineLines 0 (fineOf s cs active .leaves)) ≤ 41858
     unfolding fineLevel
@@ -212,15 +212,15 @@ module _ (s : Settings) (cs : List Float) (axes : s .dimension ≤ 3) where
           length-append (levelLine t l) (domainLine 0 f (ascii " -") ++ []),
           length-append (domainLine 0 f (ascii " -")) [],
           level-long t l a,
-          domain-long 0 f (ascii " -") a small-none (omega arith),
+          domain-long 0 f (ascii " -") a few-none (omega arith),
           dash-long,
         )
 
-  next-small : (c k built : ℕ) (active : List ℕ) → Small active → Small (nextOf s cs c k built active)
+  next-few : (c k built : ℕ) (active : List ℕ) → FewRows active → FewRows (nextOf s cs c k built active)
   unfolding nextActive
-  next-small c k built active a = small-keep _ active a
+  next-few c k built active a = few-keep _ active a
 
-  levels-long : (c k fuel built t : ℕ) (active : List ℕ) → Small active → length (levelsText t (levelsFrom s cs c k fuel built active)) ≤ 356 + 41858 * fuel
+  levels-long : (c k fuel built t : ℕ) (active : List ℕ) → FewRows active → length (levelsText t (levelsFrom s cs c k fuel built active)) ≤ 356 + 41858 * fuel
   levels-long c k zero built t active a = rw (levels-last s cs c k built active) (coarse-long active a t)
   levels-long c k (suc fuel) built t active a =
       ⊎-elim
@@ -234,23 +234,23 @@ module _ (s : Settings) (cs : List Float) (axes : s .dimension ≤ 3) where
         length-append (levelLine t l ++ fineLines 0 (l .leaves)) (levelsText (suc t) ls),
         length-append (levelLine t l) (fineLines 0 (l .leaves)),
         fine-level-long active a t,
-        levels-long c k fuel (suc built) (suc t) (nextOf s cs c k built active) (next-small c k built active a),
+        levels-long c k fuel (suc built) (suc t) (nextOf s cs c k built active) (next-few c k built active a),
       )))
       (le-or-lt (length active) c)
 
 -- ---- the whole printout
-module _ (s : Settings) (cs : List Float) (kept : Kept s cs) where
+module _ (s : Settings) (cs : List Float) (limits : JobLimits s cs) where
   tree-long : length (treeText (levels s cs)) ≤ mostBytes
   unfolding treeText levels levelsOver ascii
   tree-long =
       let active = from 0 (pointCount (s .dimension) cs) in
       let c = threshold (s .policy) (length active) in
       let k = reductions (length active) c (s .factor) in
-      let few : pointCount (s .dimension) cs ≤ streamPoints = div-le-of-le-mul (s .dimension) (rw mul-comm at (kept .points-few)) in
+      let few : pointCount (s .dimension) cs ≤ streamPoints = div-le-of-le-mul (s .dimension) (rw mul-comm at (limits .points-few)) in
       simp length-append
       (omega (
         arith,
-        levels-long s cs (kept .axes-few) c k mostFine 0 0 active (small-from (pointCount (s .dimension) cs) few),
+        levels-long s cs (limits .axes-few) c k mostFine 0 0 active (few-from (pointCount (s .dimension) cs) few),
         decimal-long (length (levelsFrom s cs c k mostFine 0 active)),
       ))
 
@@ -258,17 +258,17 @@ pub refusal-long : (r : Refusal) → length (refusalText r) ≤ 53
 unfolding refusalText ascii
 refusal-long r = simp length-append (omega (arith, decimal-long (r .number), decimal-long (r .place)))
 
-built-long : (v : Verdict) (s : Settings) (cs : List Float) → Kept s cs → length (builtText v s cs) ≤ mostBytes
+built-long : (v : Verdict) (s : Settings) (cs : List Float) → JobLimits s cs → length (builtText v s cs) ≤ mostBytes
 unfolding builtText
-built-long accepted s cs kept = tree-long s cs kept
-built-long (refused r) s cs kept = omega (arith, refusal-long r)
+built-long accepted s cs limits = tree-long s cs limits
+built-long (refused r) s cs limits = omega (arith, refusal-long r)
 
-pub job-long : (j : Job) → KeptBy j → length (jobText j) ≤ mostBytes
+pub job-long : (j : Job) → WithinLimits j → length (jobText j) ≤ mostBytes
 unfolding jobText
-job-long (job s cs) kept = built-long _ s cs kept
-job-long (broken r) kept = omega (arith, refusal-long r)
+job-long (job s cs) limits = built-long _ s cs limits
+job-long (broken r) limits = omega (arith, refusal-long r)
 
 -- no printout is longer than 131,072 bytes
 pub printout-long : (bs : List ℕ) → length (printout bs) ≤ mostBytes
 unfolding printout
-printout-long bs = job-long (jobIn bs) (job-kept bs)
+printout-long bs = job-long (jobIn bs) (job-limits bs)

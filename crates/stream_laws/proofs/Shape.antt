@@ -18,15 +18,11 @@ use Rattle.definition.specs.Packed.{rowFloats, leavesIn}
 use Rattle.definition.proofs.Steps.{fineLeaf, fineOf, nextOf, levels-last, levels-end, levels-more}
 use Rattle.definition_laws.proofs.Shape.{leaves-boxes}
 
--- how many leaves a level has
-abbrev pub leafCount : Level → ℕ
-leafCount l = length (l .leaves)
-
 -- a tree of at most `most` levels over points with boxes of w bounds
 pub record Shaped (w most : ℕ) (ls : List Level) : Type 0 where
   pub some : 1 ≤ length ls
   pub few : length ls ≤ most
-  pub last : getD (map leafCount ls) (length ls - 1) 0 ≡ 1
+  pub last : getD (map (λ (l : Level). length (l .leaves)) ls) (length ls - 1) 0 ≡ 1
   pub wide : All (λ (f : Leaf). length (f .box) ≡ w) (leavesIn ls)
 
 shaped-more : (w most : ℕ) (l : Level) (ls : List Level) → All (λ (f : Leaf). length (f .box) ≡ w) (l .leaves) → Shaped w most ls → Shaped w (suc most) (l ∷ ls)
@@ -36,7 +32,7 @@ shaped-more w most l ls a s =
     record {
       some = omega arith;
       few = omega (arith, s .few);
-      last = ap (λ (i : ℕ). getD (map leafCount (l ∷ ls)) i 0) k ∙ s .last;
+      last = ap (λ (i : ℕ). getD (map (λ (l : Level). length (l .leaves)) (l ∷ ls)) i 0) k ∙ s .last;
       wide = all-append (λ (f : Leaf). length (f .box) ≡ w) (l .leaves) _ a (s .wide);
     }
 

@@ -1,4 +1,4 @@
--- The job stream: one record after the other, what a job that is read keeps, and how many bytes decide it. Assumes nothing.
+-- The job stream: one record after the other, and the limits of a job that is read. Assumes nothing.
 use mathlib.Core.Path.{_≡_, refl}
 use mathlib.Core.Bool.{Bool, true, false, _&&_, cond}
 use Prim.Native.Nat.{ℕ, zero, suc, _+_, _*_, _≤_, _<_}
@@ -12,8 +12,9 @@ use borrow.Author.Tests.{ltb-false}
 use Rattle.lists.proofs.From.{length-map-from}
 use Rattle.definition.specs.Tree.{Settings}
 use Rattle.definition.specs.Refusals.{wrongDimension}
-use Rattle.stream_laws.specs.Sizes.{KeptBy}
-use Rattle.definition.specs.Stream.{Job, job, broken, brokenAt, tooLarge, field, coordinatesAt, whole, pointMark, pointSize, settingsMark, settingsSize, policyFits, settingsIn, streamPoints, streamNeighbours, readPoints, held, jobIn}
+use Rattle.stream_laws.specs.Sizes.{WithinLimits}
+use Rattle.formats.specs.Bytes.{whole, markSize, valueAt}
+use Rattle.formats.specs.Stream.{Job, job, broken, brokenAt, tooLarge, coordinatesAt, pointMark, pointSize, settingsMark, settingsSize, dimensionField, policyFits, settingsIn, streamPoints, streamNeighbours, readPoints, held, jobIn}
 use Rattle.definition_laws.proofs.Accepted.{right-dimension}
 
 pub length-coordinates : (d at : ℕ) (bs : List ℕ) → length (coordinatesAt d at bs) ≡ d
@@ -25,9 +26,9 @@ module _ (s : Settings) (bs : List ℕ) (cs : List Float) where
   abbrev size : ℕ
   size = pointSize (s .dimension)
 
-  pub read-end : (room at : ℕ) → length bs ≡ 0 → readPoints s room at bs cs ≡ job s cs
+  pub points-end : (room at : ℕ) → length bs ≡ 0 → readPoints s room at bs cs ≡ job s cs
   unfolding readPoints
-  read-end room at e = go room bs e
+  points-end room at e = go room bs e
     where
       go : (room : ℕ) (bs : List ℕ) → length bs ≡ 0 → readPoints s room at bs cs ≡ job s cs
       go zero [] e = refl
@@ -35,9 +36,9 @@ module _ (s : Settings) (bs : List ℕ) (cs : List Float) where
       go room (b ∷ bs) e = absurd (omega arith)
 
   -- a cut record, or another mark
-  pub read-cut : (room at : ℕ) → 0 < length bs → whole pointMark size bs ≡ false → readPoints s room at bs cs ≡ brokenAt at
+  pub points-cut : (room at : ℕ) → 0 < length bs → whole pointMark size bs ≡ false → readPoints s room at bs cs ≡ brokenAt at
   unfolding readPoints
-  read-cut room at h e = go room bs h e
+  points-cut room at h e = go room bs h e
     where
       go : (room : ℕ) (bs : List ℕ) → 0 < length bs → whole pointMark size bs ≡ false → readPoints s room at bs cs ≡ brokenAt at
       go room [] h e = absurd (omega arith)
@@ -45,26 +46,26 @@ module _ (s : Settings) (bs : List ℕ) (cs : List Float) where
       go (suc room) (b ∷ bs) h e = rw e
 
   -- a whole point where no more may come
-  pub read-full : (at : ℕ) → 0 < length bs → whole pointMark size bs ≡ true → readPoints s 0 at bs cs ≡ tooLarge
+  pub points-full : (at : ℕ) → 0 < length bs → whole pointMark size bs ≡ true → readPoints s 0 at bs cs ≡ tooLarge
   unfolding readPoints
-  read-full at h e = go bs h e
+  points-full at h e = go bs h e
     where
       go : (bs : List ℕ) → 0 < length bs → whole pointMark size bs ≡ true → readPoints s 0 at bs cs ≡ tooLarge
       go [] h e = absurd (omega arith)
       go (b ∷ bs) h e = rw e
 
   -- a whole point
-  pub read-more : (room at : ℕ) → 0 < length bs → whole pointMark size bs ≡ true
-      → readPoints s (suc room) at bs cs ≡ readPoints s room (at + size) (drop size bs) (cs ++ coordinatesAt (s .dimension) 2 bs)
+  pub points-more : (room at : ℕ) → 0 < length bs → whole pointMark size bs ≡ true
+      → readPoints s (suc room) at bs cs ≡ readPoints s room (at + size) (drop size bs) (cs ++ coordinatesAt (s .dimension) markSize bs)
   unfolding readPoints
-  read-more room at h e = go bs h e
+  points-more room at h e = go bs h e
     where
       go : (bs : List ℕ) → 0 < length bs → whole pointMark size bs ≡ true
-          → readPoints s (suc room) at bs cs ≡ readPoints s room (at + size) (drop size bs) (cs ++ coordinatesAt (s .dimension) 2 bs)
+          → readPoints s (suc room) at bs cs ≡ readPoints s room (at + size) (drop size bs) (cs ++ coordinatesAt (s .dimension) markSize bs)
       go [] h e = absurd (omega arith)
       go (b ∷ bs) h e = rw e
 
--- ---- what a job that is read keeps to
+-- ---- the limits of a job that is read
 
 -- before the neighbours are looked at
 abbrev Few : Job → Type 0
@@ -83,34 +84,34 @@ points-few s p h zero at (b ∷ bs) cs g = cond-few (whole pointMark (pointSize 
 points-few s p h (suc room) at [] cs g = (p, h, omega arith)
 points-few s p h (suc room) at (b ∷ bs) cs g =
     let d = s .dimension in
-    let x = coordinatesAt d 2 (b ∷ bs) in
-    let fits : length (cs ++ x) + room * d ≤ streamPoints * d = omega (arith, length-append cs x, length-coordinates d 2 (b ∷ bs), suc-mul room d) in
+    let x = coordinatesAt d markSize (b ∷ bs) in
+    let fits : length (cs ++ x) + room * d ≤ streamPoints * d = omega (arith, length-append cs x, length-coordinates d markSize (b ∷ bs), suc-mul room d) in
     cond-few (whole pointMark (pointSize d) (b ∷ bs)) (readPoints s room (at + pointSize d) (drop (pointSize d) (b ∷ bs)) (cs ++ x)) (brokenAt at)
     (points-few s p h room (at + pointSize d) (drop (pointSize d) (b ∷ bs)) (cs ++ x) fits) tt
 
-held-kept : (j : Job) → Few j → KeptBy (held j)
+held-limits : (j : Job) → Few j → WithinLimits (held j)
 unfolding held
-held-kept (broken r) h = tt
-held-kept (job s cs) h = go (ltb streamNeighbours (s .neighbours)) refl
+held-limits (broken r) h = tt
+held-limits (job s cs) h = go (ltb streamNeighbours (s .neighbours)) refl
   where
-    go : (b : Bool) → ltb streamNeighbours (s .neighbours) ≡ b → KeptBy (cond b tooLarge (job s cs))
+    go : (b : Bool) → ltb streamNeighbours (s .neighbours) ≡ b → WithinLimits (cond b tooLarge (job s cs))
     go true e = tt
     go false e = record { axes = h .0; axes-few = h .1; points-few = h .2; neighbours-few = ltb-false streamNeighbours (s .neighbours) e }
 
-pub job-kept : (bs : List ℕ) → KeptBy (jobIn bs)
+pub job-limits : (bs : List ℕ) → WithinLimits (jobIn bs)
 unfolding jobIn settingsIn
-job-kept bs = go (whole settingsMark settingsSize bs && policyFits bs)
+job-limits bs = go (whole settingsMark settingsSize bs && policyFits bs)
   where
     points : Job
     points = held (readPoints (settingsIn bs) streamPoints settingsSize (drop settingsSize bs) [])
 
-    right : (b : Bool) → wrongDimension (field 1 2 bs) ≡ b → KeptBy (cond b (broken (record { number = 1; place = 0 })) points)
+    right : (b : Bool) → wrongDimension (valueAt dimensionField bs) ≡ b → WithinLimits (cond b (broken (record { number = 1; place = 0 })) points)
     right true e = tt
     right false e =
-        let d = right-dimension (field 1 2 bs) e in
-        held-kept (readPoints (settingsIn bs) streamPoints settingsSize (drop settingsSize bs) [])
+        let d = right-dimension (valueAt dimensionField bs) e in
+        held-limits (readPoints (settingsIn bs) streamPoints settingsSize (drop settingsSize bs) [])
         (points-few (settingsIn bs) (d .0) (d .1) streamPoints settingsSize (drop settingsSize bs) [] (omega arith))
 
-    go : (b : Bool) → KeptBy (cond b (cond (wrongDimension (field 1 2 bs)) (broken (record { number = 1; place = 0 })) points) (brokenAt 0))
-    go true = right (wrongDimension (field 1 2 bs)) refl
+    go : (b : Bool) → WithinLimits (cond b (cond (wrongDimension (valueAt dimensionField bs)) (broken (record { number = 1; place = 0 })) points) (brokenAt 0))
+    go true = right (wrongDimension (valueAt dimensionField bs)) refl
     go false = tt

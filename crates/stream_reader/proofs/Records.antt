@@ -9,7 +9,7 @@ use mathlib.Core.List.{List, [], _∷_, _++_, map}
 use lib.ListN.{length, take, drop, set, length-drop}
 use lib.Seq.{drop-drop}
 use lib.Dec.{leb}
-use lib.Ieee.{Float, ofBits, binary64}
+use lib.Ieee.{Float}
 use borrow.Author.Tests.{le-ltb, lt-ltb, le-leb, lt-leb, leb-true}
 use Rattle.lists.specs.Lists.{put}
 use Rattle.lists.proofs.Put.{put-nil, put-snoc, take-put-end}
@@ -18,44 +18,45 @@ use Rattle.lists.proofs.From.{map-below-suc}
 use Rattle.lists.proofs.Tests.{and-fst}
 use Rattle.definition.specs.Tree as tree
 use Rattle.definition.specs.Levels.{auto, fixed}
-use Rattle.definition.specs.Stream.{policyOf, field, marked, whole, settingsSize, settingsIn, pointMark, pointSize, coordinatesAt, job, broken, brokenAt, tooLarge, streamPoints, readPoints, held, jobIn}
-use Rattle.stream_laws.proofs.Stream.{length-coordinates, read-end, read-cut, read-full, read-more}
-use Rattle.stream_reader.proofs.Bytes.{settingsWhole}
+use Rattle.formats.specs.Bytes.{marked, whole, markSize, floatSize, floatAt, valueAt}
+use Rattle.formats.specs.Stream.{policyFrom, settingsSize, dimensionField, settingsIn, pointMark, pointSize, coordinatesAt, job, broken, brokenAt, tooLarge, streamPoints, streamNeighbours, readPoints, held, jobIn}
+use Rattle.stream_laws.proofs.Stream.{length-coordinates, points-end, points-cut, points-full, points-more}
+use Rattle.stream_reader.proofs.Whole.{settingsWhole}
 
 -- ---- one point
 module _ (at : ℕ) (bs : List ℕ) where
   pub axis : ℕ → Float
-  axis a = ofBits binary64 (field 8 (at + (2 + 8 * a)) bs)
+  axis a = floatAt (at + (markSize + floatSize * a)) bs
 
-  point-is : (d : ℕ) → coordinatesAt d 2 (drop at bs) ≡ map axis (from 0 d)
+  point-is : (d : ℕ) → coordinatesAt d markSize (drop at bs) ≡ map axis (from 0 d)
   unfolding coordinatesAt axis
   point-is d = simp (drop-drop)
 
-  pub point-none : (l : List Float) (k : ℕ) → l ≡ put l k (coordinatesAt 0 2 (drop at bs))
+  pub point-none : (l : List Float) (k : ℕ) → l ≡ put l k (coordinatesAt 0 markSize (drop at bs))
   unfolding coordinatesAt from
   point-none l k = sym (put-nil l k)
 
-  point-more : (a : ℕ) → coordinatesAt (a + 1) 2 (drop at bs) ≡ coordinatesAt a 2 (drop at bs) ++ axis a ∷ []
+  point-more : (a : ℕ) → coordinatesAt (a + 1) markSize (drop at bs) ≡ coordinatesAt a markSize (drop at bs) ++ axis a ∷ []
   point-more a =
       point-is (a + 1) ∙ map-below-suc axis a ∙ ap (λ (l : List Float). l ++ axis a ∷ []) (sym (point-is a))
 
   -- one axis more is stored
-  pub point-step : (l m : List Float) (k a r : ℕ) (x : Float) → m ≡ put l k (coordinatesAt a 2 (drop at bs)) → k + a < length l
-      → r ≡ field 8 (at + (2 + 8 * a)) bs → x ≡ ofBits binary64 r
-      → set m (k + a) x ≡ put l k (coordinatesAt (a + 1) 2 (drop at bs))
+  pub point-step : (l m : List Float) (k a : ℕ) (x : Float) → m ≡ put l k (coordinatesAt a markSize (drop at bs)) → k + a < length l
+      → x ≡ floatAt (at + (markSize + floatSize * a)) bs
+      → set m (k + a) x ≡ put l k (coordinatesAt (a + 1) markSize (drop at bs))
   unfolding axis
-  point-step l m k a r x e h f g =
-      rw (e, g, f)
-      (put-snoc l k (coordinatesAt a 2 (drop at bs)) (axis a) (k + a) (omega (arith, length-coordinates a 2 (drop at bs))) h ∙ ap (put l k) (sym (point-more a)))
+  point-step l m k a x e h g =
+      rw (e, g)
+      (put-snoc l k (coordinatesAt a markSize (drop at bs)) (axis a) (k + a) (omega (arith, length-coordinates a markSize (drop at bs))) h ∙ ap (put l k) (sym (point-more a)))
 
 -- ---- a whole point record
-pub point-short : (d at : ℕ) (bs : List ℕ) → length bs - at < 2 + 8 * d → false ≡ whole pointMark (pointSize d) (drop at bs)
-point-short d at bs h = rw (length-drop at bs, lt-leb (2 + 8 * d) (length bs - at) h)
+pub point-short : (d at : ℕ) (bs : List ℕ) → length bs - at < pointSize d → false ≡ whole pointMark (pointSize d) (drop at bs)
+point-short d at bs h = rw (length-drop at bs, lt-leb (pointSize d) (length bs - at) h)
 
-pub point-there : (d at : ℕ) (bs : List ℕ) (b : Bool) → 2 + 8 * d ≤ length bs - at → b ≡ marked pointMark (drop at bs) → b ≡ whole pointMark (pointSize d) (drop at bs)
-point-there d at bs b h e = rw (length-drop at bs, le-leb (2 + 8 * d) (length bs - at) h) e
+pub point-there : (d at : ℕ) (bs : List ℕ) (b : Bool) → pointSize d ≤ length bs - at → b ≡ marked pointMark (drop at bs) → b ≡ whole pointMark (pointSize d) (drop at bs)
+point-there d at bs b h e = rw (length-drop at bs, le-leb (pointSize d) (length bs - at) h) e
 
-pub point-room : (d at : ℕ) (bs : List ℕ) → at < length bs → whole pointMark (pointSize d) (drop at bs) ≡ true → at + (2 + 8 * d) ≤ length bs
+pub point-room : (d at : ℕ) (bs : List ℕ) → at < length bs → whole pointMark (pointSize d) (drop at bs) ≡ true → at + pointSize d ≤ length bs
 point-room d at bs h e =
     omega (arith, leb-true (pointSize d) (length (drop at bs)) (and-fst (leb (pointSize d) (length (drop at bs))) (marked pointMark (drop at bs)) e), length-drop at bs)
 
@@ -69,37 +70,37 @@ module _ (bs : List ℕ) where
   job-broken e = rw e
 
   module _ (w : settingsWhole bs ≡ true) (s : tree.Settings) (e : s ≡ settingsIn bs) where
-    dimension-is : s .dimension ≡ field 1 2 bs
+    dimension-is : s .dimension ≡ valueAt dimensionField bs
     unfolding settingsIn
     dimension-is = ap (λ (r : tree.Settings). r .dimension) e
 
     pub job-low : s .dimension ≡ 0 → broken (record { number = 1; place = 0 }) ≡ jobIn bs
     unfolding jobIn
-    job-low h = let z : field 1 2 bs ≡ 0 = sym dimension-is ∙ h in rw (w, z)
+    job-low h = let z : valueAt dimensionField bs ≡ 0 = sym dimension-is ∙ h in rw (w, z)
 
     pub job-high : 3 < s .dimension → broken (record { number = 1; place = 0 }) ≡ jobIn bs
     unfolding jobIn
     job-high h =
-        let g : 3 < field 1 2 bs = omega (arith, dimension-is) in
-        rw (w, le-leb 1 (field 1 2 bs) (omega arith), lt-leb (field 1 2 bs) 3 g)
+        let g : 3 < valueAt dimensionField bs = omega (arith, dimension-is) in
+        rw (w, le-leb 1 (valueAt dimensionField bs) (omega arith), lt-leb (valueAt dimensionField bs) 3 g)
 
     job-right : (s .dimension ≡ 0 → ⊥) → s .dimension ≤ 3 → jobIn bs ≡ held (readPoints s streamPoints settingsSize (drop settingsSize bs) [])
     unfolding jobIn
     job-right h g =
-        let l : 1 ≤ field 1 2 bs = omega (arith, dimension-is) in
-        let u : field 1 2 bs ≤ 3 = omega (arith, dimension-is) in
-        rw (w, le-leb 1 (field 1 2 bs) l, le-leb (field 1 2 bs) 3 u, e)
+        let l : 1 ≤ valueAt dimensionField bs = omega (arith, dimension-is) in
+        let u : valueAt dimensionField bs ≤ 3 = omega (arith, dimension-is) in
+        rw (w, le-leb 1 (valueAt dimensionField bs) l, le-leb (valueAt dimensionField bs) 3 u, e)
 
 -- ---- the state of the reading: n points are read, and the next record begins at `at`
 pub record Reading (s : tree.Settings) (bs : List ℕ) (cs : List Float) (at n : ℕ) : Type 0 where
-  pub few : n ≤ 32
+  pub few : n ≤ streamPoints
   pub flat : s .dimension ≤ 3
   pub within : at ≤ length bs
   pub room : 96 ≤ length cs
-  pub same : jobIn bs ≡ held (readPoints s (32 - n) at (drop at bs) (take (n * s .dimension) cs))
+  pub same : jobIn bs ≡ held (readPoints s (streamPoints - n) at (drop at bs) (take (n * s .dimension) cs))
 
 pub begun : (s : tree.Settings) (bs : List ℕ) (cs : List Float) → settingsWhole bs ≡ true → s ≡ settingsIn bs → (s .dimension ≡ 0 → ⊥)
-    → s .dimension ≤ 3 → 96 ≤ length cs → Reading s bs cs 20 0
+    → s .dimension ≤ 3 → 96 ≤ length cs → Reading s bs cs settingsSize 0
 begun s bs cs w e h g r =
     record {
       few = omega arith;
@@ -110,8 +111,8 @@ begun s bs cs w e h g r =
     }
 
 -- the product of a count and the dimension
-pub spot : (n d : ℕ) → n < 32 → d ≤ 3 → n * d + d ≤ 96
-spot n d h g = omega (arith, suc-mul n d, mul-le-mul {n₁ = suc n} {m₁ = d} {n₂ = 32} {m₂ = 3} h g)
+pub spot : (n d : ℕ) → n < streamPoints → d ≤ 3 → n * d + d ≤ 96
+spot n d h g = omega (arith, suc-mul n d, mul-le-mul {n₁ = suc n} {m₁ = d} {n₂ = streamPoints} {m₂ = 3} h g)
 
 module _ {s : tree.Settings} {bs : List ℕ} {cs : List Float} {at n : ℕ} (r : Reading s bs cs at n) where
   left : at < length bs → 0 < length (drop at bs)
@@ -119,26 +120,26 @@ module _ {s : tree.Settings} {bs : List ℕ} {cs : List Float} {at n : ℕ} (r :
 
   pub cut : at < length bs → whole pointMark (pointSize (s .dimension)) (drop at bs) ≡ false → brokenAt at ≡ jobIn bs
   unfolding held
-  cut h e = sym (r .same ∙ ap held (read-cut s (drop at bs) (take (n * s .dimension) cs) (32 - n) at (left h) e))
+  cut h e = sym (r .same ∙ ap held (points-cut s (drop at bs) (take (n * s .dimension) cs) (streamPoints - n) at (left h) e))
 
-  pub full : at < length bs → whole pointMark (pointSize (s .dimension)) (drop at bs) ≡ true → n ≡ 32 → tooLarge ≡ jobIn bs
+  pub full : at < length bs → whole pointMark (pointSize (s .dimension)) (drop at bs) ≡ true → n ≡ streamPoints → tooLarge ≡ jobIn bs
   unfolding held
   full h e f =
-      let z : 32 - n ≡ 0 = omega arith in
+      let z : streamPoints - n ≡ 0 = omega arith in
       sym (r .same ∙ ap (λ (k : ℕ). held (readPoints s k at (drop at bs) (take (n * s .dimension) cs))) z ∙ ap held
-      (read-full s (drop at bs) (take (n * s .dimension) cs) at (left h) e))
+      (points-full s (drop at bs) (take (n * s .dimension) cs) at (left h) e))
 
-  pub more : at < length bs → whole pointMark (pointSize (s .dimension)) (drop at bs) ≡ true → (n ≡ 32 → ⊥) → (ds : List Float)
-      → ds ≡ put cs (n * s .dimension) (coordinatesAt (s .dimension) 2 (drop at bs))
-      → length ds ≡ length cs → Reading s bs ds (at + (2 + 8 * s .dimension)) (n + 1)
+  pub more : at < length bs → whole pointMark (pointSize (s .dimension)) (drop at bs) ≡ true → (n ≡ streamPoints → ⊥) → (ds : List Float)
+      → ds ≡ put cs (n * s .dimension) (coordinatesAt (s .dimension) markSize (drop at bs))
+      → length ds ≡ length cs → Reading s bs ds (at + pointSize (s .dimension)) (n + 1)
   more h e f ds p l =
       let d = s .dimension in
-      let size = 2 + 8 * d in
+      let size = pointSize d in
       let k = n * d in
-      let x = coordinatesAt d 2 (drop at bs) in
-      let m : n < 32 = omega (arith, r .few) in
-      let z : 32 - n ≡ suc (32 - (n + 1)) = omega arith in
-      let t : (n + 1) * d ≡ k + length x = omega (arith, ap (λ (i : ℕ). i * d) (add-one n), suc-mul n d, length-coordinates d 2 (drop at bs)) in
+      let x = coordinatesAt d markSize (drop at bs) in
+      let m : n < streamPoints = omega (arith, r .few) in
+      let z : streamPoints - n ≡ suc (streamPoints - (n + 1)) = omega arith in
+      let t : (n + 1) * d ≡ k + length x = omega (arith, ap (λ (i : ℕ). i * d) (add-one n), suc-mul n d, length-coordinates d markSize (drop at bs)) in
       let c : take ((n + 1) * d) ds ≡ take k cs ++ x = rw (t, p) (take-put-end cs k x (omega (arith, spot n d m (r .flat), r .room))) in
       record {
         few = m′ m;
@@ -148,29 +149,29 @@ module _ {s : tree.Settings} {bs : List ℕ} {cs : List Float} {at n : ℕ} (r :
         same =
             r .same
             ∙ ap (λ (i : ℕ). held (readPoints s i at (drop at bs) (take k cs))) z
-            ∙ ap held (read-more s (drop at bs) (take k cs) (32 - (n + 1)) at (left h) e)
-            ∙ ap (λ (q : List ℕ). held (readPoints s (32 - (n + 1)) (at + size) q (take k cs ++ x))) (drop-drop size at bs)
-            ∙ ap (λ (q : List Float). held (readPoints s (32 - (n + 1)) (at + size) (drop (at + size) bs) q)) (sym c);
+            ∙ ap held (points-more s (drop at bs) (take k cs) (streamPoints - (n + 1)) at (left h) e)
+            ∙ ap (λ (q : List ℕ). held (readPoints s (streamPoints - (n + 1)) (at + size) q (take k cs ++ x))) (drop-drop size at bs)
+            ∙ ap (λ (q : List Float). held (readPoints s (streamPoints - (n + 1)) (at + size) (drop (at + size) bs) q)) (sym c);
       }
     where
-      m′ : n < 32 → n + 1 ≤ 32
+      m′ : n < streamPoints → n + 1 ≤ streamPoints
       m′ m = omega arith
 
   ended : length bs ≤ at → jobIn bs ≡ held (job s (take (n * s .dimension) cs))
-  ended h = r .same ∙ ap held (read-end s (drop at bs) (take (n * s .dimension) cs) (32 - n) at (omega (arith, length-drop at bs)))
+  ended h = r .same ∙ ap held (points-end s (drop at bs) (take (n * s .dimension) cs) (streamPoints - n) at (omega (arith, length-drop at bs)))
 
-  pub over : length bs ≤ at → 16 < s .neighbours → tooLarge ≡ jobIn bs
+  pub neighbours-over : length bs ≤ at → streamNeighbours < s .neighbours → tooLarge ≡ jobIn bs
   unfolding held
-  over h g = sym (ended h ∙ rw (lt-ltb 16 (s .neighbours) g))
+  neighbours-over h g = sym (ended h ∙ rw (lt-ltb streamNeighbours (s .neighbours) g))
 
-  pub done : length bs ≤ at → s .neighbours ≤ 16 → job s (take (n * s .dimension) cs) ≡ jobIn bs
+  pub job-done : length bs ≤ at → s .neighbours ≤ streamNeighbours → job s (take (n * s .dimension) cs) ≡ jobIn bs
   unfolding held
-  done h g = sym (ended h ∙ rw (le-ltb 16 (s .neighbours) g))
+  job-done h g = sym (ended h ∙ rw (le-ltb streamNeighbours (s .neighbours) g))
 
 -- ---- the policy
-pub policy-auto : (p c : ℕ) → p ≡ 0 → auto ≡ policyOf p c
+pub policy-auto : (p c : ℕ) → p ≡ 0 → auto ≡ policyFrom p c
 policy-auto p c e = rw e
 
-pub policy-fixed : (p c : ℕ) → (p ≡ 0 → ⊥) → fixed c ≡ policyOf p c
+pub policy-fixed : (p c : ℕ) → (p ≡ 0 → ⊥) → fixed c ≡ policyFrom p c
 policy-fixed zero c h = absurd (h refl)
 policy-fixed (suc p) c h = refl

@@ -5,13 +5,10 @@ use lib.ListN.{take}
 use lib.Ieee.{Float}
 use Rattle.config.specs.Params.{settingsOf}
 use Rattle.definition.specs.Tree as tree
-use Rattle.definition.specs.Stream.{Mark, Job, job, broken, streamPoints}
+use Rattle.formats.specs.Stream.{Job, job, broken, streamPoints}
 use Rattle.stream_reader.specs.declared.Settings.{Settings}
 use Rattle.stream_reader.specs.declared.Read.{Read}
 use Rattle.stream_reader.specs.declared.Read.the-variants.{Whole, Broken}
-
-abbrev pub markOf : ℕ → ℕ → Mark
-markOf first second = record { first = first; second = second }
 
 abbrev pub settingsAre : Settings → tree.Settings
 settingsAre s = settingsOf (s .dimensions) (s .params)

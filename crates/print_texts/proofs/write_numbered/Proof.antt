@@ -1,6 +1,6 @@
 -- `print_texts::write_numbered` meets its contract. Assumes nothing.
 use mathlib.Core.List.{[], _∷_}
-use Rattle.definition.specs.Printout.{decimal}
+use Rattle.formats.specs.Printout.{decimal}
 use Rattle.print_texts.proofs.Writing.{begin, next, written, finish, two}
 use borrow.Author.Needs.{needs}
 use Rattle.print_texts.proofs.write_numbered.Statement.{statement}

@@ -1,5 +1,5 @@
 -- `print_texts::write_refusal` meets its contract. Assumes nothing.
-use Rattle.definition.specs.Printout.{ascii}
+use Rattle.formats.specs.Printout.{ascii}
 use Rattle.print_texts.proofs.Writing.{begin, next, written, finish, refusal-texts, refusalTexts}
 use borrow.Author.Needs.{needs}
 use Rattle.print_texts.proofs.write_refusal.Statement.{statement}

@@ -1,6 +1,6 @@
 -- `print_texts::write_row` meets its contract. Assumes nothing.
 use Rattle.print_texts.proofs.Texts.{room-first, room-next, wrote-then}
-use Rattle.definition.specs.Printout.{decimal}
+use Rattle.formats.specs.Printout.{decimal}
 use mathlib.Core.List.{[], _∷_}
 use borrow.Author.Needs.{needs}
 use Rattle.print_texts.proofs.write_row.Statement.{statement}

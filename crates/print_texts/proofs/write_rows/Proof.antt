@@ -1,5 +1,5 @@
 -- `print_texts::write_rows` meets its contract. Assumes nothing.
-use Rattle.print_texts.proofs.Each.{rowText, rows-none, rows-some, each-none, each-all, each-more, more-room}
+use Rattle.print_texts.proofs.Each.{rowText, rows-dash, rows-some, each-none, each-all, each-more, more-room}
 use Rattle.print_texts.proofs.Texts.{spelt, room-spelt, wrote-none}
 use Rattle.print_texts.specs.Wrote.{Wrote}
 use Rattle.lists.specs.Lists.{joined}
@@ -21,13 +21,13 @@ slice-aggregate-write-text : tie.Need-slice-aggregate-write-text Inv-loop μ-loo
 slice-aggregate-write-text c = search needs
 
 write-text-requires : tie.Need-write-text-requires Inv-loop μ-loop
-write-text-requires c κs = room-spelt (rows-none _ (c .before .before .if1 .taken)) (c .before .before .before .before .before .pre)
+write-text-requires c κs = room-spelt (rows-dash _ (c .before .before .if1 .taken)) (c .before .before .before .before .before .pre)
 
 same-length : tie.Need-same-length Inv-loop μ-loop
 same-length c = search needs
 
 returns : tie.Need-returns Inv-loop μ-loop
-returns c = spelt (sym (rows-none _ (c .before .before .before .before .before .if1 .taken))) (c .before .before .write-text .ensures)
+returns c = spelt (sym (rows-dash _ (c .before .before .before .before .before .if1 .taken))) (c .before .before .write-text .ensures)
 
 loop-holds : tie.Need-loop-holds Inv-loop μ-loop
 loop-holds c = (spelt (sym (each-none rowText (c .before .before .before .args .rows .now))) (wrote-none _ _), search needs, search needs)

@@ -1,6 +1,6 @@
 -- `print_tree::write_domain` meets its contract. Assumes nothing.
 use Rattle.print_tree.specs.Unpack.{leafOf, boxPart}
-use Rattle.definition.specs.Printout.{ascii}
+use Rattle.formats.specs.Printout.{ascii}
 use Rattle.print_texts.proofs.Writing.{begin, next, written, finish}
 use Rattle.print_tree.proofs.Lines.{domain-texts, domainTexts}
 use borrow.Author.Needs.{needs}

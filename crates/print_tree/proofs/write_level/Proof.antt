@@ -1,5 +1,5 @@
 -- `print_tree::write_level` meets its contract. Assumes nothing.
-use Rattle.definition.specs.Printout.{ascii}
+use Rattle.formats.specs.Printout.{ascii}
 use Rattle.print_texts.proofs.Writing.{begin, next, written, finish}
 use Rattle.print_tree.proofs.Lines.{level-texts, levelTexts}
 use borrow.Author.Needs.{needs}

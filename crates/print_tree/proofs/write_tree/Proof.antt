@@ -1,7 +1,7 @@
 -- `print_tree::write_tree` meets its contract. Assumes nothing.
 use Rattle.print_tree.specs.Unpack.{packed, levelsAt}
 use Rattle.print_tree.proofs.Levels.{how-many}
-use Rattle.definition.specs.Printout.{ascii}
+use Rattle.formats.specs.Printout.{ascii}
 use Rattle.print_texts.proofs.Writing.{begin, next, written, finish}
 use Rattle.print_tree.proofs.Lines.{tree-texts, treeTexts}
 use borrow.Author.Needs.{needs}

@@ -3,7 +3,7 @@ use mathlib.Core.Path.{sym}
 use native.Mathlib.Omega.{arith}
 use lib.Seq.{length-take-le}
 use Rattle.print_texts.proofs.Texts.{spelt}
-use Rattle.printout.proofs.Joins.{refusal-room, broken-here, whole-here, kept-here, floats-here}
+use Rattle.printout.proofs.Joins.{refusal-room, broken-here, whole-here, limits-here, floats-here}
 use borrow.Author.Needs.{needs}
 use Rattle.printout.proofs.write_printout.Statement.{statement}
 use Rattle.printout.proofs.write_printout.Tie as tie
@@ -55,7 +55,7 @@ write-job-requires c κs =
     let start = c .before .before .before .before .before .before .before .before .before .before .before in
     let told = c .before .before .before .before .read2 .given .1 in
     let same = c .before .before .before .before .before .before .before .read-job .ensures .0 in
-    (kept-here _ _ (start .args .input .now) same _ _ told, start .pre)
+    (limits-here _ _ (start .args .input .now) same _ _ told, start .pre)
 
 same-length : tie.Need-same-length
 same-length c = search needs

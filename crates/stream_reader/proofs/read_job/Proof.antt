@@ -1,5 +1,5 @@
 -- `stream_reader::read_job` meets its contract. Assumes nothing.
-use Rattle.stream_reader.proofs.Records.{Reading, job-broken, whole-long, job-low, job-high, begun, cut, full, spot, point-room, more, over, done}
+use Rattle.stream_reader.proofs.Records.{Reading, job-broken, whole-long, job-low, job-high, begun, cut, full, spot, point-room, more, neighbours-over, job-done}
 use Rattle.stream_reader.specs.Reading.{settingsAre}
 use borrow.Author.Tests.{not-true, not-false}
 use lib.ListN.{length}
@@ -131,13 +131,13 @@ same-length-3 : tie.Need-same-length-3 Inv-loop μ-loop
 same-length-3 c = search needs
 
 returns-6 : tie.Need-returns-6 Inv-loop μ-loop
-returns-6 c = (over (c .before .before .loop .inv .0) (c .before .loop-test .left) (c .if6 .taken), tt)
+returns-6 c = (neighbours-over (c .before .before .loop .inv .0) (c .before .loop-test .left) (c .if6 .taken), tt)
 
 same-length-4 : tie.Need-same-length-4 Inv-loop μ-loop
 same-length-4 c = search needs
 
 returns-7 : tie.Need-returns-7 Inv-loop μ-loop
-returns-7 c = (done (c .before .before .loop .inv .0) (c .before .loop-test .left) (c .if6 .left), c .before .before .loop .inv .0 .few)
+returns-7 c = (job-done (c .before .before .loop .inv .0) (c .before .loop-test .left) (c .if6 .left), c .before .before .loop .inv .0 .few)
 
 pub read-job-spec : {M : Type 1} → statement M
 read-job-spec =

@@ -1,6 +1,7 @@
 -- `stream_reader::read_point` meets its contract. Assumes nothing.
 use Rattle.stream_reader.proofs.Records.{point-none, point-step}
-use Rattle.definition.specs.Stream.{coordinatesAt}
+use Rattle.formats.specs.Bytes.{markSize}
+use Rattle.formats.specs.Stream.{coordinatesAt}
 use Rattle.lists.specs.Lists.{put}
 use lib.ListN.{length, drop, length-set}
 use Prim.Native.Nat.{_-_, _≤_}
@@ -11,7 +12,7 @@ use Rattle.stream_reader.proofs.read_point.Statement.{statement}
 use Rattle.stream_reader.proofs.read_point.Tie as tie
 
 abbrev Inv-loop : tie.InvT-loop
-Inv-loop d input at coords₀ k a₀ coords a = (coords ≡ put coords₀ k (coordinatesAt a 2 (drop at input))) × (a ≤ d) × (length coords ≡ length coords₀)
+Inv-loop d input at coords₀ k a₀ coords a = (coords ≡ put coords₀ k (coordinatesAt a markSize (drop at input))) × (a ≤ d) × (length coords ≡ length coords₀)
 
 abbrev μ-loop : tie.MeasureT-loop
 μ-loop d input at coords₀ k a₀ coords a = d - a
@@ -19,20 +20,17 @@ abbrev μ-loop : tie.MeasureT-loop
 loop-holds : tie.Need-loop-holds Inv-loop μ-loop
 loop-holds c = (point-none (c .before .before .args .at) (c .before .before .args .input .now) _ _, search needs, search needs)
 
-mul-little-at : tie.Need-mul-little-at Inv-loop μ-loop
-mul-little-at c = search needs
+mul-float-at : tie.Need-mul-float-at Inv-loop μ-loop
+mul-float-at c = search needs
 
-add-little-at : tie.Need-add-little-at Inv-loop μ-loop
-add-little-at c = search needs
+add-float-at : tie.Need-add-float-at Inv-loop μ-loop
+add-float-at c = search needs
 
-add-little-at-2 : tie.Need-add-little-at-2 Inv-loop μ-loop
-add-little-at-2 c = search needs
+add-float-at-2 : tie.Need-add-float-at-2 Inv-loop μ-loop
+add-float-at-2 c = search needs
 
-little-at-requires : tie.Need-little-at-requires Inv-loop μ-loop
-little-at-requires c κs = omega (arith, c .before .before .before .before .pre)
-
-float-of-requires : tie.Need-float-of-requires Inv-loop μ-loop
-float-of-requires c κs = search needs
+float-at-requires : tie.Need-float-at-requires Inv-loop μ-loop
+float-at-requires c κs = search needs
 
 add-coords : tie.Need-add-coords Inv-loop μ-loop
 add-coords c = search needs
@@ -51,10 +49,10 @@ loop-less c = search needs
 
 loop-again : tie.Need-loop-again Inv-loop μ-loop
 loop-again c =
-    let start = c .before .before .before .before .before .before in
-    let turn = c .before .before .before in (
-      point-step (start .args .at) (start .args .input .now) _ _ (start .args .k) (turn .loop .a) _ _ (turn .loop .inv .0) (search needs)
-          (c .before .little-at .ensures .0) (c .float-of .ensures),
+    let start = c .before .before .before .before .before in
+    let turn = c .before .before in (
+      point-step (start .args .at) (start .args .input .now) _ _ (start .args .k) (turn .loop .a) _ (turn .loop .inv .0) (search needs)
+          (c .float-at .ensures),
       search needs,
       simp length-set (search needs),
     )
@@ -74,11 +72,10 @@ read-point-spec =
     Inv-loop
     μ-loop
     loop-holds
-    mul-little-at
-    add-little-at
-    add-little-at-2
-    little-at-requires
-    float-of-requires
+    mul-float-at
+    add-float-at
+    add-float-at-2
+    float-at-requires
     add-coords
     mul-coords
     slice-write-coords

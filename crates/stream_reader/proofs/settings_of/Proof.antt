@@ -1,5 +1,5 @@
 -- `stream_reader::settings_of` meets its contract. Assumes nothing.
-use Rattle.definition.specs.Stream.{settingsIn}
+use Rattle.formats.specs.Stream.{settingsIn}
 use borrow.Author.Needs.{needs}
 use Rattle.stream_reader.proofs.settings_of.Statement.{statement}
 use Rattle.stream_reader.proofs.settings_of.Tie as tie

@@ -1,6 +1,6 @@
 -- `stream_reader::settings_whole` meets its contract. Assumes nothing.
 use borrow.Author.Tests.{not-true, not-false}
-use Rattle.stream_reader.proofs.Bytes.{whole-short, whole-mark, whole-fixed, whole-auto, whole-other}
+use Rattle.stream_reader.proofs.Whole.{whole-short, whole-mark, whole-fixed, whole-auto, whole-other}
 use mathlib.Core.Path.{sym, _∙_}
 use borrow.Author.Needs.{needs}
 use Rattle.stream_reader.proofs.settings_whole.Statement.{statement}

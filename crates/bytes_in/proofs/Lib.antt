@@ -1,0 +1,2 @@
+-- Laws on numbers, floats and marks of bytes.
+pub mod Bytes

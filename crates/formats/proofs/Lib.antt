@@ -1,0 +1,2 @@
+-- The tables of examples.
+pub mod WorkedStreams
