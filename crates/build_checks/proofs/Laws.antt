@@ -4,7 +4,7 @@ use mathlib.Core.Bool.{Bool, true, false, not, _||_, cond, and-false}
 use mathlib.Core.List.{List, [], _∷_, _++_}
 use Prim.Native.Nat.{ℕ, zero, suc, _+_, _*_, _/_, _%_, _^_, _≤_, _<_}
 use native.Mathlib.Omega.{arith}
-use native.Mathlib.Nat.{mul-le-mul, mul-le-mul-left, le-trans, pow-le-pow-right, zero-div, zero-mod, zero-mul, div-add-mod'}
+use native.Mathlib.Nat.{mul-le-mul-left, le-trans, pow-le-pow-right, zero-div, zero-mod, zero-mul, div-add-mod'}
 use borrow.Author.Tests.{le-leb, lt-leb, lt-ltb, le-ltb, eq-eqb, ne-eqb, leb-true, leb-false}
 use lib.Dec.{leb, ltb, eqb}
 use lib.ListN.{length}
@@ -145,75 +145,39 @@ reductions-few n c f p h =
     (mul-le-mul-left c (pow-le-pow-right p h))
 
 -- ---- the lists
-module _ (lent : BuildSizes) (d n q : ℕ) where
-  abbrev asked : BuildSizes
-  asked = buildStated d n q
+module _ (lent stated : BuildSizes) where
+  pub short-1 : lent .points < stated .points → true ≡ buildShort lent stated
+  unfolding buildShort
+  short-1 h = simp (lt-ltb (lent .points) (stated .points) h)
 
-  pub short-1 : lent .points < 4 * n → true ≡ buildShort lent (buildStated d n q)
-  unfolding buildShort buildStated
-  short-1 h = simp (lt-ltb (lent .points) (4 * n) h)
+  module _ (a : stated .points ≤ lent .points) where
+    pub short-2 : lent .internals < stated .internals → true ≡ buildShort lent stated
+    unfolding buildShort
+    short-2 h = simp (le-ltb (lent .points) (stated .points) a, lt-ltb (lent .internals) (stated .internals) h)
 
-  module _ (a : 4 * n ≤ lent .points) where
-    pub short-2 : lent .internals < 4 * n → true ≡ buildShort lent (buildStated d n q)
-    unfolding buildShort buildStated
-    short-2 h = simp (le-ltb (lent .points) (4 * n) a, lt-ltb (lent .internals) (4 * n) h)
+    module _ (b : stated .internals ≤ lent .internals) where
+      pub short-3 : lent .domains < stated .domains → true ≡ buildShort lent stated
+      unfolding buildShort
+      short-3 h = simp (le-ltb (lent .points) (stated .points) a, le-ltb (lent .internals) (stated .internals) b, lt-ltb (lent .domains) (stated .domains) h)
 
-    module _ (b : 4 * n ≤ lent .internals) where
-      pub short-3 : lent .domains < 4 * (6 * n + 1) → true ≡ buildShort lent (buildStated d n q)
-      unfolding buildShort buildStated
-      short-3 h = simp (le-ltb (lent .points) (4 * n) a, le-ltb (lent .internals) (4 * n) b, lt-ltb (lent .domains) (4 * (6 * n + 1)) h)
+      module _ (c : stated .domains ≤ lent .domains) where
+        pub short-4 : lent .boxes < stated .boxes → true ≡ buildShort lent stated
+        unfolding buildShort
+        short-4 h = simp (le-ltb (lent .points) (stated .points) a, le-ltb (lent .internals) (stated .internals) b, le-ltb (lent .domains) (stated .domains) c, lt-ltb (lent .boxes) (stated .boxes) h)
 
-      module _ (e : 4 * (6 * n + 1) ≤ lent .domains) where
-        pub short-4 : lent .boxes < 2 * d * (6 * n + 1) → true ≡ buildShort lent (buildStated d n q)
-        unfolding buildShort buildStated
-        short-4 h =
-            simp (
-              le-ltb (lent .points) (4 * n) a,
-              le-ltb (lent .internals) (4 * n) b,
-              le-ltb (lent .domains) (4 * (6 * n + 1)) e,
-              lt-ltb (lent .boxes) (2 * d * (6 * n + 1)) h,
-            )
+        module _ (d : stated .boxes ≤ lent .boxes) where
+          pub short-5 : lent .borrowed < stated .borrowed → true ≡ buildShort lent stated
+          unfolding buildShort
+          short-5 h = simp (le-ltb (lent .points) (stated .points) a, le-ltb (lent .internals) (stated .internals) b, le-ltb (lent .domains) (stated .domains) c, le-ltb (lent .boxes) (stated .boxes) d, lt-ltb (lent .borrowed) (stated .borrowed) h)
 
-        module _ (f : 2 * d * (6 * n + 1) ≤ lent .boxes) where
-          pub short-5 : lent .borrowed < 6 * n * (q + 1) → true ≡ buildShort lent (buildStated d n q)
-          unfolding buildShort buildStated
-          short-5 h =
-              simp (
-                le-ltb (lent .points) (4 * n) a,
-                le-ltb (lent .internals) (4 * n) b,
-                le-ltb (lent .domains) (4 * (6 * n + 1)) e,
-                le-ltb (lent .boxes) (2 * d * (6 * n + 1)) f,
-                lt-ltb (lent .borrowed) (6 * n * (q + 1)) h,
-              )
+          module _ (e : stated .borrowed ≤ lent .borrowed) where
+            pub short-6 : lent .floats < stated .floats → true ≡ buildShort lent stated
+            unfolding buildShort
+            short-6 h = simp (le-ltb (lent .points) (stated .points) a, le-ltb (lent .internals) (stated .internals) b, le-ltb (lent .domains) (stated .domains) c, le-ltb (lent .boxes) (stated .boxes) d, le-ltb (lent .borrowed) (stated .borrowed) e, lt-ltb (lent .floats) (stated .floats) h)
 
-          module _ (g : 6 * n * (q + 1) ≤ lent .borrowed) where
-            pub short-6 : lent .floats < 32 * n → true ≡ buildShort lent (buildStated d n q)
-            unfolding buildShort buildStated
-            short-6 h =
-                simp (
-                  le-ltb (lent .points) (4 * n) a,
-                  le-ltb (lent .internals) (4 * n) b,
-                  le-ltb (lent .domains) (4 * (6 * n + 1)) e,
-                  le-ltb (lent .boxes) (2 * d * (6 * n + 1)) f,
-                  le-ltb (lent .borrowed) (6 * n * (q + 1)) g,
-                  lt-ltb (lent .floats) (32 * n) h,
-                )
-
-            pub short-7 : 32 * n ≤ lent .floats → ltb (lent .wholes) (32 * n + 8 * n * (q + 1)) ≡ buildShort lent (buildStated d n q)
-            unfolding buildShort buildStated
-            short-7 h =
-                simp (
-                  le-ltb (lent .points) (4 * n) a,
-                  le-ltb (lent .internals) (4 * n) b,
-                  le-ltb (lent .domains) (4 * (6 * n + 1)) e,
-                  le-ltb (lent .boxes) (2 * d * (6 * n + 1)) f,
-                  le-ltb (lent .borrowed) (6 * n * (q + 1)) g,
-                  le-ltb (lent .floats) (32 * n) h,
-                )
-
--- a product of two small numbers
-pub small-product : (x y a b : ℕ) → x ≤ a → y ≤ b → x * y ≤ a * b
-small-product x y a b h g = mul-le-mul h g
+            pub short-7 : stated .floats ≤ lent .floats → ltb (lent .wholes) (stated .wholes) ≡ buildShort lent stated
+            unfolding buildShort
+            short-7 h = simp (le-ltb (lent .points) (stated .points) a, le-ltb (lent .internals) (stated .internals) b, le-ltb (lent .domains) (stated .domains) c, le-ltb (lent .boxes) (stated .boxes) d, le-ltb (lent .borrowed) (stated .borrowed) e, le-ltb (lent .floats) (stated .floats) h)
 
 -- ---- the coordinates
 bad-from : (i : ℕ) (cs : List Float) → (i ≤ firstBad i cs) × (firstBad i cs ≤ i + length cs)

@@ -6,7 +6,9 @@ ghost use lib.Dec.{eqb};
 ghost use Rattle.definition.specs.Packed.{buildStated};
 ghost use Rattle.definition.specs.Refusals.{verdict, settingsTests, pointsTests, zeroThreshold, buildShort, buildVerdict};
 ghost use Rattle.config.specs.Params.{policyOf, settingsOf};
-ghost use Rattle.build_checks.specs.Verdicts.{numbered, verdictOf, sizesOf};
+ghost use Rattle.build_sizes.specs.Sizes.{sizesOf};
+ghost use Rattle.build_checks.specs.Verdicts.{numbered, verdictOf};
+use build_sizes::BuildSizes;
 use config::DDMParams;
 use config::SizePolicy;
 
@@ -20,17 +22,6 @@ const MOST_NEIGHBOURS: u32 = 64;
 pub enum Checked {
     Accepted,
     Refused(usize, usize),
-}
-
-// The lengths of the lists lent to a build.
-pub struct Lent {
-    pub level_points: usize,
-    pub internals: usize,
-    pub domains: usize,
-    pub boxes: usize,
-    pub borrowed: usize,
-    pub floats: usize,
-    pub wholes: usize,
 }
 
 // Whether the coarse threshold is fixed at 0.
@@ -95,35 +86,39 @@ fn points_fault(count: usize, dimensions: usize, params: DDMParams) -> usize
 }
 
 // Whether one of the lists is shorter than n points on `dimensions` axes with this neighbour count ask for.
-fn is_short(lent: Lent, dimensions: usize, n: usize, neighbours: usize) -> bool
+fn is_short(lent: BuildSizes, dimensions: usize, n: usize, neighbours: usize) -> bool
     requires { ⌜ (dimensions ≤ 3) × (n ≤ 1048576) × (neighbours ≤ 64) ⌝ }
     ensures { λ r. ⌜ r ≡ buildShort (sizesOf lent) (buildStated dimensions n neighbours) ⌝ }
 {
-    let rows = 6 * n + 1;
-    let taken = neighbours + 1;
-    if lent.level_points < 4 * n {
+    let stated = build_sizes::stated_sizes(dimensions, n, neighbours);
+    if lent.level_points < stated.level_points {
         return true;
     }
-    if lent.internals < 4 * n {
+    if lent.internals < stated.internals {
         return true;
     }
-    if lent.domains < 4 * rows {
+    if lent.domains < stated.domains {
         return true;
     }
-    if lent.boxes < 2 * dimensions * rows {
+    if lent.boxes < stated.boxes {
         return true;
     }
-    if lent.borrowed < 6 * n * taken {
+    if lent.borrowed < stated.borrowed {
         return true;
     }
-    if lent.floats < 32 * n {
+    if lent.floats < stated.floats {
         return true;
     }
-    lent.wholes < 32 * n + 8 * n * taken
+    lent.wholes < stated.wholes
 }
 
 // The tests of a build over all points, with lists of these lengths.
-pub fn check_build(points: &[f64], dimensions: usize, params: DDMParams, lent: Lent) -> Checked
+pub fn check_build(
+    points: &[f64],
+    dimensions: usize,
+    params: DDMParams,
+    lent: BuildSizes,
+) -> Checked
     ensures { λ r. ⌜ verdictOf r ≡ buildVerdict (settingsOf dimensions params) (now (points .entry)) (sizesOf lent) ⌝ }
 {
     let settings = settings_fault(dimensions, params);
@@ -138,7 +133,7 @@ pub fn check_build(points: &[f64], dimensions: usize, params: DDMParams, lent: L
     if is_short(lent, dimensions, n, params.overlap_knn as usize) {
         return Checked::Refused(11, 0);
     }
-    let bad = root::first_not_finite(points);
+    let bad = finite::first_not_finite(points);
     if bad < points.len() {
         return Checked::Refused(10, bad);
     }

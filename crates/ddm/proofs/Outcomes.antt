@@ -1,5 +1,5 @@
 -- The outcome of a build, from the verdict on it. Assumes nothing.
-use mathlib.Core.Path.{_≡_, refl}
+use mathlib.Core.Path.{_≡_, refl, ap}
 use mathlib.Core.List.{List}
 use Prim.Native.Nat.{ℕ}
 use lib.ListN.{length}
@@ -7,9 +7,31 @@ use lib.Ieee.{Float}
 use Rattle.lists.specs.Lists.{put}
 use Rattle.lists.proofs.Put.{put-zero}
 use Rattle.definition.specs.Tree.{Settings, levels}
-use Rattle.definition.specs.Packed.{countsOf, packedPoints, packedOwn, packedDomains, packedBoxes, packedBorrowed}
+use Rattle.definition.specs.Packed.{Counts, countsOf, packedPoints, packedOwn, packedDomains, packedBoxes, packedBorrowed}
 use Rattle.definition.specs.Refusals.{Refusal, Verdict, accepted, refused}
-use Rattle.definition.specs.Outcome.{TreeLists, numberOf, placeOf, valueOf, written, listAfter, treeListsAfter, RoomAfter, zeroCounts, buildCall, buildAnswer, buildLists}
+use Rattle.definition.specs.Outcome.{Answer, TreeLists, numberOf, placeOf, valueOf, written, listAfter, treeListsAfter, RoomAfter, zeroCounts, buildCall, buildAnswer, buildLists}
+use Rattle.demand3.proofs.Demand.{demand-3-of}
+use Rattle.ddm.specs.Build.{listsOf, Built}
+
+-- ---- the lists one by one, and together
+pub whole-lists : {p p′ i i′ d d′ l l′ : List ℕ} {b b′ : List Float} → p ≡ p′ → i ≡ i′ → d ≡ d′ → b ≡ b′ → l ≡ l′ → listsOf p i d b l ≡ listsOf p′ i′ d′ b′ l′
+whole-lists e f g h k = rw (e, f, g, h, k)
+
+-- ---- the whole outcome: demand 3 follows from the answer and the lists
+pub built : (s : Settings) (cs : List Float) (old : TreeLists) (floats : List Float) (wholes : List ℕ) {floats′ : List Float} {wholes′ : List ℕ} {new : TreeLists} {answer : Answer Counts}
+    → answer ≡ buildAnswer s cs old floats wholes → new ≡ buildLists s cs old floats wholes
+    → RoomAfter (buildCall s cs old floats wholes) floats floats′ → RoomAfter (buildCall s cs old floats wholes) wholes wholes′
+    → Built s cs old new floats floats′ wholes wholes′ answer
+built s cs old floats wholes a l f w =
+    record {
+      answers = a;
+      lists = l;
+      floats-free = f;
+      wholes-free = w;
+      demand3 =
+          demand-3-of s cs old floats wholes _ _ _ _ _ _ a (ap (λ (t : TreeLists). t .points) l) (ap (λ (t : TreeLists). t .internals) l) (ap (λ (t : TreeLists). t .domains) l)
+          (ap (λ (t : TreeLists). t .boxes) l) (ap (λ (t : TreeLists). t .borrowed) l);
+    }
 
 -- ---- working room
 pub room-refused : {A : Type 0} (v : Verdict) (r : Refusal) (l : List A) → v ≡ refused r → RoomAfter v l l

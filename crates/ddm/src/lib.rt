@@ -4,15 +4,15 @@ ghost use Rattle.lists.specs.Lists.{put};
 ghost use Rattle.definition.specs.Tree.{levels};
 ghost use Rattle.definition.specs.Packed.{countsOf, packedPoints, packedOwn, packedDomains, packedBoxes, packedBorrowed};
 ghost use Rattle.definition.specs.Refusals.{accepted};
-ghost use Rattle.definition.specs.Outcome.{zeroCounts, buildCall, buildAnswer, buildLists, RoomAfter};
+ghost use Rattle.definition.specs.Outcome.{zeroCounts, buildCall};
 ghost use Rattle.config.specs.Params.{settingsOf};
-ghost use Rattle.demand3.specs.Handed.{handed};
-ghost use Rattle.demand3.specs.Demand3.{Demand3};
-ghost use Rattle.ddm.specs.Build.{treeAnswer, listsOf};
+ghost use Rattle.ddm.specs.Build.{treeAnswer, listsOf, Built};
 use build_checks::Checked;
-use build_checks::Lent;
 
 // The settings, and the other calls, each with its answer.
+pub use build_sizes::BuildSizes;
+pub use build_sizes::SizesAnswer;
+pub use build_sizes::build_sizes;
 pub use config::DDMParams;
 pub use config::SizePolicy;
 pub use leaf_rows::DomainRow;
@@ -118,17 +118,12 @@ pub fn build(
     floats: &mut [f64],
     wholes: &mut [usize],
 ) -> DDMTree
-    ensures answer { λ r. ⌜ treeAnswer r ≡ buildAnswer (settingsOf dimensions params) (now (points .entry)) (listsOf (now («level_points» .entry)) (now (internals .entry)) (now (domains .entry)) (now (boxes .entry)) (now (borrowed .entry))) (now (floats .entry)) (now (wholes .entry)) ⌝ }
-    ensures points { λ _. ⌜ now («level_points» .exit) ≡ buildLists (settingsOf dimensions params) (now (points .entry)) (listsOf (now («level_points» .entry)) (now (internals .entry)) (now (domains .entry)) (now (boxes .entry)) (now (borrowed .entry))) (now (floats .entry)) (now (wholes .entry)) .points ⌝ }
-    ensures internals { λ _. ⌜ now (internals .exit) ≡ buildLists (settingsOf dimensions params) (now (points .entry)) (listsOf (now («level_points» .entry)) (now (internals .entry)) (now (domains .entry)) (now (boxes .entry)) (now (borrowed .entry))) (now (floats .entry)) (now (wholes .entry)) .internals ⌝ }
-    ensures domains { λ _. ⌜ now (domains .exit) ≡ buildLists (settingsOf dimensions params) (now (points .entry)) (listsOf (now («level_points» .entry)) (now (internals .entry)) (now (domains .entry)) (now (boxes .entry)) (now (borrowed .entry))) (now (floats .entry)) (now (wholes .entry)) .domains ⌝ }
-    ensures boxes { λ _. ⌜ now (boxes .exit) ≡ buildLists (settingsOf dimensions params) (now (points .entry)) (listsOf (now («level_points» .entry)) (now (internals .entry)) (now (domains .entry)) (now (boxes .entry)) (now (borrowed .entry))) (now (floats .entry)) (now (wholes .entry)) .boxes ⌝ }
-    ensures borrowed { λ _. ⌜ now (borrowed .exit) ≡ buildLists (settingsOf dimensions params) (now (points .entry)) (listsOf (now («level_points» .entry)) (now (internals .entry)) (now (domains .entry)) (now (boxes .entry)) (now (borrowed .entry))) (now (floats .entry)) (now (wholes .entry)) .borrowed ⌝ }
-    ensures floats { λ _. ⌜ RoomAfter (buildCall (settingsOf dimensions params) (now (points .entry)) (listsOf (now («level_points» .entry)) (now (internals .entry)) (now (domains .entry)) (now (boxes .entry)) (now (borrowed .entry))) (now (floats .entry)) (now (wholes .entry))) (now (floats .entry)) (now (floats .exit)) ⌝ }
-    ensures wholes { λ _. ⌜ RoomAfter (buildCall (settingsOf dimensions params) (now (points .entry)) (listsOf (now («level_points» .entry)) (now (internals .entry)) (now (domains .entry)) (now (boxes .entry)) (now (borrowed .entry))) (now (floats .entry)) (now (wholes .entry))) (now (wholes .entry)) (now (wholes .exit)) ⌝ }
-    ensures demand3 { λ r. ⌜ (buildCall (settingsOf dimensions params) (now (points .entry)) (listsOf (now («level_points» .entry)) (now (internals .entry)) (now (domains .entry)) (now (boxes .entry)) (now (borrowed .entry))) (now (floats .entry)) (now (wholes .entry)) ≡ accepted → Demand3 (settingsOf dimensions params) (now (points .entry)) (handed (treeAnswer r) (listsOf (now («level_points» .exit)) (now (internals .exit)) (now (domains .exit)) (now (boxes .exit)) (now (borrowed .exit))))) ⌝ }
+    ensures { λ r. ⌜ Built (settingsOf dimensions params) (now (points .entry))
+        (listsOf (now («level_points» .entry)) (now (internals .entry)) (now (domains .entry)) (now (boxes .entry)) (now (borrowed .entry)))
+        (listsOf (now («level_points» .exit)) (now (internals .exit)) (now (domains .exit)) (now (boxes .exit)) (now (borrowed .exit)))
+        (now (floats .entry)) (now (floats .exit)) (now (wholes .entry)) (now (wholes .exit)) (treeAnswer r) ⌝ }
 {
-    let lent = Lent {
+    let lent = BuildSizes {
         level_points: level_points.len(),
         internals: internals.len(),
         domains: domains.len(),

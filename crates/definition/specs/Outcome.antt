@@ -11,8 +11,8 @@ use Rattle.definition.specs.Levels.{levelSize}
 use Rattle.definition.specs.Quotas.{heldSeats, quotas}
 use Rattle.definition.specs.Sampling.{sample}
 use Rattle.definition.specs.Tree.{Settings, Level, levels, pointCount}
-use Rattle.definition.specs.Packed.{DomainRow, BuildSizes, Counts, countsOf, packedPoints, packedOwn, packedDomains, packedBoxes, packedBorrowed}
-use Rattle.definition.specs.Refusals.{Verdict, accepted, refused, buildVerdict, sampleVerdict, sizeVerdict, quotaVerdict, stretchVerdict, rootVerdict}
+use Rattle.definition.specs.Packed.{DomainRow, BuildSizes, buildStated, Counts, countsOf, packedPoints, packedOwn, packedDomains, packedBoxes, packedBorrowed}
+use Rattle.definition.specs.Refusals.{Verdict, accepted, refused, buildVerdict, sizesVerdict, sampleVerdict, sizeVerdict, quotaVerdict, stretchVerdict, rootVerdict}
 
 -- ---- what a call answers, and what becomes of a lent list
 
@@ -139,6 +139,16 @@ treeListsAfter v tree old =
 
 unfoldable pub buildLists : Settings → List Float → TreeLists → List Float → List ℕ → TreeLists
 buildLists s cs old floats wholes = treeListsAfter (buildCall s cs old floats wholes) (levels s cs) old
+
+-- ---- the lengths that a build is to be lent, asked alone
+
+-- what a refused call reports
+abbrev pub zeroSizes : BuildSizes
+zeroSizes =
+    record { points = 0; internals = 0; domains = 0; boxes = 0; borrowed = 0; floats = 0; wholes = 0 }
+
+unfoldable pub sizesAnswer : ℕ → ℕ → ℕ → Answer BuildSizes
+sizesAnswer d n neighbours = answered (sizesVerdict d n neighbours) (buildStated d n neighbours) zeroSizes
 
 -- ---- a leaf's stretch
 

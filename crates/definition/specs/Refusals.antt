@@ -116,6 +116,12 @@ buildVerdict s cs lent =
     let n = pointCount d cs in
     verdict (buildTests s n (coordinatesMissing d cs) (buildShort lent (buildStated d n (s .neighbours))) (notFinite cs))
 
+-- the lengths that a build over n points is to be lent, asked alone: 1, 5, 6, 8
+unfoldable pub sizesVerdict : ℕ → ℕ → ℕ → Verdict
+sizesVerdict d n neighbours =
+    verdict
+    (on (wrongDimension d) 1 ∷ on (ltb mostNeighbours neighbours) 5 ∷ on (eqb n 0) 6 ∷ on (ltb mostPoints n) 8 ∷ [])
+
 -- sampling: 1, 6, 7, 8, 13, 11, 10
 unfoldable pub sampleVerdict : ℕ → List Float → ℕ → ℕ → SampleSizes → Verdict
 sampleVerdict d cs wanted seed lent =

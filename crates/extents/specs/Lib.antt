@@ -1,3 +1,2 @@
--- What the contracts of boxes and bounds cite beside the definition.
-pub mod Boxes
+-- What the contracts of bounds cite beside the definition.
 pub mod Sides

@@ -5,9 +5,9 @@ ghost use Prim.Native.Nat.{_+_, _*_, _≤_, _<_};
 ghost use lib.ListN.{length};
 ghost use Rattle.lists.specs.Ascends.{All};
 ghost use Rattle.definition.specs.Points.{leastOf, greatestOf, column, lowerBound, upperBound, extents};
-ghost use Rattle.extents.specs.Boxes.{floatsOf};
+ghost use Rattle.boxes.specs.Boxes.{floatsOf};
 ghost use Rattle.extents.specs.Sides.{beyond};
-use super::boxes::Extents;
+use boxes::Extents;
 
 // Whether v is above w, or below it where `upper` is false.
 pub fn is_beyond(v: f64, w: f64, upper: bool) -> bool

@@ -1,4 +1,3 @@
 -- Laws of a level's leaves.
 pub mod Domains
-pub mod Boxes
 pub mod Turns

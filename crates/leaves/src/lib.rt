@@ -1,27 +1,15 @@
 // The leaves of a level: domains are cut in place in the working room, wait in a queue behind the rows, and are packed as leaves.
 ghost use mathlib.Core.Path.{_≡_};
-ghost use mathlib.Core.List.{[], _∷_, _++_, map};
+ghost use mathlib.Core.List.{[], _∷_, map};
 ghost use Prim.Native.Nat.{_+_, _*_, _≤_, _<_};
-ghost use lib.ListN.{length, set};
+ghost use lib.ListN.{length};
 ghost use Rattle.lists.specs.Lists.{put, joined};
 ghost use Rattle.lists.specs.Ascends.{All};
 ghost use Rattle.definition.specs.Packed.{rowNumbers, rowFloats};
 ghost use Rattle.definition.specs.Points.{extents};
 ghost use Rattle.definition.specs.Cut.{leavesOf};
 ghost use Rattle.queue.specs.Rows.{withOwn};
-ghost use Rattle.extents.specs.Boxes.{floatsOf};
 ghost use Rattle.halving.specs.Rows.{GoodRows};
-
-// Writes the boxes of the two halves of a domain to a list, from `at` on. Each is the domain's box with one bound changed: on the
-// left the upper one, on the right the lower one.
-fn write_halves(whole: extents::Extents, axis: usize, plane: f64, out: &mut [f64], at: usize)
-    requires { ⌜ (axis < whole .dimensions) × (whole .dimensions ≤ 3) × (at + 2 * rowFloats (whole .dimensions) ≤ length (now out)) ⌝ }
-    ensures { λ _. ⌜ now (out .exit) ≡ put (now (out .entry)) at (set (floatsOf whole) (whole .dimensions + axis) plane ++ set (floatsOf whole) axis plane) ⌝ }
-{
-    let right = at + 2 * whole.dimensions;
-    extents::write_box(whole.with_upper(axis, plane), out, at);
-    extents::write_box(whole.with_lower(axis, plane), out, right);
-}
 
 // Puts the root domain into the working room: the active rows, then its stretch as the first of the queue, and its box.
 fn put_root(
@@ -39,7 +27,7 @@ fn put_root(
     let n = active.len();
     stretches::copy_rows(active, 0, n, work, 0);
     stretches::put_pair(work, n, 0, n);
-    extents::write_box(
+    boxes::write_box(
         extents::get_pointarray_extents(points, dimensions, active),
         held,
         0,
@@ -80,16 +68,16 @@ pub fn leaves(
     while head < tail {
         let start = work[n + 2 * head];
         let count = work[n + 2 * head + 1];
-        let whole = extents::read_box(held, floats * head, dimensions);
+        let whole = boxes::read_box(held, floats * head, dimensions);
         let plane = cut::cut_stretch(points, dimensions, work, start, count, 5 * n);
         head += 1;
         if leaf <= count / 2 {
             queue::put_halves(work, n + 2 * tail, start, count);
-            write_halves(whole, plane.axis, plane.value, held, floats * tail);
+            boxes::write_halves(whole, plane.axis, plane.value, held, floats * tail);
             tail += 2;
         } else {
             queue::pack_leaves(work, start, count, internals, end, domains, k);
-            write_halves(whole, plane.axis, plane.value, boxes, floats * k);
+            boxes::write_halves(whole, plane.axis, plane.value, boxes, floats * k);
             end += count;
             k += 2;
         }

@@ -1,15 +1,14 @@
 // The levels of a tree: a fine level while the active rows outnumber the coarse threshold, and then the coarse level.
 ghost use mathlib.Core.Path.{_≡_};
 ghost use mathlib.Core.Bool.{_&&_};
-ghost use mathlib.Core.List.{[], _∷_, map};
-ghost use Prim.Native.Nat.{_+_, _*_, _≤_, _<_};
+ghost use mathlib.Core.List.{map};
+ghost use Prim.Native.Nat.{_≤_, _<_};
 ghost use lib.Dec.{ltb};
 ghost use lib.ListN.{length, replicate};
 ghost use Rattle.lists.specs.Lists.{put, part};
-ghost use Rattle.definition.specs.Number.{plusZero};
 ghost use Rattle.definition.specs.Levels.{levelSize};
 ghost use Rattle.definition.specs.Tree.{reductionsLeft, mostFine};
-ghost use Rattle.definition.specs.Packed.{rowNumbers, rowFloats, packedPoints, packedOwn, packedDomains, packedBoxes, packedBorrowed};
+ghost use Rattle.definition.specs.Packed.{packedPoints, packedOwn, packedDomains, packedBoxes, packedBorrowed};
 ghost use Rattle.fine_level.specs.Fine.{Given};
 ghost use Rattle.levels_loop.specs.After.{levelsAfter, Space};
 
@@ -21,51 +20,6 @@ pub struct Counts {
     pub levels: usize,
     pub rows: [usize; 4],
     pub domains: [usize; 4],
-}
-
-// Writes a domain row whose leaf borrows nothing.
-fn put_row(domains: &mut [usize], k: usize, start: usize, count: usize, lent: usize)
-    requires { ⌜ rowNumbers * (k + 1) ≤ length (now domains) ⌝ }
-    ensures { λ _. ⌜ now (domains .exit) ≡ put (now (domains .entry)) (rowNumbers * k) (start ∷ count ∷ lent ∷ 0 ∷ []) ⌝ }
-{
-    let at = 4 * k;
-    stretches::put_pair(domains, at, start, count);
-    stretches::put_pair(domains, at + 2, lent, 0);
-}
-
-// Writes `count` zeros from `at` on.
-fn put_zeros(list: &mut [f64], at: usize, count: usize)
-    requires { ⌜ at + count ≤ length (now list) ⌝ }
-    ensures { λ _. ⌜ now (list .exit) ≡ put (now (list .entry)) at (replicate count plusZero) ⌝ }
-{
-    let mut i = 0;
-    while i < count {
-        list[at + i] = 0.0;
-        i += 1;
-    }
-}
-
-// The coarse level: one domain with all active rows, which borrows nothing and has no box: each bound is +0.
-fn coarse_level(
-    dimensions: usize,
-    list: &[usize],
-    from: usize,
-    a: usize,
-    internals: &mut [usize],
-    domains: &mut [usize],
-    first: usize,
-    bat: usize,
-    boxes: &mut [f64],
-)
-    requires { ⌜ (from + a ≤ length (now list)) × (from + a ≤ length (now internals)) × (rowNumbers * (first + 1) ≤ length (now domains)) × (rowFloats dimensions * (first + 1) ≤ length (now boxes)) × (dimensions ≤ 3) ⌝ }
-    ensures internals { λ _. ⌜ now (internals .exit) ≡ put (now (internals .entry)) from (part (now (list .entry)) from a) ⌝ }
-    ensures domains { λ _. ⌜ now (domains .exit) ≡ put (now (domains .entry)) (rowNumbers * first) (from ∷ a ∷ bat ∷ 0 ∷ []) ⌝ }
-    ensures boxes { λ _. ⌜ now (boxes .exit) ≡ put (now (boxes .entry)) (rowFloats dimensions * first) (replicate (rowFloats dimensions) plusZero) ⌝ }
-{
-    let floats = 2 * dimensions;
-    stretches::copy_rows(list, from, a, internals, from);
-    put_row(domains, first, from, a, bat);
-    put_zeros(boxes, floats * first, floats);
 }
 
 // Whether a fine level is next: one more is allowed, and the active rows outnumber the coarse threshold.
@@ -152,7 +106,7 @@ pub fn all_levels(
         bat += level.borrowed;
         built += 1;
     }
-    coarse_level(
+    coarse_level::coarse_level(
         dimensions,
         list,
         from,

@@ -1,12 +1,23 @@
-// Lists on standard output, for the programs that run stored edges.
+// Texts, numbers and lists on standard output, for the programs that run stored edges.
 ghost use mathlib.Core.Path.{_≡_};
 ghost use Prim.Native.Nat.{min};
 ghost use lib.ListN.{length};
 
+// Writes the text.
+pub fn print_text(text: &[u8]) {
+    io::write_all(1, text);
+}
+
 // Writes a space and the number.
-fn print_number(n: u64) {
+pub fn print_number(n: usize) {
     io::write_all(1, b" ");
-    io::print_decimal(1, n);
+    io::print_decimal(1, n as u64);
+}
+
+// Writes the text, a space and the number.
+pub fn print_named(text: &[u8], n: usize) {
+    io::write_all(1, text);
+    print_number(n);
 }
 
 // Writes a space and each of the first `most` numbers of the list. The answer is how many they are.
@@ -15,7 +26,7 @@ fn print_first(list: &[usize], most: usize) -> usize
 {
     let mut i = 0;
     while i < list.len() && i < most {
-        print_number(list[i] as u64);
+        print_number(list[i]);
         i += 1;
     }
     i

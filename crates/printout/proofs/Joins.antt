@@ -187,11 +187,6 @@ rooms =
       wholes = length-replicate {A = ℕ} 5376 0;
     }
 
--- the same lists, list by list
-pub same-lists : (l : TreeLists) {p i d b : List ℕ} {x : List Float} → p ≡ l .points → i ≡ l .internals → d ≡ l .domains → x ≡ l .boxes → b ≡ l .borrowed
-    → record { points = p; internals = i; domains = d; boxes = x; borrowed = b } ≡ l
-same-lists l ep ei ed ex eb = rw (ep, ei, ed, ex, eb)
-
 -- ---- room for the texts
 pub room-for : (s : tree.Settings) (cs : List Float) (out : List ℕ) → JobLimits s cs → mostBytes ≤ length out → Room out 0 (jobText (job s cs))
 room-for s cs out h g = record { fits = omega (arith, job-long (job s cs) h) }

@@ -11,17 +11,17 @@ use Rattle.definition.specs.Refusals.{accepted, refused, verdict, mostPoints, q
 use Rattle.definition.specs.Outcome.{Answer, Shared, numberOf, placeOf, valueOf, written, listAfter, RoomAfter, quotaCall, quotaAnswer, quotaOutput}
 use Rattle.level_sizes.specs.Answers.{reports, refuses}
 use Rattle.quotas.specs.Answers.{noSeats}
+use Rattle.quotas.specs.Outcome.{SeatsShared}
 
--- what an outcome says of the answer, of the output and of the working room
+-- the outcome, by what the call answers and leaves
 abbrev pub Outcome : List ℕ → ℕ → List ℕ → List ℕ → Answer Shared → List ℕ → List ℕ → Type 0
-Outcome sizes s out room answer out′ room′ =
-    (answer ≡ quotaAnswer sizes s out room) × ((out′ ≡ quotaOutput sizes s out room) × RoomAfter (quotaCall sizes out room) room room′)
+Outcome sizes s out room answer out′ room′ = SeatsShared sizes s out out′ room room′ answer
 
 module _ (sizes : List ℕ) (s : ℕ) (out room : List ℕ) where
   -- a refusal: nothing is written
   refusal : (k : ℕ) → quotaCall sizes out room ≡ refused (record { number = k; place = 0 }) → Outcome sizes s out room (refuses k noSeats) out room
   unfolding quotaAnswer quotaOutput numberOf placeOf valueOf listAfter RoomAfter
-  refusal k e = (simp e, (simp e, simp e refl))
+  refusal k e = record { answers = simp e; output = simp e; room-free = simp e refl }
 
   pub refused-8 : mostPoints < total sizes → Outcome sizes s out room (refuses 8 noSeats) out room
   unfolding quotaVerdict verdict
@@ -46,4 +46,8 @@ module _ (sizes : List ℕ) (s : ℕ) (out room : List ℕ) where
   unfolding quotaAnswer quotaOutput numberOf placeOf valueOf listAfter RoomAfter quotas
   seated n t out′ room′ h l m en et eo er =
       let e = passed h l m in
-      (simp (e, en, et), (simp e (eo ∙ ap (λ (x : ℕ). written (quotasFor sizes x) out) et), simp e er))
+      record {
+        answers = simp (e, en, et);
+        output = simp e (eo ∙ ap (λ (x : ℕ). written (quotasFor sizes x) out) et);
+        room-free = simp e er;
+      }

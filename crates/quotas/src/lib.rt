@@ -6,8 +6,9 @@ ghost use lib.Dec.{eqb};
 ghost use Prim.Native.Nat.{ℕ, _-_, _*_, _≤_, _<_, min, max};
 ghost use Rattle.lists.specs.Lists.{oneIf, total, from};
 ghost use Rattle.definition.specs.Quotas.{sizeAt, nonempty, wholeAt, remainderAt, leftover, seatsAt, seatsOf, quotasFor};
-ghost use Rattle.definition.specs.Outcome.{written, quotaCall, quotaAnswer, quotaOutput, RoomAfter};
+ghost use Rattle.definition.specs.Outcome.{written};
 ghost use Rattle.quotas.specs.Answers.{quotaReport};
+ghost use Rattle.quotas.specs.Outcome.{SeatsShared};
 ghost use Rattle.definition.proofs.SeatCut.{above, CutBy, extraBy};
 ghost use Rattle.quotas.specs.Small.{Small};
 use level_sizes::LIMIT;
@@ -227,9 +228,7 @@ pub fn get_domain_coarse_quotas(
     quotas: &mut [usize],
     room: &mut [usize],
 ) -> QuotaAnswer
-    ensures answer { λ r. ⌜ quotaReport r ≡ quotaAnswer (now (sizes .entry)) wanted (now (quotas .entry)) (now (room .entry)) ⌝ }
-    ensures output { λ _. ⌜ now (quotas .exit) ≡ quotaOutput (now (sizes .entry)) wanted (now (quotas .entry)) (now (room .entry)) ⌝ }
-    ensures room { λ _. ⌜ RoomAfter (quotaCall (now (sizes .entry)) (now (quotas .entry)) (now (room .entry))) (now (room .entry)) (now (room .exit)) ⌝ }
+    ensures { λ r. ⌜ SeatsShared (now (sizes .entry)) wanted (now (quotas .entry)) (now (quotas .exit)) (now (room .entry)) (now (room .exit)) (quotaReport r) ⌝ }
 {
     let rows = total_size(sizes);
     if LIMIT < rows {

@@ -3,4 +3,3 @@ pub mod Steps
 mod Whole
 mod Cases
 mod Outcomes
-mod Positions

@@ -27,6 +27,7 @@ use Rattle.definition_laws.proofs.Accepted.{passes, right-dimension}
 use Rattle.sampling.specs.declared.SampleAnswer.{SampleAnswer}
 use Rattle.sampling.specs.declared.SampleAnswer.the-variants.{Sampled, Refused}
 use Rattle.sampling.specs.Answers.{lentSizes, shown, answerOf}
+use Rattle.sampling.specs.Outcome.{RowsSampled}
 
 -- ---- 10: the first coordinate that is not finite stands inside the list where there is one
 abbrev bad : Float → Bool
@@ -153,36 +154,27 @@ module _ (d : ℕ) (cs : List Float) (wanted seed o f w count : ℕ) (a : Accept
 
 -- ---- the outcome of a call
 module _ (d : ℕ) (cs : List Float) (wanted seed : ℕ) (out : List ℕ) (floats : List Float) (wholes : List ℕ) where
-  refused-with : (v : Verdict) (number place : ℕ) → shown v wanted ≡ Refused number place → (xs : List ℕ)
-      → (answerOf (Refused number place) ≡ answered v wanted 0) × ((out ≡ listAfter v xs out) × (RoomAfter v floats floats × RoomAfter v wholes wholes))
-  unfolding shown answerOf numberOf placeOf valueOf listAfter RoomAfter
-  refused-with accepted number place e xs = let z : _≡_ {A = ℕ} 0 1 = cc in zero-one z
-  refused-with (refused r) number place e xs =
+  refused-is : (v : Verdict) (number place : ℕ) → shown v wanted ≡ Refused number place → v ≡ refused (record { number = number; place = place })
+  unfolding shown
+  refused-is accepted number place e = let z : _≡_ {A = ℕ} 0 1 = cc in zero-one z
+  refused-is (refused r) number place e =
       let n : r .number ≡ number = cc in
       let p : r .place ≡ place = cc in
-      (rw (n, p), (refl, (refl, refl)))
+      rw (← n, ← p)
 
   -- a refusal leaves each list as it was
   pub call-refused : (number place : ℕ) → shown (sampleCall d cs wanted seed out floats wholes) wanted ≡ Refused number place
-      → (answerOf (Refused number place) ≡ sampleAnswer d cs wanted seed out floats wholes)
-      × ((out ≡ sampleOutput d cs wanted seed out floats wholes)
-      × (RoomAfter (sampleCall d cs wanted seed out floats wholes) floats floats × RoomAfter (sampleCall d cs wanted seed out floats wholes) wholes wholes))
-  unfolding sampleAnswer sampleOutput
-  call-refused number place e = refused-with (sampleCall d cs wanted seed out floats wholes) number place e _
-
-  accepted-with : (v : Verdict) (count : ℕ) → v ≡ accepted → wanted ≡ count → (xs new : List ℕ) → new ≡ written xs out
-      → (floats′ : List Float) → length floats′ ≡ length floats → (wholes′ : List ℕ) → length wholes′ ≡ length wholes
-      → (answerOf (Sampled count) ≡ answered v wanted 0) × ((new ≡ listAfter v xs out) × (RoomAfter v floats floats′ × RoomAfter v wholes wholes′))
-  unfolding answerOf numberOf placeOf valueOf listAfter RoomAfter
-  accepted-with v count e w xs new h floats′ f wholes′ g = rw (e, w) (refl, (h, (f, g)))
+      → RowsSampled d cs wanted seed out out floats floats wholes wholes (answerOf (Refused number place))
+  unfolding answerOf sampleAnswer sampleOutput numberOf placeOf valueOf listAfter RoomAfter
+  call-refused number place h =
+      let e = refused-is (sampleCall d cs wanted seed out floats wholes) number place h in
+      record { answers = simp e; output = simp e; floats-free = simp e refl; wholes-free = simp e refl }
 
   -- an accepted call writes the sample, and keeps the lengths of its working room
   pub call-sampled : (count : ℕ) → sampleCall d cs wanted seed out floats wholes ≡ accepted → wanted ≡ count
       → (new : List ℕ) → new ≡ written (sample d cs (from 0 (length cs / d)) wanted seed) out
       → (floats′ : List Float) → length floats′ ≡ length floats → (wholes′ : List ℕ) → length wholes′ ≡ length wholes
-      → (answerOf (Sampled count) ≡ sampleAnswer d cs wanted seed out floats wholes)
-      × ((new ≡ sampleOutput d cs wanted seed out floats wholes)
-      × (RoomAfter (sampleCall d cs wanted seed out floats wholes) floats floats′ × RoomAfter (sampleCall d cs wanted seed out floats wholes) wholes wholes′))
-  unfolding sampleAnswer sampleOutput
+      → RowsSampled d cs wanted seed out new floats floats′ wholes wholes′ (answerOf (Sampled count))
+  unfolding answerOf sampleAnswer sampleOutput numberOf placeOf valueOf listAfter RoomAfter
   call-sampled count e w new h floats′ f wholes′ g =
-      accepted-with (sampleCall d cs wanted seed out floats wholes) count e w (sample d cs (from 0 (length cs / d)) wanted seed) new h floats′ f wholes′ g
+      record { answers = simp e (rw w); output = simp e h; floats-free = simp e f; wholes-free = simp e g }

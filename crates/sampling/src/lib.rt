@@ -5,8 +5,8 @@ ghost use Prim.Native.Nat.{_≤_};
 ghost use lib.Dec.{eqb, ltb, leb};
 ghost use Rattle.definition.specs.Packed.{sampleStated};
 ghost use Rattle.definition.specs.Refusals.{wrongDimension, sampleShort, sampleVerdict};
-ghost use Rattle.definition.specs.Outcome.{sampleCall, sampleAnswer, sampleOutput, RoomAfter};
 ghost use Rattle.sampling.specs.Answers.{lentSizes, shown, answerOf};
+ghost use Rattle.sampling.specs.Outcome.{RowsSampled};
 use distances::LocalIdx;
 
 // What a sampling answers: the count of rows written, or a refusal's number and place.
@@ -88,7 +88,7 @@ fn sampling_verdict(
     if lists_short(rows, wanted, output, floats, wholes) {
         return SampleAnswer::Refused(11, 0);
     }
-    let place = root::first_not_finite(points);
+    let place = finite::first_not_finite(points);
     if place < count {
         return SampleAnswer::Refused(10, place);
     }
@@ -106,10 +106,8 @@ pub fn farthest_point_sampling(
     floats: &mut [f64],
     wholes: &mut [usize],
 ) -> SampleAnswer
-    ensures answer { λ r. ⌜ answerOf r ≡ sampleAnswer dimensions (now (points .entry)) wanted seed (now (out .entry)) (now (floats .entry)) (now (wholes .entry)) ⌝ }
-    ensures output { λ _. ⌜ now (out .exit) ≡ sampleOutput dimensions (now (points .entry)) wanted seed (now (out .entry)) (now (floats .entry)) (now (wholes .entry)) ⌝ }
-    ensures floats { λ _. ⌜ RoomAfter (sampleCall dimensions (now (points .entry)) wanted seed (now (out .entry)) (now (floats .entry)) (now (wholes .entry))) (now (floats .entry)) (now (floats .exit)) ⌝ }
-    ensures wholes { λ _. ⌜ RoomAfter (sampleCall dimensions (now (points .entry)) wanted seed (now (out .entry)) (now (floats .entry)) (now (wholes .entry))) (now (wholes .entry)) (now (wholes .exit)) ⌝ }
+    ensures { λ r. ⌜ RowsSampled dimensions (now (points .entry)) wanted seed (now (out .entry)) (now (out .exit))
+        (now (floats .entry)) (now (floats .exit)) (now (wholes .entry)) (now (wholes .exit)) (answerOf r) ⌝ }
 {
     let answer = sampling_verdict(
         points,

@@ -5,7 +5,7 @@ use native.Mathlib.Omega.{arith}
 use borrow.Author.Needs.{needs}
 use Rattle.definition.specs.Refusals.{refused}
 use Rattle.config.specs.Params.{settingsOf}
-use Rattle.build_checks.specs.Verdicts.{sizesOf}
+use Rattle.build_sizes.specs.Sizes.{sizesOf}
 use Rattle.build_checks.proofs.Laws.{refused-settings, refused-points, passed-both, last-11, last-10, last-fine}
 use Rattle.build_checks.proofs.check_build.Statement.{statement}
 use Rattle.build_checks.proofs.check_build.Tie as tie
@@ -14,7 +14,7 @@ use Rattle.build_checks.proofs.check_build.Lts as lts
 use Rattle.build_checks.proofs.is_short.Reads as is-short-reads
 use Rattle.build_checks.proofs.points_fault.Reads as points-fault-reads
 use Rattle.build_checks.proofs.settings_fault.Reads as settings-fault-reads
-use Rattle.root.proofs.first_not_finite.Reads as first-not-finite-reads
+use Rattle.finite.proofs.first_not_finite.Reads as first-not-finite-reads
 
 settings-fault-requires : tie.Need-settings-fault-requires
 settings-fault-requires c κs = search needs

@@ -1,12 +1,10 @@
 -- `ddm::build` meets its contract. Assumes nothing.
 use mathlib.Core.Path.{sym, ap, _∙_}
 use borrow.Author.Needs.{needs}
-use Rattle.definition.specs.Outcome.{TreeLists}
 use Rattle.config.specs.Params.{settingsOf}
 use Rattle.build_checks.specs.Verdicts.{verdictOf}
-use Rattle.demand3.proofs.Demand.{demand-3-of}
 use Rattle.ddm.specs.Build.{listsOf}
-use Rattle.ddm.proofs.Outcomes.{room-refused, room-accepted, answer-refused, lists-refused, answer-accepted, lists-accepted}
+use Rattle.ddm.proofs.Outcomes.{room-refused, room-accepted, answer-refused, lists-refused, answer-accepted, lists-accepted, built, whole-lists}
 use Rattle.ddm.proofs.build.Statement.{statement}
 use Rattle.ddm.proofs.build.Tie as tie
 use Rattle.ddm.proofs.build.Reads as reads
@@ -39,15 +37,7 @@ returns c =
     let e = sym (c .before .before .before .before .check-build .ensures) ∙ ap verdictOf (c .before .before .checked .given .1) in
     let l = lists-refused s cs old (P .floats .now) (P .wholes .now) _ e in
     let answer = c .refusal .ensures ∙ answer-refused s cs old (P .floats .now) (P .wholes .now) _ e in
-    let points = ap (λ (t : TreeLists). t .points) l in
-    let internals = ap (λ (t : TreeLists). t .internals) l in
-    let domains = ap (λ (t : TreeLists). t .domains) l in
-    let boxes = ap (λ (t : TreeLists). t .boxes) l in
-    let borrowed = ap (λ (t : TreeLists). t .borrowed) l in
-    let floats = room-refused _ _ (P .floats .now) e in
-    let wholes = room-refused _ _ (P .wholes .now) e in
-    let demand = demand-3-of s cs old (P .floats .now) (P .wholes .now) _ _ _ _ _ _ answer points internals domains boxes borrowed in
-    (answer, (points, (internals, (domains, (boxes, (borrowed, (floats, (wholes, demand))))))))
+    built s cs old (P .floats .now) (P .wholes .now) answer l (room-refused _ _ (P .floats .now) e) (room-refused _ _ (P .wholes .now) e)
 
 same-length : tie.Need-same-length
 same-length c = search needs
@@ -80,13 +70,8 @@ returns-2 c =
     let l = lists-accepted s cs old (P .floats .now) (P .wholes .now) e in
     let w = c .before .before .before .before .before .before .before .before .before .before .before .before .before .before .grow .ensures in
     let answer = w .0 ∙ answer-accepted s cs old (P .floats .now) (P .wholes .now) e in
-    let points = w .1 .0 ∙ ap (λ (t : TreeLists). t .points) l in
-    let internals = w .1 .1 .0 ∙ ap (λ (t : TreeLists). t .internals) l in
-    let domains = w .1 .1 .1 .0 ∙ ap (λ (t : TreeLists). t .domains) l in
-    let boxes = w .1 .1 .1 .1 .0 ∙ ap (λ (t : TreeLists). t .boxes) l in
-    let borrowed = w .1 .1 .1 .1 .1 ∙ ap (λ (t : TreeLists). t .borrowed) l in
-    let demand = demand-3-of s cs old (P .floats .now) (P .wholes .now) _ _ _ _ _ _ answer points internals domains boxes borrowed in
-    (answer, (points, (internals, (domains, (boxes, (borrowed, (room-accepted _ _ _ e (search needs), (room-accepted _ _ _ e (search needs), demand))))))))
+    let lists = whole-lists (w .1 .0) (w .1 .1 .0) (w .1 .1 .1 .0) (w .1 .1 .1 .1 .0) (w .1 .1 .1 .1 .1) ∙ l in
+    built s cs old (P .floats .now) (P .wholes .now) answer lists (room-accepted _ _ _ e (search needs)) (room-accepted _ _ _ e (search needs))
 
 pub build-spec : {M : Type 1} → statement M
 build-spec =

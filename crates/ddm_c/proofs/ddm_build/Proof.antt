@@ -1,18 +1,13 @@
 -- `ddm_c::ddm_build` meets its contract. Assumes nothing.
-use Prim.Native.Nat.{_<_}
 use native.Mathlib.Omega.{arith}
-use lib.ListN.{length}
 use Rattle.ddm.specs.Build.{treeAnswer, listsOf}
-use Rattle.ddm_c.proofs.Slots.{short, room-short}
-use Rattle.ddm_c.proofs.Built.{settings-from, answers}
+use Rattle.slots.proofs.Told.{settings-from, build-short, build-long}
 use borrow.Author.Needs.{needs}
 use Rattle.ddm_c.proofs.ddm_build.Statement.{statement}
 use Rattle.ddm_c.proofs.ddm_build.Tie as tie
 
 returns : tie.Need-returns
-returns c =
-    let h : length (c .before .before .before .before .before .before .before .before .before .before .args .result .now) < 10 = omega arith in
-    (short _ _ _ _ h, (short _ _ _ _ h, (short _ _ _ _ h, (short _ _ _ _ h, (short _ _ _ _ h, (short _ _ _ _ h, (short _ _ _ _ h, (room-short _ _ _ _ h, room-short _ _ _ _ h))))))))
+returns c = build-short _ (listsOf _ _ _ _ _) _ _ _ _ (omega arith)
 
 policy-of-requires : tie.Need-policy-of-requires
 policy-of-requires c κs = search needs
@@ -49,12 +44,11 @@ same-length-8 c = search needs
 
 returns-2 : tie.Need-returns-2
 returns-2 c =
-    let q = c .before .before .before .before .before .before .before .before .before .before .before .before .before .before .before .before .before .before .build in
+    let q = c .before .before .before .before .before .before .before .before .before .before .before .before .before .before .before .before .before .before .before .before .build in
     let w = q .ensures in
-    answers _ _ (listsOf _ _ _ _ _) _ _ _ _ _ _ (treeAnswer (q .result)) _ _
-    (settings-from _ _ _ _ _ _ _ (c .before .before .before .before .before .before .before .before .before .before .before .before .before .before .before .before .before .before .before .before .before .before .before .before .before .before .policy-of .ensures))
-    (c .before .before .before .before .before .before .before .before .before .before .before .before .before .before .before .before .before .before .before .before .before .before .before .before .before .before .before .if1 .left) (c .before .before .put-counts .ensures)
-    (w .0, (w .1 .0, (w .1 .1 .0, (w .1 .1 .1 .0, (w .1 .1 .1 .1 .0, (w .1 .1 .1 .1 .1 .0, (w .1 .1 .1 .1 .1 .1 .0, w .1 .1 .1 .1 .1 .1 .1 .0)))))))
+    build-long _ (listsOf _ _ _ _ _) _ _ _ (listsOf _ _ _ _ _) _ _ _ (treeAnswer (q .result)) _ _
+    (settings-from _ _ _ _ _ _ _ (c .before .before .before .before .before .before .before .before .before .before .before .before .before .before .before .before .before .before .before .before .before .before .before .before .before .before .before .before .policy-of .ensures))
+    (c .before .before .before .before .before .before .before .before .before .before .before .before .before .before .before .before .before .before .before .before .before .before .before .before .before .before .before .before .before .if1 .left) (c .before .before .put-counts .ensures) (w .answers) (w .lists) (w .floats-free) (w .wholes-free)
 
 pub ddm-build-spec : {M : Type 1} → statement M
 ddm-build-spec =

@@ -1,11 +1,11 @@
 -- `ddm_c::ddm_level_size` meets its contract. Assumes nothing.
-use Rattle.ddm_c.proofs.Slots.{short, number-long, value-long}
+use Rattle.slots.proofs.Told.{told-short, told-value}
 use borrow.Author.Needs.{needs}
 use Rattle.ddm_c.proofs.ddm_level_size.Statement.{statement}
 use Rattle.ddm_c.proofs.ddm_level_size.Tie as tie
 
 returns : tie.Need-returns
-returns c = (short _ _ _ _ (c .if1 .taken), short _ _ _ _ (c .if1 .taken))
+returns c = told-short _ _ _ _ (c .if1 .taken)
 
 get-num-level-coarse-points-requires : tie.Need-get-num-level-coarse-points-requires
 get-num-level-coarse-points-requires c κs = search needs
@@ -24,9 +24,8 @@ same-length c = search needs
 
 returns-2 : tie.Need-returns-2
 returns-2 c =
-    let s = c .before .before .before in
-    let e = c .before .before .get-num-level-coarse-points .ensures in
-    (number-long _ _ _ _ _ (s .if1 .left) (c .size-number .ensures) e, value-long _ _ _ _ (s .if1 .left) (c .before .size-value .ensures) e)
+    told-value _ _ _ _ _ (c .before .before .before .if1 .left) (c .size-number .ensures) (c .before .size-value .ensures)
+    (c .before .before .get-num-level-coarse-points .ensures)
 
 pub ddm-level-size-spec : {M : Type 1} → statement M
 ddm-level-size-spec =

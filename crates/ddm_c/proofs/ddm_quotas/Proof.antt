@@ -1,15 +1,11 @@
 -- `ddm_c::ddm_quotas` meets its contract. Assumes nothing.
-use mathlib.Core.Path.{ap, _∙_}
-use Rattle.definition.specs.Outcome.{Answer, Shared}
-use Rattle.ddm_c.proofs.Slots.{short, long, room-short, room-long, number-long, pair-long}
+use Rattle.slots.proofs.Told.{quotas-short, quotas-long}
 use borrow.Author.Needs.{needs}
 use Rattle.ddm_c.proofs.ddm_quotas.Statement.{statement}
 use Rattle.ddm_c.proofs.ddm_quotas.Tie as tie
 
 returns : tie.Need-returns
-returns c =
-    let h = c .if1 .taken in
-    (short _ _ _ _ h, (short _ _ _ _ h, (short _ _ _ _ h, room-short _ _ _ _ h)))
+returns c = quotas-short _ _ _ _ _ (c .if1 .taken)
 
 get-domain-coarse-quotas-requires : tie.Need-get-domain-coarse-quotas-requires
 get-domain-coarse-quotas-requires c κs = search needs
@@ -33,15 +29,8 @@ returns-2 : tie.Need-returns-2
 returns-2 c =
     let h = c .before .before .before .before .before .before .before .before .before .before .before .before .if1 .left in
     let q = c .before .before .before .before .before .before .before .before .before .get-domain-coarse-quotas .ensures in
-    let t = c .before .before .before .before .quota-report .ensures in (
-      number-long _ _ _ _ _ h (t .0) (q .0),
-      (
-        pair-long _ _ _ _ _ _ h (c .before .before .put-pair .ensures)
-            (t .1 ∙ ap (λ (a : Answer Shared). a .value .leaves) (q .0))
-            (t .2 ∙ ap (λ (a : Answer Shared). a .value .seats) (q .0)),
-        (long _ _ _ _ _ h (q .1 .0), room-long _ _ _ _ _ h (q .1 .1)),
-      ),
-    )
+    let t = c .before .before .before .before .quota-report .ensures in
+    quotas-long _ _ _ _ _ _ _ _ _ _ _ _ h q (t .0) (t .1) (t .2) (c .before .before .put-pair .ensures)
 
 pub ddm-quotas-spec : {M : Type 1} → statement M
 ddm-quotas-spec =

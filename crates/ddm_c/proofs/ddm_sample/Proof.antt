@@ -1,16 +1,11 @@
 -- `ddm_c::ddm_sample` meets its contract. Assumes nothing.
-use mathlib.Core.Path.{ap, _∙_}
-use Prim.Native.Nat.{ℕ}
-use Rattle.definition.specs.Outcome.{Answer}
-use Rattle.ddm_c.proofs.Slots.{short, long, room-short, room-long, number-long, pair-long}
+use Rattle.slots.proofs.Told.{sample-short, sample-long}
 use borrow.Author.Needs.{needs}
 use Rattle.ddm_c.proofs.ddm_sample.Statement.{statement}
 use Rattle.ddm_c.proofs.ddm_sample.Tie as tie
 
 returns : tie.Need-returns
-returns c =
-    let h = c .if1 .taken in
-    (short _ _ _ _ h, (short _ _ _ _ h, (short _ _ _ _ h, (room-short _ _ _ _ h, room-short _ _ _ _ h))))
+returns c = sample-short _ _ _ _ _ _ _ _ (c .if1 .taken)
 
 farthest-point-sampling-requires : tie.Need-farthest-point-sampling-requires
 farthest-point-sampling-requires c κs = search needs
@@ -37,15 +32,8 @@ returns-2 : tie.Need-returns-2
 returns-2 c =
     let h = c .before .before .before .before .before .before .before .before .before .before .before .before .before .before .before .if1 .left in
     let q = c .before .before .before .before .before .before .before .before .before .before .before .farthest-point-sampling .ensures in
-    let t = c .before .before .before .before .sample-report .ensures in (
-      number-long _ _ _ _ _ h (t .0) (q .0),
-      (
-        pair-long _ _ _ _ _ _ h (c .before .before .put-pair .ensures)
-            (t .1 ∙ ap (λ (a : Answer ℕ). a .place) (q .0))
-            (t .2 ∙ ap (λ (a : Answer ℕ). a .value) (q .0)),
-        (long _ _ _ _ _ h (q .1 .0), (room-long _ _ _ _ _ h (q .1 .1 .0), room-long _ _ _ _ _ h (q .1 .1 .1))),
-      ),
-    )
+    let t = c .before .before .before .before .sample-report .ensures in
+    sample-long _ _ _ _ _ _ _ _ _ _ _ _ _ _ _ _ h q (t .0) (t .1) (t .2) (c .before .before .put-pair .ensures)
 
 pub ddm-sample-spec : {M : Type 1} → statement M
 ddm-sample-spec =

@@ -1,11 +1,11 @@
 -- `ddm_c::ddm_square_root` meets its contract. Assumes nothing.
-use Rattle.ddm_c.proofs.Slots.{short, number-long, value-long}
+use Rattle.slots.proofs.Told.{told-short, told-value}
 use borrow.Author.Needs.{needs}
 use Rattle.ddm_c.proofs.ddm_square_root.Statement.{statement}
 use Rattle.ddm_c.proofs.ddm_square_root.Tie as tie
 
 returns : tie.Need-returns
-returns c = (short _ _ _ _ (c .if1 .taken), short _ _ _ _ (c .if1 .taken))
+returns c = told-short _ _ _ _ (c .if1 .taken)
 
 square-root-requires : tie.Need-square-root-requires
 square-root-requires c κs = search needs
@@ -24,9 +24,7 @@ same-length c = search needs
 
 returns-2 : tie.Need-returns-2
 returns-2 c =
-    let s = c .before .before .before in
-    let e = c .before .before .square-root .ensures in
-    (number-long _ _ _ _ _ (s .if1 .left) (c .root-number .ensures) e, value-long _ _ _ _ (s .if1 .left) (c .before .root-value .ensures) e)
+    told-value _ _ _ _ _ (c .before .before .before .if1 .left) (c .root-number .ensures) (c .before .root-value .ensures) (c .before .before .square-root .ensures)
 
 pub ddm-square-root-spec : {M : Type 1} → statement M
 ddm-square-root-spec =

@@ -6,7 +6,7 @@ use lib.ListN.{length}
 use borrow.Author.Needs.{needs}
 use Rattle.queue.proofs.Loop.{cutsLeft}
 use Rattle.queue.proofs.View.{roomIn}
-use Rattle.extents.specs.Boxes.{floatsOf}
+use Rattle.boxes.specs.Boxes.{floatsOf}
 use Rattle.leaves.proofs.Turns.{Run, Kept, kept-next, run-first, run-end, front, known, wait, wait-less, done, done-less, width-most, axis-fit}
 use Rattle.leaves.proofs.leaves.Statement.{statement}
 use Rattle.leaves.proofs.leaves.Tie as tie

@@ -11,7 +11,7 @@ use Rattle.levels_loop.proofs.all_levels.Statement.{statement}
 use Rattle.levels_loop.proofs.all_levels.Tie as tie
 use Rattle.levels_loop.proofs.all_levels.Reads as reads
 use Rattle.levels_loop.proofs.all_levels.Lts as lts
-use Rattle.levels_loop.proofs.coarse_level.Reads as coarse-level-reads
+use Rattle.coarse_level.proofs.coarse_level.Reads as coarse-level-reads
 use Rattle.fine_level.proofs.fine_level.Reads as fine-level-reads
 use Rattle.levels_loop.proofs.is_fine.Reads as is-fine-reads
 use Rattle.levels_loop.proofs.next_size.Reads as next-size-reads

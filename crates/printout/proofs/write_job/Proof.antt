@@ -2,7 +2,7 @@
 use mathlib.Core.Path.{sym}
 use Rattle.print_texts.proofs.Texts.{spelt, room-spelt}
 use Rattle.stream_reader.specs.Reading.{settingsAre}
-use Rattle.printout.proofs.Joins.{lentLists, rooms, same-lists, room-for, job-refused, tree-ready, job-tree}
+use Rattle.printout.proofs.Joins.{lentLists, rooms, room-for, job-refused, tree-ready, job-tree}
 use borrow.Author.Needs.{needs}
 use Rattle.printout.proofs.write_job.Statement.{statement}
 use Rattle.printout.proofs.write_job.Tie as tie
@@ -41,7 +41,7 @@ write-refusal-requires c κs =
     let cs = start .args .cs .now in
     let w = c .before .before .before .before .before .before .before .before .before .build .ensures in
     let t = c .before .if1 .taken in
-    room-spelt (job-refused s cs lentLists _ _ (start .pre .0) rooms _ (w .0) t) (room-for s cs (start .args .out .now) (start .pre .0) (start .pre .1))
+    room-spelt (job-refused s cs lentLists _ _ (start .pre .0) rooms _ (w .answers) t) (room-for s cs (start .args .out .now) (start .pre .0) (start .pre .1))
 
 same-length : tie.Need-same-length
 same-length c = search needs
@@ -53,7 +53,7 @@ returns c =
     let cs = start .args .cs .now in
     let w = c .before .before .before .before .before .before .before .before .before .before .before .before .build .ensures in
     let t = c .before .before .before .before .if1 .taken in
-    spelt (sym (job-refused s cs lentLists _ _ (start .pre .0) rooms _ (w .0) t)) (c .before .before .write-refusal .ensures)
+    spelt (sym (job-refused s cs lentLists _ _ (start .pre .0) rooms _ (w .answers) t)) (c .before .before .write-refusal .ensures)
 
 slice-aggregate-write-tree : tie.Need-slice-aggregate-write-tree
 slice-aggregate-write-tree c = search needs
@@ -83,11 +83,10 @@ write-tree-requires c κs =
     let cs = start .args .cs .now in
     let w = c .before .before .before .before .before .before .before .before .before .before .before .before .before .before .before .before .before
     .before .build .ensures in
-    let t = c .before .before .before .before .before .before .before .before .before .before .if1 .left in
-    let lists = same-lists _ (w .1 .0) (w .1 .1 .0) (w .1 .1 .1 .0) (w .1 .1 .1 .1 .0) (w .1 .1 .1 .1 .1 .0) in (
-      tree-ready s cs lentLists _ _ (start .pre .0) rooms _ (w .0) t _ lists,
+    let t = c .before .before .before .before .before .before .before .before .before .before .if1 .left in (
+      tree-ready s cs lentLists _ _ (start .pre .0) rooms _ (w .answers) t _ (w .lists),
       room-spelt
-          (job-tree s cs lentLists _ _ (start .pre .0) rooms _ (w .0) t _ lists) (room-for s cs (start .args .out .now) (start .pre .0) (start .pre .1)),
+          (job-tree s cs lentLists _ _ (start .pre .0) rooms _ (w .answers) t _ (w .lists)) (room-for s cs (start .args .out .now) (start .pre .0) (start .pre .1)),
     )
 
 same-length-2 : tie.Need-same-length-2
@@ -101,8 +100,7 @@ returns-2 c =
     let w = c .before .before .before .before .before .before .before .before .before .before .before .before .before .before .before .before .before
     .before .before .before .before .build .ensures in
     let t = c .before .before .before .before .before .before .before .before .before .before .before .before .before .if1 .left in
-    let lists = same-lists _ (w .1 .0) (w .1 .1 .0) (w .1 .1 .1 .0) (w .1 .1 .1 .1 .0) (w .1 .1 .1 .1 .1 .0) in
-    spelt (sym (job-tree s cs lentLists _ _ (start .pre .0) rooms _ (w .0) t _ lists)) (c .before .before .write-tree .ensures)
+    spelt (sym (job-tree s cs lentLists _ _ (start .pre .0) rooms _ (w .answers) t _ (w .lists))) (c .before .before .write-tree .ensures)
 
 pub write-job-spec : {M : Type 1} → statement M
 write-job-spec =

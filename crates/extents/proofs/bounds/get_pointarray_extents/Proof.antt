@@ -3,7 +3,7 @@ use mathlib.Core.Path.{refl}
 use Prim.Native.Nat.{_-_}
 use native.Mathlib.Omega.{arith}
 use borrow.Author.Needs.{needs}
-use Rattle.extents.proofs.Boxed.{Filled, filled-none, filled-more, filled-all}
+use Rattle.boxes.proofs.Boxed.{Filled, filled-none, filled-more, filled-all}
 use Rattle.extents.proofs.bounds.get_pointarray_extents.Statement.{statement}
 use Rattle.extents.proofs.bounds.get_pointarray_extents.Tie as tie
 

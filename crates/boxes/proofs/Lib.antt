@@ -1,0 +1,4 @@
+-- Laws of boxes.
+pub mod Boxed
+mod Turns
+mod Halves

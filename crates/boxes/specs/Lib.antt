@@ -1,0 +1,2 @@
+-- What the contracts of boxes cite beside the definition.
+pub mod Boxes

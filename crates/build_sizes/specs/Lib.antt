@@ -1,0 +1,2 @@
+-- What the contracts of the lengths cite beside the definition.
+pub mod Sizes

@@ -1,0 +1,53 @@
+// The coarse level of a tree: one domain that holds all active rows.
+ghost use mathlib.Core.Path.{_≡_};
+ghost use mathlib.Core.List.{[], _∷_};
+ghost use Prim.Native.Nat.{_+_, _*_, _≤_};
+ghost use lib.ListN.{length, replicate};
+ghost use Rattle.lists.specs.Lists.{put, part};
+ghost use Rattle.definition.specs.Number.{plusZero};
+ghost use Rattle.definition.specs.Packed.{rowNumbers, rowFloats};
+
+// Writes a domain row whose leaf borrows nothing.
+fn put_row(domains: &mut [usize], k: usize, start: usize, count: usize, lent: usize)
+    requires { ⌜ rowNumbers * (k + 1) ≤ length (now domains) ⌝ }
+    ensures { λ _. ⌜ now (domains .exit) ≡ put (now (domains .entry)) (rowNumbers * k) (start ∷ count ∷ lent ∷ 0 ∷ []) ⌝ }
+{
+    let at = 4 * k;
+    stretches::put_pair(domains, at, start, count);
+    stretches::put_pair(domains, at + 2, lent, 0);
+}
+
+// Writes `count` zeros from `at` on.
+fn put_zeros(list: &mut [f64], at: usize, count: usize)
+    requires { ⌜ at + count ≤ length (now list) ⌝ }
+    ensures { λ _. ⌜ now (list .exit) ≡ put (now (list .entry)) at (replicate count plusZero) ⌝ }
+{
+    let mut i = 0;
+    while i < count {
+        list[at + i] = 0.0;
+        i += 1;
+    }
+}
+
+// The coarse level: one domain with all active rows, which borrows nothing and has no box: each bound is +0.
+pub fn coarse_level(
+    dimensions: usize,
+    list: &[usize],
+    from: usize,
+    a: usize,
+    internals: &mut [usize],
+    domains: &mut [usize],
+    first: usize,
+    bat: usize,
+    boxes: &mut [f64],
+)
+    requires { ⌜ (from + a ≤ length (now list)) × (from + a ≤ length (now internals)) × (rowNumbers * (first + 1) ≤ length (now domains)) × (rowFloats dimensions * (first + 1) ≤ length (now boxes)) × (dimensions ≤ 3) ⌝ }
+    ensures internals { λ _. ⌜ now (internals .exit) ≡ put (now (internals .entry)) from (part (now (list .entry)) from a) ⌝ }
+    ensures domains { λ _. ⌜ now (domains .exit) ≡ put (now (domains .entry)) (rowNumbers * first) (from ∷ a ∷ bat ∷ 0 ∷ []) ⌝ }
+    ensures boxes { λ _. ⌜ now (boxes .exit) ≡ put (now (boxes .entry)) (rowFloats dimensions * first) (replicate (rowFloats dimensions) plusZero) ⌝ }
+{
+    let floats = 2 * dimensions;
+    stretches::copy_rows(list, from, a, internals, from);
+    put_row(domains, first, from, a, bat);
+    put_zeros(boxes, floats * first, floats);
+}

@@ -1,3 +1,0 @@
--- What the contracts of the exported functions cite beside the definition.
-pub mod Slots
-pub mod Settings

@@ -1,0 +1,53 @@
+-- A call by the length of its slot: a short one is refused before anything else, and any other gets what the call answers.
+-- Assumes nothing.
+use mathlib.Core.Path.{_≡_, refl, ap, _∙_}
+use mathlib.Core.List.{List, [], _∷_, _++_}
+use Prim.Native.Nat.{ℕ, _≤_, _<_}
+use native.Mathlib.Omega.{arith}
+use lib.ListN.{length}
+use borrow.Author.Tests.{lt-ltb, le-ltb}
+use Rattle.lists.specs.Lists.{put, part}
+use Rattle.lists.proofs.Put.{put-zero, put-next-at, part-whole}
+use Rattle.definition.specs.Refusals.{Verdict}
+use Rattle.definition.specs.Outcome.{Answer, written, RoomAfter}
+use Rattle.slots.specs.Slots.{unlessShort, numberAfter, slotAfter, slotFirst}
+
+-- a written front is a stretch put at the list's start
+pub put-written : {A : Type 0} (xs old : List A) → put old 0 xs ≡ written xs old
+unfolding written
+put-written xs old = put-zero old xs
+
+module _ {B : Type 0} (n : ℕ) (slot : List B) where
+  pub short : {A : Type 0} (x y : A) → length slot < n → x ≡ unlessShort n slot x y
+  unfolding unlessShort
+  short x y h = rw (lt-ltb (length slot) n h)
+
+  pub long : {A : Type 0} (x y z : A) → n ≤ length slot → z ≡ y → z ≡ unlessShort n slot x y
+  unfolding unlessShort
+  long x y z h e = rw (le-ltb (length slot) n h) e
+
+  -- the slot after a call that found it long enough
+  pub slot-written : (xs new : List B) → n ≤ length slot → new ≡ put slot 0 xs → new ≡ slotAfter n slot xs
+  slot-written xs new h e = long slot (written xs slot) new h (e ∙ put-written xs slot)
+
+  -- working room: as it was where the slot is short
+  pub room-short : {A : Type 0} (v : Verdict) (old : List A) → length slot < n → RoomAfter (slotFirst n slot v) old old
+  unfolding unlessShort RoomAfter
+  room-short v old h = rw (lt-ltb (length slot) n h) refl
+
+  pub room-long : {A : Type 0} (v : Verdict) (old new : List A) → n ≤ length slot → RoomAfter v old new → RoomAfter (slotFirst n slot v) old new
+  unfolding unlessShort
+  room-long v old new h r = rw (le-ltb (length slot) n h) r
+
+  -- what a call returns that found its slot long enough
+  pub number-long : {A : Type 0} (a b : Answer A) (k : ℕ) → n ≤ length slot → k ≡ a .number → a ≡ b → k ≡ numberAfter n slot b
+  number-long a b k h e g = long 11 (b .number) k h (e ∙ ap (λ (x : Answer _). x .number) g)
+
+-- place and levels, then the rows of each level, then the domains of each level
+pub counts-put : (old first second third : List ℕ) (place levels : ℕ) (rows domains : List ℕ) → length rows ≡ 4 → length domains ≡ 4
+    → first ≡ put old 0 (place ∷ levels ∷ []) → second ≡ put first 2 (part rows 0 4) → third ≡ put second 6 (part domains 0 4)
+    → third ≡ put old 0 (place ∷ levels ∷ rows ++ domains)
+counts-put old first second third place levels rows domains m k e f g =
+    let two : second ≡ put old 0 (place ∷ levels ∷ rows) =
+    f ∙ rw (e, part-whole rows 4 m) (put-next-at old 0 (place ∷ levels ∷ []) rows 2 (omega arith) refl) in
+    g ∙ rw (two, part-whole domains 4 k) (put-next-at old 0 (place ∷ levels ∷ rows) domains 6 (omega arith) (omega arith))

@@ -1,0 +1,53 @@
+-- The result slot of a call: what is written to it, and what becomes of a call whose slot is short. Definitions only.
+use Prim.Native.Nat.{ℕ, _+_, _*_}
+use mathlib.Core.Bool.{cond}
+use mathlib.Core.List.{List, [], _∷_, _++_}
+use lib.ListN.{length}
+use lib.Dec.{ltb}
+use Rattle.definition.specs.Packed.{Counts, BuildSizes}
+use Rattle.definition.specs.Refusals.{Verdict, refused}
+use Rattle.definition.specs.Outcome.{Answer, Shared, written}
+
+-- ---- a slot that is to have n entries
+
+-- x where the slot is shorter, and y otherwise
+unfoldable pub unlessShort : {A B : Type 0} → ℕ → List B → A → A → A
+unlessShort n slot x y = cond (ltb (length slot) n) x y
+
+-- what the call returns: 11 for a short slot, and otherwise the refusal number of the answer
+abbrev pub numberAfter : {A B : Type 0} → ℕ → List B → Answer A → ℕ
+numberAfter n slot a = unlessShort n slot 11 (a .number)
+
+-- the slot after the call: xs at its front, and what stands past them as found; a short slot as found
+abbrev pub slotAfter : {B : Type 0} → ℕ → List B → List B → List B
+slotAfter n slot xs = unlessShort n slot slot (written xs slot)
+
+-- the tests of the call: the slot's length before any other
+abbrev pub slotFirst : {B : Type 0} → ℕ → List B → Verdict → Verdict
+slotFirst n slot v = unlessShort n slot (refused (record { number = 11; place = 0 })) v
+
+-- ---- what each call writes to its slot: its place, where the layout has one, and then its values
+
+abbrev pub valueSlot : {A : Type 0} → Answer A → List A
+valueSlot a = a .value ∷ []
+
+abbrev pub quotaSlot : Answer Shared → List ℕ
+quotaSlot a = a .value .leaves ∷ a .value .seats ∷ []
+
+abbrev pub sampleSlot : Answer ℕ → List ℕ
+sampleSlot a = a .place ∷ a .value ∷ []
+
+-- the lengths that a build is to be lent, in the order of its lists
+abbrev pub lengthsOf : BuildSizes → List ℕ
+lengthsOf b =
+    b .points ∷ b .internals ∷ b .domains ∷ b .boxes ∷ b .borrowed ∷ b .floats ∷ b .wholes ∷ []
+
+abbrev pub sizesSlot : Answer BuildSizes → List ℕ
+sizesSlot a = lengthsOf (a .value)
+
+abbrev pub buildSlot : Answer Counts → List ℕ
+buildSlot a = a .place ∷ a .value .levels ∷ a .value .rows ++ a .value .domains
+
+-- ---- the version, as one number
+abbrev pub versionNumber : ℕ → ℕ → ℕ → ℕ
+versionNumber major minor patch = major * 10000 + minor * 100 + patch

@@ -1,0 +1,34 @@
+-- The complete outcome of each exported call, as one record. What is named with a prime is as the call leaves it. A slot that is too
+-- short is refused with 11 before anything else, and then nothing is written. Definitions only.
+use Prim.Native.Nat.{ℕ}
+use mathlib.Core.Path.{_≡_}
+use mathlib.Core.List.{List}
+use lib.Ieee.{Float}
+use Rattle.definition.specs.Tree.{Settings}
+use Rattle.definition.specs.Outcome.{Answer, TreeLists, RoomAfter, quotaCall, quotaAnswer, quotaOutput, sampleCall, sampleAnswer, sampleOutput, buildCall, buildAnswer, buildLists}
+use Rattle.slots.specs.Slots.{unlessShort, numberAfter, slotAfter, slotFirst, quotaSlot, sampleSlot, buildSlot}
+
+-- What a call returns, and its slot of n entries: `values` are those of an answer.
+pub record Told {A B : Type 0} (n : ℕ) (values : Answer A → List B) (slot slot′ : List B) (returned : ℕ) (answer : Answer A) : Type 0 where
+  pub number-is : returned ≡ numberAfter n slot answer
+  pub slot-is : slot′ ≡ slotAfter n slot (values answer)
+
+-- the quotas
+pub record QuotasTold (sizes : List ℕ) (wanted : ℕ) (out out′ room room′ slot slot′ : List ℕ) (returned : ℕ) : Type 0 where
+  pub told : Told 2 quotaSlot slot slot′ returned (quotaAnswer sizes wanted out room)
+  pub output : out′ ≡ unlessShort 2 slot out (quotaOutput sizes wanted out room)
+  pub room-free : RoomAfter (slotFirst 2 slot (quotaCall sizes out room)) room room′
+
+-- sampling
+pub record SampleTold (d : ℕ) (cs : List Float) (wanted seed : ℕ) (out out′ : List ℕ) (floats floats′ : List Float) (wholes wholes′ slot slot′ : List ℕ) (returned : ℕ) : Type 0 where
+  pub told : Told 2 sampleSlot slot slot′ returned (sampleAnswer d cs wanted seed out floats wholes)
+  pub output : out′ ≡ unlessShort 2 slot out (sampleOutput d cs wanted seed out floats wholes)
+  pub floats-free : RoomAfter (slotFirst 2 slot (sampleCall d cs wanted seed out floats wholes)) floats floats′
+  pub wholes-free : RoomAfter (slotFirst 2 slot (sampleCall d cs wanted seed out floats wholes)) wholes wholes′
+
+-- the build
+pub record BuildTold (s : Settings) (cs : List Float) (old new : TreeLists) (floats floats′ : List Float) (wholes wholes′ slot slot′ : List ℕ) (returned : ℕ) : Type 0 where
+  pub told : Told 10 buildSlot slot slot′ returned (buildAnswer s cs old floats wholes)
+  pub lists : new ≡ unlessShort 10 slot old (buildLists s cs old floats wholes)
+  pub floats-free : RoomAfter (slotFirst 10 slot (buildCall s cs old floats wholes)) floats floats′
+  pub wholes-free : RoomAfter (slotFirst 10 slot (buildCall s cs old floats wholes)) wholes wholes′
