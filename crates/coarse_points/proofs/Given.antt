@@ -13,8 +13,9 @@ use Rattle.lists.specs.Ascends.{All, Ascends}
 use Rattle.lists.proofs.All.{all-at, all-by-index, all-map}
 use Rattle.definition.specs.Cut.{Domain, leavesOf}
 use Rattle.definition.proofs.Cuts.{leaves-ascend}
-use Rattle.overlap_owners.specs.Own.{ownAt, readOwn, Leaves}
-use Rattle.overlap_owners.proofs.Read.{read-length, read-at}
+use Rattle.packed.specs.Reading.{ownAt, readOwn}
+use Rattle.overlap_owners.specs.Own.{Leaves}
+use Rattle.packed.proofs.OwnRows.{read-length, read-at}
 use Rattle.coarse_points.specs.Sent.{Sends}
 
 -- THE LAW that the level cites: the leaves that the domain rows name are those of the cut

@@ -21,8 +21,8 @@ use Rattle.definition.proofs.Cuts.{rowsOf, sizesOf}
 use Rattle.definition.proofs.Sampling.{sent-length}
 use Rattle.definition.proofs.Next.{sents, sents-times}
 use Rattle.sort.specs.Heap.{Sorted}
-use Rattle.overlap_owners.specs.Own.{ownAt, readOwn}
-use Rattle.overlap_owners.proofs.Read.{read-length, read-at}
+use Rattle.packed.specs.Reading.{ownAt, readOwn}
+use Rattle.packed.proofs.OwnRows.{read-length, read-at}
 use Rattle.coarse_points.specs.Sent.{sentAt}
 
 -- ---- one leaf

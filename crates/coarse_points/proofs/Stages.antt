@@ -26,8 +26,10 @@ use Rattle.definition.specs.Outcome.{written}
 use Rattle.definition.proofs.Fairness.{fair-for, quotas-held, quotas-length}
 use Rattle.quotas.proofs.Written.{take-written}
 use Rattle.sort.specs.Heap.{Sorted}
-use Rattle.overlap_owners.specs.Own.{ownStart, ownCount, ownAt, readOwn}
-use Rattle.overlap_owners.proofs.Read.{read-length, read-at}
+use Rattle.packed.specs.Reading.{ownStart, ownCount, ownAt, readOwn}
+use Rattle.packed.specs.Rows.{IsRow}
+use Rattle.packed.specs.declared.DomainRow.{DomainRow}
+use Rattle.packed.proofs.OwnRows.{read-length, read-at, row-own}
 use Rattle.coarse_points.specs.Sent.{sentUp, countsAt, sentAt, Sends, LeafFits, LeavesFit, Reordered}
 use Rattle.coarse_points.proofs.Sending.{sent-next, sent-zip, sent-many, sent-times, sorted-next, next-many}
 
@@ -159,12 +161,9 @@ quotas-front sizes mid new m size h e g q =
     ap (take m) q ∙ take-written (quotasFor (take m mid) size) mid m n ∙ ap (λ (z : List ℕ). quotasFor z size) e
 
 -- ---- one leaf's stretch, as it is lent
-pub start-is : (D : List ℕ) (r : ℕ) → getD D (4 * r + 0) 0 ≡ ownStart D r
-start-is D r = ap (λ (k : ℕ). getD D k 0) (add-zero (4 * r))
-
-pub own-lent : (I D : List ℕ) (r : ℕ)
-    → take (getD D (4 * r + 0) 0 + ownCount D r - getD D (4 * r + 0) 0) (drop (getD D (4 * r + 0) 0) I) ≡ ownAt I D r
-own-lent I D r = part-lent I (getD D (4 * r + 0) 0) (ownCount D r) ∙ ap (λ (k : ℕ). part I k (ownCount D r)) (start-is D r)
+pub own-lent : (I D : List ℕ) (r : ℕ) (row : DomainRow) → IsRow row D r
+    → take (row .«internal_start» + row .«internal_count» - row .«internal_start») (drop (row .«internal_start») I) ≡ ownAt I D r
+own-lent I D r row e = part-lent I (row .«internal_start») (row .«internal_count») ∙ row-own I D r row e
 
 module _ (d : ℕ) (cs : List Float) (I D : List ℕ) (r quota k : ℕ) (f : LeafFits d cs I D r quota k) (rows : List ℕ) (e : rows ≡ ownAt I D r) where
   pub lent-ascends : Ascends rows

@@ -13,7 +13,9 @@ use Rattle.definition.specs.Quotas.{quotas}
 use Rattle.definition.specs.Sampling.{sentBy}
 use Rattle.definition.specs.Tree.{nextActive}
 use Rattle.sort.specs.Heap.{Sorted}
-use Rattle.overlap_owners.specs.Own.{ownStart, ownCount, ownAt, Leaves}
+use Rattle.definition.specs.Packed.{rowNumbers}
+use Rattle.packed.specs.Reading.{ownStart, ownCount, ownAt}
+use Rattle.overlap_owners.specs.Own.{Leaves}
 
 -- the active rows that the leaves with these own rows send up, `size` in all
 unfoldable pub sentUp : ℕ → List Float → List ℕ → List (List ℕ) → ℕ → List ℕ
@@ -42,7 +44,7 @@ pub record Sends (d : ℕ) (cs : List Float) (active I D : List ℕ) (first m : 
 pub record LeafFits (d : ℕ) (cs : List Float) (I D : List ℕ) (r quota k : ℕ) : Type 0 where
   pub axes : d ≤ 3
   pub finite-all : All (λ x. finite x ≡ true) cs
-  pub row : 4 * r + 4 ≤ length D
+  pub row : rowNumbers * (r + 1) ≤ length D
   pub stretch : ownStart D r + ownCount D r ≤ length I
   pub ascend : Ascends (ownAt I D r)
   pub inside : All (λ i. i * d + d ≤ length cs) (ownAt I D r)

@@ -8,31 +8,26 @@ ghost use Rattle.lists.specs.Lists.{total, part, put};
 ghost use Rattle.lists.specs.Ascends.{All, Ascends};
 ghost use Rattle.definition.specs.Quotas.{quotasFor};
 ghost use Rattle.definition.specs.Sampling.{sentBy};
-ghost use Rattle.overlap_owners.specs.Own.{ownAt, readOwn};
+ghost use Rattle.definition.specs.Packed.{rowNumbers};
+ghost use Rattle.packed.specs.Reading.{ownAt, readOwn};
 ghost use Rattle.coarse_points.specs.Sent.{sentUp, countsAt, sentAt, Sends, LeafFits, LeavesFit, Reordered};
-
-// A domain row: four numbers, of which the first two say where the leaf's own rows start and how many they are.
-const ROW: usize = 4;
-
-const OWN_START: usize = 0;
-
-const OWN_COUNT: usize = 1;
 
 // Copies the sizes of the m leaves that the domain rows from `first` on name to the front of the working list.
 fn copy_sizes(domains: &[usize], first: usize, m: usize, work: &mut [usize])
-    requires { ⌜ (4 * (first + m) ≤ length (now domains)) × (m ≤ length (now work)) ⌝ }
+    requires { ⌜ (rowNumbers * (first + m) ≤ length (now domains)) × (m ≤ length (now work)) ⌝ }
     ensures { λ _. ⌜ take m (now (work .exit)) ≡ countsAt (now (domains .entry)) first m ⌝ }
 {
     let mut l = 0;
     while l < m {
-        work[l] = domains[ROW * (first + l) + OWN_COUNT];
+        let row = packed::read_row(domains, first + l);
+        work[l] = row.internal_count;
         l += 1;
     }
 }
 
 // The quotas of these leaves, which have `a` rows in all, at the front of the working list: `size` of the rows go up.
 fn leaf_quotas(domains: &[usize], first: usize, m: usize, a: usize, size: usize, work: &mut [usize])
-    requires { ⌜ (4 * (first + m) ≤ length (now domains)) × (m ≤ length (now work)) × (a ≡ total (countsAt (now domains) first m)) × (a ≤ 1048576) × (size ≤ a) ⌝ }
+    requires { ⌜ (rowNumbers * (first + m) ≤ length (now domains)) × (m ≤ length (now work)) × (a ≡ total (countsAt (now domains) first m)) × (a ≤ 1048576) × (size ≤ a) ⌝ }
     ensures { λ _. ⌜ take m (now (work .exit)) ≡ quotasFor (countsAt (now (domains .entry)) first m) size ⌝ }
 {
     copy_sizes(domains, first, m, work);
@@ -78,8 +73,9 @@ fn send_leaf(
     requires room { ⌜ at + quota ≤ length (now out) ⌝ }
     ensures { λ _. ⌜ now (out .exit) ≡ put (now (out .entry)) at (sentBy dimensions (now (points .entry)) (ownAt (now (internals .entry)) (now (domains .entry)) r) quota) ⌝ }
 {
-    let start = domains[ROW * r + OWN_START];
-    let stop = start + domains[ROW * r + OWN_COUNT];
+    let row = packed::read_row(domains, r);
+    let start = row.internal_start;
+    let stop = start + row.internal_count;
     sample_leaf(
         points,
         dimensions,

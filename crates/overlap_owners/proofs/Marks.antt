@@ -17,8 +17,10 @@ use Rattle.lists.proofs.Tests.{same-test, cond-true, cond-false, or-false, or-t
 use Rattle.lists.proofs.Put.{part-snoc}
 use Rattle.lists.proofs.Members.{mem-at, member-mem, mem-member, not-member, member-snoc}
 use Rattle.lists.proofs.Ascends.{ascends-same}
-use Rattle.overlap_owners.specs.Own.{ownAt, readOwn, Leaves, Written, Owned}
-use Rattle.overlap_owners.proofs.Read.{read-length, read-at, shared-active, shared-held, shared-apart}
+use Rattle.packed.specs.Reading.{ownAt, readOwn}
+use Rattle.packed.proofs.OwnRows.{read-length, read-at}
+use Rattle.overlap_owners.specs.Own.{Leaves, Written, Owned}
+use Rattle.overlap_owners.proofs.Read.{shared-active, shared-held, shared-apart}
 
 -- ---- one row more
 module _ (active : List ℕ) (up : Ascends active) (internals : List ℕ) (start count leaf : ℕ) (old : List ℕ) (fits : start + count ≤ length internals) where

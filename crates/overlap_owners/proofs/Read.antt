@@ -1,32 +1,20 @@
--- The own rows as the domain rows name them. Assumes nothing.
+-- Leaves that share out the active rows hold each of them, and no row is in two. Assumes nothing.
 use mathlib.Core.Path.{_≡_, sym, subst}
 use mathlib.Core.List.{List, [], List·Memᴰ}
-use Prim.Native.Nat.{ℕ, _+_, _≤_, _<_}
+use Prim.Native.Nat.{ℕ, _≤_, _<_}
 use native.Mathlib.Omega.{arith}
 use native.Mathlib.Decide.{decLt}
 use lib.Dec.{eqb}
 use lib.ListN.{length, getD}
 use Rattle.lists.specs.Lists.{joined}
 use Rattle.lists.specs.Ascends.{Ascends}
-use Rattle.lists.proofs.From.{length-map-from, getD-map-below}
 use Rattle.lists.proofs.Members.{mem-at, mem-index, joined-mem, mem-joined}
 use Rattle.lists.proofs.Times.{times}
 use Rattle.lists.proofs.Ascends.{ascends-once}
 use Rattle.lists.proofs.Joined.{two-lists}
 use Rattle.lists.proofs.Same.{same-mem}
-use Rattle.overlap_owners.specs.Own.{ownAt, readOwn, Shared}
+use Rattle.overlap_owners.specs.Own.{Shared}
 
--- ---- by index
-module _ (I D : List ℕ) (first m : ℕ) where
-  pub read-length : length (readOwn I D first m) ≡ m
-  unfolding readOwn
-  read-length = length-map-from (λ l. ownAt I D (first + l)) 0 m
-
-  pub read-at : (l : ℕ) → l < m → getD (readOwn I D first m) l [] ≡ ownAt I D (first + l)
-  unfolding readOwn
-  read-at l h = getD-map-below (λ l. ownAt I D (first + l)) m l [] h
-
--- ---- leaves that share out the active rows
 module _ (active : List ℕ) (own : List (List ℕ)) (s : Shared active own) where
   pub shared-active : (l : ℕ) → l < length own → (row : ℕ) → List·Memᴰ row (getD own l []) → List·Memᴰ row active
   shared-active l h row i = same-mem (joined own) active s row (mem-joined own (mem-at own l [] h) i)

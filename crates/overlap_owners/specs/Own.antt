@@ -1,27 +1,14 @@
--- The leaves' own rows, as the domain rows name them, and the leaf of each active row. Definitions only.
+-- Leaves that share out the active rows, and the leaf of each active row. Definitions only.
 use Prim.Native.Nat.{ℕ, _+_, _*_, _≤_, _<_}
 use mathlib.Core.Path.{_≡_}
 use mathlib.Core.Bool.{Bool, cond}
-use mathlib.Core.List.{List, [], map}
+use mathlib.Core.List.{List, []}
 use lib.ListN.{length, getD}
 use lib.Dec.{eqb}
-use Rattle.lists.specs.Lists.{count, member, joined, from, part}
+use Rattle.lists.specs.Lists.{count, member, joined}
 use Rattle.lists.specs.Ascends.{Ascends}
-
--- where the own rows of the domain row r start, and how many they are
-abbrev pub ownStart : List ℕ → ℕ → ℕ
-ownStart D r = getD D (4 * r) 0
-
-abbrev pub ownCount : List ℕ → ℕ → ℕ
-ownCount D r = getD D (4 * r + 1) 0
-
--- the own rows that the domain row r names
-abbrev pub ownAt : List ℕ → List ℕ → ℕ → List ℕ
-ownAt I D r = part I (ownStart D r) (ownCount D r)
-
--- those of the m domain rows from `first` on
-unfoldable pub readOwn : List ℕ → List ℕ → ℕ → ℕ → List (List ℕ)
-readOwn I D first m = map (λ l. ownAt I D (first + l)) (from 0 m)
+use Rattle.definition.specs.Packed.{rowNumbers}
+use Rattle.packed.specs.Reading.{ownStart, ownCount, readOwn}
 
 -- the leaves hold each active row once
 abbrev pub Shared : List ℕ → List (List ℕ) → Type 0
@@ -30,7 +17,7 @@ Shared active own = (p : ℕ → Bool) → count p (joined own) ≡ count p acti
 -- m domain rows whose own rows share out the active rows, which ascend
 pub record Leaves (active I D : List ℕ) (first m : ℕ) : Type 0 where
   pub ascends : Ascends active
-  pub rows : 4 * (first + m) ≤ length D
+  pub rows : rowNumbers * (first + m) ≤ length D
   pub inside : (l : ℕ) → l < m → ownStart D (first + l) + ownCount D (first + l) ≤ length I
   pub shared : Shared active (readOwn I D first m)
 

@@ -5,7 +5,8 @@ ghost use Prim.Native.Nat.{ℕ, _+_, _<_, _≤_};
 ghost use lib.ListN.{length, getD};
 ghost use Rattle.lists.specs.Lists.{part};
 ghost use Rattle.lists.specs.Ascends.{Ascends};
-ghost use Rattle.overlap_owners.specs.Own.{readOwn, Leaves, Written, Owned};
+ghost use Rattle.packed.specs.Reading.{readOwn};
+ghost use Rattle.overlap_owners.specs.Own.{Leaves, Written, Owned};
 
 // The position of a row in an ascending list that holds it, by bisection.
 pub fn position(active: &[usize], row: usize) -> usize
@@ -61,8 +62,15 @@ pub fn owners(
 {
     let mut leaf: usize = 0;
     while leaf < m {
-        let at = 4 * (first + leaf);
-        mark_leaf(active, internals, domains[at], domains[at + 1], leaf, work);
+        let row = packed::read_row(domains, first + leaf);
+        mark_leaf(
+            active,
+            internals,
+            row.internal_start,
+            row.internal_count,
+            leaf,
+            work,
+        );
         leaf += 1;
     }
 }

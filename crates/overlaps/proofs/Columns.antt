@@ -14,27 +14,29 @@ use Rattle.lists.proofs.All.{all-at, all-imp, all-drop}
 use Rattle.lists.proofs.Put.{length-put, put-next-at, set-put, getD-put-before, getD-put-after}
 use Rattle.lists.proofs.Sums.{total-snoc}
 use Rattle.lists.proofs.Map.{map-snoc}
+use Rattle.definition.specs.Packed.{rowNumbers}
+use Rattle.packed.specs.Rows.{putBorrowed}
 use Rattle.overlap_pairs.specs.Pairs.{code}
 use Rattle.overlaps.specs.Codes.{codesFrom, Reached, Positions}
 use Rattle.overlaps.specs.Borrowed.{withBorrowed}
 use Rattle.overlaps.proofs.Codes.{block-range, codes-above, drop-codes}
 
 -- ---- the columns
-pub columns-length : (at : ℕ) (ls : List (List ℕ)) (k : ℕ) (D : List ℕ) → 4 * (k + length ls) ≤ length D → length (withBorrowed at ls k D) ≡ length D
+pub columns-length : (at : ℕ) (ls : List (List ℕ)) (k : ℕ) (D : List ℕ) → rowNumbers * (k + length ls) ≤ length D → length (withBorrowed at ls k D) ≡ length D
 unfolding withBorrowed
 columns-length at [] k D h = refl
 columns-length at (l ∷ ls) k D h =
-    let e = length-put D (4 * k + 2) (at ∷ length l ∷ []) (omega arith) in
-    columns-length (at + length l) ls (k + 1) (put D (4 * k + 2) (at ∷ length l ∷ [])) (omega arith) ∙ e
+    let e = length-putBorrowed D k at (length l) (omega arith) in
+    columns-length (at + length l) ls (k + 1) (putBorrowed D k at (length l)) (omega arith) ∙ e
 
 pub columns-snoc : (at : ℕ) (ls : List (List ℕ)) (l : List ℕ) (k : ℕ) (D : List ℕ)
-    → withBorrowed at (ls ++ l ∷ []) k D ≡ put (withBorrowed at ls k D) (4 * (k + length ls) + 2) ((at + total (map length ls)) ∷ length l ∷ [])
+    → withBorrowed at (ls ++ l ∷ []) k D ≡ putBorrowed (withBorrowed at ls k D) (k + length ls) (at + total (map length ls)) (length l)
 unfolding withBorrowed total
-columns-snoc at [] l k D = ap₂ (λ (i a : ℕ). put D (4 * i + 2) (a ∷ length l ∷ [])) (sym (add-zero k)) (sym (add-zero at))
+columns-snoc at [] l k D = ap₂ (λ (i a : ℕ). putBorrowed D i a (length l)) (sym (add-zero k)) (sym (add-zero at))
 columns-snoc at (m ∷ ls) l k D =
-    let E = put D (4 * k + 2) (at ∷ length m ∷ []) in
+    let E = putBorrowed D k at (length m) in
     columns-snoc (at + length m) ls l (k + 1) E
-    ∙ ap₂ (λ (i a : ℕ). put (withBorrowed (at + length m) ls (k + 1) E) (4 * i + 2) (a ∷ length l ∷ [])) (one k (length ls)) (add-assoc at (length m) (total (map length ls)))
+    ∙ ap₂ (λ (i a : ℕ). putBorrowed (withBorrowed (at + length m) ls (k + 1) E) i a (length l)) (one k (length ls)) (add-assoc at (length m) (total (map length ls)))
   where
     one : (k n : ℕ) → k + 1 + n ≡ k + suc n
     one k n = omega arith
@@ -44,20 +46,20 @@ pub columns-map : (f : ℕ → ℕ) (at : ℕ) (ls : List (List ℕ)) (k : ℕ) 
 unfolding withBorrowed
 columns-map f at [] k D = refl
 columns-map f at (l ∷ ls) k D =
-    ap (λ (n : ℕ). withBorrowed (at + n) (map (map f) ls) (k + 1) (put D (4 * k + 2) (at ∷ n ∷ []))) (length-map l f)
-    ∙ columns-map f (at + length l) ls (k + 1) (put D (4 * k + 2) (at ∷ length l ∷ []))
+    ap (λ (n : ℕ). withBorrowed (at + n) (map (map f) ls) (k + 1) (putBorrowed D k at n)) (length-map l f)
+    ∙ columns-map f (at + length l) ls (k + 1) (putBorrowed D k at (length l))
 
 -- ---- the own columns stay
-pub columns-own : (at : ℕ) (ls : List (List ℕ)) (k : ℕ) (D : List ℕ) (j r : ℕ) → 4 * (k + length ls) ≤ length D → r < 2 → getD (withBorrowed at ls k D) (4 * j + r) 0 ≡ getD D (4 * j + r) 0
+pub columns-own : (at : ℕ) (ls : List (List ℕ)) (k : ℕ) (D : List ℕ) (j r : ℕ) → rowNumbers * (k + length ls) ≤ length D → r < 2 → getD (withBorrowed at ls k D) (rowNumbers * j + r) 0 ≡ getD D (rowNumbers * j + r) 0
 unfolding withBorrowed
 columns-own at [] k D j r h g = refl
 columns-own at (l ∷ ls) k D j r h g =
-    let e = length-put D (4 * k + 2) (at ∷ length l ∷ []) (omega arith) in
-    columns-own (at + length l) ls (k + 1) (put D (4 * k + 2) (at ∷ length l ∷ [])) j r (omega arith) g ∙ go (decLe j k)
+    let e = length-putBorrowed D k at (length l) (omega arith) in
+    columns-own (at + length l) ls (k + 1) (putBorrowed D k at (length l)) j r (omega arith) g ∙ go (decLe j k)
   where
-    go : Dec (j ≤ k) → getD (put D (4 * k + 2) (at ∷ length l ∷ [])) (4 * j + r) 0 ≡ getD D (4 * j + r) 0
-    go (yes y) = getD-put-before D (4 * k + 2) (at ∷ length l ∷ []) (4 * j + r) 0 (omega arith) (omega arith)
-    go (no n) = getD-put-after D (4 * k + 2) (at ∷ length l ∷ []) (4 * j + r) 0 (omega arith) (omega arith)
+    go : Dec (j ≤ k) → getD (putBorrowed D k at (length l)) (rowNumbers * j + r) 0 ≡ getD D (rowNumbers * j + r) 0
+    go (yes y) = getD-put-before D (rowNumbers * k + 2) (at ∷ length l ∷ []) (rowNumbers * j + r) 0 (omega arith) (omega arith)
+    go (no n) = getD-put-after D (rowNumbers * k + 2) (at ∷ length l ∷ []) (rowNumbers * j + r) 0 (omega arith) (omega arith)
 
 -- ---- the end of a block
 reach-end : (codes xs ys : List ℕ) (s limit e : ℕ) → drop s codes ≡ xs ++ ys → All (λ c. c < limit) xs → All (λ c. limit ≤ c) ys
@@ -89,7 +91,7 @@ pub record Columned (codes : List ℕ) (first at : ℕ) (D₀ D : List ℕ) (lea
   pub start : s ≡ total (map length (take leaf ls))
   pub list : D ≡ withBorrowed at (take leaf ls) first D₀
 
-module _ (codes : List ℕ) (m first at : ℕ) (D₀ : List ℕ) (room : 4 * (first + m) ≤ length D₀) (ls : List (List ℕ)) (P : Positions m 2097152 ls) (is : codes ≡ codesFrom 0 ls) where
+module _ (codes : List ℕ) (m first at : ℕ) (D₀ : List ℕ) (room : rowNumbers * (first + m) ≤ length D₀) (ls : List (List ℕ)) (P : Positions m 2097152 ls) (is : codes ≡ codesFrom 0 ls) where
   pub column-none : Columned codes first at D₀ D₀ 0 0 ls
   unfolding withBorrowed total
   column-none = record { start = refl; list = refl }
@@ -126,7 +128,7 @@ module _ (codes : List ℕ) (m first at : ℕ) (D₀ : List ℕ) (room : 4 * (fi
         (all-imp (λ c. suc leaf * 2097152 ≤ c) (λ c. (leaf + 1) * 2097152 ≤ c) (codesFrom (suc leaf) rest) (λ c g. omega arith) (codes-above (suc leaf) rest (all-drop (λ l. All (λ q. q < 2097152) l) (suc leaf) ls (P .below))))
         inside r ∙ ap (λ (k : ℕ). s + k) (length-map ps (code leaf))
 
-    pub column-more : Columned codes first at D₀ (set (set D (4 * (first + leaf) + 2) (at + s)) (4 * (first + leaf) + 3) (e - s)) (leaf + 1) e ls
+    pub column-more : Columned codes first at D₀ (putBorrowed D (first + leaf) (at + s) (e - s)) (leaf + 1) e ls
     column-more =
         let n = P .number in
         let xs = take leaf ls in
@@ -135,18 +137,12 @@ module _ (codes : List ℕ) (m first at : ℕ) (D₀ : List ℕ) (room : 4 * (fi
         let t : take (leaf + 1) ls ≡ xs ++ l ∷ [] = ap (λ (j : ℕ). take j ls) (add-one leaf) ∙ take-suc ls leaf [] (omega arith) in
         let w = columns-length at xs first D₀ (omega arith) in
         let d : length D ≡ length D₀ = ap length (c .list) ∙ w in
-        let i = 4 * (first + leaf) + 2 in
-        let o : length (set D i (at + s)) ≡ length D = length-set D i (at + s) in
-        let one : set (set D i (at + s)) (4 * (first + leaf) + 3) (e - s) ≡ put D i ((at + s) ∷ (e - s) ∷ []) =
-        set-put (set D i (at + s)) (4 * (first + leaf) + 3) (e - s) (omega arith)
-        ∙ ap (λ (x : List ℕ). put x (4 * (first + leaf) + 3) ((e - s) ∷ [])) (set-put D i (at + s) (omega arith))
-        ∙ put-next-at D i ((at + s) ∷ []) ((e - s) ∷ []) (4 * (first + leaf) + 3) (omega arith) (omega arith) in
         let q : e - s ≡ length l = omega (arith, column-end) in
         record {
           start = column-end ∙ ap (λ (j : ℕ). j + length l) (c .start) ∙ sym (total-snoc (map length xs) (length l)) ∙ ap total (sym (map-snoc length xs l)) ∙ ap (λ (x : List (List ℕ)). total (map length x)) (sym t);
           list =
-              one ∙ ap₂ (λ (x : List ℕ) (y : ℕ). put x i ((at + s) ∷ y ∷ [])) (c .list) q
-              ∙ ap₂ (λ (j y : ℕ). put (withBorrowed at xs first D₀) (4 * (first + j) + 2) ((at + y) ∷ length l ∷ [])) (sym k) (c .start)
+              ap₂ (λ (x : List ℕ) (y : ℕ). putBorrowed x (first + leaf) (at + s) y) (c .list) q
+              ∙ ap₂ (λ (j y : ℕ). putBorrowed (withBorrowed at xs first D₀) (first + j) (at + y) (length l)) (sym k) (c .start)
               ∙ sym (columns-snoc at xs l first D₀) ∙ ap (λ (x : List (List ℕ)). withBorrowed at x first D₀) (sym t);
         }
 

@@ -11,8 +11,9 @@ use Rattle.lists.specs.Lists.{joined, part, put}
 use Rattle.lists.proofs.Map.{map-joined}
 use Rattle.lists.proofs.Put.{length-part}
 use Rattle.lists.proofs.Same.{same-mem}
-use Rattle.overlap_owners.specs.Own.{readOwn, Owned}
-use Rattle.overlap_owners.proofs.Read.{read-length}
+use Rattle.packed.specs.Reading.{readOwn}
+use Rattle.overlap_owners.specs.Own.{Owned}
+use Rattle.packed.proofs.OwnRows.{read-length}
 use Rattle.overlap_pairs.specs.Pairs.{Owners, Collected}
 use Rattle.overlaps.specs.Codes.{Encoded}
 use Rattle.overlaps.specs.Borrowed.{borrowedLists, withBorrowed, Stage}

@@ -1,12 +1,11 @@
 -- What each leaf of a level borrows, and the columns of the domain rows that say where. Definitions only.
-use Prim.Native.Nat.{ℕ, _+_, _*_, _≤_}
+use Prim.Native.Nat.{ℕ, _+_, _≤_}
 use mathlib.Core.List.{List, [], _∷_, map}
 use lib.ListN.{length}
 use lib.Ieee.{Float}
-use Rattle.lists.specs.Lists.{put}
-use Rattle.definition.specs.Packed.{rowNumbers}
 use Rattle.definition.specs.Overlaps.{borrowedBy}
 use Rattle.halving.specs.Rows.{GoodRows}
+use Rattle.packed.specs.Rows.{putBorrowed}
 use Rattle.overlap_owners.specs.Own.{Leaves}
 
 -- what the leaves with these own rows borrow
@@ -16,7 +15,7 @@ borrowedLists d cs neighbours active own = map (borrowedBy d cs neighbours activ
 -- the domain rows after start and count of borrowed lists, packed from `at` on, were written to them from the k-th on
 unfoldable pub withBorrowed : ℕ → List (List ℕ) → ℕ → List ℕ → List ℕ
 withBorrowed at [] k D = D
-withBorrowed at (l ∷ ls) k D = withBorrowed (at + length l) ls (k + 1) (put D (rowNumbers * k + 2) (at ∷ length l ∷ []))
+withBorrowed at (l ∷ ls) k D = withBorrowed (at + length l) ls (k + 1) (putBorrowed D k at (length l))
 
 -- what the stage asks: active rows and their leaves, as many as fit a number, and room
 pub record Stage (d : ℕ) (cs : List Float) (neighbours : ℕ) (active I D : List ℕ) (first m : ℕ) : Type 0 where

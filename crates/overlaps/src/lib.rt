@@ -5,7 +5,8 @@ ghost use Prim.Native.Nat.{ℕ, _+_, _*_, _<_, _≤_, _%_};
 ghost use lib.ListN.{length, getD, take};
 ghost use Rattle.lists.specs.Lists.{put, joined};
 ghost use Rattle.sort.specs.Heap.{Sorted};
-ghost use Rattle.overlap_owners.specs.Own.{readOwn};
+ghost use Rattle.definition.specs.Packed.{rowNumbers};
+ghost use Rattle.packed.specs.Reading.{readOwn};
 ghost use Rattle.overlaps.specs.Codes.{codesFrom, codedRows, Distinct, Reached, Positions, Encoded};
 ghost use Rattle.overlaps.specs.Borrowed.{borrowedLists, withBorrowed, Stage};
 
@@ -63,7 +64,7 @@ fn reach(codes: &[usize], from: usize, limit: usize) -> usize
 // Writes where the borrowed rows of each leaf start, counted from `bat` on, and how many they are, to the last two columns of the m
 // domain rows from `first` on. The numbers stand leaf by leaf.
 fn write_columns(codes: &[usize], domains: &mut [usize], first: usize, m: usize, bat: usize)
-    requires { ⌜ (m ≤ 2097152) × (4 * (first + m) ≤ length (now domains)) × (bat + length (now codes) < 18446744073709551616) ⌝ }
+    requires { ⌜ (m ≤ 2097152) × (rowNumbers * (first + m) ≤ length (now domains)) × (bat + length (now codes) < 18446744073709551616) ⌝ }
     ensures { λ _. ⌜ ((ls : List (List ℕ)) → Positions m 2097152 ls → now (codes .entry) ≡ codesFrom 0 ls
         → now (domains .exit) ≡ withBorrowed bat ls first (now (domains .entry))) ⌝ }
 {
@@ -71,9 +72,7 @@ fn write_columns(codes: &[usize], domains: &mut [usize], first: usize, m: usize,
     let mut s: usize = 0;
     while leaf < m {
         let e = reach(codes, s, (leaf + 1) * POSITIONS);
-        let at = 4 * (first + leaf);
-        domains[at + 2] = bat + s;
-        domains[at + 3] = e - s;
+        packed::put_borrowed(domains, first + leaf, bat + s, e - s);
         s = e;
         leaf += 1;
     }
@@ -98,7 +97,7 @@ fn lend(
     borrowed: &mut [usize],
     bat: usize,
 ) -> usize
-    requires { ⌜ (length (now active) ≤ 2097152) × (m ≤ 2097152) × (4 * (first + m) ≤ length (now domains))
+    requires { ⌜ (length (now active) ≤ 2097152) × (m ≤ 2097152) × (rowNumbers * (first + m) ≤ length (now domains))
         × (bat + length (now codes) ≤ length (now borrowed))
         × ((z : ℕ) → List·Memᴰ z (now codes) → z % 2097152 < length (now active)) ⌝ }
     ensures number { λ r. ⌜ ((ls : List (List ℕ)) → Encoded m (length (now (active .entry))) (now (codes .entry)) ls → r ≡ length (joined ls)) ⌝ }

@@ -1,3 +1,4 @@
 -- A packed tree read back.
 pub mod Counts
+pub mod OwnRows
 pub mod Unpacked

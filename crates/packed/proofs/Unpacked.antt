@@ -203,10 +203,11 @@ module _ (ls : List Level) (p : Packed) (points : List ℕ) (c : Counts) (k : Pa
     unfolding leafAt
     leaf-is = rw (own-is, borrowed-is, box-is)
 
-    pub row-fits : RowFits p j
+    pub row-fits : p .dimension ≤ 3 → RowFits p j
     unfolding packedOwn packedBorrowed packedBoxes
-    row-fits =
+    row-fits axes =
         record {
+          axes = axes;
           row = omega (arith, ap length (k .domains), length-append (packedDomains ls) (k .domains-rest), length-domains ls, h);
           own = stretch-fits (λ f. f .own) (ownStart (p .domains) j) (ownCount (p .domains) j) own-start-is own-count-is (p .internals) (k .internals-rest) (k .internals);
           borrowed = stretch-fits (λ f. f .borrowed) (borrowedStart (p .domains) j) (borrowedCount (p .domains) j) borrowed-start-is borrowed-count-is (p .borrowed) (k .borrowed-rest) (k .borrowed);
@@ -250,7 +251,7 @@ module _ (ls : List Level) (p : Packed) (points : List ℕ) (c : Counts) (k : Pa
     leaf-at = rw before-is (getD-joined blocks l i noLeaf block-there in-block ∙ ap (λ (x : List Leaf). getD x i noLeaf) block-is)
 
   -- ---- the tree
-  level-is : (l : ℕ) → levelAt p points c l ≡ getD ls l noLevel
+  level-is : (l : ℕ) → levelAt p points (c .rows) (c .domains) l ≡ getD ls l noLevel
   unfolding levelAt leavesAt
   level-is l =
       let m = getD ls l noLevel .leaves in
@@ -259,9 +260,9 @@ module _ (ls : List Level) (p : Packed) (points : List ℕ) (c : Counts) (k : Pa
       map-from-at (leafAt p) (λ f. f) noLeaf m start (λ i h. leaf-is (start + i) (leaf-in l i h) ∙ leaf-at l i h) ∙ map-id m in
       rw (listed-is l, leaves-on l, leaves)
 
-  pub tree-back : levelsAt p points c (length ls) ≡ ls
+  pub tree-back : levelsAt p points (c .rows) (c .domains) (length ls) ≡ ls
   unfolding levelsAt
-  tree-back = map-from-at (levelAt p points c) (λ x. x) noLevel ls 0 (λ l h. ap (levelAt p points c) (zero-add l) ∙ level-is l) ∙ map-id ls
+  tree-back = map-from-at (levelAt p points (c .rows) (c .domains)) (λ x. x) noLevel ls 0 (λ l h. ap (levelAt p points (c .rows) (c .domains)) (zero-add l) ∙ level-is l) ∙ map-id ls
 
   -- ---- a reader stays inside the lists, where the last level has one leaf
   counted-points : upTo (c .rows) (length ls) ≤ length points
@@ -277,13 +278,13 @@ module _ (ls : List Level) (p : Packed) (points : List ℕ) (c : Counts) (k : Pa
       ap total (ap (take n) domains-are ∙ counts-before (λ l. length (l .leaves)) ls (k .few) n (omega arith) ∙ ap (map (λ (l : Level). length (l .leaves))) (take-length ls))
       ∙ sym (length-leaves ls)
 
-  pub tree-stands : 1 ≤ length ls → length (getD ls (length ls - 1) noLevel .leaves) ≡ 1 → Stands p points c
-  tree-stands some one =
+  pub tree-stands : p .dimension ≤ 3 → 1 ≤ length ls → length (getD ls (length ls - 1) noLevel .leaves) ≡ 1 → Stands p points (c .rows) (c .domains) (c .levels)
+  tree-stands axes some one =
       record {
         some = omega (arith, levels-are);
         rowed = omega (arith, levels-are, k .few, ap length rows-are, counts-length (λ l. length (l .points)) ls);
         counted = omega (arith, levels-are, k .few, ap length domains-are, counts-length (λ l. length (l .leaves)) ls);
         within = rw levels-are counted-points;
-        fits = λ j h. row-fits j (omega (arith, counted-leaves, ap (upTo (c .domains)) levels-are));
+        fits = λ j h. row-fits j (omega (arith, counted-leaves, ap (upTo (c .domains)) levels-are)) axes;
         coarse = ap (λ (l : ℕ). getD (c .domains) (l - 1) 0) levels-are ∙ leaves-on (length ls - 1) ∙ one;
       }

@@ -8,7 +8,7 @@ use lib.Ieee.{Float}
 use Rattle.lists.specs.Lists.{total, from, part}
 use Rattle.definition.specs.Points.{boxWidth}
 use Rattle.definition.specs.Tree.{Leaf, Level}
-use Rattle.definition.specs.Packed.{Counts, DomainRow, rowNumbers, rowFloats}
+use Rattle.definition.specs.Packed.{DomainRow, rowNumbers, rowFloats}
 
 -- ---- the domain row number j of a list of domain rows
 
@@ -86,31 +86,32 @@ upTo counts l = total (take l counts)
 abbrev pub pointsAt : List ℕ → List ℕ → ℕ → List ℕ
 pointsAt points rows l = part points (upTo rows l) (getD rows l 0)
 
-unfoldable pub levelAt : Packed → List ℕ → Counts → ℕ → Level
-levelAt p points c l =
+unfoldable pub levelAt : Packed → List ℕ → List ℕ → List ℕ → ℕ → Level
+levelAt p points rows counts l =
     record {
-      points = pointsAt points (c .rows) l;
-      leaves = leavesAt p (upTo (c .domains) l) (getD (c .domains) l 0);
+      points = pointsAt points rows l;
+      leaves = leavesAt p (upTo counts l) (getD counts l 0);
     }
 
 -- the first n levels
-unfoldable pub levelsAt : Packed → List ℕ → Counts → ℕ → List Level
-levelsAt p points c n = map (levelAt p points c) (from 0 n)
+unfoldable pub levelsAt : Packed → List ℕ → List ℕ → List ℕ → ℕ → List Level
+levelsAt p points rows counts n = map (levelAt p points rows counts) (from 0 n)
 
 -- ---- what has to stand in the lists before a reader may go by them
 
--- the domain row number j, with its stretches and its box
+-- the domain row number j, with its stretches and its box, on up to three axes
 pub record RowFits (p : Packed) (j : ℕ) : Type 0 where
+  pub axes : p .dimension ≤ 3
   pub row : rowNumbers * (j + 1) ≤ length (p .domains)
   pub own : ownStart (p .domains) j + ownCount (p .domains) j ≤ length (p .internals)
   pub borrowed : borrowedStart (p .domains) j + borrowedCount (p .domains) j ≤ length (p .borrowed)
   pub box : rowFloats (p .dimension) * j + boxWidth (p .dimension) ≤ length (p .boxes)
 
--- as many levels as are counted; the last one is coarse, with one domain
-pub record Stands (p : Packed) (points : List ℕ) (c : Counts) : Type 0 where
-  pub some : 1 ≤ c .levels
-  pub rowed : c .levels ≤ length (c .rows)
-  pub counted : c .levels ≤ length (c .domains)
-  pub within : upTo (c .rows) (c .levels) ≤ length points
-  pub fits : (j : ℕ) → j < upTo (c .domains) (c .levels) → RowFits p j
-  pub coarse : getD (c .domains) (c .levels - 1) 0 ≡ 1
+-- n levels with their counts; the last one is coarse, with one domain
+pub record Stands (p : Packed) (points rows counts : List ℕ) (n : ℕ) : Type 0 where
+  pub some : 1 ≤ n
+  pub rowed : n ≤ length rows
+  pub counted : n ≤ length counts
+  pub within : upTo rows n ≤ length points
+  pub fits : (j : ℕ) → j < upTo counts n → RowFits p j
+  pub coarse : getD counts (n - 1) 0 ≡ 1

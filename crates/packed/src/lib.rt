@@ -1,6 +1,6 @@
 // Domain rows in the lent lists: their strides, and a row read and written. No other crate knows which of a row's numbers says what.
 ghost use mathlib.Core.Path.{_≡_};
-ghost use Prim.Native.Nat.{_+_, _*_, _≤_};
+ghost use Prim.Native.Nat.{_+_, _*_, _^_, _≤_, _<_};
 ghost use lib.ListN.{length};
 ghost use Rattle.definition.specs.Points.{boxWidth};
 ghost use Rattle.definition.specs.Packed.{rowNumbers, rowFloats};
@@ -38,6 +38,14 @@ pub fn row_floats(dimensions: usize) -> usize
     ensures { λ r. ⌜ r ≡ rowFloats dimensions ⌝ }
 {
     box_width(dimensions)
+}
+
+// Where the floats of the domain row number k start: those of its box come first.
+pub fn box_start(dimensions: usize, k: usize) -> usize
+    requires { ⌜ (dimensions ≤ 3) × (rowFloats dimensions * k < 2 ^ 64) ⌝ }
+    ensures { λ r. ⌜ r ≡ rowFloats dimensions * k ⌝ }
+{
+    row_floats(dimensions) * k
 }
 
 // The domain row number k, by value.

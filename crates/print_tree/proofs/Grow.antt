@@ -13,7 +13,8 @@ use Rattle.formats.specs.Printout.{domainLine, boxText, fineLines}
 use Rattle.lists.proofs.From.{from-suc, length-from}
 use Rattle.lists.proofs.Map.{map-snoc}
 use Rattle.print_texts.specs.Wrote.{Wrote, Room}
-use Rattle.print_tree.specs.Unpack.{Packed, leafAt, leavesAt, leafLine, boxPart}
+use Rattle.packed.specs.Reading.{Packed, leafAt, leavesAt}
+use Rattle.print_tree.specs.Unpack.{leafLine, boxPart}
 use Rattle.print_texts.proofs.Texts.{spelt, room-spelt, room-next, wrote-then}
 
 module _ (g x : ℕ → List ℕ) (grows : (k : ℕ) → g (k + 1) ≡ g k ++ x k) where

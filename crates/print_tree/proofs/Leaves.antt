@@ -2,26 +2,36 @@
 use mathlib.Core.Path.{_≡_}
 use mathlib.Core.Bool.{Bool}
 use Prim.Native.Nat.{ℕ, _+_, _-_, _*_}
-use lib.ListN.{getD, take, drop}
+use lib.ListN.{take, drop}
 use Rattle.lists.proofs.Put.{part-lent}
+use Rattle.definition.specs.Points.{boxWidth}
+use Rattle.definition.specs.Packed.{rowFloats}
 use Rattle.formats.specs.Printout.{domainLine}
-use Rattle.print_tree.specs.Unpack.{Packed, leafOf, leafAt, leafLine, boxPart}
+use Rattle.packed.specs.declared.DomainRow.{DomainRow}
+use Rattle.packed.specs.Reading.{Packed, ownStart, ownCount, borrowedStart, borrowedCount, leafAt}
+use Rattle.packed.specs.Rows.{IsRow}
+use Rattle.print_tree.specs.Unpack.{leafOf, leafLine, boxPart}
 
-module _ (fine : Bool) (i : ℕ) (p : Packed) (j : ℕ) where
+-- the row r read, and the box found at x, with w bounds
+module _ (fine : Bool) (i : ℕ) (p : Packed) (j : ℕ) (r : DomainRow) (e : IsRow r (p .domains) j) (x w : ℕ) (ex : x ≡ rowFloats (p .dimension) * j)
+    (ew : w ≡ boxWidth (p .dimension)) where
   pub leaf-line :
-      let o = getD (p .domains) (4 * j) 0 in
-      let n = getD (p .domains) (4 * j + 1) 0 in
-      let b = getD (p .domains) (4 * j + 2) 0 in
-      let m = getD (p .domains) (4 * j + 3) 0 in
-      let x = p .wide * j in
-      let w = p .wide in
+      let o = r .«internal_start» in
+      let b = r .«borrowed_start» in
       let box = take (x + w - x) (drop x (p .boxes)) in
-      leafLine fine i p j ≡ domainLine i (leafOf (take (o + n - o) (drop o (p .own))) (take (b + m - b) (drop b (p .borrowed))) box) (boxPart fine box)
+      leafLine fine i p j
+      ≡ domainLine i (leafOf (take (o + r .«internal_count» - o) (drop o (p .internals))) (take (b + r .«borrowed_count» - b) (drop b (p .borrowed))) box)
+      (boxPart fine box)
   unfolding leafLine leafAt
   leaf-line =
       rw (
-        ← part-lent (p .own) (getD (p .domains) (4 * j) 0) (getD (p .domains) (4 * j + 1) 0),
-        ← part-lent (p .borrowed)
-            (getD (p .domains) (4 * j + 2) 0) (getD (p .domains) (4 * j + 3) 0),
-        ← part-lent (p .boxes) (p .wide * j) (p .wide),
+        e .own-start,
+        e .own-count,
+        e .borrowed-start,
+        e .borrowed-count,
+        ex,
+        ew,
+        ← part-lent (p .internals) (ownStart (p .domains) j) (ownCount (p .domains) j),
+        ← part-lent (p .borrowed) (borrowedStart (p .domains) j) (borrowedCount (p .domains) j),
+        ← part-lent (p .boxes) (rowFloats (p .dimension) * j) (boxWidth (p .dimension)),
       )

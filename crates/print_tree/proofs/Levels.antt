@@ -9,7 +9,8 @@ use lib.ListN.{length, getD, take, drop, length-map}
 use Rattle.lists.specs.Lists.{from, total, joined}
 use Rattle.definition.specs.Tree.{Level}
 use Rattle.formats.specs.Printout.{levelLine, fineLines, coarseLines, levelsText}
-use Rattle.print_tree.specs.Unpack.{Packed, Holds, Stands, leavesAt, leafLine, boxPart, pointsLine, levelAt, levelsAt, fineLevelText, coarseLevelText}
+use Rattle.packed.specs.Reading.{Packed, leavesAt, levelAt, levelsAt, RowFits, Stands}
+use Rattle.print_tree.specs.Unpack.{leafLine, boxPart, pointsLine, fineLevelText, coarseLevelText}
 use Rattle.lists.proofs.Sums.{total-below}
 use Rattle.lists.proofs.From.{from-suc, length-from}
 use Rattle.lists.proofs.Map.{map-snoc}
@@ -117,15 +118,15 @@ module _ (p : Packed) (points rows counts : List ℕ) where
       pub rows-here : a + getD rows t 0 ≤ length points
       rows-here = omega (arith, total-below rows t n h, s .within)
 
-      pub held-here : (i : ℕ) → i < getD counts t 0 → Holds p (j + i)
-      held-here i g = s .held (j + i) (omega (arith, total-below counts t n h))
+      pub fits-here : (i : ℕ) → i < getD counts t 0 → RowFits p (j + i)
+      fits-here i g = s .fits (j + i) (omega (arith, total-below counts t n h))
 
       pub domains-here : j + getD counts t 0 ≤ length (p .domains)
       domains-here = go (j + getD counts t 0) (omega (arith, total-below counts t n h))
         where
           go : (k : ℕ) → k ≤ total (take n counts) → k ≤ length (p .domains)
           go zero g = omega arith
-          go (suc k) g = omega (arith, s .held k (omega arith) .row)
+          go (suc k) g = omega (arith, s .fits k (omega arith) .row)
 
   pub levels-whole : (n t : ℕ) → Stands p points rows counts n → t ≡ n - 1 → levelsText 0 (levelsAt p points rows counts n) ≡ frontText t ++ coarseAt t
   levels-whole n t s e =

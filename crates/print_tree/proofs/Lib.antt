@@ -1,7 +1,5 @@
--- Laws on the lines of a tree, and on the tree that stands in packed lists.
+-- Laws on the lines of a tree.
 pub mod Lines
 pub mod Grow
 pub mod Leaves
 pub mod Levels
-pub mod Unpacked
-pub mod Packs

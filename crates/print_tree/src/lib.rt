@@ -3,7 +3,8 @@
 ghost use Prim.Native.Nat.{ℕ, _+_, _<_};
 ghost use Rattle.formats.specs.Printout.{domainLine, fineLines, levelsText, treeText};
 ghost use Rattle.print_texts.specs.Wrote.{Wrote, Room};
-ghost use Rattle.print_tree.specs.Unpack.{leafOf, boxPart, pointsLine, packed, Holds, leafLine, leavesAt, fineLevelText, coarseLevelText, Stands, levelsAt};
+ghost use Rattle.packed.specs.Reading.{packed, RowFits, leavesAt, Stands, levelsAt};
+ghost use Rattle.print_tree.specs.Unpack.{leafOf, boxPart, pointsLine, leafLine, fineLevelText, coarseLevelText};
 
 // The bounds of a box; a dash for the coarse domain's.
 fn write_box(fine: bool, bounds: &[f64], out: &mut [u8], at: usize) -> usize
@@ -56,20 +57,21 @@ fn write_leaf(
     borrowed: &[usize],
     domains: &[usize],
     boxes: &[f64],
-    wide: usize,
+    dimensions: usize,
     out: &mut [u8],
     at: usize,
 ) -> usize
-    requires { ⌜ Holds (packed (now own) (now borrowed) (now domains) (now boxes) wide) j ⌝ }
-    requires { ⌜ Room (now out) at (leafLine fine i (packed (now own) (now borrowed) (now domains) (now boxes) wide) j) ⌝ }
-    ensures { λ r. ⌜ Wrote (now (out .entry)) at (leafLine fine i (packed (now (own .entry)) (now (borrowed .entry)) (now (domains .entry)) (now (boxes .entry)) wide) j) r (now (out .exit)) ⌝ }
+    requires { ⌜ RowFits (packed (now own) (now borrowed) (now domains) (now boxes) dimensions) j ⌝ }
+    requires { ⌜ Room (now out) at (leafLine fine i (packed (now own) (now borrowed) (now domains) (now boxes) dimensions) j) ⌝ }
+    ensures { λ r. ⌜ Wrote (now (out .entry)) at (leafLine fine i (packed (now (own .entry)) (now (borrowed .entry)) (now (domains .entry)) (now (boxes .entry)) dimensions) j) r (now (out .exit)) ⌝ }
 {
-    let o = domains[4 * j];
-    let oe = o + domains[4 * j + 1];
-    let b = domains[4 * j + 2];
-    let be = b + domains[4 * j + 3];
-    let x = wide * j;
-    let xe = x + wide;
+    let row = packed::read_row(domains, j);
+    let o = row.internal_start;
+    let oe = o + row.internal_count;
+    let b = row.borrowed_start;
+    let be = b + row.borrowed_count;
+    let x = packed::box_start(dimensions, j);
+    let xe = x + packed::box_width(dimensions);
     write_domain(
         i,
         &own[o..oe],
@@ -89,13 +91,13 @@ fn write_leaves(
     borrowed: &[usize],
     domains: &[usize],
     boxes: &[f64],
-    wide: usize,
+    dimensions: usize,
     out: &mut [u8],
     at: usize,
 ) -> usize
-    requires { ⌜ ((i : ℕ) → i < m → Holds (packed (now own) (now borrowed) (now domains) (now boxes) wide) (j + i)) ⌝ }
-    requires { ⌜ Room (now out) at (fineLines 0 (leavesAt (packed (now own) (now borrowed) (now domains) (now boxes) wide) j m)) ⌝ }
-    ensures { λ r. ⌜ Wrote (now (out .entry)) at (fineLines 0 (leavesAt (packed (now (own .entry)) (now (borrowed .entry)) (now (domains .entry)) (now (boxes .entry)) wide) j m)) r (now (out .exit)) ⌝ }
+    requires { ⌜ ((i : ℕ) → i < m → RowFits (packed (now own) (now borrowed) (now domains) (now boxes) dimensions) (j + i)) ⌝ }
+    requires { ⌜ Room (now out) at (fineLines 0 (leavesAt (packed (now own) (now borrowed) (now domains) (now boxes) dimensions) j m)) ⌝ }
+    ensures { λ r. ⌜ Wrote (now (out .entry)) at (fineLines 0 (leavesAt (packed (now (own .entry)) (now (borrowed .entry)) (now (domains .entry)) (now (boxes .entry)) dimensions) j m)) r (now (out .exit)) ⌝ }
 {
     let mut next = at;
     let mut i = 0;
@@ -108,7 +110,7 @@ fn write_leaves(
             borrowed,
             domains,
             boxes,
-            wide,
+            dimensions,
             out,
             next,
         );
@@ -127,16 +129,16 @@ fn write_fine(
     borrowed: &[usize],
     domains: &[usize],
     boxes: &[f64],
-    wide: usize,
+    dimensions: usize,
     out: &mut [u8],
     at: usize,
 ) -> usize
-    requires { ⌜ ((i : ℕ) → i < m → Holds (packed (now own) (now borrowed) (now domains) (now boxes) wide) (j + i)) ⌝ }
-    requires { ⌜ Room (now out) at (fineLevelText t (now rows) (packed (now own) (now borrowed) (now domains) (now boxes) wide) j m) ⌝ }
-    ensures { λ r. ⌜ Wrote (now (out .entry)) at (fineLevelText t (now (rows .entry)) (packed (now (own .entry)) (now (borrowed .entry)) (now (domains .entry)) (now (boxes .entry)) wide) j m) r (now (out .exit)) ⌝ }
+    requires { ⌜ ((i : ℕ) → i < m → RowFits (packed (now own) (now borrowed) (now domains) (now boxes) dimensions) (j + i)) ⌝ }
+    requires { ⌜ Room (now out) at (fineLevelText t (now rows) (packed (now own) (now borrowed) (now domains) (now boxes) dimensions) j m) ⌝ }
+    ensures { λ r. ⌜ Wrote (now (out .entry)) at (fineLevelText t (now (rows .entry)) (packed (now (own .entry)) (now (borrowed .entry)) (now (domains .entry)) (now (boxes .entry)) dimensions) j m) r (now (out .exit)) ⌝ }
 {
     let next = write_level(t, rows, out, at);
-    write_leaves(j, m, own, borrowed, domains, boxes, wide, out, next)
+    write_leaves(j, m, own, borrowed, domains, boxes, dimensions, out, next)
 }
 
 // The lines of the coarse level number t, whose one domain is the domain row number j.
@@ -148,16 +150,27 @@ fn write_coarse(
     borrowed: &[usize],
     domains: &[usize],
     boxes: &[f64],
-    wide: usize,
+    dimensions: usize,
     out: &mut [u8],
     at: usize,
 ) -> usize
-    requires { ⌜ Holds (packed (now own) (now borrowed) (now domains) (now boxes) wide) j ⌝ }
-    requires { ⌜ Room (now out) at (coarseLevelText t (now rows) (packed (now own) (now borrowed) (now domains) (now boxes) wide) j) ⌝ }
-    ensures { λ r. ⌜ Wrote (now (out .entry)) at (coarseLevelText t (now (rows .entry)) (packed (now (own .entry)) (now (borrowed .entry)) (now (domains .entry)) (now (boxes .entry)) wide) j) r (now (out .exit)) ⌝ }
+    requires { ⌜ RowFits (packed (now own) (now borrowed) (now domains) (now boxes) dimensions) j ⌝ }
+    requires { ⌜ Room (now out) at (coarseLevelText t (now rows) (packed (now own) (now borrowed) (now domains) (now boxes) dimensions) j) ⌝ }
+    ensures { λ r. ⌜ Wrote (now (out .entry)) at (coarseLevelText t (now (rows .entry)) (packed (now (own .entry)) (now (borrowed .entry)) (now (domains .entry)) (now (boxes .entry)) dimensions) j) r (now (out .exit)) ⌝ }
 {
     let next = write_level(t, rows, out, at);
-    write_leaf(false, 0, j, own, borrowed, domains, boxes, wide, out, next)
+    write_leaf(
+        false,
+        0,
+        j,
+        own,
+        borrowed,
+        domains,
+        boxes,
+        dimensions,
+        out,
+        next,
+    )
 }
 
 // The lines of all levels.
@@ -170,13 +183,13 @@ fn write_levels(
     borrowed: &[usize],
     domains: &[usize],
     boxes: &[f64],
-    wide: usize,
+    dimensions: usize,
     out: &mut [u8],
     at: usize,
 ) -> usize
-    requires { ⌜ Stands (packed (now own) (now borrowed) (now domains) (now boxes) wide) (now points) (now rows) (now counts) levels ⌝ }
-    requires { ⌜ Room (now out) at (levelsText 0 (levelsAt (packed (now own) (now borrowed) (now domains) (now boxes) wide) (now points) (now rows) (now counts) levels)) ⌝ }
-    ensures { λ r. ⌜ Wrote (now (out .entry)) at (levelsText 0 (levelsAt (packed (now (own .entry)) (now (borrowed .entry)) (now (domains .entry)) (now (boxes .entry)) wide) (now (points .entry)) (now (rows .entry)) (now (counts .entry)) levels)) r (now (out .exit)) ⌝ }
+    requires { ⌜ Stands (packed (now own) (now borrowed) (now domains) (now boxes) dimensions) (now points) (now rows) (now counts) levels ⌝ }
+    requires { ⌜ Room (now out) at (levelsText 0 (levelsAt (packed (now own) (now borrowed) (now domains) (now boxes) dimensions) (now points) (now rows) (now counts) levels)) ⌝ }
+    ensures { λ r. ⌜ Wrote (now (out .entry)) at (levelsText 0 (levelsAt (packed (now (own .entry)) (now (borrowed .entry)) (now (domains .entry)) (now (boxes .entry)) dimensions) (now (points .entry)) (now (rows .entry)) (now (counts .entry)) levels)) r (now (out .exit)) ⌝ }
 {
     let last = levels - 1;
     let mut next = at;
@@ -195,7 +208,7 @@ fn write_levels(
             borrowed,
             domains,
             boxes,
-            wide,
+            dimensions,
             out,
             next,
         );
@@ -212,7 +225,7 @@ fn write_levels(
         borrowed,
         domains,
         boxes,
-        wide,
+        dimensions,
         out,
         next,
     )
@@ -228,13 +241,13 @@ pub fn write_tree(
     borrowed: &[usize],
     domains: &[usize],
     boxes: &[f64],
-    wide: usize,
+    dimensions: usize,
     out: &mut [u8],
     at: usize,
 ) -> usize
-    requires { ⌜ Stands (packed (now own) (now borrowed) (now domains) (now boxes) wide) (now points) (now rows) (now counts) levels ⌝ }
-    requires { ⌜ Room (now out) at (treeText (levelsAt (packed (now own) (now borrowed) (now domains) (now boxes) wide) (now points) (now rows) (now counts) levels)) ⌝ }
-    ensures { λ r. ⌜ Wrote (now (out .entry)) at (treeText (levelsAt (packed (now (own .entry)) (now (borrowed .entry)) (now (domains .entry)) (now (boxes .entry)) wide) (now (points .entry)) (now (rows .entry)) (now (counts .entry)) levels)) r (now (out .exit)) ⌝ }
+    requires { ⌜ Stands (packed (now own) (now borrowed) (now domains) (now boxes) dimensions) (now points) (now rows) (now counts) levels ⌝ }
+    requires { ⌜ Room (now out) at (treeText (levelsAt (packed (now own) (now borrowed) (now domains) (now boxes) dimensions) (now points) (now rows) (now counts) levels)) ⌝ }
+    ensures { λ r. ⌜ Wrote (now (out .entry)) at (treeText (levelsAt (packed (now (own .entry)) (now (borrowed .entry)) (now (domains .entry)) (now (boxes .entry)) dimensions) (now (points .entry)) (now (rows .entry)) (now (counts .entry)) levels)) r (now (out .exit)) ⌝ }
 {
     let said = print_texts::write_numbered(b"levels ", levels, out, at);
     let next = print_texts::write_byte(10, out, said);
@@ -247,7 +260,7 @@ pub fn write_tree(
         borrowed,
         domains,
         boxes,
-        wide,
+        dimensions,
         out,
         next,
     )

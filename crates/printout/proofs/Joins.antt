@@ -2,15 +2,16 @@
 use mathlib.Core.Path.{_≡_, sym, ap, _∙_}
 use mathlib.Core.Logic.{⊎-elim}
 use mathlib.Core.Bool.{false}
-use Prim.Native.Nat.{ℕ, _+_, _*_, _≤_, _<_}
+use Prim.Native.Nat.{ℕ, _+_, _-_, _*_, _≤_, _<_}
 use native.Mathlib.Nat.{mul-le-mul, div-le-of-le-mul, mul-comm, le-refl, zero-add}
 use native.Mathlib.Omega.{arith}
 use mathlib.Core.List.{List}
-use lib.ListN.{length, take, replicate, length-replicate}
+use lib.ListN.{length, take, drop, replicate, length-replicate}
 use lib.Ieee.{Float}
 use borrow.Author.Tests.{le-ltb, lt-ltb}
 use Rattle.lists.proofs.Put.{put-zero}
 use Rattle.lists.proofs.Tests.{le-or-lt}
+use Rattle.lists.proofs.Map.{getD-map-in}
 use Rattle.definition.specs.Number.{plusZero}
 use Rattle.definition.specs.Tree as tree
 use Rattle.definition.specs.Packed.{Counts, BuildSizes, buildStated, rowFloats, countsOf, packedPoints, packedOwn, packedBorrowed, packedBoxes, packedDomains}
@@ -22,10 +23,11 @@ use Rattle.definition_laws.proofs.Accepted.{LentEnough, build-zero}
 use Rattle.stream_laws.specs.Sizes.{JobLimits, WithinLimits, mostBytes}
 use Rattle.stream_laws.proofs.Stream.{job-limits}
 use Rattle.stream_laws.proofs.Long.{job-long, refusal-long, printout-long}
-use Rattle.stream_laws.proofs.Shape.{tree-shaped}
+use Rattle.stream_laws.proofs.Shape.{leafCount, tree-shaped}
 use Rattle.print_texts.specs.Wrote.{Wrote, Room, refusalOf}
-use Rattle.print_tree.specs.Unpack.{packed, Stands, levelsAt}
-use Rattle.print_tree.proofs.Packs.{tree-back, tree-stands}
+use Rattle.packed.specs.Reading.{Packed, packed, Stands, levelsAt}
+use Rattle.packed.proofs.Counts.{noLevel}
+use Rattle.packed.proofs.Unpacked.{Packs, levels-are, tree-back, tree-stands}
 use Rattle.stream_reader.specs.declared.Settings.{Settings}
 use Rattle.stream_reader.specs.declared.Read.{Read}
 use Rattle.stream_reader.specs.declared.Read.the-variants.{Whole, Broken}
@@ -72,7 +74,7 @@ pub record Roomy (lent : BuildSizes) : Type 0 where
 roomy : (d n k : ℕ) (lent : BuildSizes) → d ≤ 3 → n ≤ 32 → k ≤ 16 → Roomy lent → LentEnough lent (buildStated d n k)
 unfolding buildStated
 roomy d n k lent hd hn hk r =
-    let a = mul-le-mul {n₁ = 2 * d} {m₁ = 6 * n + 1} {n₂ = 6} {m₂ = 193} (omega arith) (omega arith) in
+    let a = mul-le-mul {n₁ = rowFloats d} {m₁ = 6 * n + 1} {n₂ = rowFloats 3} {m₂ = 193} (omega arith) (omega arith) in
     let b = mul-le-mul {n₁ = 6 * n} {m₁ = k + 1} {n₂ = 192} {m₂ = 17} (omega arith) (omega arith) in
     let c = mul-le-mul {n₁ = 8 * n} {m₁ = k + 1} {n₂ = 256} {m₂ = 17} (omega arith) (omega arith) in
     record {
@@ -133,9 +135,6 @@ module _ (s : tree.Settings) (cs : List Float) (old : TreeLists) (floats : List 
         abbrev ls : List tree.Level
         ls = tree.levels s cs
 
-        abbrev wide : ℕ
-        wide = rowFloats (s .dimension)
-
         counts-are : r .value ≡ countsOf ls
         unfolding buildAnswer valueOf
         counts-are = ap (λ (a : Answer Counts). a .value) e ∙ rw (job-accepted h)
@@ -150,19 +149,44 @@ module _ (s : tree.Settings) (cs : List Float) (old : TreeLists) (floats : List 
         unfolding buildLists treeListsAfter listAfter
         lists-are = f ∙ rw (job-accepted h)
 
-        pub tree-ready : Stands (packed (new .internals) (new .borrowed) (new .domains) (new .boxes) wide) (new .points) (r .value .rows) (r .value .domains) (r .value .levels)
-        unfolding countsOf
+        abbrev lists : Packed
+        lists = packed (new .internals) (new .borrowed) (new .domains) (new .boxes) (s .dimension)
+
+        tree-packed : Packs ls lists (new .points) (r .value)
+        unfolding written
+        tree-packed =
+            let shaped = tree-shaped s cs in
+            record {
+              few = shaped .few;
+              boxed = shaped .wide;
+              counts = counts-are;
+              points-rest = drop (length (packedPoints ls)) (old .points);
+              points-are = ap (λ (l : TreeLists). l .points) lists-are;
+              internals-rest = drop (length (packedOwn ls)) (old .internals);
+              internals = ap (λ (l : TreeLists). l .internals) lists-are;
+              domains-rest = drop (length (packedDomains ls)) (old .domains);
+              domains = ap (λ (l : TreeLists). l .domains) lists-are;
+              boxes-rest = drop (length (packedBoxes ls)) (old .boxes);
+              boxes = ap (λ (l : TreeLists). l .boxes) lists-are;
+              borrowed-rest = drop (length (packedBorrowed ls)) (old .borrowed);
+              borrowed = ap (λ (l : TreeLists). l .borrowed) lists-are;
+            }
+
+        pub tree-ready : Stands (packed (new .internals) (new .borrowed) (new .domains) (new .boxes) (s .dimension)) (new .points) (r .value .rows) (r .value .domains)
+            (r .value .levels)
         tree-ready =
-            rw (lists-are, counts-are)
-            (tree-stands ls wide (tree-shaped s cs) (old .internals) (old .borrowed) (old .domains) (old .points) (old .boxes))
+            let shaped = tree-shaped s cs in
+            let last = length ls - 1 in
+            tree-stands ls lists (new .points) (r .value) tree-packed (kept .axes-few) (shaped .some)
+            (sym (getD-map-in leafCount ls last noLevel 0 (omega (arith, shaped .some))) ∙ shaped .last)
 
         pub job-tree : jobText (job s cs)
-            ≡ treeText (levelsAt (packed (new .internals) (new .borrowed) (new .domains) (new .boxes) wide) (new .points) (r .value .rows)
+            ≡ treeText (levelsAt (packed (new .internals) (new .borrowed) (new .domains) (new .boxes) (s .dimension)) (new .points) (r .value .rows)
             (r .value .domains) (r .value .levels))
-        unfolding countsOf
         job-tree =
-            rw (lists-are, counts-are)
-            (text-accepted h ∙ ap treeText (sym (tree-back ls wide (tree-shaped s cs) (old .internals) (old .borrowed) (old .domains) (old .points) (old .boxes))))
+            text-accepted h
+            ∙ ap treeText (sym (ap (levelsAt lists (new .points) (r .value .rows) (r .value .domains)) (levels-are ls lists (new .points) (r .value) tree-packed)
+            ∙ tree-back ls lists (new .points) (r .value) tree-packed))
 
 -- ---- the program's lists, as they are lent
 abbrev pub lentLists : TreeLists

@@ -33,7 +33,6 @@ fn write_job(s: Settings, cs: &[f64], out: &mut [u8]) -> usize
     let mut wholes = [0usize; 5376];
     let d = s.dimensions;
     let params = s.params;
-    let wide = 2 * d;
     let tree = ddm::build(
         cs,
         d,
@@ -63,7 +62,7 @@ fn write_job(s: Settings, cs: &[f64], out: &mut [u8]) -> usize
         &borrowed,
         &domains,
         &boxes,
-        wide,
+        d,
         out,
         0,
     )

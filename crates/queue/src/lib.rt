@@ -6,9 +6,6 @@ ghost use Rattle.lists.specs.Lists.{put, part};
 ghost use Rattle.definition.specs.Packed.{rowNumbers};
 ghost use Rattle.queue.specs.Rows.{twoHalves, twoOwn};
 
-// How many whole numbers a domain row has.
-pub const ROW_NUMBERS: usize = 4;
-
 // Writes start and count of the two halves of a stretch to a list, from `at` on: left before right.
 pub fn put_halves(list: &mut [usize], at: usize, start: usize, count: usize)
     requires { ⌜ (at + 4 ≤ length (now list)) × (start + count < 2 ^ 64) ⌝ }
@@ -25,8 +22,8 @@ fn put_leaves(list: &mut [usize], k: usize, start: usize, count: usize)
     ensures { λ _. ⌜ now (list .exit) ≡ twoOwn (now (list .entry)) k start count ⌝ }
 {
     let half = count / 2;
-    stretches::put_pair(list, ROW_NUMBERS * k, start, half);
-    stretches::put_pair(list, ROW_NUMBERS * (k + 1), start + half, count - half);
+    packed::put_own(list, k, start, half);
+    packed::put_own(list, k + 1, start + half, count - half);
 }
 
 // Packs two leaves, the halves of the `count` rows from `start` on: their rows go to `internals` from `at` on, and start and count of

@@ -7,7 +7,7 @@ use lib.ListN.{length, take, drop, length-set}
 use lib.Seq.{take-at}
 use Rattle.lists.specs.Lists.{from}
 use Rattle.lists.proofs.From.{map-from-nil, front-below-suc, length-map-from}
-use Rattle.overlap_owners.specs.Own.{ownCount}
+use Rattle.packed.specs.Reading.{ownCount}
 use Rattle.coarse_points.proofs.copy_sizes.Statement.{statement}
 use Rattle.coarse_points.proofs.copy_sizes.Tie as tie
 
@@ -18,25 +18,16 @@ abbrev μ-loop : tie.MeasureT-loop
 μ-loop domains first m work₀ l₀ work l = m - l
 
 loop-holds : tie.Need-loop-holds Inv-loop μ-loop
-loop-holds c = let a = c .args in (omega arith, refl, rw (map-from-nil (λ l. ownCount (a .domains .now) (a .first + l)) 0))
+loop-holds c = let a = c .before .before .args in (omega arith, refl, rw (map-from-nil (λ l. ownCount (a .domains .now) (a .first + l)) 0))
 
-add-work : tie.Need-add-work Inv-loop μ-loop
-add-work c = omega arith
+add-read-row : tie.Need-add-read-row Inv-loop μ-loop
+add-read-row c = omega arith
+
+read-row-requires : tie.Need-read-row-requires Inv-loop μ-loop
+read-row-requires c κs = omega arith
 
 mul-work : tie.Need-mul-work Inv-loop μ-loop
 mul-work c = omega arith
-
-add-work-2 : tie.Need-add-work-2 Inv-loop μ-loop
-add-work-2 c = omega arith
-
-mul-work-2 : tie.Need-mul-work-2 Inv-loop μ-loop
-mul-work-2 c = omega arith
-
-shared-slice-read-work : tie.Need-shared-slice-read-work Inv-loop μ-loop
-shared-slice-read-work c = omega arith
-
-mul-work-3 : tie.Need-mul-work-3 Inv-loop μ-loop
-mul-work-3 c = omega arith
 
 slice-write-work : tie.Need-slice-write-work Inv-loop μ-loop
 slice-write-work c = omega arith
@@ -49,16 +40,20 @@ loop-less c = omega arith
 
 loop-again : tie.Need-loop-again Inv-loop μ-loop
 loop-again c =
-    let a = c .before .before .before .args in
-    let i = c .before .before .loop in
-    (omega arith, simp length-set (omega arith), rw (i .inv .2) (front-below-suc (λ l. ownCount (a .domains .now) (a .first + l)) (i .l) (a .work .now) _ 0 (omega arith) refl))
+    let a = c .before .before .before .before .before .args in
+    let i = c .before .before .loop in (
+      omega arith,
+      simp length-set (omega arith),
+      rw (i .inv .2)
+          (front-below-suc (λ l. ownCount (a .domains .now) (a .first + l)) (i .l) (a .work .now) _ 0 (omega arith) (c .read-row .ensures .own-count)),
+    )
 
 same-length : tie.Need-same-length Inv-loop μ-loop
 same-length c = omega arith
 
 returns : tie.Need-returns Inv-loop μ-loop
 returns c =
-    let a = c .before .before .args in
+    let a = c .before .before .before .before .args in
     let i = c .before .loop in
     let f : ℕ → ℕ = λ l. ownCount (a .domains .now) (a .first + l) in
     let e : i .l ≡ a .m = omega arith in
@@ -72,12 +67,9 @@ copy-sizes-spec =
     Inv-loop
     μ-loop
     loop-holds
-    add-work
+    add-read-row
+    read-row-requires
     mul-work
-    add-work-2
-    mul-work-2
-    shared-slice-read-work
-    mul-work-3
     slice-write-work
     add-l
     loop-less

@@ -5,44 +5,19 @@ use Prim.Native.Nat.{ℕ}
 use native.Mathlib.Omega.{arith}
 use Rattle.lists.specs.Lists.{put}
 use Rattle.definition.specs.Sampling.{sentBy}
-use Rattle.coarse_points.proofs.Stages.{start-is, own-lent, lent-ascends, lent-inside, lent-length}
+use Rattle.coarse_points.proofs.Stages.{own-lent, lent-ascends, lent-inside, lent-length}
 use borrow.Author.Needs.{needs}
 use Rattle.coarse_points.proofs.send_leaf.Statement.{statement}
 use Rattle.coarse_points.proofs.send_leaf.Tie as tie
 
-mul-start : tie.Need-mul-start
-mul-start c = search needs
-
-add-start : tie.Need-add-start
-add-start c = search needs
-
-mul-start-2 : tie.Need-mul-start-2
-mul-start-2 c = search needs
-
-shared-slice-read-start : tie.Need-shared-slice-read-start
-shared-slice-read-start c = search needs
-
-mul-stop : tie.Need-mul-stop
-mul-stop c = search needs
+read-row-requires : tie.Need-read-row-requires
+read-row-requires c κs = search needs
 
 add-stop : tie.Need-add-stop
 add-stop c = search needs
 
-mul-stop-2 : tie.Need-mul-stop-2
-mul-stop-2 c = search needs
-
-shared-slice-read-stop : tie.Need-shared-slice-read-stop
-shared-slice-read-stop c = search needs
-
-add-stop-2 : tie.Need-add-stop-2
-add-stop-2 c =
-    let s = c .before .before .before .before .before .before .before in
-    omega (arith, start-is (s .args .domains .now) (s .args .r), s .pre .0 .stretch)
-
 mul-sample-leaf : tie.Need-mul-sample-leaf
-mul-sample-leaf c =
-    let s = c .before .before .before .before .before .before .before in
-    omega (arith, start-is (s .args .domains .now) (s .args .r), s .pre .0 .stretch)
+mul-sample-leaf c = search needs
 
 sub-sample-leaf : tie.Need-sub-sample-leaf
 sub-sample-leaf c = search needs
@@ -51,16 +26,15 @@ part-sample-leaf-start : tie.Need-part-sample-leaf-start
 part-sample-leaf-start c = search needs
 
 part-sample-leaf-end : tie.Need-part-sample-leaf-end
-part-sample-leaf-end c =
-    let s = c .before .before .before .before .before .before .before in
-    omega (arith, start-is (s .args .domains .now) (s .args .r), s .pre .0 .stretch)
+part-sample-leaf-end c = search needs
 
 sample-leaf-requires : tie.Need-sample-leaf-requires
 sample-leaf-requires c κs =
     let s = c .before .before .before .before .before .before .before .before .before .before in
     let a = s .args in
     let f = s .pre .0 in
-    let e = own-lent (a .internals .now) (a .domains .now) (a .r) in
+    let row = c .before .before .before .before .read-row in
+    let e = own-lent (a .internals .now) (a .domains .now) (a .r) (row .result) (row .ensures) in
     let n = lent-length _ _ _ _ _ _ _ f _ e in (
       (lent-ascends _ _ _ _ _ _ _ f _ e, lent-inside _ _ _ _ _ _ _ f _ e),
       (f .finite-all, ((f .axes, omega (arith, n, f .within), omega (arith, n, f .few)), (s .pre .1, omega (arith, n, f .floats)))),
@@ -75,22 +49,16 @@ same-length-2 c = search needs
 returns : tie.Need-returns
 returns c =
     let a = c .before .before .before .before .before .before .before .before .before .before .before .before .before .before .before .args in
+    let row = c .before .before .before .before .before .before .before .before .before .read-row in
     c .before .before .before .before .sample-leaf .ensures
-    ∙ ap (λ (z : List ℕ). put (a .out .now) (a .at) (sentBy (a .dimensions) (a .points .now) z (a .quota))) (own-lent (a .internals .now) (a .domains .now) (a .r))
+    ∙ ap (λ (z : List ℕ). put (a .out .now) (a .at) (sentBy (a .dimensions) (a .points .now) z (a .quota))) (own-lent (a .internals .now) (a .domains .now) (a .r) (row .result) (row .ensures))
 
 pub send-leaf-spec : {M : Type 1} → statement M
 send-leaf-spec =
     tie.close
     (tie.spec
-    mul-start
-    add-start
-    mul-start-2
-    shared-slice-read-start
-    mul-stop
+    read-row-requires
     add-stop
-    mul-stop-2
-    shared-slice-read-stop
-    add-stop-2
     mul-sample-leaf
     sub-sample-leaf
     part-sample-leaf-start

@@ -1,8 +1,9 @@
 -- `overlap_owners::owners` meets its contract. The loop has marked the rows of the leaves passed. Assumes nothing.
 
-use Prim.Native.Nat.{_-_, _≤_}
+use Prim.Native.Nat.{_+_, _-_, _≤_}
 use mathlib.Core.Path.{_≡_, refl}
 use lib.ListN.{length}
+use Rattle.packed.proofs.OwnRows.{row-own}
 use Rattle.overlap_owners.proofs.Marks.{MarkedUpTo, leaf-inside, leaf-more, marked-owned}
 use borrow.Author.Needs.{needs}
 use native.Mathlib.Omega.{arith}
@@ -18,38 +19,25 @@ abbrev μ-loop : tie.MeasureT-loop
 loop-holds : tie.Need-loop-holds Inv-loop μ-loop
 loop-holds c = (omega arith, refl, λ l p h g i. absurd (omega arith))
 
-add-at : tie.Need-add-at Inv-loop μ-loop
-add-at c = search needs
+add-read-row : tie.Need-add-read-row Inv-loop μ-loop
+add-read-row c = search needs
 
-mul-at : tie.Need-mul-at Inv-loop μ-loop
-mul-at c = search needs
-
-mul-mark-leaf : tie.Need-mul-mark-leaf Inv-loop μ-loop
-mul-mark-leaf c = search needs
-
-shared-slice-read-mark-leaf : tie.Need-shared-slice-read-mark-leaf Inv-loop μ-loop
-shared-slice-read-mark-leaf c = search needs
-
-add-mark-leaf : tie.Need-add-mark-leaf Inv-loop μ-loop
-add-mark-leaf c = search needs
-
-mul-mark-leaf-2 : tie.Need-mul-mark-leaf-2 Inv-loop μ-loop
-mul-mark-leaf-2 c = search needs
-
-shared-slice-read-mark-leaf-2 : tie.Need-shared-slice-read-mark-leaf-2 Inv-loop μ-loop
-shared-slice-read-mark-leaf-2 c = search needs
+read-row-requires : tie.Need-read-row-requires Inv-loop μ-loop
+read-row-requires c κs = search needs
 
 mark-leaf-requires : tie.Need-mark-leaf-requires Inv-loop μ-loop
 mark-leaf-requires c κs =
-    let s = c .before .before .before .before .before .before .before .before .before in
+    let s = c .before .before .before .before .before .before .before .before in
     let a = s .args in
-    let l = c .before .before .before .before .loop in
+    let l = c .before .before .before .loop in
+    let row = c .before .read-row in
+    let here = c .before .before .loop-test .taken in
     let L = s .pre .0 in (
       L .ascends,
       omega arith,
-      L .inside (l .leaf) (c .before .before .before .loop-test .taken),
-      leaf-inside (a .active .now) (a .internals .now) (a
-          .domains .now) (a .first) (a .m) L (l .leaf) (c .before .before .before .loop-test .taken),
+      rw (row .ensures .own-start, row .ensures .own-count) (L .inside (l .leaf) here),
+      rw (row-own (a .internals .now) (a .domains .now) (a .first + l .leaf) (row .result) (row .ensures))
+          (leaf-inside (a .active .now) (a .internals .now) (a .domains .now) (a .first) (a .m) L (l .leaf) here),
     )
 
 add-leaf : tie.Need-add-leaf Inv-loop μ-loop
@@ -60,14 +48,16 @@ loop-less c = search needs
 
 loop-again : tie.Need-loop-again Inv-loop μ-loop
 loop-again c =
-    let s = c .before .before .before .before .before .before .before .before .before .before .before .before in
+    let s = c .before .before .before .before .before .before .before .before .before .before .before in
     let a = s .args in
-    let l = c .before .before .before .before .before .before .before .loop in
-    let f = c .before .before .mark-leaf in (
+    let l = c .before .before .before .before .before .before .loop in
+    let f = c .before .before .mark-leaf in
+    let row = c .before .before .before .before .read-row in
+    let own = row-own (a .internals .now) (a .domains .now) (a .first + l .leaf) (row .result) (row .ensures) in (
       omega arith,
       search needs,
       leaf-more (a .active .now) (a .internals .now) (a .domains .now) (a .first) (a .m) (s .pre .0) (l .work) (f .last .1
-          .1 .1 .1 .1 .0) (l .leaf) (c .before .before .before .before .before .before .loop-test .taken) (l .inv .2) (f .ensures),
+          .1 .1 .1 .1 .0) (l .leaf) (c .before .before .before .before .before .loop-test .taken) (l .inv .2) (rw own at (f .ensures)),
     )
 
 same-length : tie.Need-same-length Inv-loop μ-loop
@@ -88,13 +78,8 @@ owners-spec =
     Inv-loop
     μ-loop
     loop-holds
-    add-at
-    mul-at
-    mul-mark-leaf
-    shared-slice-read-mark-leaf
-    add-mark-leaf
-    mul-mark-leaf-2
-    shared-slice-read-mark-leaf-2
+    add-read-row
+    read-row-requires
     mark-leaf-requires
     add-leaf
     loop-less

@@ -5,7 +5,7 @@ use lib.ListN.{length}
 use Rattle.lists.specs.Lists.{part}
 use Rattle.overlaps.proofs.Stages.{twice, stage-owners, stage-length, stage-inside, stage-encoded, stage-number, stage-borrowed, stage-domains}
 use Rattle.overlaps.proofs.Borrows.{positionsOf}
-use Rattle.overlap_owners.specs.Own.{readOwn}
+use Rattle.packed.specs.Reading.{readOwn}
 use native.Mathlib.Omega.{arith}
 use borrow.Author.Needs.{needs}
 use Rattle.overlaps.proofs.overlaps.Statement.{statement}

@@ -1,9 +1,9 @@
 -- `print_tree::write_levels` meets its contract. Assumes nothing.
-use Rattle.print_tree.proofs.Levels.{frontText, fineAt, front-none, front-grows, total-none, fine-here, coarse-here, rows-here, held-here, domains-here, levels-whole}
+use Rattle.print_tree.proofs.Levels.{frontText, fineAt, front-none, front-grows, total-none, fine-here, coarse-here, rows-here, fits-here, domains-here, levels-whole}
 use Rattle.lists.proofs.Sums.{total-step}
 use Rattle.print_tree.proofs.Grow.{grown-room, grown}
 use Rattle.print_texts.proofs.Texts.{spelt, room-spelt, room-first, room-next, wrote-then, wrote-none}
-use Rattle.print_tree.specs.Unpack.{packed}
+use Rattle.packed.specs.Reading.{packed}
 use Rattle.print_texts.specs.Wrote.{Wrote}
 use Rattle.lists.specs.Lists.{total}
 use lib.ListN.{length, take, getD}
@@ -16,12 +16,12 @@ use Rattle.print_tree.proofs.write_levels.Statement.{statement}
 use Rattle.print_tree.proofs.write_levels.Tie as tie
 
 abbrev Inv-loop : tie.InvT-loop
-Inv-loop levels rows counts points own borrowed domains boxes wide out₀ at last next₀ t₀ a₀ j₀ out next t a j =
-    (a ≡ total (take t rows)) × (j ≡ total (take t counts)) × Wrote out₀ at (frontText (packed own borrowed domains boxes wide) points rows counts t) next out
+Inv-loop levels rows counts points own borrowed domains boxes dimensions out₀ at last next₀ t₀ a₀ j₀ out next t a j =
+    (a ≡ total (take t rows)) × (j ≡ total (take t counts)) × Wrote out₀ at (frontText (packed own borrowed domains boxes dimensions) points rows counts t) next out
     × (t ≤ last) × (last ≡ levels - 1) × (length out ≡ length out₀)
 
 abbrev μ-loop : tie.MeasureT-loop
-μ-loop levels rows counts points own borrowed domains boxes wide out₀ at last next₀ t₀ a₀ j₀ out next t a j = last - t
+μ-loop levels rows counts points own borrowed domains boxes dimensions out₀ at last next₀ t₀ a₀ j₀ out next t a j = last - t
 
 sub-last : tie.Need-sub-last Inv-loop μ-loop
 sub-last c = omega (arith, c .before .before .before .before .before .before .before .before .pre .0 .some)
@@ -30,7 +30,7 @@ loop-holds : tie.Need-loop-holds Inv-loop μ-loop
 loop-holds c =
     let start = c .before .before .before .before .before .before .before .before in
     let a = start .args in
-    let p = packed (a .own .now) (a .borrowed .now) (a .domains .now) (a .boxes .now) (a .wide) in
+    let p = packed (a .own .now) (a .borrowed .now) (a .domains .now) (a .boxes .now) (a .dimensions) in
     let s = start .pre .0 in (
       total-none (a .rows .now),
       total-none (a .counts .now),
@@ -51,7 +51,7 @@ add-e : tie.Need-add-e Inv-loop μ-loop
 add-e c =
     let start = c .before .before .before .before .before .before .before .before .before .before .before in
     let a = start .args in
-    let p = packed (a .own .now) (a .borrowed .now) (a .domains .now) (a .boxes .now) (a .wide) in
+    let p = packed (a .own .now) (a .borrowed .now) (a .domains .now) (a .boxes .now) (a .dimensions) in
     let s = start .pre .0 in
     let v = c .before .before .loop in
     omega (
@@ -71,7 +71,7 @@ mul-write-fine : tie.Need-mul-write-fine Inv-loop μ-loop
 mul-write-fine c =
     let start = c .before .before .before .before .before .before .before .before .before .before .before .before in
     let a = start .args in
-    let p = packed (a .own .now) (a .borrowed .now) (a .domains .now) (a .boxes .now) (a .wide) in
+    let p = packed (a .own .now) (a .borrowed .now) (a .domains .now) (a .boxes .now) (a .dimensions) in
     let s = start .pre .0 in
     let v = c .before .before .before .loop in
     omega (
@@ -91,7 +91,7 @@ part-write-fine-end : tie.Need-part-write-fine-end Inv-loop μ-loop
 part-write-fine-end c =
     let start = c .before .before .before .before .before .before .before .before .before .before .before .before in
     let a = start .args in
-    let p = packed (a .own .now) (a .borrowed .now) (a .domains .now) (a .boxes .now) (a .wide) in
+    let p = packed (a .own .now) (a .borrowed .now) (a .domains .now) (a .boxes .now) (a .dimensions) in
     let s = start .pre .0 in
     let v = c .before .before .before .loop in
     rows-here p (a .points .now) (a .rows .now) (a .counts .now) (v .t) (v .a) (v .j) (v .inv .0) (v .inv .1) (a .levels) s (omega (arith, s .some, v .inv .3))
@@ -100,13 +100,13 @@ write-fine-requires : tie.Need-write-fine-requires Inv-loop μ-loop
 write-fine-requires c κs =
     let start = c .before .before .before .before .before .before .before .before .before .before .before .before .before .before in
     let a = start .args in
-    let p = packed (a .own .now) (a .borrowed .now) (a .domains .now) (a .boxes .now) (a .wide) in
+    let p = packed (a .own .now) (a .borrowed .now) (a .domains .now) (a .boxes .now) (a .dimensions) in
     let s = start .pre .0 in
     let v = c .before .before .before .before .before .loop in
     let r = room-first _ _ (room-spelt (levels-whole p (a .points .now) (a .rows .now) (a .counts .now) (a .levels) (a .levels - 1) s refl) (start .pre .1)) in
     let g = grown-room (frontText p (a .points .now) (a .rows .now) (a .counts .now)) (fineAt p (a .points .now) (a .rows .now) (a .counts .now))
     (front-grows p (a .points .now) (a .rows .now) (a .counts .now)) (a .levels - 1) (v .t) (omega arith) r (v .inv .2) in (
-      held-here p (a .points .now) (a .rows .now) (a .counts .now) (v .t) (v .a) (v .j) (v .inv .0) (v .inv .1) (a .levels) s
+      fits-here p (a .points .now) (a .rows .now) (a .counts .now) (v .t) (v .a) (v .j) (v .inv .0) (v .inv .1) (a .levels) s
           (omega (arith, s .some, v .inv .3)),
       room-spelt
           (fine-here p (a .points .now) (a .rows .now) (a .counts .now) (v .t) (v .a) (v .j) (v .inv .0) (v .inv .1)) g,
@@ -116,7 +116,7 @@ add-j : tie.Need-add-j Inv-loop μ-loop
 add-j c =
     let start = c .before .before .before .before .before .before .before .before .before .before .before .before .before .before .before .before .before in
     let a = start .args in
-    let p = packed (a .own .now) (a .borrowed .now) (a .domains .now) (a .boxes .now) (a .wide) in
+    let p = packed (a .own .now) (a .borrowed .now) (a .domains .now) (a .boxes .now) (a .dimensions) in
     let s = start .pre .0 in
     let v = c .before .before .before .before .before .before .before .before .loop in
     omega (
@@ -136,7 +136,7 @@ loop-again : tie.Need-loop-again Inv-loop μ-loop
 loop-again c =
     let start = c .before .before .before .before .before .before .before .before .before .before .before .before .before .before .before .before .before in
     let a = start .args in
-    let p = packed (a .own .now) (a .borrowed .now) (a .domains .now) (a .boxes .now) (a .wide) in
+    let p = packed (a .own .now) (a .borrowed .now) (a .domains .now) (a .boxes .now) (a .dimensions) in
     let s = start .pre .0 in
     let v = c .before .before .before .before .before .before .before .before .loop in
     let r = room-first _ _ (room-spelt (levels-whole p (a .points .now) (a .rows .now) (a .counts .now) (a .levels) (a .levels - 1) s refl) (start .pre .1)) in
@@ -165,7 +165,7 @@ add-e-2 : tie.Need-add-e-2 Inv-loop μ-loop
 add-e-2 c =
     let start = c .before .before .before .before .before .before .before .before .before .before .before in
     let a = start .args in
-    let p = packed (a .own .now) (a .borrowed .now) (a .domains .now) (a .boxes .now) (a .wide) in
+    let p = packed (a .own .now) (a .borrowed .now) (a .domains .now) (a .boxes .now) (a .dimensions) in
     let s = start .pre .0 in
     let v = c .before .before .loop in
     let e : v .t ≡ a .levels - 1 = omega (arith, v .inv .3, c .before .loop-test .left) in
@@ -177,7 +177,7 @@ mul-write-coarse : tie.Need-mul-write-coarse Inv-loop μ-loop
 mul-write-coarse c =
     let start = c .before .before .before .before .before .before .before .before .before .before .before in
     let a = start .args in
-    let p = packed (a .own .now) (a .borrowed .now) (a .domains .now) (a .boxes .now) (a .wide) in
+    let p = packed (a .own .now) (a .borrowed .now) (a .domains .now) (a .boxes .now) (a .dimensions) in
     let s = start .pre .0 in
     let v = c .before .before .loop in
     let e : v .t ≡ a .levels - 1 = omega (arith, v .inv .3, c .before .loop-test .left) in
@@ -195,7 +195,7 @@ part-write-coarse-end : tie.Need-part-write-coarse-end Inv-loop μ-loop
 part-write-coarse-end c =
     let start = c .before .before .before .before .before .before .before .before .before .before .before in
     let a = start .args in
-    let p = packed (a .own .now) (a .borrowed .now) (a .domains .now) (a .boxes .now) (a .wide) in
+    let p = packed (a .own .now) (a .borrowed .now) (a .domains .now) (a .boxes .now) (a .dimensions) in
     let s = start .pre .0 in
     let v = c .before .before .loop in
     let e : v .t ≡ a .levels - 1 = omega (arith, v .inv .3, c .before .loop-test .left) in
@@ -207,7 +207,7 @@ write-coarse-requires : tie.Need-write-coarse-requires Inv-loop μ-loop
 write-coarse-requires c κs =
     let start = c .before .before .before .before .before .before .before .before .before .before .before .before .before in
     let a = start .args in
-    let p = packed (a .own .now) (a .borrowed .now) (a .domains .now) (a .boxes .now) (a .wide) in
+    let p = packed (a .own .now) (a .borrowed .now) (a .domains .now) (a .boxes .now) (a .dimensions) in
     let s = start .pre .0 in
     let v = c .before .before .before .before .loop in
     let e : v .t ≡ a .levels - 1 = omega (arith, v .inv .3, c .before .before .before .loop-test .left) in
@@ -215,7 +215,7 @@ write-coarse-requires c κs =
     let ej : v .j ≡ total (take (a .levels - 1) (a .counts .now)) = v .inv .1 ∙ ap (λ (k : ℕ). total (take k (a .counts .now))) e in
     let w = spelt (ap (frontText p (a .points .now) (a .rows .now) (a .counts .now)) e) (v .inv .2) in
     let r = room-next _ w (room-spelt (levels-whole p (a .points .now) (a .rows .now) (a .counts .now) (a .levels) (a .levels - 1) s refl) (start .pre .1)) in (
-      rw add-zero at (held-here p (a .points .now) (a .rows .now) (a .counts .now) (a .levels - 1) (v .a) (v .j) ea ej (a .levels) s
+      rw add-zero at (fits-here p (a .points .now) (a .rows .now) (a .counts .now) (a .levels - 1) (v .a) (v .j) ea ej (a .levels) s
           (omega (arith, s .some)) 0 (omega (arith, s .coarse))),
       room-spelt (coarse-here p (a .points .now) (a .rows .now) (a .counts .now) (a .levels - 1)
           (v .a) (v .j) ea ej) r,
@@ -228,7 +228,7 @@ returns : tie.Need-returns Inv-loop μ-loop
 returns c =
     let start = c .before .before .before .before .before .before .before .before .before .before .before .before .before .before .before .before in
     let a = start .args in
-    let p = packed (a .own .now) (a .borrowed .now) (a .domains .now) (a .boxes .now) (a .wide) in
+    let p = packed (a .own .now) (a .borrowed .now) (a .domains .now) (a .boxes .now) (a .dimensions) in
     let s = start .pre .0 in
     let v = c .before .before .before .before .before .before .before .loop in
     let e : v .t ≡ a .levels - 1 = omega (arith, v .inv .3, c .before .before .before .before .before .before .loop-test .left) in

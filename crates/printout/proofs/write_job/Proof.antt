@@ -7,9 +7,6 @@ use borrow.Author.Needs.{needs}
 use Rattle.printout.proofs.write_job.Statement.{statement}
 use Rattle.printout.proofs.write_job.Tie as tie
 
-mul-wide : tie.Need-mul-wide
-mul-wide c = search needs
-
 slice-aggregate-build : tie.Need-slice-aggregate-build
 slice-aggregate-build c = search needs
 
@@ -106,7 +103,6 @@ pub write-job-spec : {M : Type 1} → statement M
 write-job-spec =
     tie.close
     (tie.spec
-    mul-wide
     slice-aggregate-build
     slice-aggregate-build-2
     slice-aggregate-build-3
