@@ -1,3 +1,4 @@
 -- The laws that belong to no one function.
 pub mod Written
+pub mod Shared
 pub mod Verdicts

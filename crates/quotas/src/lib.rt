@@ -1,16 +1,15 @@
 // The leaves' quotas: how many of its rows each leaf sends up to the next level, by largest remainder.
 ghost use mathlib.Core.Path.{_≡_};
-ghost use mathlib.Core.List.{map};
 ghost use lib.ListN.{length, take};
 ghost use lib.Dec.{eqb};
 ghost use Prim.Native.Nat.{ℕ, _-_, _*_, _≤_, _<_, min, max};
-ghost use Rattle.lists.specs.Lists.{oneIf, total, from};
-ghost use Rattle.definition.specs.Quotas.{sizeAt, nonempty, wholeAt, remainderAt, leftover, seatsAt, seatsOf, quotasFor};
+ghost use Rattle.lists.specs.Lists.{oneIf, total};
+ghost use Rattle.definition.specs.Quotas.{sizeAt, nonempty, leftover, quotasFor};
 ghost use Rattle.definition.specs.Outcome.{written};
 ghost use Rattle.quotas.specs.Answers.{quotaReport};
+ghost use Rattle.definition.proofs.SeatCut.{extraBy};
 ghost use Rattle.quotas.specs.Outcome.{SeatsShared};
-ghost use Rattle.definition.proofs.SeatCut.{above, CutBy, extraBy};
-ghost use Rattle.quotas.specs.Small.{Small};
+ghost use Rattle.quotas.specs.Sharing.{Sharing, capacities, remaindersAbove, RemaindersCut, quotasBy};
 use level_sizes::LIMIT;
 
 // The leaves that got a quota and the seats handed out in all, or why there are none. `quotaReport` gives document 01's
@@ -80,8 +79,8 @@ fn product(w: usize, first: usize, rest: usize) -> usize
 
 // The leftover seats: the rest less each leaf's share, rounded down.
 fn leftover_seats(sizes: &[usize], first: usize, rest: usize, pool: usize) -> usize
-    requires { ⌜ Small (now sizes) rest pool × (total (map (wholeAt (now sizes) first rest pool) (from 0 (length (now sizes)))) ≤ rest) ⌝ }
-    ensures { λ r. ⌜ r ≡ leftover (now (sizes .entry)) first rest pool ⌝ }
+    requires { ⌜ Sharing (now sizes) first rest pool ⌝ }
+    ensures { λ r. ⌜ r ≡ leftover (capacities (now (sizes .entry)) first) rest ⌝ }
 {
     let mut left = rest;
     let mut i = 0;
@@ -95,8 +94,8 @@ fn leftover_seats(sizes: &[usize], first: usize, rest: usize, pool: usize) -> us
 
 // How many remainders are above t. They are formed anew in each pass, so that no list of them is needed.
 fn count_above(sizes: &[usize], first: usize, rest: usize, pool: usize, t: usize) -> usize
-    requires { ⌜ Small (now sizes) rest pool ⌝ }
-    ensures { λ r. ⌜ r ≡ above (length (now (sizes .entry))) (remainderAt (now (sizes .entry)) first rest pool) t ⌝ }
+    requires { ⌜ Sharing (now sizes) first rest pool ⌝ }
+    ensures { λ r. ⌜ r ≡ remaindersAbove (capacities (now (sizes .entry)) first) rest t ⌝ }
 {
     let mut many = 0;
     let mut i = 0;
@@ -112,8 +111,8 @@ fn count_above(sizes: &[usize], first: usize, rest: usize, pool: usize, t: usize
 
 // The least t with at most `left` remainders above it, by halving; none is above the divisor.
 fn cut(sizes: &[usize], first: usize, rest: usize, pool: usize, left: usize) -> usize
-    requires { ⌜ Small (now sizes) rest pool × (above (length (now sizes)) (remainderAt (now sizes) first rest pool) pool ≤ left) ⌝ }
-    ensures { λ t. ⌜ (above (length (now (sizes .entry))) (remainderAt (now (sizes .entry)) first rest pool) t ≤ left) × ((s : ℕ) → s < t → left < above (length (now (sizes .entry))) (remainderAt (now (sizes .entry)) first rest pool) s) ⌝ }
+    requires { ⌜ Sharing (now sizes) first rest pool ⌝ }
+    ensures { λ t. ⌜ (remaindersAbove (capacities (now (sizes .entry)) first) rest t ≤ left) × ((s : ℕ) → s < t → left < remaindersAbove (capacities (now (sizes .entry)) first) rest s) ⌝ }
 {
     let mut lo = 0;
     let mut hi = pool;
@@ -164,8 +163,8 @@ fn hand_out(
     cut: usize,
     taken: usize,
 )
-    requires { ⌜ Small (now sizes) rest pool × (first ≤ 1) × (left ≡ leftover (now sizes) first rest pool) × (taken ≡ above (length (now sizes)) (remainderAt (now sizes) first rest pool) cut) × CutBy (length (now sizes)) (remainderAt (now sizes) first rest pool) left cut ⌝ }
-    ensures { λ _. ⌜ now (sizes .exit) ≡ map (seatsAt (now (sizes .entry)) first rest pool) (from 0 (length (now (sizes .entry)))) ⌝ }
+    requires { ⌜ Sharing (now sizes) first rest pool × (left ≡ leftover (capacities (now sizes) first) rest) × (taken ≡ remaindersAbove (capacities (now sizes) first) rest cut) × RemaindersCut (capacities (now sizes) first) rest left cut ⌝ }
+    ensures { λ _. ⌜ now (sizes .exit) ≡ quotasBy (now (sizes .entry)) first rest ⌝ }
 {
     let mut at_cut = left - taken;
     let mut i = 0;
@@ -181,8 +180,8 @@ fn hand_out(
 
 // Hands out the rest by the capacity that remains once each nonempty leaf has `first` seats.
 fn deal(sizes: &mut [usize], first: usize, rest: usize, capacity: usize)
-    requires { ⌜ ((j : ℕ) → sizeAt (now sizes) j ≤ 1048576) × (first ≤ 1) × (rest ≤ capacity) × (capacity ≤ 1048576) × (total (map (λ w. w - first) (now sizes)) ≡ capacity) ⌝ }
-    ensures { λ _. ⌜ now (sizes .exit) ≡ seatsOf (now (sizes .entry)) first rest capacity ⌝ }
+    requires { ⌜ ((j : ℕ) → sizeAt (now sizes) j ≤ 1048576) × (first ≤ 1) × (rest ≤ capacity) × (capacity ≤ 1048576) × (total (capacities (now sizes) first) ≡ capacity) ⌝ }
+    ensures { λ _. ⌜ now (sizes .exit) ≡ quotasBy (now (sizes .entry)) first rest ⌝ }
 {
     let pool = at_least_one(capacity);
     let left = leftover_seats(sizes, first, rest, pool);

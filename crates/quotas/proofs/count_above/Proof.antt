@@ -2,7 +2,7 @@
 use mathlib.Core.Path.{_≡_, ap}
 use mathlib.Core.Bool.{Bool}
 use mathlib.Core.Logic.{⊎-elim}
-use Prim.Native.Nat.{ℕ, _-_, _%_, _≤_}
+use Prim.Native.Nat.{ℕ, _-_, _≤_}
 use native.Mathlib.Omega.{arith}
 use lib.ListN.{length}
 use lib.Dec.{ltb}
@@ -10,11 +10,13 @@ use borrow.Author.Tests.{lt-ltb, le-ltb}
 use Rattle.lists.proofs.From.{count-below-yes, count-below-no, count-below-nil}
 use Rattle.definition.specs.Quotas.{remainderAt}
 use Rattle.definition.proofs.SeatCut.{above}
+use Rattle.quotas.specs.Sharing.{capacities}
+use Rattle.quotas.proofs.Shared.{same-leaves, remainder-is}
 use Rattle.quotas.proofs.count_above.Statement.{statement}
 use Rattle.quotas.proofs.count_above.Tie as tie
 
 abbrev Inv-loop : tie.InvT-loop
-Inv-loop sizes first rest pool t many₀ i₀ many i = (i ≤ length sizes) × (many ≤ i) × (many ≡ above i (remainderAt sizes first rest pool) t)
+Inv-loop sizes first rest pool t many₀ i₀ many i = (i ≤ length sizes) × (many ≤ i) × (many ≡ above i (remainderAt (capacities sizes first) rest) t)
 
 abbrev μ-loop : tie.MeasureT-loop
 μ-loop sizes first rest pool t many₀ i₀ many i = length sizes - i
@@ -22,7 +24,7 @@ abbrev μ-loop : tie.MeasureT-loop
 loop-holds : tie.Need-loop-holds Inv-loop μ-loop
 loop-holds c =
     let a = c .before .args in
-    omega (arith, count-below-nil (λ j. ltb (a .t) (remainderAt (a .sizes .now) (a .first) (a .rest) (a .pool) j)))
+    omega (arith, count-below-nil (λ j. ltb (a .t) (remainderAt (capacities (a .sizes .now) (a .first)) (a .rest) j)))
 
 mul-product : tie.Need-mul-product Inv-loop μ-loop
 mul-product c = omega arith
@@ -38,7 +40,7 @@ product-requires c κs =
 rem-if1 : tie.Need-rem-if1 Inv-loop μ-loop
 rem-if1 c =
     let s = c .before .before .before .before .before in
-    omega (arith, s .pre .positive)
+    omega (arith, s .pre .divisor)
 
 add-many : tie.Need-add-many Inv-loop μ-loop
 add-many c = omega arith
@@ -55,9 +57,9 @@ loop-again c =
     let s = p .before .before .before .before .before in
     let a = s .args in
     let i = p .before .before .before .loop .i in
-    let r = remainderAt (a .sizes .now) (a .first) (a .rest) (a .pool) in
+    let r = remainderAt (capacities (a .sizes .now) (a .first)) (a .rest) in
     let q : ℕ → Bool = λ j. ltb (a .t) (r j) in
-    let e : p .product .result % a .pool ≡ r i = ap (λ (x : ℕ). x % a .pool) (p .product .ensures) in
+    let e = remainder-is (a .sizes .now) (a .first) (a .rest) (a .pool) (s .pre) i _ (p .product .ensures) in
     ⊎-elim
     (λ w. omega (arith, count-below-yes q i (lt-ltb (a .t) (r i) (rw (← e) (w .0 .taken)))))
     (λ w. omega (arith, count-below-no q i (le-ltb (a .t) (r i) (rw (← e) (w .0 .left)))))
@@ -66,8 +68,8 @@ loop-again c =
 returns : tie.Need-returns Inv-loop μ-loop
 returns c =
     let a = c .before .before .before .args in
-    let e : c .before .loop .i ≡ length (a .sizes .now) = omega arith in
-    omega (arith, ap (λ (x : ℕ). above x (remainderAt (a .sizes .now) (a .first) (a .rest) (a .pool)) (a .t)) e)
+    let e : c .before .loop .i ≡ length (capacities (a .sizes .now) (a .first)) = omega (arith, same-leaves (a .sizes .now) (a .first)) in
+    omega (arith, ap (λ (x : ℕ). above x (remainderAt (capacities (a .sizes .now) (a .first)) (a .rest)) (a .t)) e)
 
 pub count-above-spec : {M : Type 1} → statement M
 count-above-spec =

@@ -10,6 +10,8 @@ use Rattle.lists.specs.Lists.{from}
 use Rattle.lists.proofs.Count.{count-le}
 use Rattle.definition.specs.Quotas.{remainderAt}
 use Rattle.definition.proofs.SeatCut.{above}
+use Rattle.quotas.specs.Sharing.{capacities, remaindersAbove}
+use Rattle.quotas.proofs.Shared.{top-cut}
 use Rattle.quotas.proofs.cut.Statement.{statement}
 use Rattle.quotas.proofs.cut.Tie as tie
 
@@ -19,13 +21,15 @@ more-next n r left mid k e h s l =
     omega (arith, count-le (λ j. ltb mid (r j)) (λ j. ltb s (r j)) (from 0 n) (λ j _ t. lt-ltb s (r j) (omega (arith, ltb-true mid (r j) t))))
 
 abbrev Inv-loop : tie.InvT-loop
-Inv-loop sizes first rest pool left lo₀ hi₀ lo hi = (lo ≤ hi) × (hi ≤ pool) × ((s : ℕ) → s < lo → left < above (length sizes) (remainderAt sizes first rest pool) s) × (above (length sizes) (remainderAt sizes first rest pool) hi ≤ left)
+Inv-loop sizes first rest pool left lo₀ hi₀ lo hi = (lo ≤ hi) × (hi ≤ pool) × ((s : ℕ) → s < lo → left < remaindersAbove (capacities sizes first) rest s) × (remaindersAbove (capacities sizes first) rest hi ≤ left)
 
 abbrev μ-loop : tie.MeasureT-loop
 μ-loop sizes first rest pool left lo₀ hi₀ lo hi = hi - lo
 
 loop-holds : tie.Need-loop-holds Inv-loop μ-loop
-loop-holds c = (omega arith, omega arith, (λ s h. absurd (omega arith)), c .before .pre .1)
+loop-holds c =
+    let a = c .before .args in
+    (omega arith, omega arith, (λ s h. absurd (omega arith)), top-cut (a .sizes .now) (a .first) (a .rest) (a .pool) (c .before .pre) (a .left))
 
 sub-mid : tie.Need-sub-mid Inv-loop μ-loop
 sub-mid c = omega arith
@@ -34,7 +38,7 @@ add-mid : tie.Need-add-mid Inv-loop μ-loop
 add-mid c = omega arith
 
 count-above-requires : tie.Need-count-above-requires Inv-loop μ-loop
-count-above-requires c κs = c .before .before .before .pre .0
+count-above-requires c κs = c .before .before .before .pre
 
 loop-less : tie.Need-loop-less Inv-loop μ-loop
 loop-less c = omega arith
@@ -54,7 +58,7 @@ loop-again-2 : tie.Need-loop-again-2 Inv-loop μ-loop
 loop-again-2 c =
     let a = c .before .before .before .before .before .args in
     let i = c .before .before .before .loop .inv in
-    (omega arith, omega arith, more-next (length (a .sizes .now)) (remainderAt (a .sizes .now) (a .first) (a .rest) (a .pool)) _ _ _ (c .before .count-above .ensures) (c .if1 .left), i .3)
+    (omega arith, omega arith, more-next (length (capacities (a .sizes .now) (a .first))) (remainderAt (capacities (a .sizes .now) (a .first)) (a .rest)) _ _ _ (c .before .count-above .ensures) (c .if1 .left), i .3)
 
 returns : tie.Need-returns Inv-loop μ-loop
 returns c =

@@ -1,21 +1,21 @@
 -- `quotas::deal` meets its contract: the laws of one sharing say what its steps need. Assumes nothing.
 use mathlib.Core.Path.{_≡_}
-use mathlib.Core.List.{List, map}
-use Prim.Native.Nat.{ℕ, max}
+use mathlib.Core.List.{List}
+use Prim.Native.Nat.{ℕ, _≤_, max}
 use native.Mathlib.Omega.{arith}
-use lib.ListN.{length}
-use Rattle.lists.specs.Lists.{from}
-use Rattle.definition.specs.Quotas.{seatsAt, seatsOf}
-use Rattle.definition.proofs.Shares.{wholes-fit, divisor-top, cut-by}
+use Rattle.lists.specs.Lists.{total}
+use Rattle.definition.specs.Quotas.{sizeAt}
+use Rattle.quotas.specs.Sharing.{Sharing, capacities}
+use Rattle.quotas.proofs.Shared.{cut-is}
 use borrow.Author.Needs.{needs}
 use Rattle.quotas.proofs.deal.Statement.{statement}
 use Rattle.quotas.proofs.deal.Tie as tie
 
--- the seats with the divisor held to 1
-dealt : (sizes : List ℕ) (first rest capacity pool : ℕ) (out : List ℕ) → pool ≡ max 1 capacity
-    → out ≡ map (seatsAt sizes first rest pool) (from 0 (length sizes)) → out ≡ seatsOf sizes first rest capacity
-unfolding seatsOf
-dealt sizes first rest capacity pool out e h = rw e at h
+-- what the sharing asks, from what the numbers are
+shared : (sizes : List ℕ) (first rest capacity pool : ℕ) → ((j : ℕ) → sizeAt sizes j ≤ 1048576) → first ≤ 1 → rest ≤ capacity → capacity ≤ 1048576
+    → total (capacities sizes first) ≡ capacity → pool ≡ max 1 capacity → Sharing sizes first rest pool
+shared sizes first rest capacity pool fit one within small all e =
+    record { sizes-fit = fit; first-fits = one; rest-fits = omega arith; within = omega arith; divisor = omega arith }
 
 at-least-one-requires : tie.Need-at-least-one-requires
 at-least-one-requires c κs = search needs
@@ -24,19 +24,11 @@ leftover-seats-requires : tie.Need-leftover-seats-requires
 leftover-seats-requires c κs =
     let s = c .before .before .before in
     let a = s .args in
-    let e = c .before .at-least-one .ensures in (
-      record { sizes-fit = s .pre .0; rest-fits = omega arith; positive = omega arith },
-      rw e (wholes-fit (a .sizes .now) (a .first) (a .rest) (a .capacity) (s .pre .2) (s .pre .4)),
-    )
+    let e = c .before .at-least-one .ensures in
+    shared (a .sizes .now) (a .first) (a .rest) (a .capacity) _ (s .pre .0) (s .pre .1) (s .pre .2) (s .pre .3) (s .pre .4) e
 
 cut-requires : tie.Need-cut-requires
-cut-requires c κs =
-    let s = c .before .before .before .before .before in
-    let a = s .args in
-    let e = c .before .before .before .at-least-one .ensures in (
-      record { sizes-fit = s .pre .0; rest-fits = omega arith; positive = omega arith },
-      divisor-top (a .sizes .now) (a .first) (a .rest) (a .capacity) _ (s .pre .2) (s .pre .4) e _,
-    )
+cut-requires c κs = search needs
 
 count-above-requires : tie.Need-count-above-requires
 count-above-requires c κs = search needs
@@ -47,22 +39,15 @@ hand-out-requires c κs =
     let a = s .args in
     let e = c .before .before .before .before .before .before .before .at-least-one .ensures in
     let l = c .before .before .before .before .before .leftover-seats .ensures in
-    let k = c .before .before .before .cut .ensures in (
-      record { sizes-fit = s .pre .0; rest-fits = omega (arith, s .pre .2, s .pre .3); positive = omega (arith, e) },
-      s .pre .1,
-      l,
-      c .before .count-above .ensures,
-      cut-by (a .sizes .now) (a .first) (a .rest) (a .capacity) _ (s .pre .2) (s .pre .4) e _ _ l (k .0) (k .1),
-    )
+    let k = c .before .before .before .cut .ensures in
+    let w = shared (a .sizes .now) (a .first) (a .rest) (a .capacity) _ (s .pre .0) (s .pre .1) (s .pre .2) (s .pre .3) (s .pre .4) e in
+    (w, l, c .before .count-above .ensures, cut-is (a .sizes .now) (a .first) (a .rest) _ w _ _ l (k .0) (k .1))
 
 same-length : tie.Need-same-length
 same-length c = search needs
 
 returns : tie.Need-returns
-returns c =
-    let a = c .before .before .before .before .before .before .before .before .before .before .before .before .args in
-    let e = c .before .before .before .before .before .before .before .before .before .before .at-least-one .ensures in
-    dealt (a .sizes .now) (a .first) (a .rest) (a .capacity) _ _ e (c .before .before .hand-out .ensures)
+returns c = c .before .before .hand-out .ensures
 
 pub deal-spec : {M : Type 1} → statement M
 deal-spec =

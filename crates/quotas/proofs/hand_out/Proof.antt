@@ -9,15 +9,16 @@ use lib.ListN.{length, drop, length-set}
 use lib.Dec.{eqb}
 use Rattle.lists.specs.Lists.{oneIf, from}
 use Rattle.lists.proofs.From.{count-below-suc, map-from-nil, front-below-suc, count-below-nil, front-read, front-whole}
-use Rattle.definition.specs.Quotas.{remainderAt, seatsAt}
+use Rattle.definition.specs.Quotas.{remainderAt}
 use Rattle.definition.proofs.SeatCut.{ties}
 use Rattle.definition.proofs.Seats.{by-le}
-use Rattle.definition.proofs.Shares.{seats-by-cut, share-small}
+use Rattle.quotas.specs.Sharing.{capacities, quotaAt}
+use Rattle.quotas.proofs.Shared.{remainder-is, whole-small, quota-is}
 use Rattle.quotas.proofs.hand_out.Statement.{statement}
 use Rattle.quotas.proofs.hand_out.Tie as tie
 
 abbrev Inv-loop : tie.InvT-loop
-Inv-loop sizes₀ first rest pool left cut taken at-cut₀ i₀ sizes at-cut i = (i ≤ length sizes₀) × (length sizes ≡ length sizes₀) × (at-cut ≡ left - taken - ties i (remainderAt sizes₀ first rest pool) cut) × (sizes ≡ map (seatsAt sizes₀ first rest pool) (from 0 i) ++ drop i sizes₀)
+Inv-loop sizes₀ first rest pool left cut taken at-cut₀ i₀ sizes at-cut i = (i ≤ length sizes₀) × (length sizes ≡ length sizes₀) × (at-cut ≡ left - taken - ties i (remainderAt (capacities sizes₀ first) rest) cut) × (sizes ≡ map (quotaAt sizes₀ first rest) (from 0 i) ++ drop i sizes₀)
 
 abbrev μ-loop : tie.MeasureT-loop
 μ-loop sizes₀ first rest pool left cut taken at-cut₀ i₀ sizes at-cut i = length sizes₀ - i
@@ -25,15 +26,15 @@ abbrev μ-loop : tie.MeasureT-loop
 sub-at-cut : tie.Need-sub-at-cut Inv-loop μ-loop
 sub-at-cut c =
     let p = c .before .pre in
-    omega (arith, p .3, p .4 .low)
+    omega (arith, p .2, p .3 .low)
 
 loop-holds : tie.Need-loop-holds Inv-loop μ-loop
 loop-holds c =
     let a = c .before .args in (
       omega arith,
       refl,
-      omega (arith, count-below-nil (λ j. eqb (remainderAt (a .sizes .now) (a .first) (a .rest) (a .pool) j) (a .cut))),
-      rw (map-from-nil (seatsAt (a .sizes .now) (a .first) (a .rest) (a .pool)) 0),
+      omega (arith, count-below-nil (λ j. eqb (remainderAt (capacities (a .sizes .now) (a .first)) (a .rest) j) (a .cut))),
+      rw (map-from-nil (quotaAt (a .sizes .now) (a .first) (a .rest)) 0),
     )
 
 mul-w : tie.Need-mul-w Inv-loop μ-loop
@@ -47,12 +48,12 @@ product-requires c κs =
     let s = c .before .before .before .before in
     let l = c .before .before .loop in
     let a = s .args in
-    (rw (front-read (seatsAt (a .sizes .now) (a .first) (a .rest) (a .pool)) (l .i) (a .sizes .now) (l .sizes) 0 (l .inv .3)) (s .pre .0 .sizes-fit (l .i)), s .pre .0 .rest-fits)
+    (rw (front-read (quotaAt (a .sizes .now) (a .first) (a .rest)) (l .i) (a .sizes .now) (l .sizes) 0 (l .inv .3)) (s .pre .0 .sizes-fit (l .i)), s .pre .0 .rest-fits)
 
 rem-remainder : tie.Need-rem-remainder Inv-loop μ-loop
 rem-remainder c =
     let s = c .before .before .before .before .before in
-    omega (arith, s .pre .0 .positive)
+    omega (arith, s .pre .0 .divisor)
 
 smaller-requires : tie.Need-smaller-requires Inv-loop μ-loop
 smaller-requires c κs = search needs
@@ -60,20 +61,20 @@ smaller-requires c κs = search needs
 div-sizes : tie.Need-div-sizes Inv-loop μ-loop
 div-sizes c =
     let s = c .before .before .before .before .before .before in
-    omega (arith, s .pre .0 .positive)
+    omega (arith, s .pre .0 .divisor)
 
 add-sizes : tie.Need-add-sizes Inv-loop μ-loop
 add-sizes c =
     let s = c .before .before .before .before .before .before in
     let a = s .args in
     let l = c .before .before .before .before .loop in
-    let w = front-read (seatsAt (a .sizes .now) (a .first) (a .rest) (a .pool)) (l .i) (a .sizes .now) (l .sizes) 0 (l .inv .3) in
+    let w = front-read (quotaAt (a .sizes .now) (a .first) (a .rest)) (l .i) (a .sizes .now) (l .sizes) 0 (l .inv .3) in
     let p = c .before .product .ensures ∙ ap (λ (x : ℕ). a .rest * (x - a .first)) w in
     omega (
       arith,
       c .smaller .ensures,
-      s .pre .1,
-      share-small (a .sizes .now) (a .first) (a .rest) (a .pool) (l .i) _ p (s .pre .0 .rest-fits) (s .pre .0 .sizes-fit (l .i)),
+      s .pre .0 .first-fits,
+      whole-small (a .sizes .now) (a .first) (a .rest) (a .pool) (s .pre .0) (l .i) _ p,
     )
 
 extra-seat-requires : tie.Need-extra-seat-requires Inv-loop μ-loop
@@ -84,15 +85,15 @@ add-sizes-2 c =
     let s = c .before .before .before .before .before .before .before in
     let a = s .args in
     let l = c .before .before .before .before .before .loop in
-    let w = front-read (seatsAt (a .sizes .now) (a .first) (a .rest) (a .pool)) (l .i) (a .sizes .now) (l .sizes) 0 (l .inv .3) in
+    let w = front-read (quotaAt (a .sizes .now) (a .first) (a .rest)) (l .i) (a .sizes .now) (l .sizes) 0 (l .inv .3) in
     let p = c .before .before .product .ensures ∙ ap (λ (x : ℕ). a .rest * (x - a .first)) w in
     let b : c .extra-seat .result ≤ 1 = rw (c .extra-seat .ensures) (by-le _ _ _) in
     omega (
       arith,
       c .before .smaller .ensures,
-      s .pre .1,
+      s .pre .0 .first-fits,
       b,
-      share-small (a .sizes .now) (a .first) (a .rest) (a .pool) (l .i) _ p (s .pre .0 .rest-fits) (s .pre .0 .sizes-fit (l .i)),
+      whole-small (a .sizes .now) (a .first) (a .rest) (a .pool) (s .pre .0) (l .i) _ p,
     )
 
 mul-sizes : tie.Need-mul-sizes Inv-loop μ-loop
@@ -115,19 +116,19 @@ loop-again c =
     let s = c .before .before .before .before .before .before .before .before in
     let a = s .args in
     let l = c .before .before .before .before .before .before .loop in
-    let f = seatsAt (a .sizes .now) (a .first) (a .rest) (a .pool) in
-    let r = remainderAt (a .sizes .now) (a .first) (a .rest) (a .pool) in
+    let f = quotaAt (a .sizes .now) (a .first) (a .rest) in
+    let r = remainderAt (capacities (a .sizes .now) (a .first)) (a .rest) in
     let w = front-read f (l .i) (a .sizes .now) (l .sizes) 0 (l .inv .3) in
     let p = c .before .before .before .product .ensures ∙ ap (λ (x : ℕ). a .rest * (x - a .first)) w in
     let q = c .before .before .smaller .ensures ∙ ap (λ (x : ℕ). min (a .first) x) w in
     let e : oneIf (eqb (c .before .before .before .product .result % a .pool) (a .cut)) ≡ oneIf (eqb (r (l .i)) (a .cut)) =
-    ap (λ (z : ℕ). oneIf (eqb (z % a .pool) (a .cut))) p in (
+    ap (λ (z : ℕ). oneIf (eqb z (a .cut))) (remainder-is (a .sizes .now) (a .first) (a .rest) (a .pool) (s .pre .0) (l .i) _ p) in (
       omega arith,
       simp length-set (omega arith),
       omega (arith, c .seats-after .ensures, e, count-below-suc (λ j. eqb (r j) (a .cut)) (l .i), l .inv .2),
       rw (l .inv .3)
           (front-below-suc f (l .i) (a .sizes .now) _ 0 (omega arith)
-          (seats-by-cut (a .sizes .now) (a .first) (a .rest) (a .pool) (l .i) _ p (a .left) (a .cut) (a .taken) _ _ (l .at-cut) (s .pre .4) (s .pre .3) (s .pre .2)
+          (quota-is (a .sizes .now) (a .first) (a .rest) (a .pool) (s .pre .0) (l .i) _ p (a .left) (a .cut) (a .taken) _ _ (l .at-cut) (s .pre .3) (s .pre .2) (s .pre .1)
           (omega arith) q (l .inv .2) (c .before .extra-seat .ensures))),
     )
 
@@ -139,7 +140,7 @@ returns c =
     let a = c .before .before .before .args in
     let l = c .before .loop in
     let e : l .i ≡ length (a .sizes .now) = omega arith in
-    l .inv .3 ∙ front-whole (seatsAt (a .sizes .now) (a .first) (a .rest) (a .pool)) (l .i) (a .sizes .now) e
+    l .inv .3 ∙ front-whole (quotaAt (a .sizes .now) (a .first) (a .rest)) (l .i) (a .sizes .now) e
 
 pub hand-out-spec : {M : Type 1} → statement M
 hand-out-spec =

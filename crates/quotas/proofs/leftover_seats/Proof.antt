@@ -1,17 +1,20 @@
 -- `quotas::leftover_seats` meets its contract: `left` is the rest less the shares so far, rounded down. Assumes nothing.
 use mathlib.Core.Path.{_≡_, ap}
 use mathlib.Core.List.{map}
-use Prim.Native.Nat.{ℕ, _+_, _-_, _/_, _≤_}
+use Prim.Native.Nat.{ℕ, _+_, _-_, _≤_}
 use native.Mathlib.Omega.{arith}
 use lib.ListN.{length}
 use Rattle.lists.specs.Lists.{total, from}
 use Rattle.lists.proofs.Sums.{sum-below-nil, sum-below-suc, sum-below-part}
 use Rattle.definition.specs.Quotas.{wholeAt}
+use Rattle.definition.proofs.Shares.{wholes-fit}
+use Rattle.quotas.specs.Sharing.{capacities}
+use Rattle.quotas.proofs.Shared.{same-leaves, whole-is}
 use Rattle.quotas.proofs.leftover_seats.Statement.{statement}
 use Rattle.quotas.proofs.leftover_seats.Tie as tie
 
 abbrev Inv-loop : tie.InvT-loop
-Inv-loop sizes first rest pool left₀ i₀ left i = (i ≤ length sizes) × (left ≡ rest - total (map (wholeAt sizes first rest pool) (from 0 i)))
+Inv-loop sizes first rest pool left₀ i₀ left i = (i ≤ length sizes) × (left ≡ rest - total (map (wholeAt (capacities sizes first) rest) (from 0 i)))
 
 abbrev μ-loop : tie.MeasureT-loop
 μ-loop sizes first rest pool left₀ i₀ left i = length sizes - i
@@ -19,7 +22,7 @@ abbrev μ-loop : tie.MeasureT-loop
 loop-holds : tie.Need-loop-holds Inv-loop μ-loop
 loop-holds c =
     let a = c .before .args in
-    omega (arith, sum-below-nil (wholeAt (a .sizes .now) (a .first) (a .rest) (a .pool)))
+    omega (arith, sum-below-nil (wholeAt (capacities (a .sizes .now) (a .first)) (a .rest)))
 
 mul-product : tie.Need-mul-product Inv-loop μ-loop
 mul-product c = omega arith
@@ -30,21 +33,22 @@ shared-slice-read-product c = omega arith
 product-requires : tie.Need-product-requires Inv-loop μ-loop
 product-requires c κs =
     let s = c .before .before .before .before in
-    (s .pre .0 .sizes-fit (c .before .before .loop .i), s .pre .0 .rest-fits)
+    (s .pre .sizes-fit (c .before .before .loop .i), s .pre .rest-fits)
 
 div-left : tie.Need-div-left Inv-loop μ-loop
 div-left c =
     let s = c .before .before .before .before .before in
-    omega (arith, s .pre .0 .positive)
+    omega (arith, s .pre .divisor)
 
 sub-left : tie.Need-sub-left Inv-loop μ-loop
 sub-left c =
     let s = c .before .before .before .before .before in
     let a = s .args in
     let i = c .before .before .before .loop .i in
-    let f = wholeAt (a .sizes .now) (a .first) (a .rest) (a .pool) in
-    let e : c .product .result / a .pool ≡ f i = ap (λ (x : ℕ). x / a .pool) (c .product .ensures) in
-    omega (arith, e, sum-below-suc i f, sum-below-part (i + 1) (length (a .sizes .now)) f (omega arith), s .pre .1)
+    let f = wholeAt (capacities (a .sizes .now) (a .first)) (a .rest) in
+    let e = whole-is (a .sizes .now) (a .first) (a .rest) (a .pool) (s .pre) i _ (c .product .ensures) in
+    let n = same-leaves (a .sizes .now) (a .first) in
+    omega (arith, e, sum-below-suc i f, sum-below-part (i + 1) (length (capacities (a .sizes .now) (a .first))) f (omega (arith, n)), wholes-fit (capacities (a .sizes .now) (a .first)) (a .rest) (s .pre .within))
 
 add-i : tie.Need-add-i Inv-loop μ-loop
 add-i c = omega arith
@@ -57,15 +61,15 @@ loop-again c =
     let s = c .before .before .before .before .before in
     let a = s .args in
     let i = c .before .before .before .loop .i in
-    let f = wholeAt (a .sizes .now) (a .first) (a .rest) (a .pool) in
-    let e : c .product .result / a .pool ≡ f i = ap (λ (x : ℕ). x / a .pool) (c .product .ensures) in
+    let f = wholeAt (capacities (a .sizes .now) (a .first)) (a .rest) in
+    let e = whole-is (a .sizes .now) (a .first) (a .rest) (a .pool) (s .pre) i _ (c .product .ensures) in
     omega (arith, e, sum-below-suc i f)
 
 returns : tie.Need-returns Inv-loop μ-loop
 returns c =
     let a = c .before .before .before .args in
-    let e : c .before .loop .i ≡ length (a .sizes .now) = omega arith in
-    omega (arith, ap (λ (x : ℕ). total (map (wholeAt (a .sizes .now) (a .first) (a .rest) (a .pool)) (from 0 x))) e)
+    let e : c .before .loop .i ≡ length (capacities (a .sizes .now) (a .first)) = omega (arith, same-leaves (a .sizes .now) (a .first)) in
+    omega (arith, ap (λ (x : ℕ). total (map (wholeAt (capacities (a .sizes .now) (a .first)) (a .rest)) (from 0 x))) e)
 
 pub leftover-seats-spec : {M : Type 1} → statement M
 leftover-seats-spec =

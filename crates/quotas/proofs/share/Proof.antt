@@ -1,24 +1,13 @@
 -- `quotas::share` meets its contract: where the seats reach the nonempty leaves each of these gets one first, and the rest is
 -- dealt. Assumes nothing.
-use mathlib.Core.Path.{_≡_, sym, _∙_}
-use mathlib.Core.List.{List}
-use Prim.Native.Nat.{ℕ, _-_, _≤_, _<_}
+use mathlib.Core.Path.{sym, ap, _∙_}
 use native.Mathlib.Omega.{arith}
 use Rattle.lists.specs.Lists.{total}
 use Rattle.lists.proofs.Sums.{total-at}
-use Rattle.definition.specs.Quotas.{nonempty, seatsOf, quotasFor}
 use Rattle.definition.proofs.Fairness.{capacity-one, capacity-none, for-each, for-none}
 use borrow.Author.Needs.{needs}
 use Rattle.quotas.proofs.share.Statement.{statement}
 use Rattle.quotas.proofs.share.Tie as tie
-
--- what either sharing makes are the quotas
-module _ (sizes : List ℕ) (s d a : ℕ) (out : List ℕ) (ed : d ≡ nonempty sizes) (ea : a ≡ total sizes) where
-  dealt-each : d ≤ s → out ≡ seatsOf sizes 1 (s - d) (a - d) → out ≡ quotasFor sizes s
-  dealt-each h e = e ∙ for-each sizes s d a ed ea h
-
-  dealt-none : s < d → out ≡ seatsOf sizes 0 s a → out ≡ quotasFor sizes s
-  dealt-none h e = e ∙ for-none sizes s d a ed ea h
 
 count-nonempty-requires : tie.Need-count-nonempty-requires
 count-nonempty-requires c κs = search needs
@@ -45,7 +34,7 @@ deal-requires-2 c κs =
       omega arith,
       s .pre .2,
       s .pre .1,
-      capacity-none (a .sizes .now) ∙ sym (s .pre .0),
+      ap total (capacity-none (a .sizes .now)) ∙ sym (s .pre .0),
     )
 
 same-length : tie.Need-same-length
@@ -55,8 +44,8 @@ returns : tie.Need-returns
 returns c =
     let k = c .before .before .before .before .before in
     let b = k .before .before .before in
-    dealt-each (b .args .sizes .now) (b .args .s) (k .count-nonempty .result) (b .args .rows) _ (k .count-nonempty .ensures) (b .pre .0)
-    (c .before .before .before .before .if1 .taken) (c .before .before .deal .ensures)
+    c .before .before .deal .ensures
+    ∙ for-each (b .args .sizes .now) (b .args .s) (k .count-nonempty .result) (k .count-nonempty .ensures) (c .before .before .before .before .if1 .taken)
 
 same-length-2 : tie.Need-same-length-2
 same-length-2 c = search needs
@@ -65,8 +54,8 @@ returns-2 : tie.Need-returns-2
 returns-2 c =
     let k = c .before .before .before .before .before in
     let b = k .before .before .before in
-    dealt-none (b .args .sizes .now) (b .args .s) (k .count-nonempty .result) (b .args .rows) _ (k .count-nonempty .ensures) (b .pre .0)
-    (c .before .before .before .before .if1 .left) (c .before .before .deal2 .ensures)
+    c .before .before .deal2 .ensures
+    ∙ for-none (b .args .sizes .now) (b .args .s) (k .count-nonempty .result) (k .count-nonempty .ensures) (c .before .before .before .before .if1 .left)
 
 pub share-spec : {M : Type 1} → statement M
 share-spec =
