@@ -15,7 +15,7 @@ use Rattle.lists.proofs.Count.{count-none}
 use Rattle.lists.proofs.From.{map-at}
 use Rattle.lists.proofs.Sums.{sum-add, sum-mul, sum-below-le, count-sum}
 use Rattle.definition.specs.Quotas.{sizeAt, wholeAt, remainderAt, leftover, seatsAt, extraAt}
-use Rattle.definition.proofs.SeatCut.{above, ties, extraBy, CutBy}
+use Rattle.definition.specs.SeatCut.{above, ties, extraBy, CutBy}
 use Rattle.definition.proofs.Seats.{extra-is, cut-from, one-lt, sum-extra, extra-none, extra-le}
 
 module _ (sizes : List ℕ) (first rest capacity : ℕ) (within : rest ≤ capacity) (all : total (map (λ w. w - first) sizes) ≡ capacity) where

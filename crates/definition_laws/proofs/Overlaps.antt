@@ -14,7 +14,8 @@ use Rattle.lists.specs.Ascends.{All}
 use Rattle.lists.proofs.Tests.{and-fst, and-snd, eqb-comm}
 use Rattle.lists.proofs.All.{all-mem, all-map}
 use Rattle.lists.proofs.Count.{count-le, count-none, length-keep, count-or-le}
-use Rattle.lists.proofs.Times.{times, Once, from-times, members-few}
+use Rattle.lists.specs.Times.{times, Once}
+use Rattle.lists.proofs.Times.{from-times, members-few}
 use Rattle.lists.proofs.Sums.{sum-le, sum-add, sum-mul, count-any, any-sum, sum-swap, sum-most}
 use Rattle.lists.proofs.Joined.{holders-few}
 use Rattle.definition.specs.Points.{rowsSq}

@@ -1,5 +1,4 @@
--- Laws of boxes and bounds, which their proofs cite, and of rows inside a point list (Rows).
-pub mod Rows
+-- Laws of boxes and bounds, which their proofs cite.
 mod Turns
 mod Boxed
 mod Firsts

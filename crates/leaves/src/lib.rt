@@ -10,7 +10,7 @@ ghost use Rattle.definition.specs.Points.{extents};
 ghost use Rattle.definition.specs.Cut.{leavesOf};
 ghost use Rattle.queue.specs.Rows.{withOwn};
 ghost use Rattle.extents.specs.Boxes.{floatsOf};
-ghost use Rattle.halving.specs.Rows.{GoodRows};
+ghost use Rattle.rows.specs.Rows.{GoodRows};
 
 // Writes the boxes of the two halves of a domain to a list, from `at` on. Each is the domain's box with one bound changed: on the
 // left the upper one, on the right the lower one.

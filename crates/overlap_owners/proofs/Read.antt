@@ -10,7 +10,7 @@ use Rattle.lists.specs.Lists.{joined}
 use Rattle.lists.specs.Ascends.{Ascends}
 use Rattle.lists.proofs.From.{length-map-from, getD-map-below}
 use Rattle.lists.proofs.Members.{mem-at, mem-index, joined-mem, mem-joined}
-use Rattle.lists.proofs.Times.{times}
+use Rattle.lists.specs.Times.{times}
 use Rattle.lists.proofs.Ascends.{ascends-once}
 use Rattle.lists.proofs.Joined.{two-lists}
 use Rattle.lists.proofs.Same.{same-mem}

@@ -6,7 +6,8 @@ use lib.Ieee.{Float}
 use Rattle.lists.specs.Lists.{put}
 use Rattle.definition.specs.Packed.{rowNumbers}
 use Rattle.definition.specs.Overlaps.{nearOf, borrowedBy}
-use Rattle.halving.specs.Rows.{GoodRows}
+use Rattle.definition.specs.Refusals.{mostNeighbours}
+use Rattle.rows.specs.Rows.{mostLeaves, GoodRows}
 use Rattle.overlap_owners.specs.Own.{Leaves}
 
 -- what the leaves with these own rows borrow
@@ -24,6 +25,6 @@ withBorrowed at (l ∷ ls) k D = withBorrowed (at + length l) ls (k + 1) (put D 
 pub record Stage (d : ℕ) (cs : List Float) (neighbours : ℕ) (active I D : List ℕ) (first m : ℕ) : Type 0 where
   pub rows : GoodRows d cs active
   pub leaves : Leaves active I D first m
-  pub near : neighbours ≤ 64
-  pub few : length active ≤ 2097152
-  pub leaf-few : m ≤ 2097152
+  pub near : neighbours ≤ mostNeighbours
+  pub few : length active ≤ mostLeaves
+  pub leaf-few : m ≤ mostLeaves

@@ -10,7 +10,7 @@ use lib.Dec.{eqb}
 use Rattle.lists.specs.Lists.{oneIf, from}
 use Rattle.lists.proofs.From.{count-below-suc, map-from-nil, front-below-suc, count-below-nil, front-read, front-whole}
 use Rattle.definition.specs.Quotas.{remainderAt, seatsAt}
-use Rattle.definition.proofs.SeatCut.{ties}
+use Rattle.definition.specs.SeatCut.{ties}
 use Rattle.definition.proofs.Seats.{by-le}
 use Rattle.definition.proofs.Shares.{seats-by-cut, share-small}
 use Rattle.quotas.proofs.hand_out.Statement.{statement}
