@@ -4,16 +4,14 @@ ghost use mathlib.Core.Bool.{not};
 ghost use Prim.Native.Nat.{_/_, _%_, _≤_};
 ghost use lib.Dec.{eqb};
 ghost use Rattle.definition.specs.Packed.{buildStated};
-ghost use Rattle.definition.specs.Refusals.{verdict, settingsTests, pointsTests, zeroThreshold, buildShort, buildVerdict};
+ghost use Rattle.definition.specs.Refusals.{mostPoints, mostNeighbours, verdict, settingsTests, pointsTests, zeroThreshold, buildShort, buildVerdict};
 ghost use Rattle.config.specs.Params.{policyOf, settingsOf};
 ghost use Rattle.build_sizes.specs.Sizes.{sizesOf};
 ghost use Rattle.build_checks.specs.Verdicts.{numbered, verdictOf};
 use build_sizes::BuildSizes;
 use config::DDMParams;
 use config::SizePolicy;
-
-// The most points that a build takes.
-const MOST_POINTS: usize = 1_048_576;
+use rows::MOST_POINTS;
 
 // The most neighbours.
 const MOST_NEIGHBOURS: u32 = 64;
@@ -65,7 +63,7 @@ fn settings_fault(dimensions: usize, params: DDMParams) -> usize
 fn points_fault(count: usize, dimensions: usize, params: DDMParams) -> usize
     requires { ⌜ (1 ≤ dimensions) × (2 ≤ params .«coarse_reduction_factor») ⌝ }
     ensures number { λ r. ⌜ numbered r ≡ verdict (pointsTests (settingsOf dimensions params) (count / dimensions) (not (eqb (count % dimensions) 0))) ⌝ }
-    ensures fine { λ r. ⌜ (r ≡ 0 → count / dimensions ≤ 1048576) ⌝ }
+    ensures fine { λ r. ⌜ (r ≡ 0 → count / dimensions ≤ mostPoints) ⌝ }
 {
     if count == 0 {
         return 6;
@@ -87,7 +85,7 @@ fn points_fault(count: usize, dimensions: usize, params: DDMParams) -> usize
 
 // Whether one of the lists is shorter than n points on `dimensions` axes with this neighbour count ask for.
 fn is_short(lent: BuildSizes, dimensions: usize, n: usize, neighbours: usize) -> bool
-    requires { ⌜ (dimensions ≤ 3) × (n ≤ 1048576) × (neighbours ≤ 64) ⌝ }
+    requires { ⌜ (dimensions ≤ 3) × (n ≤ mostPoints) × (neighbours ≤ mostNeighbours) ⌝ }
     ensures { λ r. ⌜ r ≡ buildShort (sizesOf lent) (buildStated dimensions n neighbours) ⌝ }
 {
     let stated = build_sizes::stated_sizes(dimensions, n, neighbours);

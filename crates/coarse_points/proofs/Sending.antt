@@ -11,9 +11,11 @@ use Rattle.lists.specs.Ascends.{Ascends}
 use Rattle.lists.proofs.From.{map-below-suc, map-from-nil, zip-from-at}
 use Rattle.lists.proofs.Joined.{joined-nil, joined-snoc, length-joined}
 use Rattle.lists.proofs.Sums.{sum-below-same}
-use Rattle.lists.proofs.Times.{times, Once, members-length, members-times}
+use Rattle.lists.specs.Times.{times, Once}
+use Rattle.lists.proofs.Times.{members-length, members-times}
 use Rattle.lists.proofs.Ascends.{ascends-keep, ascends-once, ascends-unique-count, once-ascends}
-use Rattle.lists.proofs.Same.{Same, same-times, same-once}
+use Rattle.lists.specs.Same.{Same}
+use Rattle.lists.proofs.Same.{same-times, same-once}
 use Rattle.lists.proofs.Map.{zip-map}
 use Rattle.definition.specs.Sampling.{seedOf, sample, sentBy}
 use Rattle.definition.specs.Cut.{Domain}
@@ -98,5 +100,5 @@ module _ (active : List ℕ) (up : Ascends active) (sent : List ℕ) (some : (r 
       (ascends-keep (λ i. member i sent) active up)
       (λ r. same-times ys sent e r ∙ sym (members-times active (ascends-once active up) sent some r))
 
-  pub next-many : length (keep (λ i. member i sent) active) ≡ length sent
-  next-many = members-length active (ascends-once active up) sent some
+  pub up-many : length (keep (λ i. member i sent) active) ≡ length sent
+  up-many = members-length active (ascends-once active up) sent some

@@ -9,15 +9,16 @@ use lib.Seq.{getD-take, length-take-le}
 use lib.Ieee.{Float}
 use borrow.Rule.Slice.PartMut.{putMid}
 use Rattle.lists.specs.Lists.{total, from, joined, keep, member, count, part, put}
-use Rattle.lists.specs.Ascends.{All, Ascends}
+use Rattle.lists.specs.Ascends.{All}
 use Rattle.lists.proofs.All.{all-at, joined-all}
 use Rattle.lists.proofs.Put.{length-part, part-lent, put-next, put-over, part-put-same, mid-back}
 use Rattle.lists.proofs.From.{map-below-same, length-map-from, getD-map-below}
 use Rattle.lists.proofs.Joined.{length-joined}
 use Rattle.lists.proofs.Sums.{sum-below-same, sum-below-suc, sum-below-part, sum-below-at, total-index}
-use Rattle.lists.proofs.Times.{times, Once}
+use Rattle.lists.specs.Times.{times, Once}
 use Rattle.lists.proofs.Ascends.{ascends-once}
-use Rattle.lists.proofs.Same.{Same, same-length, same-each, same-times, same-once}
+use Rattle.lists.specs.Same.{Same}
+use Rattle.lists.proofs.Same.{same-length, same-each, same-times, same-once}
 use Rattle.definition.specs.Quotas.{quotasFor}
 use Rattle.definition.specs.Sampling.{sentBy}
 use Rattle.definition.specs.Tree.{nextActive}
@@ -25,15 +26,17 @@ use Rattle.definition.specs.Fair.{Fair}
 use Rattle.definition.specs.Outcome.{written}
 use Rattle.definition.proofs.Fairness.{fair-for, quotas-held, quotas-length}
 use Rattle.quotas.proofs.Written.{take-written}
+use Rattle.rows.specs.Rows.{GoodRow, GoodRows}
 use Rattle.sort.specs.Heap.{Sorted}
 use Rattle.packed.specs.Reading.{ownStart, ownCount, ownAt, readOwn}
 use Rattle.packed.specs.Rows.{IsRow}
 use Rattle.packed.specs.declared.DomainRow.{DomainRow}
 use Rattle.packed.proofs.OwnRows.{read-length, read-at, row-own}
-use Rattle.coarse_points.specs.Sent.{sentUp, countsAt, sentAt, Sends, LeafFits, LeavesFit, Reordered}
-use Rattle.coarse_points.proofs.Sending.{sent-next, sent-zip, sent-many, sent-times, sorted-next, next-many}
+use Rattle.coarse_points.specs.Sent.{sentRows, countsAt, sentAt, SendsUp, LeafFits, LeavesFit, Reordered}
+use Rattle.coarse_points.proofs.Sending.{sent-next, sent-zip, sent-many, sent-times, sorted-next, up-many}
 
-module _ (d : ℕ) (cs : List Float) (active I D : List ℕ) (first m : ℕ) (s : Sends d cs active I D first m) where
+
+module _ (d : ℕ) (cs : List Float) (active I D : List ℕ) (first m : ℕ) (s : SendsUp d cs active I D first m) where
   abbrev own : List (List ℕ)
   own = readOwn I D first m
 
@@ -49,16 +52,25 @@ module _ (d : ℕ) (cs : List Float) (active I D : List ℕ) (first m : ℕ) (s 
       (λ l h. length-part I (ownStart D (first + l)) (ownCount D (first + l)) (s .leaves .inside l h))
 
   -- the leaves share out the active rows
-  pub all-rows : total (countsAt D first m) ≡ length active
-  all-rows = ap total (sym sizes-read) ∙ sym (length-joined own) ∙ same-length (joined own) active (s .leaves .shared)
+  pub counts-all : total (countsAt D first m) ≡ length active
+  counts-all = ap total (sym sizes-read) ∙ sym (length-joined own) ∙ same-length (joined own) active (s .leaves .shared)
 
   count-few : (l : ℕ) → l < m → ownCount D (first + l) ≤ length active
-  count-few l h = omega (arith, all-rows, sum-below-at l m (λ l. ownCount D (first + l)) h)
+  count-few l h = omega (arith, counts-all, sum-below-at l m (λ l. ownCount D (first + l)) h)
 
   own-all : (P : ℕ → Type 0) → All P active → (l : ℕ) → l < m → All P (ownAt I D (first + l))
   own-all P h l k =
       let a = joined-all P own (same-each P (joined own) active (s .leaves .shared) h) in
       rw (read-at I D first m l k) at (all-at (λ z. All P z) own l [] a (omega (arith, read-length I D first m)))
+
+  own-good : (l : ℕ) → l < m → GoodRows d cs (ownAt I D (first + l))
+  own-good l h =
+      record {
+        ascends = s .ascend l h;
+        each = own-all (GoodRow d cs) (s .rows .each) l h;
+        few =
+            omega (arith, count-few l h, s .rows .few, length-part I (ownStart D (first + l)) (ownCount D (first + l)) (s .leaves .inside l h));
+      }
 
   own-once : Once (joined own)
   own-once = same-once (joined own) active (s .leaves .shared) (ascends-once active (s .leaves .ascends))
@@ -70,7 +82,7 @@ module _ (d : ℕ) (cs : List Float) (active I D : List ℕ) (first m : ℕ) (s 
     ws = quotasFor counts size
 
     seats : size ≤ total counts
-    seats = omega (arith, all-rows)
+    seats = omega (arith, counts-all)
 
     fair : Fair counts size ws
     fair = fair-for counts size seats
@@ -94,12 +106,9 @@ module _ (d : ℕ) (cs : List Float) (active I D : List ℕ) (first m : ℕ) (s 
     leaves-fit out at k f g = record {
       each = λ l h. record {
         axes = s .axes;
-        finite-all = s .finite-all;
         row = omega (arith, s .leaves .rows);
         stretch = s .leaves .inside l h;
-        ascend = s .ascend l h;
-        inside = own-all (λ i. i * d + d ≤ length cs) (s .inside) l h;
-        few = omega (arith, count-few l h, s .few);
+        rows = own-good l h;
         floats = omega (arith, count-few l h);
         within = within l h;
       };
@@ -122,19 +131,19 @@ module _ (d : ℕ) (cs : List Float) (active I D : List ℕ) (first m : ℕ) (s 
         let w : (i : ℕ) → i < length own → getD ws i 0 ≤ getD (map length own) i 0 = λ i l. rw sizes-read (fair .within i) in
         omega (arith, ap (times r) as-defined, sent-times d cs own ws w own-once r, same-times (joined own) active (s .leaves .shared) r)
 
-    up-is : keep (λ i. member i sent) active ≡ sentUp d cs active own size
-    unfolding sentUp nextActive
+    up-is : keep (λ i. member i sent) active ≡ sentRows d cs active own size
+    unfolding sentRows nextActive
     up-is = rw (as-defined, sizes-read, quotas-held counts size seats)
 
-    pub up-size : length (sentUp d cs active (readOwn I D first m) size) ≡ size
-    up-size = ap length (sym up-is) ∙ next-many active (s .leaves .ascends) sent sent-some ∙ sent-size
+    pub up-size : length (sentRows d cs active (readOwn I D first m) size) ≡ size
+    up-size = ap length (sym up-is) ∙ up-many active (s .leaves .ascends) sent sent-some ∙ sent-size
 
-    pub sorted-up : (ys : List ℕ) → Sorted (λ x y. x ≤ y) ys → Same ys (sentAt d cs I D first work m) → ys ≡ sentUp d cs active (readOwn I D first m) size
+    pub sorted-up : (ys : List ℕ) → Sorted (λ x y. x ≤ y) ys → Same ys (sentAt d cs I D first work m) → ys ≡ sentRows d cs active (readOwn I D first m) size
     sorted-up ys o h = sorted-next active (s .leaves .ascends) sent sent-some ys o h ∙ up-is
 
     -- written behind the active rows and sorted there
     pub written-up : (l : List ℕ) (at : ℕ) (mid : List ℕ) (n : ℕ) (new : List ℕ) → at + size ≤ length l → mid ≡ put l at (sentAt d cs I D first work m)
-        → n ≡ length (sentAt d cs I D first work m) → Reordered mid at n new → new ≡ put l at (sentUp d cs active (readOwn I D first m) size)
+        → n ≡ length (sentAt d cs I D first work m) → Reordered mid at n new → new ≡ put l at (sentRows d cs active (readOwn I D first m) size)
     written-up l at mid n new f g k o =
         let e : part mid at n ≡ sent = ap (λ (z : List ℕ). part z at n) g ∙ part-put-same l at sent n (omega arith) (sym k) in
         let same : Same (o .rows) sent = λ p. o .same p ∙ ap (count p) e in
@@ -166,27 +175,24 @@ pub own-lent : (I D : List ℕ) (r : ℕ) (row : DomainRow) → IsRow row D r
 own-lent I D r row e = part-lent I (row .«internal_start») (row .«internal_count») ∙ row-own I D r row e
 
 module _ (d : ℕ) (cs : List Float) (I D : List ℕ) (r quota k : ℕ) (f : LeafFits d cs I D r quota k) (rows : List ℕ) (e : rows ≡ ownAt I D r) where
-  pub lent-ascends : Ascends rows
-  lent-ascends = rw e (f .ascend)
-
-  pub lent-inside : All (λ i. i * d + d ≤ length cs) rows
-  lent-inside = rw e (f .inside)
+  pub lent-good : GoodRows d cs rows
+  lent-good = rw e (f .rows)
 
   pub lent-length : length rows ≡ ownCount D r
   lent-length = ap length e ∙ length-part I (ownStart D r) (ownCount D r) (f .stretch)
 
 -- ---- the turn of the loop over the leaves
 module _ (d : ℕ) (cs : List Float) (I D : List ℕ) (first m : ℕ) (shares out : List ℕ) (at k : ℕ) (f : LeavesFit d cs I D first m shares out at k) where
-  pub turn-room : (l : ℕ) → l < m → at + length (sentAt d cs I D first shares l) + getD shares l 0 ≤ length out
-  turn-room l h =
+  pub leaf-room : (l : ℕ) → l < m → at + length (sentAt d cs I D first shares l) + getD shares l 0 ≤ length out
+  leaf-room l h =
       omega (arith, sent-many d cs I D first shares l, sum-below-suc l (λ l. getD shares l 0), sum-below-part (l + 1) m (λ l. getD shares l 0) (omega arith), f .fits)
 
-  pub turn-end : (l : ℕ) → length (sentAt d cs I D first shares (l + 1)) ≡ length (sentAt d cs I D first shares l) + getD shares l 0
-  turn-end l = omega (arith, sent-many d cs I D first shares l, sent-many d cs I D first shares (l + 1), sum-below-suc l (λ l. getD shares l 0))
+  pub leaf-end : (l : ℕ) → length (sentAt d cs I D first shares (l + 1)) ≡ length (sentAt d cs I D first shares l) + getD shares l 0
+  leaf-end l = omega (arith, sent-many d cs I D first shares l, sent-many d cs I D first shares (l + 1), sum-below-suc l (λ l. getD shares l 0))
 
-  pub turn-list : (l e : ℕ) (now : List ℕ) → l < m → e ≡ at + length (sentAt d cs I D first shares l) → now ≡ put out at (sentAt d cs I D first shares l)
+  pub leaf-list : (l e : ℕ) (now : List ℕ) → l < m → e ≡ at + length (sentAt d cs I D first shares l) → now ≡ put out at (sentAt d cs I D first shares l)
       → put now e (sentBy d cs (ownAt I D (first + l)) (getD shares l 0)) ≡ put out at (sentAt d cs I D first shares (l + 1))
-  turn-list l e now h q g =
+  leaf-list l e now h q g =
       rw (g, q)
-      (put-next out at (sentAt d cs I D first shares l) (sentBy d cs (ownAt I D (first + l)) (getD shares l 0)) (omega (arith, turn-room l h))
+      (put-next out at (sentAt d cs I D first shares l) (sentBy d cs (ownAt I D (first + l)) (getD shares l 0)) (omega (arith, leaf-room l h))
       ∙ ap (put out at) (sym (sent-next d cs I D first shares l)))

@@ -1,25 +1,24 @@
 -- The rows that leaves send up to the next level. Definitions only.
 use Prim.Native.Nat.{ℕ, _+_, _*_, _≤_, _<_}
 use mathlib.Core.Path.{_≡_}
-use mathlib.Core.Bool.{true}
 use mathlib.Core.List.{List, map, zipWith}
 use lib.ListN.{length, getD}
 use lib.Ieee.{Float}
-use lib.Ieee.Scale.{finite}
 use Rattle.lists.specs.Lists.{total, from, joined, part, put}
-use Rattle.lists.specs.Ascends.{All, Ascends}
-use Rattle.lists.proofs.Same.{Same}
+use Rattle.lists.specs.Ascends.{Ascends}
+use Rattle.lists.specs.Same.{Same}
 use Rattle.definition.specs.Quotas.{quotas}
 use Rattle.definition.specs.Sampling.{sentBy}
 use Rattle.definition.specs.Tree.{nextActive}
+use Rattle.rows.specs.Rows.{GoodRows}
 use Rattle.sort.specs.Heap.{Sorted}
 use Rattle.definition.specs.Packed.{rowNumbers}
 use Rattle.packed.specs.Reading.{ownStart, ownCount, ownAt}
 use Rattle.overlap_owners.specs.Own.{Leaves}
 
 -- the active rows that the leaves with these own rows send up, `size` in all
-unfoldable pub sentUp : ℕ → List Float → List ℕ → List (List ℕ) → ℕ → List ℕ
-sentUp d cs active own size = nextActive active (zipWith (sentBy d cs) own (quotas (map length own) size))
+unfoldable pub sentRows : ℕ → List Float → List ℕ → List (List ℕ) → ℕ → List ℕ
+sentRows d cs active own size = nextActive active (zipWith (sentBy d cs) own (quotas (map length own) size))
 
 -- ---- leaves that the domain rows from `first` on name
 
@@ -31,24 +30,19 @@ countsAt D first m = map (λ l. ownCount D (first + l)) (from 0 m)
 abbrev pub sentAt : ℕ → List Float → List ℕ → List ℕ → ℕ → List ℕ → ℕ → List ℕ
 sentAt d cs I D first shares m = joined (map (λ l. sentBy d cs (ownAt I D (first + l)) (getD shares l 0)) (from 0 m))
 
--- rows of a list of finite coordinates, and m leaves that share them out, each with its own rows in their order
-pub record Sends (d : ℕ) (cs : List Float) (active I D : List ℕ) (first m : ℕ) : Type 0 where
+-- active rows, and m leaves that share them out, each with its own rows in their order
+pub record SendsUp (d : ℕ) (cs : List Float) (active I D : List ℕ) (first m : ℕ) : Type 0 where
   pub axes : d ≤ 3
-  pub few : length active ≤ 1048576
-  pub inside : All (λ i. i * d + d ≤ length cs) active
-  pub finite-all : All (λ x. finite x ≡ true) cs
+  pub rows : GoodRows d cs active
   pub leaves : Leaves active I D first m
   pub ascend : (l : ℕ) → l < m → Ascends (ownAt I D (first + l))
 
 -- what the sampling of the leaf at the domain row r asks: k floats of working room
 pub record LeafFits (d : ℕ) (cs : List Float) (I D : List ℕ) (r quota k : ℕ) : Type 0 where
   pub axes : d ≤ 3
-  pub finite-all : All (λ x. finite x ≡ true) cs
   pub row : rowNumbers * (r + 1) ≤ length D
   pub stretch : ownStart D r + ownCount D r ≤ length I
-  pub ascend : Ascends (ownAt I D r)
-  pub inside : All (λ i. i * d + d ≤ length cs) (ownAt I D r)
-  pub few : ownCount D r ≤ 1048576
+  pub rows : GoodRows d cs (ownAt I D r)
   pub floats : ownCount D r ≤ k
   pub within : quota ≤ ownCount D r
 

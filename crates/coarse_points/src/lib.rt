@@ -1,16 +1,15 @@
 // The rows that the leaves of a level send up: the active rows of the next level.
 ghost use mathlib.Core.Path.{_≡_};
-ghost use mathlib.Core.Bool.{true};
 ghost use Prim.Native.Nat.{_+_, _-_, _*_, _≤_, _<_};
 ghost use lib.ListN.{length, take};
-ghost use lib.Ieee.Scale.{finite};
 ghost use Rattle.lists.specs.Lists.{total, part, put};
-ghost use Rattle.lists.specs.Ascends.{All, Ascends};
 ghost use Rattle.definition.specs.Quotas.{quotasFor};
 ghost use Rattle.definition.specs.Sampling.{sentBy};
 ghost use Rattle.definition.specs.Packed.{rowNumbers};
+ghost use Rattle.definition.specs.Refusals.{mostPoints};
+ghost use Rattle.rows.specs.Rows.{GoodRows};
 ghost use Rattle.packed.specs.Reading.{ownAt, readOwn};
-ghost use Rattle.coarse_points.specs.Sent.{sentUp, countsAt, sentAt, Sends, LeafFits, LeavesFit, Reordered};
+ghost use Rattle.coarse_points.specs.Sent.{sentRows, countsAt, sentAt, SendsUp, LeafFits, LeavesFit, Reordered};
 
 // Copies the sizes of the m leaves that the domain rows from `first` on name to the front of the working list.
 fn copy_sizes(domains: &[usize], first: usize, m: usize, work: &mut [usize])
@@ -27,7 +26,7 @@ fn copy_sizes(domains: &[usize], first: usize, m: usize, work: &mut [usize])
 
 // The quotas of these leaves, which have `a` rows in all, at the front of the working list: `size` of the rows go up.
 fn leaf_quotas(domains: &[usize], first: usize, m: usize, a: usize, size: usize, work: &mut [usize])
-    requires { ⌜ (rowNumbers * (first + m) ≤ length (now domains)) × (m ≤ length (now work)) × (a ≡ total (countsAt (now domains) first m)) × (a ≤ 1048576) × (size ≤ a) ⌝ }
+    requires { ⌜ (rowNumbers * (first + m) ≤ length (now domains)) × (m ≤ length (now work)) × (a ≡ total (countsAt (now domains) first m)) × (a ≤ mostPoints) × (size ≤ a) ⌝ }
     ensures { λ _. ⌜ take m (now (work .exit)) ≡ quotasFor (countsAt (now (domains .entry)) first m) size ⌝ }
 {
     copy_sizes(domains, first, m, work);
@@ -44,9 +43,8 @@ fn sample_leaf(
     at: usize,
     least: &mut [f64],
 )
-    requires rows { ⌜ Ascends (now rows) × All (λ i. i * dimensions + dimensions ≤ length (now points)) (now rows) ⌝ }
-    requires finite { ⌜ All (λ x. finite x ≡ true) (now points) ⌝ }
-    requires few { ⌜ (dimensions ≤ 3) × (quota ≤ length (now rows)) × (length (now rows) ≤ 1048576) ⌝ }
+    requires rows { ⌜ GoodRows dimensions (now points) (now rows) ⌝ }
+    requires few { ⌜ (dimensions ≤ 3) × (quota ≤ length (now rows)) ⌝ }
     requires room { ⌜ (at + quota ≤ length (now out)) × (length (now rows) ≤ length (now least)) ⌝ }
     ensures { λ _. ⌜ now (out .exit) ≡ put (now (out .entry)) at (sentBy dimensions (now (points .entry)) (now (rows .entry)) quota) ⌝ }
 {
@@ -148,10 +146,10 @@ pub fn coarse_points(
     work: &mut [usize],
     least: &mut [f64],
 ) -> usize
-    requires rows { ⌜ Sends dimensions (now points) (part (now «level_points») from a) (now internals) (now domains) first m ⌝ }
+    requires rows { ⌜ SendsUp dimensions (now points) (part (now «level_points») from a) (now internals) (now domains) first m ⌝ }
     requires room { ⌜ (size ≤ a) × (from + a + size ≤ length (now «level_points»)) × (m ≤ length (now work)) × (a ≤ length (now least)) ⌝ }
-    ensures number { λ r. ⌜ (r ≡ length (sentUp dimensions (now (points .entry)) (part (now («level_points» .entry)) from a) (readOwn (now (internals .entry)) (now (domains .entry)) first m) size)) × (r ≡ size) ⌝ }
-    ensures list { λ _. ⌜ now («level_points» .exit) ≡ put (now («level_points» .entry)) (from + a) (sentUp dimensions (now (points .entry)) (part (now («level_points» .entry)) from a) (readOwn (now (internals .entry)) (now (domains .entry)) first m) size) ⌝ }
+    ensures number { λ r. ⌜ (r ≡ length (sentRows dimensions (now (points .entry)) (part (now («level_points» .entry)) from a) (readOwn (now (internals .entry)) (now (domains .entry)) first m) size)) × (r ≡ size) ⌝ }
+    ensures list { λ _. ⌜ now («level_points» .exit) ≡ put (now («level_points» .entry)) (from + a) (sentRows dimensions (now (points .entry)) (part (now («level_points» .entry)) from a) (readOwn (now (internals .entry)) (now (domains .entry)) first m) size) ⌝ }
 {
     leaf_quotas(domains, first, m, a, size, work);
     let start = from + a;

@@ -7,19 +7,19 @@ use lib.Ieee.{Float}
 use Rattle.lists.specs.Lists.{put, part}
 use Rattle.lists.proofs.Put.{length-part}
 use Rattle.definition.specs.Cut.{Domain, longestAxis, cutKeys, leftOf, rightOf}
-use Rattle.halving.specs.Rows.{GoodRows}
+use Rattle.rows.specs.Rows.{GoodRows}
 use Rattle.halving.specs.Cuts.{Halved}
-use Rattle.halving.proofs.Good.{good-first, good-other}
+use Rattle.rows.proofs.Good.{good-first, good-other}
 
 module _ {d : ℕ} {cs : List Float} where
   -- both halves of good rows are good
   pub good-left : (q : Domain) → GoodRows d cs (q .rows) → GoodRows d cs (leftOf d cs q .rows)
   unfolding leftOf cutKeys
-  good-left q g = good-first _ _ (q .rows) g
+  good-left q g = good-first (q .rows) g _ _
 
   pub good-right : (q : Domain) → GoodRows d cs (q .rows) → GoodRows d cs (rightOf d cs q .rows)
   unfolding rightOf cutKeys
-  good-right q g = good-other _ _ (q .rows) g
+  good-right q g = good-other (q .rows) g _ _
 
   -- the room after the cut of a stretch that holds a domain's rows
   pub cut-is : (q : Domain) (w w₁ : List ℕ) (start count spare : ℕ) → part w start count ≡ q .rows → start + count ≤ length w

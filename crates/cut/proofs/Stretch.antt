@@ -11,9 +11,9 @@ use Rattle.lists.proofs.Put.{length-part, part-lent}
 use Rattle.definition.specs.Points.{coordinate}
 use Rattle.definition.specs.Cut.{longestAxis, planeOf, plane, cutKeys}
 use Rattle.definition.proofs.Cuts.{axis-below}
-use Rattle.halving.specs.Rows.{GoodRows}
+use Rattle.rows.specs.Rows.{Inside, GoodRows}
 use Rattle.halving.specs.Cuts.{MiddleRow, Halved}
-use Rattle.halving.proofs.Good.{good-inside}
+use Rattle.rows.proofs.Good.{good-inside, good-place}
 
 -- the plane is the coordinate of the middle row
 pub plane-is : (d : ℕ) (cs : List Float) (rows : List ℕ) (m : ℕ) → MiddleRow d cs (longestAxis d cs rows) rows m → coordinate d cs m (longestAxis d cs rows) ≡ plane d cs rows
@@ -32,8 +32,8 @@ module _ (d : ℕ) (cs : List Float) (w : List ℕ) (start count spare : ℕ) (p
   pub lent-some : 0 < length lent
   lent-some = rw (part-lent w start count, length-part w start count (omega arith)) some
 
-  pub lent-inside : All (λ i. i * d + d ≤ length cs) lent
-  lent-inside = rw (part-lent w start count) (good .inside)
+  pub lent-inside : All (Inside d cs) lent
+  lent-inside = rw (part-lent w start count) (good-inside rows good)
 
   module _ (x : ℕ) (e : x ≡ longestAxis d cs lent) where
     pub axis-is : x ≡ longestAxis d cs rows
@@ -47,7 +47,7 @@ module _ (d : ℕ) (cs : List Float) (w : List ℕ) (start count spare : ℕ) (p
 
     module _ (m : ℕ) (h : MiddleRow d cs x rows m) where
       pub value-in : m * d + x < length cs
-      value-in = good-inside x axis-in rows good m (h .inside)
+      value-in = good-place rows good x axis-in m (h .inside)
 
-      pub value-is : coordinate d cs m x ≡ plane d cs rows
-      value-is = rw axis-is (plane-is d cs rows m (rw axis-is at h))
+      pub plane-value : coordinate d cs m x ≡ plane d cs rows
+      plane-value = rw axis-is (plane-is d cs rows m (rw axis-is at h))

@@ -6,7 +6,7 @@ ghost use Rattle.lists.specs.Lists.{part};
 ghost use Rattle.lists.specs.Ascends.{All};
 ghost use Rattle.definition.specs.Points.{extent};
 ghost use Rattle.definition.specs.Cut.{longestAxis, plane};
-ghost use Rattle.halving.specs.Rows.{GoodRows};
+ghost use Rattle.rows.specs.Rows.{GoodRows};
 ghost use Rattle.halving.specs.Cuts.{Halved};
 
 // Where a domain is cut: the axis, and the coordinate of the right row that comes first.

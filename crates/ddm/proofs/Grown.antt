@@ -1,20 +1,16 @@
 -- What an accepted call has for its levels, and what they come to. Assumes nothing.
-use mathlib.Core.Path.{_≡_, sym, ap, subst, _∙_}
-use mathlib.Core.Bool.{Bool, true}
+use mathlib.Core.Path.{_≡_, sym, ap, _∙_}
 use mathlib.Core.Logic.{⊎-elim}
 use mathlib.Core.List.{List, _∷_, map}
 use Prim.Native.Nat.{ℕ, zero, suc, _+_, _-_, _*_, _≤_, _<_}
 use native.Mathlib.Omega.{arith}
-use native.Mathlib.Nat.{mul-le-mul, mul-le-mul-right, mul-assoc, suc-mul}
-use lib.Dec.{T}
-use lib.ListN.{length, getD, replicate}
-use lib.Ieee.{Float, nan}
-use lib.Ieee.Scale.{finite}
+use native.Mathlib.Nat.{mul-assoc}
+use lib.ListN.{length, replicate}
+use lib.Ieee.{Float}
 use Rattle.lists.specs.Lists.{put, from}
 use Rattle.lists.proofs.Tests.{le-or-lt}
 use Rattle.lists.proofs.Put.{put-again}
-use Rattle.lists.proofs.From.{length-from, all-from}
-use Rattle.lists.proofs.Ascends.{ascends-from}
+use Rattle.lists.proofs.From.{length-from}
 use Rattle.definition.specs.Levels.{threshold, reductions}
 use Rattle.definition.specs.Tree.{Settings, Level, mostFine, levelsFrom, levelsOver, levels, pointCount}
 use Rattle.definition.specs.Packed.{buildStated, packedPoints, countsOf}
@@ -22,6 +18,7 @@ use Rattle.definition.specs.Outcome.{TreeLists, lentSizes}
 use Rattle.definition.proofs.Steps.{fineOf, nextOf, levels-last, levels-end, levels-more}
 use Rattle.definition_laws.proofs.Accepted.{Accepted}
 use Rattle.definition.proofs.Sizes.{ends}
+use Rattle.rows.proofs.AllRows.{all-rows-good}
 use Rattle.fine_level.specs.Fine.{Given}
 use Rattle.levels_loop.specs.After.{levelSettings, levelsAfter, Space}
 use Rattle.levels_loop.proofs.Fine.{first-points, levels-few}
@@ -64,22 +61,8 @@ module _ (s : Settings) (cs : List Float) (old : TreeLists) (floats : List Float
     leaf-some = a .passes-all .leaf-some;
     near = a .passes-all .neighbours-few;
     rows-some = omega (arith, length-from 0 n, a .passes-all .rows-some);
-    rows-few = omega (arith, length-from 0 n, a .passes-all .rows-few);
-    good = record {
-      ascends = ascends-from 0 n;
-      inside = all-from (λ i. i * d + d ≤ length cs) 0 n (λ i l h. within i h);
-      finite-all = λ i h. of-true (finite (getD cs i nan)) (a .finite-all i h);
-      few = omega (arith, mul-le-mul (a .passes-all .rows-few) (a .passes-all .axes-few), a .whole);
-    };
+    good = all-rows-good d cs n (a .passes-all .rows-few) (omega (arith, a .whole)) (a .finite-all);
   }
-    where
-      of-true : (b : Bool) → b ≡ true → T b
-      of-true b e = subst T (sym e) tt
-
-      within : (i : ℕ) → i < 0 + n → i * d + d ≤ length cs
-      within i h =
-          let le : suc i ≤ n = omega arith in
-          omega (arith, mul-le-mul-right d le, suc-mul i d, a .whole)
 
   -- room for the levels
   pub all-space : (P : List ℕ) → length P ≡ length (old .points)

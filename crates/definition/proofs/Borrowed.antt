@@ -9,7 +9,8 @@ use borrow.Author.Tests.{not-true}
 use Rattle.lists.specs.Lists.{member, anyOf}
 use Rattle.lists.proofs.Tests.{clash, and-fst}
 use Rattle.lists.proofs.Members.{keep-mem, mem-member}
-use Rattle.lists.proofs.Times.{times, Once, once-keep, times-mem}
+use Rattle.lists.specs.Times.{times, Once}
+use Rattle.lists.proofs.Times.{once-keep, times-mem}
 use lib.Ieee.{Float}
 use Rattle.definition.specs.Overlaps.{paired, borrowedBy}
 

@@ -15,7 +15,7 @@ use Rattle.lists.proofs.Tests.{le-or-lt, clash}
 use Rattle.lists.proofs.All.{all-append}
 use Rattle.lists.proofs.From.{all-from}
 use Rattle.lists.proofs.Best.{best-in}
-use Rattle.lists.proofs.Times.{times, Once}
+use Rattle.lists.specs.Times.{times, Once}
 use Rattle.lists.proofs.Joined.{count-joined}
 use Rattle.lists.proofs.Sums.{sum-nil, sum-cons, sum-two}
 use Rattle.definition.specs.Points.{coordinate}
@@ -33,11 +33,11 @@ good-part d cs rows part g h =
     record { once = λ r. omega (arith, g .once r, h r); finite-at = λ r m. g .finite-at r (omega (arith, h r)) }
 
 -- a finite coordinate is no NaN
-no-nan : (x : Float) → finite x ≡ true → isNan x ≡ false
+pub finite-known : (x : Float) → finite x ≡ true → isNan x ≡ false
 unfolding isNan
-no-nan nan h = clash h refl
-no-nan (inf s) h = refl
-no-nan (fin s m e) h = refl
+finite-known nan h = clash h refl
+finite-known (inf s) h = refl
+finite-known (fin s m e) h = refl
 
 -- ---- the own rows of domains, together, and how many each has
 abbrev pub rowsOf : List Domain → List ℕ
@@ -113,7 +113,7 @@ module _ (d : ℕ) (cs : List Float) where
     pub cut-sortable : (rows : List ℕ) → Good d cs rows → Sortable (cutKeys d cs rows)
     unfolding cutKeys
     cut-sortable rows g =
-        sortable (λ i. coordinate d cs i (longestAxis d cs rows)) rows (g .once) (λ r m. no-nan (coordinate d cs r (longestAxis d cs rows)) (g .finite-at r m (longestAxis d cs rows) (axis-below rows pos)))
+        sortable (λ i. coordinate d cs i (longestAxis d cs rows)) rows (g .once) (λ r m. finite-known (coordinate d cs r (longestAxis d cs rows)) (g .finite-at r m (longestAxis d cs rows) (axis-below rows pos)))
 
     -- the left half has half the rows, rounded down, and the right one the rest
     pub left-length : (q : Domain) → Good d cs (q .rows) → length (leftOf d cs q .rows) ≡ length (q .rows) / 2

@@ -10,7 +10,8 @@ use Rattle.lists.specs.Lists.{member, total, joined}
 use Rattle.lists.specs.Ascends.{All}
 use Rattle.lists.proofs.Tests.{le-or-lt}
 use Rattle.lists.proofs.Count.{count-len, length-keep}
-use Rattle.lists.proofs.Times.{times, times-keep-le}
+use Rattle.lists.specs.Times.{times}
+use Rattle.lists.proofs.Times.{times-keep-le}
 use Rattle.lists.proofs.Sums.{sum-cons, sum-nil}
 use Rattle.definition.specs.Tree.{Settings, Level, coarseLevel, nextActive, levelsFrom}
 use Rattle.definition.proofs.Steps.{fineOf, nextOf, sentOf, levels-last, levels-end, levels-more}

@@ -7,7 +7,8 @@ use native.Mathlib.Omega.{arith}
 use lib.ListN.{length, getD, length-append, length-map}
 use lib.Ieee.{Float}
 use Rattle.lists.specs.Lists.{total, joined}
-use Rattle.lists.proofs.Times.{times, Once, times-nil, times-append, members-length, members-times}
+use Rattle.lists.specs.Times.{times, Once}
+use Rattle.lists.proofs.Times.{times-nil, times-append, members-length, members-times}
 use Rattle.lists.proofs.Joined.{joined-nil, joined-cons}
 use Rattle.definition.specs.Quotas.{quotas}
 use Rattle.definition.specs.Sampling.{sentBy}

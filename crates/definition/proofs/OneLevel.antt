@@ -8,7 +8,7 @@ use lib.ListN.{length, getD}
 use lib.Ieee.{Float}
 use Rattle.lists.specs.Lists.{joined, total}
 use Rattle.lists.proofs.Map.{getD-map-in}
-use Rattle.lists.proofs.Times.{times, Once}
+use Rattle.lists.specs.Times.{times, Once}
 use Rattle.definition.specs.Levels.{levelSize}
 use Rattle.definition.specs.Quotas.{quotas}
 use Rattle.definition.specs.Fair.{Fair}

@@ -11,7 +11,8 @@ use Rattle.lists.specs.Lists.{keep, member}
 use Rattle.lists.specs.Ascends.{All}
 use Rattle.lists.proofs.All.{all-map}
 use Rattle.lists.proofs.Best.{best-in}
-use Rattle.lists.proofs.Times.{times, Once, times-nil, from-times, member-some, times-keep-le, times-keep-out, others-count, times-more}
+use Rattle.lists.specs.Times.{times, Once}
+use Rattle.lists.proofs.Times.{times-nil, from-times, member-some, times-keep-le, times-keep-out, others-count, times-more}
 use Rattle.definition.specs.Keys.{Key, keyed, nearestRow, farthestRow}
 use Rattle.definition.specs.Sampling.{gap, pick, sampleMore, sample, fromCentroid, seedOf, sentBy}
 use Rattle.definition.proofs.Halves.{keyOf}

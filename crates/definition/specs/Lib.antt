@@ -12,5 +12,6 @@ pub mod Packed
 pub mod Refusals
 pub mod Outcome
 -- What the laws of level sizes and quotas say.
+pub mod SeatCut
 pub mod Fair
 pub mod LevelLaws

@@ -14,13 +14,14 @@ use lib.Ieee.Scale.{finite}
 use lib.Ieee.Positive.{positive, positive-of-value}
 use lib.Ieee.Back.{round-whole}
 use Rattle.lists.proofs.Tests.{clash}
-use Rattle.lists.proofs.Members.{mem-at, map-mem}
+use Rattle.lists.proofs.Members.{map-mem}
 use Rattle.definition.specs.Number.{plusZero, plus, less, times, over}
 use Rattle.definition.specs.Points.{coordinate, column, distanceSq, distance, rowsSq, rowsApart}
 use Rattle.definition.specs.Sampling.{sumFrom, centroid, fromCentroid}
 use Rattle.root_laws.specs.Sorts.{isNumber, good}
 use Rattle.root_laws.proofs.Operations.{round-number, square-good, add-good, zero-good, sub-number, finite-number}
 use Rattle.root_laws.proofs.Values.{root-good}
+use Rattle.rows.specs.Rows.{FiniteRow}
 
 -- ---- distances
 
@@ -81,25 +82,19 @@ sum-number s [] h f = h
 sum-number s (x ∷ xs) h f =
     sum-number (plus s x) xs (add-number s x h (f x (List·Memᴰ·head refl))) (λ y m. f y (List·Memᴰ·tail m))
 
--- ---- rows of a list of finite coordinates
-module _ (d : ℕ) (cs : List Float) (f : (x : Float) → List·Memᴰ x cs → finite x ≡ true) where
-  pub coordinate-finite : (i : ℕ) → i * d + d ≤ length cs → (a : ℕ) → a < d → finite (coordinate d cs i a) ≡ true
-  coordinate-finite i h a b = f (coordinate d cs i a) (mem-at cs (i * d + a) nan (omega arith))
-
-  pub rows-sq-good : (i j : ℕ) → i * d + d ≤ length cs → j * d + d ≤ length cs → good (rowsSq d cs i j) ≡ true
+-- ---- rows with finite coordinates
+module _ (d : ℕ) (cs : List Float) where
+  pub rows-sq-good : (i j : ℕ) → FiniteRow d cs i → FiniteRow d cs j → good (rowsSq d cs i j) ≡ true
   unfolding rowsSq
-  rows-sq-good i j h k =
-      finite-sq-good d (coordinate d cs i) (coordinate d cs j) (coordinate-finite i h) (coordinate-finite j k)
+  rows-sq-good i j h k = finite-sq-good d (coordinate d cs i) (coordinate d cs j) h k
 
-  pub rows-apart-good : (i j : ℕ) → i * d + d ≤ length cs → j * d + d ≤ length cs → good (rowsApart d cs i j) ≡ true
+  pub rows-apart-good : (i j : ℕ) → FiniteRow d cs i → FiniteRow d cs j → good (rowsApart d cs i j) ≡ true
   unfolding rowsApart distance rowsSq
   rows-apart-good i j h k = root-good (rowsSq d cs i j) (rows-sq-good i j h k)
 
-  module _ (rows : List ℕ) (g : (i : ℕ) → List·Memᴰ i rows → i * d + d ≤ length cs) where
+  module _ (rows : List ℕ) (g : (i : ℕ) → List·Memᴰ i rows → FiniteRow d cs i) where
     column-finite : (a : ℕ) → a < d → (x : Float) → List·Memᴰ x (column d cs rows a) → finite x ≡ true
-    column-finite a b x m =
-        let (i, n, e) = map-mem (λ i. coordinate d cs i a) rows m in
-        rw e (coordinate-finite i (g i n) a b)
+    column-finite a b x m = let (i, n, e) = map-mem (λ i. coordinate d cs i a) rows m in rw e (g i n a b)
 
     module _ (some-row : 0 < length rows) (few : length rows ≤ 2 ^ 53) where
       pub centroid-number : (a : ℕ) → a < d → isNumber (centroid d cs rows a) ≡ true
@@ -108,11 +103,10 @@ module _ (d : ℕ) (cs : List Float) (f : (x : Float) → List·Memᴰ x cs → 
           over-number (sumFrom plusZero (column d cs rows a)) (length rows)
           (sum-number plusZero (column d cs rows a) refl (column-finite a b)) some-row few
 
-      pub centroid-sq-good : (i : ℕ) → i * d + d ≤ length cs → good (distanceSq d (centroid d cs rows) (coordinate d cs i)) ≡ true
-      centroid-sq-good i h =
-          distance-sq-good d (centroid d cs rows) (coordinate d cs i) centroid-number (coordinate-finite i h)
+      pub centroid-sq-good : (i : ℕ) → FiniteRow d cs i → good (distanceSq d (centroid d cs rows) (coordinate d cs i)) ≡ true
+      centroid-sq-good i h = distance-sq-good d (centroid d cs rows) (coordinate d cs i) centroid-number h
 
-      pub from-centroid-good : (i : ℕ) → i * d + d ≤ length cs → good (fromCentroid d cs rows i) ≡ true
+      pub from-centroid-good : (i : ℕ) → FiniteRow d cs i → good (fromCentroid d cs rows i) ≡ true
       unfolding fromCentroid distance
       from-centroid-good i h =
           root-good (distanceSq d (centroid d cs rows) (coordinate d cs i)) (centroid-sq-good i h)
@@ -125,7 +119,5 @@ good-known (inf s) h = refl
 good-known (fin s m e) h = refl
 
 -- the squared distance of two rows with finite coordinates
-pub rows-known : (d : ℕ) (cs : List Float) (i j : ℕ) → ((a : ℕ) → a < d → finite (coordinate d cs i a) ≡ true) → ((a : ℕ) → a < d → finite (coordinate d cs j a) ≡ true)
-    → isNan (rowsSq d cs i j) ≡ false
-unfolding rowsSq
-rows-known d cs i j f g = good-known (rowsSq d cs i j) (finite-sq-good d (coordinate d cs i) (coordinate d cs j) f g)
+pub rows-known : (d : ℕ) (cs : List Float) (i j : ℕ) → FiniteRow d cs i → FiniteRow d cs j → isNan (rowsSq d cs i j) ≡ false
+rows-known d cs i j f g = good-known (rowsSq d cs i j) (rows-sq-good d cs i j f g)

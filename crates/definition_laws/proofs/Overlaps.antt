@@ -11,7 +11,8 @@ use lib.Ieee.{Float}
 use Rattle.lists.specs.Lists.{oneIf, count, anyOf, member, total, joined}
 use Rattle.lists.proofs.Tests.{and-snd}
 use Rattle.lists.proofs.Count.{count-le, length-keep, count-or-le}
-use Rattle.lists.proofs.Times.{times, Once, mem-times, once-short, members-few}
+use Rattle.lists.specs.Times.{times, Once}
+use Rattle.lists.proofs.Times.{mem-times, once-short, members-few}
 use Rattle.lists.proofs.Sums.{sum-le, sum-add, sum-const, count-sum, count-any, sum-swap, sum-most}
 use Rattle.lists.proofs.Joined.{sum-joined}
 use Rattle.definition.specs.Points.{rowsSq}

@@ -10,7 +10,7 @@ use lib.Ieee.{Float}
 use Rattle.lists.specs.Lists.{keep, member, from, joined}
 use Rattle.lists.proofs.Map.{getD-map-in}
 use Rattle.lists.proofs.From.{map-from-at, zip-from-at}
-use Rattle.lists.proofs.Times.{times}
+use Rattle.lists.specs.Times.{times}
 use Rattle.definition.specs.Quotas.{quotas}
 use Rattle.definition.specs.Cut.{Domain, leavesOf}
 use Rattle.definition.specs.Overlaps.{borrowedBy}

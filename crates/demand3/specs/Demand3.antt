@@ -9,7 +9,7 @@ use lib.ListN.{length, getD, replicate}
 use lib.Dec.{leb}
 use lib.Ieee.{Float}
 use Rattle.lists.specs.Lists.{keep, member, from, joined}
-use Rattle.lists.proofs.Times.{times}
+use Rattle.lists.specs.Times.{times}
 use Rattle.definition.specs.Number.{plusZero}
 use Rattle.definition.specs.Points.{boxWidth}
 use Rattle.definition.specs.Levels.{threshold, reductions, levelSize}

@@ -1,3 +1,2 @@
--- Laws of bounds, which their proofs cite, and of rows inside a point list (Rows).
-pub mod Rows
+-- Laws of bounds, which their proofs cite.
 mod Firsts

@@ -16,7 +16,8 @@ use Rattle.lists.proofs.Put.{part-put-same, length-put}
 use Rattle.lists.proofs.Count.{length-keep}
 use Rattle.lists.proofs.Joined.{length-joined}
 use Rattle.lists.proofs.From.{map-below-same}
-use Rattle.lists.proofs.Times.{times, times-keep-in, times-keep-out, once-keep, once-length}
+use Rattle.lists.specs.Times.{times}
+use Rattle.lists.proofs.Times.{times-keep-in, times-keep-out, once-keep, once-length}
 use Rattle.lists.proofs.Map.{zip-map}
 use Rattle.definition.specs.Cut.{Domain, leavesOf}
 use Rattle.definition.specs.Overlaps.{borrowedBy}
@@ -28,10 +29,10 @@ use Rattle.definition.proofs.Cuts.{Good, leaves-times, leaves-sum}
 use Rattle.definition.proofs.Steps.{fineLeaf}
 use Rattle.definition_laws.proofs.Shape.{leaves-most}
 use Rattle.queue.specs.Rows.{withOwn}
-use Rattle.halving.proofs.Good.{good-good}
+use Rattle.rows.proofs.Good.{good-good}
 use Rattle.overlap_owners.specs.Own.{ownAt, readOwn, Shared, Leaves}
 use Rattle.overlaps.specs.Borrowed.{borrowedLists, withBorrowed, Stage}
-use Rattle.coarse_points.specs.Sent.{sentUp, Sends}
+use Rattle.coarse_points.specs.Sent.{sentRows, SendsUp}
 use Rattle.fine_level.specs.Fine.{leavesAt, nextAt, ownIn, Given}
 use Rattle.fine_level.proofs.Columns.{own-length, own-names, own-read, keeps-start, keeps-count, both-columns}
 use Rattle.overlaps.proofs.Columns.{columns-length}
@@ -66,8 +67,8 @@ module _ (d : ℕ) (cs : List Float) (leaf neighbours : ℕ) (active : List ℕ)
   unfolding fineLevel
   level-number = length-map qs toLeaf
 
-  pub level-next : (size : ℕ) → sentUp d cs active (rowsIn (leavesOf d cs leaf active)) size ≡ nextAt d cs leaf size active
-  unfolding sentUp sentLists
+  pub level-next : (size : ℕ) → sentRows d cs active (rowsIn (leavesOf d cs leaf active)) size ≡ nextAt d cs leaf size active
+  unfolding sentRows sentLists
   level-next size =
       rw (map-map length (λ (q : Domain). q .rows) qs, ← zip-map (sentBy d cs) (λ (q : Domain). q .rows) qs (quotas (map (λ (q : Domain). length (q .rows)) qs) size))
 
@@ -131,8 +132,8 @@ module _ (d : ℕ) (cs : List Float) (leaf neighbours : ℕ) (active : List ℕ)
       rows = g .good;
       leaves = leaves-named;
       near = g .near;
-      few = omega (arith, g .rows-few);
-      leaf-few = omega (arith, number-most, g .rows-few);
+      few = omega (arith, g .good .few);
+      leaf-few = omega (arith, number-most, g .good .few);
     }
 
     -- ---- after the overlaps: D₂
@@ -185,9 +186,9 @@ module _ (d : ℕ) (cs : List Float) (leaf neighbours : ℕ) (active : List ℕ)
     pub packed-named : Leaves active I₁ D₂ k (length (leavesOf d cs leaf active))
     packed-named = overlaps-named I D at k fI fD I₁ (withOwn at own k D) own-due refl bat D₂ rows-due
 
-    pub packed-sends : Sends d cs active I₁ D₂ k (length (leavesOf d cs leaf active))
+    pub packed-sends : SendsUp d cs active I₁ D₂ k (length (leavesOf d cs leaf active))
     packed-sends =
-        sends-of d cs leaf active I₁ D₂ k (length (leavesOf d cs leaf active)) (g .axes-few) (g .rows-few) (g .good .inside) (g .good .finite-all) packed-named packed-read
+        sends-of d cs leaf active I₁ D₂ k (length (leavesOf d cs leaf active)) (g .axes-few) (g .good) packed-named packed-read
 
 -- ---- working room
 pub boxes-room : (d a : ℕ) → d ≤ 3 → 2 * d * (2 * a) ≤ 12 * a

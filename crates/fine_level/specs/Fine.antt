@@ -7,8 +7,8 @@ use Rattle.lists.specs.Lists.{joined}
 use Rattle.definition.specs.Cut.{leavesOf}
 use Rattle.definition.specs.Tree.{Leaf, fineLevel, sentLists, nextActive}
 use Rattle.definition.specs.Packed.{rowNumbers, rowFloats}
-use Rattle.definition.specs.Refusals.{mostPoints, mostNeighbours}
-use Rattle.halving.specs.Rows.{GoodRows}
+use Rattle.definition.specs.Refusals.{mostNeighbours}
+use Rattle.rows.specs.Rows.{GoodRows}
 
 -- the leaves of the fine level over the active rows
 abbrev pub leavesAt : ℕ → List Float → ℕ → ℕ → List ℕ → List Leaf
@@ -28,14 +28,13 @@ borrowedIn fs = joined (map (λ f. f .borrowed) fs)
 abbrev pub boxesIn : List Leaf → List Float
 boxesIn fs = joined (map (λ f. f .box) fs)
 
--- what a level is built from: a few axes, a leaf threshold, a few neighbours, and some good active rows, not more than a build takes
+-- what a level is built from: a few axes, a leaf threshold, a few neighbours, and some good active rows
 pub record Given (d : ℕ) (cs : List Float) (leaf neighbours : ℕ) (active : List ℕ) : Type 0 where
   pub axes : 1 ≤ d
   pub axes-few : d ≤ 3
   pub leaf-some : 1 ≤ leaf
   pub near : neighbours ≤ mostNeighbours
   pub rows-some : 1 ≤ length active
-  pub rows-few : length active ≤ mostPoints
   pub good : GoodRows d cs active
 
 -- where a level over `a` rows is written: from `at` on in the internals, from the domain row `first` on, and from `bat` on in the

@@ -12,18 +12,18 @@ use lib.Ieee.{Float}
 use Rattle.lists.specs.Lists.{keep, count, part, put}
 use Rattle.lists.specs.Ascends.{All, Ascends}
 use Rattle.lists.proofs.Tests.{same-or}
-use Rattle.lists.proofs.All.{all-mem}
 use Rattle.lists.proofs.Count.{length-keep, length-both}
 use Rattle.lists.proofs.Members.{mem-at}
 use Rattle.lists.proofs.Put.{set-put, length-put, length-part, put-over, put-comm, put-inside, part-put-same, part-put-before, part-lent, front-put, part-back}
-use Rattle.lists.proofs.Times.{Once}
-use Rattle.lists.proofs.Same.{Same, same-length}
+use Rattle.lists.specs.Times.{Once}
+use Rattle.lists.specs.Same.{Same}
+use Rattle.lists.proofs.Same.{same-length}
 use Rattle.definition.specs.Keys.{firstRows, otherRows}
-use Rattle.argsort.specs.Rows.{FiniteOn, NoLater}
+use Rattle.rows.specs.Rows.{rowLimit, FiniteOn, GoodRow, GoodRows}
+use Rattle.argsort.specs.Rows.{NoLater}
 use Rattle.sort.specs.Heap.{Sorted}
-use Rattle.halving.specs.Rows.{GoodRows}
-use Rattle.halving.specs.Cuts.{keysOn, onSide, MiddleRow, Halved, Room, Spent, Ranked, Round, Narrows}
-use Rattle.halving.proofs.Good.{good-keep, good-once, good-finite, good-inside, good-below, good-short}
+use Rattle.halving.specs.Cuts.{keysOn, onSide, MiddleRow, Halved, CutRoom, Spent, Ranked, Round, Narrows}
+use Rattle.rows.proofs.Good.{good-mem, good-keep, good-once, good-finite, good-place, good-small}
 use Rattle.halving.proofs.Ranks.{aheadOf, ranked-low, ranked-high, sides, ranked-sorted, ranked-middle, middle-ranked, lefts-are, rights-are}
 use Rattle.halving.proofs.Turns.{back-most, back-end}
 use borrow.Rule.Slice.PartMut.{putMid}
@@ -47,10 +47,10 @@ module _ {d : ℕ} {cs : List Float} {axis : ℕ} where
     p-mem = rw (← getD-take m l at 0 (r .there)) (mem-at rows at 0 (omega (arith, round-front, r .there)))
 
     pub round-finite : FiniteOn d cs axis rows
-    round-finite = good-finite axis (r .axis-in) rows (r .good)
+    round-finite = good-finite rows (r .good) axis (r .axis-in)
 
     pub round-inside : p * d + axis < length cs
-    round-inside = good-inside axis (r .axis-in) rows (r .good) p p-mem
+    round-inside = good-place rows (r .good) axis (r .axis-in) p p-mem
 
     -- what is kept fits
     short : (q : ℕ → Bool) → length (keep q rows) ≤ length l
@@ -72,7 +72,7 @@ module _ {d : ℕ} {cs : List Float} {axis : ℕ} where
         below = omega arith;
         good =
             rw one
-            (record { ascends = (tt, tt); inside = (all-mem (λ i. i * d + d ≤ length cs) rows (r .good .inside) p p-mem, tt); finite-all = r .good .finite-all; few = r .good .few });
+            (record { ascends = (tt, tt); each = (good-mem rows (r .good) p p-mem, tt); few = omega arith });
         leads = λ x z.
             let y : x ≡ p = List·Memᴰ·eq-of-singleton (subst (λ (s : List ℕ). List·Memᴰ x s) one (z .inside)) in
             rw y (record { inside = p-mem; ahead = sym e ∙ q });
@@ -90,7 +90,7 @@ module _ {d : ℕ} {cs : List Float} {axis : ℕ} where
           record {
             fits = kept-fits low after n u v;
             below = omega (arith, length-keep low rows);
-            good = rw f (good-keep low rows (r .good));
+            good = rw f (good-keep rows (r .good) low);
             leads = λ x z. ranked-low d cs axis rows p x k (rw f at z);
           }
 
@@ -106,7 +106,7 @@ module _ {d : ℕ} {cs : List Float} {axis : ℕ} where
           record {
             fits = kept-fits high after n u v;
             below = omega (arith, round-front, r .below);
-            good = rw f (good-keep high rows (r .good));
+            good = rw f (good-keep rows (r .good) high);
             leads = λ x z.
                 subst (λ (y : ℕ). Ranked d cs axis rows x y) back
                 (ranked-high d cs axis rows round-finite once p p-mem x (k - c - 1) (rw f at z));
@@ -127,8 +127,8 @@ module _ {d : ℕ} {cs : List Float} {axis : ℕ} where
   -- ---- their end: the rows that are left are sorted
   module _ {l l₁ : List ℕ} {n j : ℕ} (A : axis < d) (some : 1 ≤ length l) (g : GoodRows d cs l)
       (N : Narrows d cs axis l (length l) (length l / 2) l₁ n j) where
-    pub end-asks : FiniteOn d cs axis (take n l₁) × All (λ i. i < 4294967296) (take n l₁) × (length (take n l₁) ≤ 4294967296)
-    end-asks = let k = N .good in (good-finite axis A (take n l₁) k, good-below axis A (take n l₁) k, good-short axis A (take n l₁) k)
+    pub end-asks : FiniteOn d cs axis (take n l₁) × All (λ i. i < rowLimit) (take n l₁) × (length (take n l₁) ≤ rowLimit)
+    end-asks = let k = N .good in (good-finite (take n l₁) k axis A, good-small (take n l₁) k, omega (arith, k .few))
 
     pub end-front : length (take n l₁) ≡ n
     end-front = length-take-le n l₁ (N .fits)
@@ -146,10 +146,10 @@ module _ {d : ℕ} {cs : List Float} {axis : ℕ} where
           ranked-sorted d cs axis s (take n l₁) sorted same (good-once (take n l₁) (N .good)) j (omega (arith, end-front, N .below)) in
           let q = N .leads (getD s j 0) r in
           rw (List·getD-append s (drop n l₁) 0 j j-in)
-          (ranked-middle d cs axis l (good-finite axis A l g) (good-once l g) some (getD s j 0) (rw (take-length l) at q))
+          (ranked-middle d cs axis l (good-finite l g axis A) (good-once l g) some (getD s j 0) (rw (take-length l) at q))
 
   -- ---- a stretch of a list with room behind it
-  module _ {w : List ℕ} {start count spare : ℕ} (r : Room d cs axis w start count spare) where
+  module _ {w : List ℕ} {start count spare : ℕ} (r : CutRoom d cs axis w start count spare) where
     abbrev own : List ℕ
     own = part w start count
 
@@ -157,7 +157,7 @@ module _ {d : ℕ} {cs : List Float} {axis : ℕ} where
     own-length = length-part w start count (omega (arith, r .apart, r .fit))
 
     own-finite : FiniteOn d cs axis own
-    own-finite = good-finite axis (r .axis-in) own (r .good)
+    own-finite = good-finite own (r .good) axis (r .axis-in)
 
     -- the search in the spare room
     module _ (w₁ : List ℕ) (e : w₁ ≡ put w spare own) where
@@ -166,16 +166,16 @@ module _ {d : ℕ} {cs : List Float} {axis : ℕ} where
           part-lent w₁ spare count ∙ ap (λ (z : List ℕ). part z spare count) e
           ∙ part-put-same w spare own count (omega (arith, r .fit)) own-length
 
-      pub lent-good : GoodRows d cs (take (spare + count - spare) (drop spare w₁))
-      lent-good = rw lent (r .good)
+      pub spare-good : GoodRows d cs (take (spare + count - spare) (drop spare w₁))
+      spare-good = rw lent (r .good)
 
-      pub lent-some : 1 ≤ length (take (spare + count - spare) (drop spare w₁))
-      lent-some = rw lent (omega (arith, own-length, r .some))
+      pub spare-some : 1 ≤ length (take (spare + count - spare) (drop spare w₁))
+      spare-some = rw lent (omega (arith, own-length, r .some))
 
-      pub lent-back : (ys : List ℕ) (m : ℕ) → length ys ≡ length (take (spare + count - spare) (drop spare w₁))
+      pub spare-back : (ys : List ℕ) (m : ℕ) → length ys ≡ length (take (spare + count - spare) (drop spare w₁))
           → MiddleRow d cs axis (take (spare + count - spare) (drop spare w₁)) m
           → Spent w spare count (putMid spare (spare + count - spare) w₁ ys) × MiddleRow d cs axis own m
-      lent-back ys m n M =
+      spare-back ys m n M =
           let k : length ys ≡ count = n ∙ ap length lent ∙ own-length in (
             record {
               rest = ys;
@@ -207,7 +207,7 @@ module _ {d : ℕ} {cs : List Float} {axis : ℕ} where
       spent-room = omega (arith, spent-length, r .fit)
 
       pub middle-inside : m * d + axis < length cs
-      middle-inside = good-inside axis (r .axis-in) own (r .good) m (M .inside)
+      middle-inside = good-place own (r .good) axis (r .axis-in) m (M .inside)
 
       -- the two sides
       abbrev L : List ℕ
@@ -239,8 +239,8 @@ module _ {d : ℕ} {cs : List Float} {axis : ℕ} where
             let b = length-put w₁ start L (omega (arith, both-size, spent-room, r .apart)) in
             ap length a ∙ length-put (put w₁ start L) spare R (omega (arith, both-size, spent-room, b)) ∙ b ∙ spent-length
 
-        pub halved : (w₃ : List ℕ) → w₃ ≡ put w₂ (start + lo) (part w₂ spare (count - lo)) → Halved d cs axis w start count spare w₃
-        halved w₃ x =
+        pub cut-halved : (w₃ : List ℕ) → w₃ ≡ put w₂ (start + lo) (part w₂ spare (count - lo)) → Halved d cs axis w start count spare w₃
+        cut-halved w₃ x =
             let a = back-end low w₁ start count spare (r .apart) spent-room lo u w₂ w₃ v x in
             let b : w₃ ≡ put (put w₁ start (L ++ R)) spare R = rw spent-own at a in
             let n : length (L ++ R) ≡ count = length-append L R ∙ both-size in

@@ -7,32 +7,32 @@ use mathlib.Core.List.{List, [], _∷_, List·Memᴰ, List·Memᴰ·head}
 use Prim.Native.Nat.{ℕ, _+_, _/_, _<_}
 use native.Mathlib.Omega.{arith}
 use borrow.Author.Tests.{eq-eqb, ne-eqb, eqb-true, lt-ltb, le-ltb}
-use lib.Dec.{T, ltb, eqb}
+use lib.Dec.{ltb, eqb}
 use lib.ListN.{length, getD, take, drop, length-drop}
 use lib.Seq.{getD-take, getD-drop, length-take-le}
 use lib.Ieee.{Float}
-use lib.Ieee.Scale.{finite}
 use Rattle.lists.specs.Lists.{keep, count}
 use Rattle.lists.proofs.Tests.{clash, same-or, same-test, and-of, and-snd}
 use Rattle.lists.proofs.All.{all-mem, mem-by-index}
 use Rattle.lists.proofs.Count.{count-same, count-or, count-all, count-none, count-keep, count-halves, keep-same}
 use Rattle.lists.proofs.Members.{keep-mem, mem-at, map-mem}
-use Rattle.lists.proofs.Times.{Once, mem-times, times-mem}
-use Rattle.lists.proofs.Same.{Same, same-mem, same-once, same-length}
+use Rattle.lists.specs.Times.{Once}
+use Rattle.lists.proofs.Times.{mem-times, times-mem}
+use Rattle.lists.specs.Same.{Same}
+use Rattle.lists.proofs.Same.{same-mem, same-once, same-length}
 use Rattle.lists.proofs.Rank.{ahead-lt}
 use Rattle.definition.specs.Points.{coordinate}
 use Rattle.definition.specs.Keys.{Key, keyed, before, rank, firstRows, otherRows, keyAt}
 use Rattle.definition.proofs.Order.{before-irr, before-trans}
+use Rattle.definition.proofs.Cuts.{finite-known}
 use Rattle.definition.proofs.Halves.{rank-keyed, length-keyed, first-rows, other-rows, sortable, Middle, key-at}
-use Rattle.argsort.specs.Rows.{keyOn, FiniteOn, NoLater}
+use Rattle.rows.specs.Rows.{FiniteAt, FiniteOn}
+use Rattle.argsort.specs.Rows.{keyOn, NoLater}
 use Rattle.sort.specs.Heap.{Sorted}
-use Rattle.argsort.proofs.Orders.{row-or, not-both, sorted-before, finite-known}
+use Rattle.argsort.proofs.Orders.{row-or, not-both, sorted-before}
 use Rattle.halving.specs.Cuts.{MiddleRow, Ranked}
 
 module _ (d : ℕ) (cs : List Float) (axis : ℕ) where
-  abbrev Finite : ℕ → Type 0
-  Finite i = T (finite (coordinate d cs i axis))
-
   abbrev key : ℕ → Key
   key i = keyOn d cs axis i
 
@@ -64,8 +64,8 @@ module _ (d : ℕ) (cs : List Float) (axis : ℕ) where
 
   -- ---- the rows after row p: the rows before it and row p itself come before each of them
   module _ (rows : List ℕ) (f : FiniteOn d cs axis rows) (o : Once rows) (p : ℕ) (P : List·Memᴰ p rows) where
-    at : (x : ℕ) → List·Memᴰ x rows → Finite x
-    at x m = all-mem Finite rows f x m
+    at : (x : ℕ) → List·Memᴰ x rows → FiniteAt d cs axis x
+    at x m = all-mem (FiniteAt d cs axis) rows f x m
 
     -- a test that p and all before p pass
     module _ (t : ℕ → Bool) (tp : t p ≡ true) (tb : (x : ℕ) → before (key x) (key p) ≡ true → t x ≡ true) where
@@ -160,8 +160,8 @@ module _ (d : ℕ) (cs : List Float) (axis : ℕ) where
     abbrev v : ℕ → Float
     v i = coordinate d cs i axis
 
-    here : (x : ℕ) → List·Memᴰ x rows → Finite x
-    here x n = all-mem Finite rows f x n
+    here : (x : ℕ) → List·Memᴰ x rows → FiniteAt d cs axis x
+    here x n = all-mem (FiniteAt d cs axis) rows f x n
 
     rank-is : (i : ℕ) → rank (keyed v rows) (key i) ≡ aheadOf rows i
     rank-is i = rank-keyed v rows (key i)

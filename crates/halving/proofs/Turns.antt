@@ -14,20 +14,20 @@ use Rattle.lists.proofs.Count.{count-yes, count-no, keep-in, keep-out, keep-yes
 use Rattle.lists.proofs.Put.{set-put, put-nil, part-nil, put-snoc, part-snoc, length-part, length-put, put-comm, put-next-at, part-put-same, getD-put-after, getD-put-before, getD-part}
 
 -- ---- n of the first t rows pass
-pub record Counted (p : ℕ → Bool) (l : List ℕ) (n t : ℕ) : Type 0 where
+pub record CountedTo (p : ℕ → Bool) (l : List ℕ) (n t : ℕ) : Type 0 where
   pub most : t ≤ length l
   pub less : n ≤ t
   pub is : n ≡ count p (take t l)
 
-pub counted-first : (p : ℕ → Bool) (l : List ℕ) → Counted p l 0 0
+pub counted-first : (p : ℕ → Bool) (l : List ℕ) → CountedTo p l 0 0
 unfolding count
 counted-first p l = record { most = omega arith; less = omega arith; is = refl }
 
-module _ {p : ℕ → Bool} {l : List ℕ} {n t : ℕ} (s : Counted p l n t) where
-  pub counted-in : t < length l → p (getD l t 0) ≡ true → Counted p l (n + 1) (t + 1)
+module _ {p : ℕ → Bool} {l : List ℕ} {n t : ℕ} (s : CountedTo p l n t) where
+  pub counted-in : t < length l → p (getD l t 0) ≡ true → CountedTo p l (n + 1) (t + 1)
   counted-in h b = record { most = omega arith; less = omega (arith, s .less); is = omega (arith, count-yes p l t 0 h b, s .is) }
 
-  pub counted-out : t < length l → p (getD l t 0) ≡ false → Counted p l n (t + 1)
+  pub counted-out : t < length l → p (getD l t 0) ≡ false → CountedTo p l n (t + 1)
   counted-out h b = record { most = omega arith; less = omega (arith, s .less); is = omega (arith, count-no p l t 0 h b, s .is) }
 
   pub counted-end : length l ≤ t → n ≡ count p l
@@ -70,7 +70,7 @@ module _ (p : ℕ → Bool) (l : List ℕ) (start n : ℕ) (fit : start + n ≤ 
       right-in = ap (keep (λ x. not (p x))) (one-more i h) ∙ keep-in (λ x. not (p x)) (seen i) x (ap not e)
 
 -- ---- those that pass are moved to the front of the list: m is l after i rows, of which k passed
-pub record Kept (p : ℕ → Bool) (l : List ℕ) (n : ℕ) (m : List ℕ) (k i : ℕ) : Type 0 where
+pub record KeptFront (p : ℕ → Bool) (l : List ℕ) (n : ℕ) (m : List ℕ) (k i : ℕ) : Type 0 where
   pub fit : n ≤ length l
   pub most : i ≤ n
   pub less : k ≤ i
@@ -78,12 +78,12 @@ pub record Kept (p : ℕ → Bool) (l : List ℕ) (n : ℕ) (m : List ℕ) (k i 
   pub passed : k ≡ length (keep p (take i l))
   pub now : m ≡ put l 0 (keep p (take i l))
 
-pub kept-first : (p : ℕ → Bool) (l : List ℕ) (n : ℕ) → n ≤ length l → Kept p l n l 0 0
+pub kept-first : (p : ℕ → Bool) (l : List ℕ) (n : ℕ) → n ≤ length l → KeptFront p l n l 0 0
 unfolding keep
 kept-first p l n h =
     record { fit = h; most = omega arith; less = omega arith; same = refl; passed = refl; now = sym (put-nil l 0) }
 
-module _ {p : ℕ → Bool} {l : List ℕ} {n : ℕ} {m : List ℕ} {k i : ℕ} (s : Kept p l n m k i) where
+module _ {p : ℕ → Bool} {l : List ℕ} {n : ℕ} {m : List ℕ} {k i : ℕ} (s : KeptFront p l n m k i) where
   pub kept-end : n ≤ i → (k ≡ length (keep p (take n l))) × (m ≡ put l 0 (keep p (take n l)))
   kept-end h = let e : n ≡ i = omega (arith, s .most) in rw e (s .passed, s .now)
 
@@ -98,7 +98,7 @@ module _ {p : ℕ → Bool} {l : List ℕ} {n : ℕ} {m : List ℕ} {k i : ℕ} 
     pub kept-row : (P : ℕ → Type 0) → All P (take n l) → P (getD m i 0)
     kept-row P f = rw (here, ← getD-take n l i 0 h) (all-at P (take n l) i 0 f (rw (length-take-le n l (s .fit)) h))
 
-    pub kept-in : p (getD m i 0) ≡ true → Kept p l n (set m k (getD m i 0)) (k + 1) (i + 1)
+    pub kept-in : p (getD m i 0) ≡ true → KeptFront p l n (set m k (getD m i 0)) (k + 1) (i + 1)
     kept-in t =
         let a = keep-yes p l i 0 inside (rw here at t) in
         record {
@@ -112,7 +112,7 @@ module _ {p : ℕ → Bool} {l : List ℕ} {n : ℕ} {m : List ℕ} {k i : ℕ} 
               (put-snoc l 0 (keep p (take i l)) (getD l i 0) k (omega (arith, s .passed)) (omega (arith, inside, s .less)));
         }
 
-    pub kept-out : p (getD m i 0) ≡ false → Kept p l n m k (i + 1)
+    pub kept-out : p (getD m i 0) ≡ false → KeptFront p l n m k (i + 1)
     kept-out t =
         let a = keep-no p l i 0 inside (rw here at t) in
         record {

@@ -9,7 +9,7 @@ use Rattle.lists.specs.Lists.{count, part, put}
 use Rattle.definition.specs.Points.{coordinate}
 use Rattle.definition.specs.Keys.{Key, keyed, before, firstRows, otherRows, keyAt}
 use Rattle.argsort.specs.Rows.{keyOn}
-use Rattle.halving.specs.Rows.{GoodRows}
+use Rattle.rows.specs.Rows.{GoodRows}
 
 -- the rows with their coordinates on the axis
 abbrev pub keysOn : ℕ → List Float → ℕ → List ℕ → List Key
@@ -33,7 +33,7 @@ pub record Halved (d : ℕ) (cs : List Float) (axis : ℕ) (work : List ℕ) (st
       rest
 
 -- what the cut of a stretch asks: good rows, and as much room behind it
-pub record Room (d : ℕ) (cs : List Float) (axis : ℕ) (work : List ℕ) (start count spare : ℕ) : Type 0 where
+pub record CutRoom (d : ℕ) (cs : List Float) (axis : ℕ) (work : List ℕ) (start count spare : ℕ) : Type 0 where
   pub axis-in : axis < d
   pub some : 1 ≤ count
   pub apart : start + count ≤ spare

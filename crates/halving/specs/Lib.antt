@@ -1,3 +1,2 @@
 -- What the contracts of the cut cite.
-pub mod Rows
 pub mod Cuts

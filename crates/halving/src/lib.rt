@@ -5,9 +5,8 @@ ghost use mathlib.Core.Bool.{true, not};
 ghost use Prim.Native.Nat.{_+_, _*_, _≤_, _<_};
 ghost use lib.ListN.{length, take};
 ghost use Rattle.lists.specs.Lists.{count, keep, part, put};
-ghost use Rattle.argsort.specs.Rows.{FiniteOn};
-ghost use Rattle.halving.specs.Rows.{GoodRows};
-ghost use Rattle.halving.specs.Cuts.{MiddleRow, Halved, Room, Spent, onSide, Round, Narrows};
+ghost use Rattle.rows.specs.Rows.{FiniteOn, GoodRows};
+ghost use Rattle.halving.specs.Cuts.{MiddleRow, Halved, CutRoom, Spent, onSide, Round, Narrows};
 
 // ---- the middle row
 
@@ -151,7 +150,7 @@ fn middle_of(
     count: usize,
     spare: usize,
 ) -> usize
-    requires { ⌜ Room d (now points) axis (now work) start count spare ⌝ }
+    requires { ⌜ CutRoom d (now points) axis (now work) start count spare ⌝ }
     ensures work { λ _. ⌜ Spent (now (work .entry)) spare count (now (work .exit)) ⌝ }
     ensures row { λ r. ⌜ MiddleRow d (now (points .entry)) axis (part (now (work .entry)) start count) r ⌝ }
 {

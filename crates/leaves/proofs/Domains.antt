@@ -12,9 +12,9 @@ use Rattle.definition.specs.Cut.{Domain, rootDomain, leftOf, rightOf, queueLeav
 use Rattle.definition.proofs.Steps.{queue-empty, queue-wait, queue-done}
 use Rattle.definition.proofs.Cuts.{Good, cutsFor, left-length, right-length, queue-enough, full-wait, cuts-wait, cuts-done}
 use Rattle.definition_laws.proofs.Shape.{leaves-enough}
-use Rattle.queue.proofs.Kind.{Kind, Full}
-use Rattle.halving.specs.Rows.{GoodRows}
-use Rattle.halving.proofs.Good.{good-good}
+use Rattle.queue.proofs.Kind.{Kind, MayWait}
+use Rattle.rows.specs.Rows.{GoodRows}
+use Rattle.rows.proofs.Good.{good-good}
 use Rattle.cut.proofs.Halves.{good-left, good-right}
 
 -- the leaves of the waiting domains, with fuel for the cuts that are still to be made
@@ -23,7 +23,7 @@ leavesFrom d cs leaf qs = queueLeaves d cs leaf (cutsFor qs) qs
 
 module _ (d : ℕ) (cs : List Float) (pos : 0 < d) (leaf : ℕ) (lp : 1 ≤ leaf) where
   abbrev pub Waiting : List Domain → Type 0
-  Waiting qs = Full (λ (q : Domain). q .rows) (λ (q : Domain). GoodRows d cs (q .rows)) qs
+  Waiting qs = MayWait (λ (q : Domain). q .rows) (λ (q : Domain). GoodRows d cs (q .rows)) qs
 
   good-all : (qs : List Domain) → Waiting qs → All (λ (q : Domain). (1 ≤ length (q .rows)) × Good d cs (q .rows)) qs
   good-all qs u =

@@ -19,13 +19,13 @@ use Rattle.queue.proofs.Loop.{Inv, cutsLeft, inv-first, inv-next, inv-end, inv-
 use Rattle.queue.proofs.Loop.{turn-inside, turn-good, turn-same, turn-left, turn-right, turn-full, turn-rows, turn-leaves, turn-room, turn-end, turn-wait, turn-done}
 use Rattle.queue.proofs.View.{rowsIn, roomIn, rows-part, rows-length, room-length, start-at, count-at, rows-kept, room-put, first-rows, first-room, spare-length, spare-rows, spare-room}
 use Rattle.queue.proofs.Columns.{Boxes, boxes-first, boxes-now, boxes-wait, boxes-done, boxes-end}
-use Rattle.halving.specs.Rows.{GoodRows}
+use Rattle.rows.specs.Rows.{GoodRows}
 use Rattle.halving.specs.Cuts.{Halved}
 use Rattle.cut.proofs.Halves.{cut-is}
 use Rattle.leaves.proofs.Domains.{kind, leavesFrom, leaves-are}
 
-abbrev pub boxOf : Domain → List Float
-boxOf q = q .box
+abbrev pub domainBox : Domain → List Float
+domainBox q = q .box
 
 -- where the loop is, from the lists as it found them (I₀, O₀, B₀) to the lists as they are
 pub record Run (d : ℕ) (cs : List Float) (leaf : ℕ) (active I₀ O₀ : List ℕ) (B₀ : List Float) (at₀ k₀ : ℕ) (w I O : List ℕ) (held B : List Float) (head tail at k : ℕ) : Type 0 where
@@ -37,7 +37,7 @@ pub record Run (d : ℕ) (cs : List Float) (leaf : ℕ) (active I₀ O₀ : List
   pub qs : List Domain
   pub inv : Inv (kind d cs pos leaf lp) (length active) (rootDomain d cs active) I₀ O₀ at₀ k₀ (rowsIn (length active) w) (roomIn (length active) w) I O qs head tail at k
   pub boxes :
-      Boxes (kind d cs pos leaf lp) boxOf (rowFloats d) (put B₀ (rowFloats d * k₀) (joined (map boxOf (leavesFrom d cs leaf (rootDomain d cs active ∷ []))))) held B qs head tail k
+      Boxes (kind d cs pos leaf lp) domainBox (rowFloats d) (put B₀ (rowFloats d * k₀) (joined (map domainBox (leavesFrom d cs leaf (rootDomain d cs active ∷ []))))) held B qs head tail k
   pub fit-w : 6 * length active ≤ length w
   pub fit-held : rowFloats d * (2 * length active) ≤ length held
   pub fit-B : rowFloats d * (k₀ + 2 * length active) ≤ length B
@@ -57,11 +57,11 @@ pub record Known (d : ℕ) (cs : List Float) (leaf n : ℕ) (w I O : List ℕ) (
   pub boxes-fit : rowFloats d * k + 2 * rowFloats d ≤ length B
 
 -- the stretch that stands first in the queue
-abbrev pub startOf : ℕ → List ℕ → ℕ → ℕ
-startOf n w head = getD w (n + 2 * head) 0
+abbrev pub headStart : ℕ → List ℕ → ℕ → ℕ
+headStart n w head = getD w (n + 2 * head) 0
 
-abbrev pub countOf : ℕ → List ℕ → ℕ → ℕ
-countOf n w head = getD w (n + 2 * head + 1) 0
+abbrev pub headCount : ℕ → List ℕ → ℕ → ℕ
+headCount n w head = getD w (n + 2 * head + 1) 0
 
 -- products of the width
 wider : (w a b : ℕ) → a + 1 ≤ b → w * a + w ≤ w * b
@@ -88,7 +88,7 @@ pub record Front (d : ℕ) (cs : List Float) (leaf : ℕ) (active I₀ O₀ : Li
   pub inv :
       Inv (kind d cs (run .pos) leaf (run .lp)) (length active) (rootDomain d cs active) I₀ O₀ at₀ k₀ (rowsIn (length active) w) (roomIn (length active) w) I O (q ∷ rest) head tail at k
   pub boxes :
-      Boxes (kind d cs (run .pos) leaf (run .lp)) boxOf (rowFloats d) (put B₀ (rowFloats d * k₀) (joined (map boxOf (leavesFrom d cs leaf (rootDomain d cs active ∷ []))))) held B (q ∷ rest) head tail k
+      Boxes (kind d cs (run .pos) leaf (run .lp)) domainBox (rowFloats d) (put B₀ (rowFloats d * k₀) (joined (map domainBox (leavesFrom d cs leaf (rootDomain d cs active ∷ []))))) held B (q ∷ rest) head tail k
 
 module _ {d : ℕ} {cs : List Float} {leaf : ℕ} {active I₀ O₀ : List ℕ} {B₀ : List Float} {at₀ k₀ : ℕ} {w I O : List ℕ} {held B : List Float} {head tail at k : ℕ} where
   -- as long as the loop goes on, a domain waits
@@ -97,7 +97,7 @@ module _ {d : ℕ} {cs : List Float} {leaf : ℕ} {active I₀ O₀ : List ℕ} 
     where
       go : (qs : List Domain)
           → Inv (kind d cs (x .pos) leaf (x .lp)) (length active) (rootDomain d cs active) I₀ O₀ at₀ k₀ (rowsIn (length active) w) (roomIn (length active) w) I O qs head tail at k
-          → Boxes (kind d cs (x .pos) leaf (x .lp)) boxOf (rowFloats d) (put B₀ (rowFloats d * k₀) (joined (map boxOf (leavesFrom d cs leaf (rootDomain d cs active ∷ []))))) held B qs head tail k
+          → Boxes (kind d cs (x .pos) leaf (x .lp)) domainBox (rowFloats d) (put B₀ (rowFloats d * k₀) (joined (map domainBox (leavesFrom d cs leaf (rootDomain d cs active ∷ []))))) held B qs head tail k
           → Front d cs leaf active I₀ O₀ B₀ at₀ k₀ w I O held B head tail at k
       go [] inv b = absurd (inv-next inv h)
       go (q ∷ qs) inv b = record { run = x; more = h; q = q; rest = qs; inv = inv; boxes = b }
@@ -108,10 +108,10 @@ module _ {d : ℕ} {cs : List Float} {leaf : ℕ} {active I₀ O₀ : List ℕ} 
     n = length active
 
     abbrev s : ℕ
-    s = startOf n w head
+    s = headStart n w head
 
     abbrev c : ℕ
-    c = countOf n w head
+    c = headCount n w head
 
     abbrev q : Domain
     q = x .q
@@ -238,10 +238,10 @@ module _ {d : ℕ} {cs : List Float} {leaf : ℕ} {active I₀ O₀ : List ℕ} 
         wait-less = less-wait (x .inv) (x .more) e-s e-c g (roomIn n w₂) room₂
 
       -- they are the next two leaves
-      pub done : c / 2 < leaf → (I₁ O₁ : List ℕ) (B₁ : List Float) → I₁ ≡ put I at (part w₁ s c) → O₁ ≡ twoOwn O k at c
+      pub next-leaves : c / 2 < leaf → (I₁ O₁ : List ℕ) (B₁ : List Float) → I₁ ≡ put I at (part w₁ s c) → O₁ ≡ twoOwn O k at c
           → B₁ ≡ put B (rowFloats d * k) (set b (bd + y) p ++ set b y p)
           → Run d cs leaf active I₀ O₀ B₀ at₀ k₀ w₁ I₁ O₁ held B₁ (head + 1) tail (at + c) (k + 2)
-      done g I₁ O₁ B₁ f o i =
+      next-leaves g I₁ O₁ B₁ f o i =
           let u = known in
           let j : B₁ ≡ put B (rowFloats d * k) (l-box ++ r-box) = i ∙ ap (put B (rowFloats d * k)) both-boxes in
           record {
@@ -259,14 +259,14 @@ module _ {d : ℕ} {cs : List Float} {leaf : ℕ} {active I₀ O₀ : List ℕ} 
             fit-B = rw (j, length-put B (rowFloats d * k) (l-box ++ r-box) (omega (arith, both-wide, u .boxes-fit))) (x .run .fit-B);
           }
 
-      pub done-less : cutsLeft (roomIn n w₁) (head + 1) tail < cutsLeft (roomIn n w) head tail
-      done-less = rw room₁ (less-done (x .inv) (x .more) e-s e-c)
+      pub next-leaves-less : cutsLeft (roomIn n w₁) (head + 1) tail < cutsLeft (roomIn n w) head tail
+      next-leaves-less = rw room₁ (less-done (x .inv) (x .more) e-s e-c)
 
   -- ---- the loop ends with what is due
   pub run-end : Run d cs leaf active I₀ O₀ B₀ at₀ k₀ w I O held B head tail at k → tail ≤ head
       → (k ≡ k₀ + length (leavesOf d cs leaf active)) × (I ≡ put I₀ at₀ (joined (map (λ (q : Domain). q .rows) (leavesOf d cs leaf active))))
       × (O ≡ withOwn at₀ (map (λ (q : Domain). q .rows) (leavesOf d cs leaf active)) k₀ O₀)
-      × (B ≡ put B₀ (rowFloats d * k₀) (joined (map boxOf (leavesOf d cs leaf active))))
+      × (B ≡ put B₀ (rowFloats d * k₀) (joined (map domainBox (leavesOf d cs leaf active))))
   run-end x h =
       let e = inv-end (x .inv) h in
       rw (leaves-are d cs (x .pos) leaf (x .lp) active (x .good) (x .some)) (e .0, e .1, e .2, boxes-end h (x .qs) (x .boxes))
@@ -332,14 +332,14 @@ module _ (d : ℕ) (cs : List Float) (pos : 0 < d) (few : d ≤ 3) (leaf : ℕ) 
         inv =
             inv-first K m root I₀ O₀ at₀ k₀ (rowsIn m w₁) (roomIn m wₐ) (roomIn m w₁) lp (rows-first ∙ sym (root-rows d cs active)) (rw (root-rows d cs active) good)
             (ap length rows-first) some (omega (arith, room-length m wₐ fit-a)) f o (first-room m wₐ w₁ fit-a some ew);
-        boxes = boxes-first K boxOf (rowFloats d) held₁ B₀ root k₀ held-box;
+        boxes = boxes-first K domainBox (rowFloats d) held₁ B₀ root k₀ held-box;
         fit-w = rw length-w fw;
         fit-held = rw length-held fh;
         fit-B = z;
       }
 
 -- ---- the lists keep their lengths, which the loop's sums need
-pub record Kept (w₀ I₀ O₀ : List ℕ) (held₀ B₀ : List Float) (w I O : List ℕ) (held B : List Float) : Type 0 where
+pub record KeptLengths (w₀ I₀ O₀ : List ℕ) (held₀ B₀ : List Float) (w I O : List ℕ) (held B : List Float) : Type 0 where
   pub same-w : length w ≡ length w₀
   pub same-I : length I ≡ length I₀
   pub same-O : length O ≡ length O₀
@@ -351,9 +351,9 @@ pub record Kept (w₀ I₀ O₀ : List ℕ) (held₀ B₀ : List Float) (w I O :
   pub cap-held : length held₀ < 2 ^ 64
   pub cap-B : length B₀ < 2 ^ 64
 
-pub kept-next : {w₀ I₀ O₀ : List ℕ} {held₀ B₀ : List Float} {w I O : List ℕ} {held B : List Float} → Kept w₀ I₀ O₀ held₀ B₀ w I O held B
+pub kept-next : {w₀ I₀ O₀ : List ℕ} {held₀ B₀ : List Float} {w I O : List ℕ} {held B : List Float} → KeptLengths w₀ I₀ O₀ held₀ B₀ w I O held B
     → {w₁ I₁ O₁ : List ℕ} {held₁ B₁ : List Float} → length w₁ ≡ length w → length I₁ ≡ length I → length O₁ ≡ length O → length held₁ ≡ length held → length B₁ ≡ length B
-    → Kept w₀ I₀ O₀ held₀ B₀ w₁ I₁ O₁ held₁ B₁
+    → KeptLengths w₀ I₀ O₀ held₀ B₀ w₁ I₁ O₁ held₁ B₁
 kept-next h a b c d e =
     record {
       same-w = a ∙ h .same-w;

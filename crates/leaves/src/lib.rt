@@ -9,7 +9,7 @@ ghost use Rattle.definition.specs.Packed.{rowNumbers, rowFloats};
 ghost use Rattle.definition.specs.Points.{extents};
 ghost use Rattle.definition.specs.Cut.{leavesOf};
 ghost use Rattle.queue.specs.Rows.{withOwn};
-ghost use Rattle.halving.specs.Rows.{GoodRows};
+ghost use Rattle.rows.specs.Rows.{GoodRows};
 
 // Puts the root domain into the working room: the active rows, then its stretch as the first of the queue, and its box.
 fn put_root(

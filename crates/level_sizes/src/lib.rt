@@ -2,13 +2,12 @@
 ghost use mathlib.Core.Path.{_≡_};
 ghost use Prim.Native.Nat.{_≤_, _<_, _^_};
 ghost use Rattle.definition.specs.Levels.{auto, threshold, reductions, exactSize, levelSize};
+ghost use Rattle.definition.specs.Refusals.{mostPoints};
 ghost use Rattle.definition.specs.Outcome.{sizeAnswer};
 ghost use Rattle.config.specs.Params.{policyOf};
 ghost use Rattle.level_sizes.specs.Answers.{sizeReport};
 use config::SizePolicy;
-
-// The most points that a build takes.
-pub const LIMIT: usize = 1_048_576;
+use rows::MOST_POINTS;
 
 // The size of the next level, or why there is none. `sizeReport` gives document 01's number of each refusal.
 pub enum LevelSize {
@@ -45,7 +44,7 @@ pub fn resolved_coarse_threshold(policy: SizePolicy, n: usize) -> u32
 // The least k with c * f^k at least n, or 4 where three reductions do not do. A product is formed only while the last one is
 // below n, so it fits for every c and f of 32 bits.
 pub fn get_num_level_reductions(n: usize, c: u32, f: u32) -> u32
-    requires { ⌜ n ≤ 1048576 ⌝ }
+    requires { ⌜ n ≤ mostPoints ⌝ }
     ensures { λ k. ⌜ k ≡ reductions n c f ⌝ }
 {
     let factor = f as usize;
@@ -70,7 +69,7 @@ pub fn get_num_level_reductions(n: usize, c: u32, f: u32) -> u32
 
 // b^r, for r up to 3.
 fn power(b: usize, r: u32) -> usize
-    requires { ⌜ (b ≤ 1048576) × (r ≤ 3) ⌝ }
+    requires { ⌜ (b ≤ mostPoints) × (r ≤ 3) ⌝ }
     ensures { λ p. ⌜ p ≡ b ^ r ⌝ }
 {
     if r == 0 {
@@ -87,7 +86,7 @@ fn power(b: usize, r: u32) -> usize
 
 // The least m with m^r at least c * a^(r-1), by halving: no root is taken, so nothing is rounded.
 fn exact_size(a: usize, c: usize, r: u32) -> usize
-    requires { ⌜ (a ≤ 1048576) × (c < a) × (1 ≤ r) × (r ≤ 3) ⌝ }
+    requires { ⌜ (a ≤ mostPoints) × (c < a) × (1 ≤ r) × (r ≤ 3) ⌝ }
     ensures { λ m. ⌜ m ≡ exactSize a c r ⌝ }
 {
     let goal = c * power(a, r - 1);
@@ -108,7 +107,7 @@ fn exact_size(a: usize, c: usize, r: u32) -> usize
 // The size of the next level, of a active rows at the threshold c with r reductions left. The size is at least c, so only the
 // upper hold is tried.
 pub fn level_size(a: usize, c: usize, r: u32) -> usize
-    requires { ⌜ (a ≤ 1048576) × (1 ≤ c) × (c < a) × (1 ≤ r) × (r ≤ 3) ⌝ }
+    requires { ⌜ (a ≤ mostPoints) × (1 ≤ c) × (c < a) × (1 ≤ r) × (r ≤ 3) ⌝ }
     ensures { λ s. ⌜ s ≡ levelSize a c r ⌝ }
 {
     let m = exact_size(a, c, r);
@@ -123,7 +122,7 @@ pub fn get_num_level_coarse_points(a: usize, c: u32, r: u32) -> LevelSize
     if threshold == 0 {
         return LevelSize::ZeroThreshold;
     }
-    if LIMIT < a {
+    if MOST_POINTS < a {
         return LevelSize::TooManyPoints;
     }
     if a <= threshold {

@@ -27,15 +27,15 @@ use Rattle.definition_laws.proofs.Overlaps.{borrowed-most}
 use Rattle.definition.proofs.Next.{Dealt, next-length}
 use Rattle.definition.proofs.Sizes.{sized}
 use Rattle.definition.proofs.Fairness.{fair}
-use Rattle.halving.specs.Rows.{GoodRows}
-use Rattle.halving.proofs.Good.{good-good, good-keep}
+use Rattle.rows.specs.Rows.{GoodRows}
+use Rattle.rows.proofs.Good.{good-good, good-keep}
 use Rattle.fine_level.specs.Fine.{leavesAt, nextAt, ownIn, borrowedIn, boxesIn, Given}
 use Rattle.fine_level.proofs.Stages.{level-own, level-box, level-number, number-most, own-whole}
 use Rattle.levels_loop.proofs.Packing.{points-cons}
 
 next-good : {d : ℕ} {cs : List Float} (active : List ℕ) (sent : List (List ℕ)) → GoodRows d cs active → GoodRows d cs (nextActive active sent)
 unfolding nextActive
-next-good active sent g = good-keep (λ i. member i (joined sent)) active g
+next-good active sent g = good-keep active g (λ i. member i (joined sent))
 
 -- ---- what is known of a fine level, and of the rows after it
 module _ (d : ℕ) (cs : List Float) (leaf neighbours : ℕ) (active : List ℕ) (g : Given d cs leaf neighbours active) where
@@ -82,7 +82,6 @@ module _ (d : ℕ) (cs : List Float) (leaf neighbours : ℕ) (active : List ℕ)
       leaf-some = g .leaf-some;
       near = g .near;
       rows-some = omega (arith, next-many);
-      rows-few = omega (arith, next-many, g .rows-few);
       good = next-good active _ (g .good);
     }
 

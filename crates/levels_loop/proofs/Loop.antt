@@ -15,6 +15,7 @@ use Rattle.lists.proofs.Put.{length-part, length-put, part-put-same, put-part, 
 use Rattle.definition.specs.Number.{plusZero}
 use Rattle.definition.specs.Levels.{levelSize}
 use Rattle.definition.specs.Tree.{Settings, Level, mostFine, reductionsLeft, coarseLevel}
+use Rattle.definition.specs.Refusals.{mostPoints}
 use Rattle.definition.specs.Packed.{leavesIn, packedPoints, packedOwn, packedDomains, packedBoxes, packedBorrowed, stretches}
 use Rattle.definition.proofs.Steps.{fineOf, nextOf}
 use Rattle.definition_laws.proofs.Fit.{length-stretches}
@@ -98,8 +99,8 @@ module _ {d : ℕ} {cs : List Float} {leaf q n : ℕ} {P I D : List ℕ} {B : Li
     many : length (part P₁ at a) ≡ a
     many = length-part P₁ at a (coarse-fits (v .space) .0)
 
-    pub rows-few : a ≤ 1048576
-    rows-few = omega (arith, v .given .rows-few, many)
+    pub rows-few : a ≤ mostPoints
+    rows-few = omega (arith, v .given .good .few, many)
 
     -- ---- after the last: the coarse level
     module _ (no : (ltb built mostFine && ltb c a) ≡ false) {I₂ D₂ : List ℕ} {B₂ : List Float} (eI : I₂ ≡ put I₁ at (part P₁ at a)) (eD : D₂ ≡ put D₁ (4 * first) (at ∷ a ∷ bat ∷ 0 ∷ []))

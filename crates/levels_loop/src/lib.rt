@@ -8,6 +8,7 @@ ghost use lib.ListN.{length, replicate};
 ghost use Rattle.lists.specs.Lists.{put, part};
 ghost use Rattle.definition.specs.Levels.{levelSize};
 ghost use Rattle.definition.specs.Tree.{reductionsLeft, mostFine};
+ghost use Rattle.definition.specs.Refusals.{mostPoints};
 ghost use Rattle.definition.specs.Packed.{packedPoints, packedOwn, packedDomains, packedBoxes, packedBorrowed};
 ghost use Rattle.fine_level.specs.Fine.{Given};
 ghost use Rattle.levels_loop.specs.After.{levelsAfter, Space};
@@ -31,7 +32,7 @@ fn is_fine(built: usize, a: usize, c: usize) -> bool
 
 // The size of the level after the next, of k reductions in all.
 fn next_size(a: usize, c: usize, k: u32, built: usize) -> usize
-    requires { ⌜ (a ≤ 1048576) × (1 ≤ c) × (c < a) × (k ≤ 3) ⌝ }
+    requires { ⌜ (a ≤ mostPoints) × (1 ≤ c) × (c < a) × (k ≤ 3) ⌝ }
     ensures { λ r. ⌜ r ≡ levelSize a c (reductionsLeft k built) ⌝ }
 {
     let most = k as usize;

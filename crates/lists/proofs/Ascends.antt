@@ -16,7 +16,8 @@ use Rattle.lists.proofs.All.{all-append, all-keep, all-take, all-at, al
 use Rattle.lists.proofs.Count.{count-len, count-lt, length-keep}
 use Rattle.lists.proofs.Members.{mem-keep, map-mem}
 use Rattle.lists.proofs.From.{from-mem}
-use Rattle.lists.proofs.Times.{times, Once, times-nil, times-one, times-other, mem-times, times-mem, once-differ}
+use Rattle.lists.specs.Times.{times, Once}
+use Rattle.lists.proofs.Times.{times-nil, times-one, times-other, mem-times, times-mem, once-differ}
 use Rattle.lists.proofs.Tests.{same-or}
 
 -- ---- what is kept, stretches, and the numbers from a on

@@ -7,12 +7,8 @@ use native.Mathlib.Omega.{arith}
 use mathlib.Core.List.{List, [], _∷_, _++_}
 use lib.ListN.{length, length-append}
 use Rattle.lists.specs.Lists.{put, part}
+use Rattle.lists.specs.Columns.{columns}
 use Rattle.lists.proofs.Put.{part-put-in, part-put-before, part-first, part-second}
-
--- the n columns of w entries each from the h-th on
-unfoldable pub columns : {A : Type 0} → ℕ → List A → ℕ → ℕ → List (List A)
-columns w l h zero = []
-columns w l h (suc n) = part l (w * h) w ∷ columns w l (suc h) n
 
 pub columns-append : {A : Type 0} (w : ℕ) (l : List A) (h n m : ℕ) → columns w l h (n + m) ≡ columns w l h n ++ columns w l (h + n) m
 unfolding columns

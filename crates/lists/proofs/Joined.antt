@@ -14,7 +14,8 @@ use Rattle.lists.specs.Lists.{keep, count, total, joined, part, oneIf, m
 use Rattle.lists.specs.Ascends.{All}
 use Rattle.lists.proofs.Count.{count-append, keep-append, one-le}
 use Rattle.lists.proofs.Members.{mem-at, mem-joined}
-use Rattle.lists.proofs.Times.{times, mem-times, member-none}
+use Rattle.lists.specs.Times.{times}
+use Rattle.lists.proofs.Times.{mem-times, member-none}
 use Rattle.lists.proofs.Sums.{sum-le, sum-append}
 
 module _ {A : Type 0} where

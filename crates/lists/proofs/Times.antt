@@ -11,14 +11,11 @@ use lib.ListN.{length, getD, take, drop, length-drop}
 use lib.Seq.{getD-take, getD-drop, length-take-le}
 use Rattle.lists.specs.Lists.{oneIf, consIf, keep, count, member}
 use Rattle.lists.specs.Ascends.{All}
+use Rattle.lists.specs.Times.{times, Once}
 use Rattle.lists.proofs.Tests.{clash, eqb-comm}
 use Rattle.lists.proofs.All.{all-of, all-mem}
 use Rattle.lists.proofs.Count.{count-append, count-none, count-or, count-same, count-not, count-len, length-keep, count-or-le, count-halves}
 use Rattle.lists.proofs.Members.{mem-member, not-member, member-cons, none-any, mem-at}
-
--- how often r stands in xs
-abbrev pub times : ℕ → List ℕ → ℕ
-times r xs = count (λ x. eqb x r) xs
 
 -- ---- element by element
 pub times-nil : (r : ℕ) → times r [] ≡ 0
@@ -101,9 +98,6 @@ times-keep-le p xs r = go (p r) refl
     go false e = omega (arith, times-keep-out p xs r e)
 
 -- ---- lists without repeats
-abbrev pub Once : List ℕ → Type 0
-Once xs = (r : ℕ) → times r xs ≤ 1
-
 pub once-tail : (x : ℕ) (xs : List ℕ) → Once (x ∷ xs) → Once xs
 once-tail x xs o r = omega (arith, o r, times-cons r x xs)
 

@@ -10,8 +10,6 @@ use borrow.Author.Tests.{le-ltb}
 use lib.Dec.{ltb}
 use lib.ListN.{length, getD, take}
 use lib.Ieee.{Float, nan, isNan, lt, eq}
-use lib.Ieee.Scale.{finite}
-use Rattle.lists.proofs.Tests.{of-T}
 use Rattle.lists.specs.Lists.{keep, count, from, put, part}
 use Rattle.lists.specs.Ascends.{Ascends}
 use Rattle.lists.proofs.All.{all-at, all-take, all-mem}
@@ -25,7 +23,8 @@ use Rattle.definition.specs.Keys.{Key, keyed, before, rank, firstRows}
 use Rattle.definition.specs.Overlaps.{nearest}
 use Rattle.definition.proofs.Order.{before-irr, before-trans, before-or}
 use Rattle.definition_laws.proofs.Finite.{rows-known}
-use Rattle.halving.specs.Rows.{GoodRows}
+use Rattle.rows.specs.Rows.{GoodRow, GoodRows}
+use Rattle.rows.proofs.Good.{good-at}
 use Rattle.nearest_scan.specs.Near.{Spot, apart, positionKey, sooner, Found}
 use Rattle.nearest_scan.proofs.Placed.{sortedOf, first-kept, count-sorted, sorted-below, ordered-take, ordered-sorted}
 use Rattle.nearest_scan.proofs.Scans.{Scanned, scan-none, scan-more, scan-full}
@@ -35,7 +34,7 @@ or-none true c = refl
 or-none false true = refl
 or-none false false = refl
 
-module _ (d : ℕ) (cs : List Float) (active : List ℕ) (row : ℕ) (rows : GoodRows d cs active) (inside : row * d + d ≤ length cs) where
+module _ (d : ℕ) (cs : List Float) (active : List ℕ) (row : ℕ) (rows : GoodRows d cs active) (whose : GoodRow d cs row) where
   abbrev bef : ℕ → ℕ → Bool
   bef = sooner d cs active row
 
@@ -52,10 +51,7 @@ module _ (d : ℕ) (cs : List Float) (active : List ℕ) (row : ℕ) (rows : Goo
   sooner-trans a b c = before-trans (positionKey d cs active row a) (positionKey d cs active row b) (positionKey d cs active row c)
 
   known : (p : ℕ) → p < n → isNan (apart d cs active row p) ≡ false
-  known p h =
-      let g = all-at (λ i. i * d + d ≤ length cs) active p 0 (rows .inside) h in
-      rows-known d cs row (getD active p 0) (λ a k. of-T (finite (getD cs (row * d + a) nan)) (rows .finite-all (row * d + a) (omega arith)))
-      (λ a k. of-T (finite (getD cs (getD active p 0 * d + a) nan)) (rows .finite-all (getD active p 0 * d + a) (omega arith)))
+  known p h = rows-known d cs row (getD active p 0) (whose .finite-row) (good-at active rows p h .finite-row)
 
   pub sooner-or : (p q : ℕ) → p < n → q < n → (p ≡ q → ⊥) → (bef p q ≡ true) ⊎ (bef q p ≡ true)
   unfolding sooner

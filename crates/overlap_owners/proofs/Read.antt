@@ -9,7 +9,7 @@ use lib.ListN.{length, getD}
 use Rattle.lists.specs.Lists.{joined}
 use Rattle.lists.specs.Ascends.{Ascends}
 use Rattle.lists.proofs.Members.{mem-at, mem-index, joined-mem, mem-joined}
-use Rattle.lists.proofs.Times.{times}
+use Rattle.lists.specs.Times.{times}
 use Rattle.lists.proofs.Ascends.{ascends-once}
 use Rattle.lists.proofs.Joined.{two-lists}
 use Rattle.lists.proofs.Same.{same-mem}

@@ -10,11 +10,12 @@ use lib.Dec.{eqb}
 use lib.Ieee.{Float}
 use Rattle.lists.specs.Lists.{joined, put, part}
 use Rattle.definition.specs.Overlaps.{nearest}
+use Rattle.rows.specs.Rows.{mostLeaves}
 use Rattle.nearest_scan.specs.Near.{Found}
 
--- a leaf, and a position below 2 ^ 21
+-- a leaf, and a position below mostLeaves
 abbrev pub code : ℕ → ℕ → ℕ
-code leaf q = leaf * 2097152 + q
+code leaf q = leaf * mostLeaves + q
 
 -- the row at p takes the one at q: where two leaves own them, each leaf gets the other's row
 unfoldable pub pairOf : (ℕ → ℕ) → ℕ → ℕ → List ℕ
@@ -26,9 +27,9 @@ pairsOf own p qs = joined (map (pairOf own p) qs)
 
 -- the owners of a active rows at the front of the list: each fits a number
 pub record Owners (a : ℕ) (work : List ℕ) : Type 0 where
-  pub few : a ≤ 2097152
+  pub few : a ≤ mostLeaves
   pub room : a ≤ length work
-  pub small : (i : ℕ) → i < a → getD work i 0 < 2097152
+  pub small : (i : ℕ) → i < a → getD work i 0 < mostLeaves
 
 -- positions within the active rows, and room from n on for what they send
 pub record PairRoom (near : List ℕ) (a p : ℕ) (work : List ℕ) (n : ℕ) : Type 0 where

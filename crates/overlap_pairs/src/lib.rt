@@ -3,11 +3,12 @@ ghost use mathlib.Core.Path.{_≡_};
 ghost use Prim.Native.Nat.{_+_, _*_, _<_, _≤_};
 ghost use lib.ListN.{length, getD};
 ghost use Rattle.lists.specs.Lists.{put};
-ghost use Rattle.halving.specs.Rows.{GoodRows};
+ghost use Rattle.definition.specs.Refusals.{mostNeighbours};
+ghost use Rattle.rows.specs.Rows.{GoodRows};
 ghost use Rattle.overlap_pairs.specs.Pairs.{pairsOf, PairRoom, Taken, Owners, Collected};
 
 // A leaf and a position as one number: leaf * POSITIONS + position.
-const POSITIONS: usize = 2097152;
+const POSITIONS: usize = rows::MOST_LEAVES;
 
 // The row at position p takes those at the positions `near`. Where two leaves own the two rows, each leaf gets the other's row:
 // their numbers are written from n on. The owners of the a active rows stand at the front of the list.
@@ -42,7 +43,7 @@ fn send_row(
     work: &mut [usize],
     n: usize,
 ) -> usize
-    requires { ⌜ GoodRows dimensions (now points) (now active) × (neighbours ≤ 64) × (p < length (now active)) × Owners (length (now active)) (now work)
+    requires { ⌜ GoodRows dimensions (now points) (now active) × (neighbours ≤ mostNeighbours) × (p < length (now active)) × Owners (length (now active)) (now work)
         × (length (now active) ≤ n) × (n + 2 * (neighbours + 1) ≤ length (now work)) ⌝ }
     ensures { λ r. ⌜ Taken dimensions (now (points .entry)) neighbours (now (active .entry)) p (now (work .entry)) (now (work .exit)) n r ⌝ }
 {
@@ -68,7 +69,7 @@ pub fn collect(
     active: &[usize],
     work: &mut [usize],
 ) -> usize
-    requires { ⌜ GoodRows dimensions (now points) (now active) × (neighbours ≤ 64) × Owners (length (now active)) (now work)
+    requires { ⌜ GoodRows dimensions (now points) (now active) × (neighbours ≤ mostNeighbours) × Owners (length (now active)) (now work)
         × (length (now active) + length (now active) * (2 * (neighbours + 1)) ≤ length (now work)) ⌝ }
     ensures { λ r. ⌜ Collected dimensions (now (points .entry)) neighbours (now (active .entry)) (now (work .entry)) (length (now (active .entry))) (now (work .exit)) r ⌝ }
 {

@@ -8,7 +8,8 @@ use Rattle.lists.specs.Lists.{joined}
 use Rattle.lists.specs.Ascends.{All}
 use Rattle.lists.proofs.All.{all-imp}
 use Rattle.lists.proofs.Members.{mem-at}
-use Rattle.lists.proofs.Same.{Same, same-mem, same-length}
+use Rattle.lists.specs.Same.{Same}
+use Rattle.lists.proofs.Same.{same-mem, same-length}
 use Rattle.lists.proofs.Ascends.{ascends-unique}
 use Rattle.overlaps.specs.Codes.{codesFrom, codedRows, Distinct, Positions, Encoded}
 use Rattle.overlaps.proofs.Codes.{codes-ascend, rows-codes, length-codes}

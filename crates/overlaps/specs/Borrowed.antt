@@ -4,7 +4,8 @@ use mathlib.Core.List.{List, [], _∷_, map}
 use lib.ListN.{length}
 use lib.Ieee.{Float}
 use Rattle.definition.specs.Overlaps.{borrowedBy}
-use Rattle.halving.specs.Rows.{GoodRows}
+use Rattle.definition.specs.Refusals.{mostNeighbours}
+use Rattle.rows.specs.Rows.{mostLeaves, GoodRows}
 use Rattle.packed.specs.Rows.{putBorrowed}
 use Rattle.overlap_owners.specs.Own.{Leaves}
 
@@ -21,6 +22,6 @@ withBorrowed at (l ∷ ls) k D = withBorrowed (at + length l) ls (k + 1) (putBor
 pub record Stage (d : ℕ) (cs : List Float) (neighbours : ℕ) (active I D : List ℕ) (first m : ℕ) : Type 0 where
   pub rows : GoodRows d cs active
   pub leaves : Leaves active I D first m
-  pub near : neighbours ≤ 64
-  pub few : length active ≤ 2097152
-  pub leaf-few : m ≤ 2097152
+  pub near : neighbours ≤ mostNeighbours
+  pub few : length active ≤ mostLeaves
+  pub leaf-few : m ≤ mostLeaves

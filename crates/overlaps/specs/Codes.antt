@@ -4,6 +4,7 @@ use mathlib.Core.Path.{_≡_}
 use mathlib.Core.List.{List, [], _∷_, _++_, map, List·Memᴰ}
 use lib.ListN.{length, getD}
 use Rattle.lists.specs.Ascends.{All, Ascends}
+use Rattle.rows.specs.Rows.{mostLeaves}
 use Rattle.overlap_pairs.specs.Pairs.{code}
 
 -- the numbers of the positions that each leaf has, from the leaf l on
@@ -13,7 +14,7 @@ codesFrom l (ps ∷ pss) = map (code l) ps ++ codesFrom (suc l) pss
 
 -- the row of each number
 unfoldable pub codedRows : List ℕ → List ℕ → List ℕ
-codedRows active codes = map (λ c. getD active (c % 2097152) 0) codes
+codedRows active codes = map (λ c. getD active (c % mostLeaves) 0) codes
 
 -- `new` is `old` in order and without its repeats
 pub record Distinct (old new : List ℕ) : Type 0 where

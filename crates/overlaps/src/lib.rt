@@ -4,6 +4,7 @@ ghost use mathlib.Core.List.{List, map, List·Memᴰ};
 ghost use Prim.Native.Nat.{ℕ, _+_, _*_, _<_, _≤_, _%_};
 ghost use lib.ListN.{length, getD, take};
 ghost use Rattle.lists.specs.Lists.{put, joined};
+ghost use Rattle.rows.specs.Rows.{mostLeaves};
 ghost use Rattle.sort.specs.Heap.{Sorted};
 ghost use Rattle.definition.specs.Packed.{rowNumbers};
 ghost use Rattle.packed.specs.Reading.{readOwn};
@@ -11,7 +12,7 @@ ghost use Rattle.overlaps.specs.Codes.{codesFrom, codedRows, Distinct, R
 ghost use Rattle.overlaps.specs.Borrowed.{borrowedLists, withBorrowed, Stage};
 
 // A leaf and a position as one number: leaf * POSITIONS + position.
-const POSITIONS: usize = 2097152;
+const POSITIONS: usize = rows::MOST_LEAVES;
 
 // Moves each number of a list in order, once, to the front. The answer is how many there are.
 fn drop_repeats(codes: &mut [usize]) -> usize
@@ -36,7 +37,7 @@ fn drop_repeats(codes: &mut [usize]) -> usize
 
 // Writes the row of each number, from `bat` on.
 fn write_rows(codes: &[usize], active: &[usize], borrowed: &mut [usize], bat: usize)
-    requires { ⌜ (bat + length (now codes) ≤ length (now borrowed)) × ((k : ℕ) → k < length (now codes) → getD (now codes) k 0 % 2097152 < length (now active)) ⌝ }
+    requires { ⌜ (bat + length (now codes) ≤ length (now borrowed)) × ((k : ℕ) → k < length (now codes) → getD (now codes) k 0 % mostLeaves < length (now active)) ⌝ }
     ensures { λ _. ⌜ now (borrowed .exit) ≡ put (now (borrowed .entry)) bat (codedRows (now (active .entry)) (now (codes .entry))) ⌝ }
 {
     let mut k: usize = 0;
@@ -64,8 +65,8 @@ fn reach(codes: &[usize], from: usize, limit: usize) -> usize
 // Writes where the borrowed rows of each leaf start, counted from `bat` on, and how many they are, to the last two columns of the m
 // domain rows from `first` on. The numbers stand leaf by leaf.
 fn write_columns(codes: &[usize], domains: &mut [usize], first: usize, m: usize, bat: usize)
-    requires { ⌜ (m ≤ 2097152) × (rowNumbers * (first + m) ≤ length (now domains)) × (bat + length (now codes) < 18446744073709551616) ⌝ }
-    ensures { λ _. ⌜ ((ls : List (List ℕ)) → Positions m 2097152 ls → now (codes .entry) ≡ codesFrom 0 ls
+    requires { ⌜ (m ≤ mostLeaves) × (rowNumbers * (first + m) ≤ length (now domains)) × (bat + length (now codes) < 18446744073709551616) ⌝ }
+    ensures { λ _. ⌜ ((ls : List (List ℕ)) → Positions m mostLeaves ls → now (codes .entry) ≡ codesFrom 0 ls
         → now (domains .exit) ≡ withBorrowed bat ls first (now (domains .entry))) ⌝ }
 {
     let mut leaf: usize = 0;
@@ -97,9 +98,9 @@ fn lend(
     borrowed: &mut [usize],
     bat: usize,
 ) -> usize
-    requires { ⌜ (length (now active) ≤ 2097152) × (m ≤ 2097152) × (rowNumbers * (first + m) ≤ length (now domains))
+    requires { ⌜ (length (now active) ≤ mostLeaves) × (m ≤ mostLeaves) × (rowNumbers * (first + m) ≤ length (now domains))
         × (bat + length (now codes) ≤ length (now borrowed))
-        × ((z : ℕ) → List·Memᴰ z (now codes) → z % 2097152 < length (now active)) ⌝ }
+        × ((z : ℕ) → List·Memᴰ z (now codes) → z % mostLeaves < length (now active)) ⌝ }
     ensures number { λ r. ⌜ ((ls : List (List ℕ)) → Encoded m (length (now (active .entry))) (now (codes .entry)) ls → r ≡ length (joined ls)) ⌝ }
     ensures rows { λ _. ⌜ ((ls : List (List ℕ)) → Encoded m (length (now (active .entry))) (now (codes .entry)) ls
         → now (borrowed .exit) ≡ put (now (borrowed .entry)) bat (joined (map (map (λ q. getD (now (active .entry)) q 0)) ls))) ⌝ }

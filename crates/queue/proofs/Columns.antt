@@ -8,7 +8,8 @@ use mathlib.Core.List.{List, [], _∷_, _++_, map, map-append, append-assoc, hea
 use lib.ListN.{length, length-append}
 use Rattle.lists.specs.Lists.{put, part, joined}
 use Rattle.lists.proofs.Put.{put-next-at, put-nil}
-use Rattle.lists.proofs.Columns.{columns, columns-next, columns-join}
+use Rattle.lists.specs.Columns.{columns}
+use Rattle.lists.proofs.Columns.{columns-next, columns-join}
 use Rattle.queue.proofs.Kind.{Kind, halvesOf}
 
 -- ---- the boxes of what waits, and of the leaves: `box d` is written where the queue has d, and where d is a leaf

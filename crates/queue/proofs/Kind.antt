@@ -6,8 +6,8 @@ use lib.ListN.{length}
 use Rattle.lists.specs.Ascends.{All}
 
 -- the domains that may wait: good ones that have rows
-abbrev pub Full : {D : Type 0} → (D → List ℕ) → (D → Type 0) → List D → Type 0
-Full rowsOf Good ds = All (λ d. (1 ≤ length (rowsOf d)) × Good d) ds
+abbrev pub MayWait : {D : Type 0} → (D → List ℕ) → (D → Type 0) → List D → Type 0
+MayWait rowsOf Good ds = All (λ d. (1 ≤ length (rowsOf d)) × Good d) ds
 
 -- A kind of domain, for a leaf threshold: its rows and its halves. The cut of a good domain halves its size, rounded down on the
 -- left, and its halves are good. `leaves` are the leaves of the domains that wait: where the first is large its halves wait at
@@ -23,8 +23,8 @@ pub record Kind (D : Type 0) (leaf : ℕ) : Type 1 where
   pub right-good : (d : D) → Good d → Good (right d)
   pub leaves : List D → List D
   pub leaves-none : leaves [] ≡ []
-  pub leaves-wait : (d : D) (ds : List D) → Full rowsOf Good (d ∷ ds) → 2 * leaf ≤ length (rowsOf d) → leaves (d ∷ ds) ≡ leaves (ds ++ left d ∷ right d ∷ [])
-  pub leaves-done : (d : D) (ds : List D) → Full rowsOf Good (d ∷ ds) → length (rowsOf d) < 2 * leaf → leaves (d ∷ ds) ≡ left d ∷ right d ∷ leaves ds
+  pub leaves-wait : (d : D) (ds : List D) → MayWait rowsOf Good (d ∷ ds) → 2 * leaf ≤ length (rowsOf d) → leaves (d ∷ ds) ≡ leaves (ds ++ left d ∷ right d ∷ [])
+  pub leaves-done : (d : D) (ds : List D) → MayWait rowsOf Good (d ∷ ds) → length (rowsOf d) < 2 * leaf → leaves (d ∷ ds) ≡ left d ∷ right d ∷ leaves ds
 
 -- how many rows a domain has; its halves; and the rows of the leaves of the domains that wait
 abbrev pub sizeOf : {D : Type 0} {leaf : ℕ} → Kind D leaf → D → ℕ

@@ -12,8 +12,8 @@ use Rattle.lists.proofs.Put.{length-put, length-part, put-next-at, put-nil, par
 use Rattle.lists.proofs.Sums.{sum-append}
 use Rattle.definition.specs.Packed.{rowNumbers}
 use Rattle.queue.specs.Rows.{twoOwn, withOwn}
-use Rattle.queue.proofs.Kind.{Kind, Full, sizeOf, halvesOf, leafRows}
-use Rattle.queue.proofs.Stretches.{Stretch, rowsAt, halvesAt, Inside, Clear, Apart, apart-halves}
+use Rattle.queue.proofs.Kind.{Kind, MayWait, sizeOf, halvesOf, leafRows}
+use Rattle.queue.proofs.Stretches.{Stretch, rowsAt, halvesAt, StretchIn, Clear, Apart, apart-halves}
 use Rattle.queue.proofs.Stretches.{after-length, after-both, after-left, after-right, after-other}
 
 -- the rows of the stretches, together, and the cuts that are still to be made, at most
@@ -25,7 +25,7 @@ cutsFor qs = total (map (λ q. 2 * q .count - 1) qs)
 
 -- the waiting stretches of n rows
 pub record Waits (n : ℕ) (qs : List Stretch) : Type 0 where
-  pub inside : All (Inside n) qs
+  pub inside : All (StretchIn n) qs
   pub full : All (λ q. 1 ≤ q .count) qs
   pub apart : Apart qs
 
@@ -59,7 +59,7 @@ unfolding All
 waits-halves n q qs h w =
     let i : q .start + q .count ≤ n = w .inside .0 in
     record {
-      inside = all-append (Inside n) qs (halvesAt q) (w .inside .1) (omega arith, (omega arith, tt));
+      inside = all-append (StretchIn n) qs (halvesAt q) (w .inside .1) (omega arith, (omega arith, tt));
       full = all-append (λ q. 1 ≤ q .count) qs (halvesAt q) (w .full .1) (omega arith, (omega arith, tt));
       apart = apart-halves q qs (w .apart);
     }
@@ -95,8 +95,8 @@ module _ {D : Type 0} {leaf : ℕ} (K : Kind D leaf) where
   holds-append rows (q ∷ qs) ps (d ∷ ds) es h g = (h .0, holds-append rows qs ps ds es (h .1) g)
 
   -- the waiting domains have rows, and are good
-  holds-full : (rows : List ℕ) (qs : List Stretch) (ds : List D) → All (Inside (length rows)) qs → All (λ q. 1 ≤ q .count) qs → Holds K rows qs ds
-      → Full (K .rowsOf) (K .Good) ds
+  holds-full : (rows : List ℕ) (qs : List Stretch) (ds : List D) → All (StretchIn (length rows)) qs → All (λ q. 1 ≤ q .count) qs → Holds K rows qs ds
+      → MayWait (K .rowsOf) (K .Good) ds
   unfolding Holds All
   holds-full rows [] [] i f h = tt
   holds-full rows [] (d ∷ ds) i f h = absurd h
@@ -106,7 +106,7 @@ module _ {D : Type 0} {leaf : ℕ} (K : Kind D leaf) where
       ((omega (arith, length-part rows (q .start) (q .count) (i .0), f .0), h .0 .1), holds-full rows qs ds (i .1) (f .1) (h .1))
 
   -- a cut of one stretch leaves the others theirs
-  holds-after : (rows : List ℕ) (q : Stretch) (l r : List ℕ) → Inside (length rows) q → length l ≡ q .count / 2 → length r ≡ q .count - q .count / 2
+  holds-after : (rows : List ℕ) (q : Stretch) (l r : List ℕ) → StretchIn (length rows) q → length l ≡ q .count / 2 → length r ≡ q .count - q .count / 2
       → (qs : List Stretch) (ds : List D) → All (Clear q) qs → Holds K rows qs ds → Holds K (put rows (q .start) (l ++ r)) qs ds
   unfolding Holds All
   holds-after rows q l r i el er [] [] a h = tt
@@ -166,7 +166,7 @@ module _ {D : Type 0} {leaf : ℕ} {K : Kind D leaf} {n endI endK : ℕ} {finalI
   unfolding Holds
   now-good = st .holds .0 .1
 
-  full-here : Full (K .rowsOf) (K .Good) (d ∷ ds)
+  full-here : MayWait (K .rowsOf) (K .Good) (d ∷ ds)
   full-here = holds-full K rows (q ∷ qs) (d ∷ ds) (rw (st .all) (st .waits .inside)) (st .waits .full) (st .holds)
 
   -- the sizes of the halves

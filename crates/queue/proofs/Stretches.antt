@@ -31,8 +31,8 @@ rightAt q = record { start = q .start + q .count / 2; count = q .count - q .coun
 abbrev pub halvesAt : Stretch → List Stretch
 halvesAt q = leftAt q ∷ rightAt q ∷ []
 
-abbrev pub Inside : ℕ → Stretch → Type 0
-Inside n q = q .start + q .count ≤ n
+abbrev pub StretchIn : ℕ → Stretch → Type 0
+StretchIn n q = q .start + q .count ≤ n
 
 -- ---- stretches apart
 abbrev pub Clear : Stretch → Stretch → Type 0
@@ -62,7 +62,7 @@ apart-halves q qs a =
     (all-imp (Clear q) (λ p. All (Clear p) (halvesAt q)) qs (λ p h. (clear-left q p h, (clear-right q p h, tt))) (a .0))
 
 -- ---- a cut of the stretch q: the lists l and r of half its size each are written to it
-module _ (rows : List ℕ) (q : Stretch) (l r : List ℕ) (inside : Inside (length rows) q) (el : length l ≡ q .count / 2) (er : length r ≡ q .count - q .count / 2) where
+module _ (rows : List ℕ) (q : Stretch) (l r : List ℕ) (inside : StretchIn (length rows) q) (el : length l ≡ q .count / 2) (er : length r ≡ q .count - q .count / 2) where
   abbrev after : List ℕ
   after = put rows (q .start) (l ++ r)
 

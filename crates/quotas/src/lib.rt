@@ -5,12 +5,13 @@ ghost use lib.Dec.{eqb};
 ghost use Prim.Native.Nat.{ℕ, _-_, _*_, _≤_, _<_, min, max};
 ghost use Rattle.lists.specs.Lists.{oneIf, total};
 ghost use Rattle.definition.specs.Quotas.{sizeAt, nonempty, leftover, quotasFor};
+ghost use Rattle.definition.specs.Refusals.{mostPoints};
 ghost use Rattle.definition.specs.Outcome.{written};
 ghost use Rattle.quotas.specs.Answers.{quotaReport};
-ghost use Rattle.definition.proofs.SeatCut.{extraBy};
+ghost use Rattle.definition.specs.SeatCut.{extraBy};
 ghost use Rattle.quotas.specs.Outcome.{SeatsShared};
 ghost use Rattle.quotas.specs.Sharing.{Sharing, capacities, remaindersAbove, RemaindersCut, quotasBy};
-use level_sizes::LIMIT;
+use rows::MOST_POINTS;
 
 // The leaves that got a quota and the seats handed out in all, or why there are none. `quotaReport` gives document 01's
 // number of each refusal.
@@ -20,16 +21,16 @@ pub enum QuotaAnswer {
     ShortList,
 }
 
-// The sum of the sizes, or LIMIT + 1 where it is above LIMIT: no sum is formed above that.
+// The sum of the sizes, or MOST_POINTS + 1 where it is above MOST_POINTS: no sum is formed above that.
 fn total_size(sizes: &[usize]) -> usize
-    ensures { λ r. ⌜ r ≡ min (total (now (sizes .entry))) 1048577 ⌝ }
+    ensures { λ r. ⌜ r ≡ min (total (now (sizes .entry))) (mostPoints + 1) ⌝ }
 {
     let mut sum = 0;
     let mut i = 0;
     while i < sizes.len() {
         let w = sizes[i];
-        if LIMIT - sum < w {
-            return LIMIT + 1;
+        if MOST_POINTS - sum < w {
+            return MOST_POINTS + 1;
         }
         sum += w;
         i += 1;
@@ -68,7 +69,7 @@ fn count_nonempty(sizes: &[usize]) -> usize
 
 // The rest times the capacity of a leaf of w rows that has `first` seats.
 fn product(w: usize, first: usize, rest: usize) -> usize
-    requires { ⌜ (w ≤ 1048576) × (rest ≤ 1048576) ⌝ }
+    requires { ⌜ (w ≤ mostPoints) × (rest ≤ mostPoints) ⌝ }
     ensures { λ r. ⌜ r ≡ rest * (w - first) ⌝ }
 {
     if w < first {
@@ -180,7 +181,7 @@ fn hand_out(
 
 // Hands out the rest by the capacity that remains once each nonempty leaf has `first` seats.
 fn deal(sizes: &mut [usize], first: usize, rest: usize, capacity: usize)
-    requires { ⌜ ((j : ℕ) → sizeAt (now sizes) j ≤ 1048576) × (first ≤ 1) × (rest ≤ capacity) × (capacity ≤ 1048576) × (total (capacities (now sizes) first) ≡ capacity) ⌝ }
+    requires { ⌜ ((j : ℕ) → sizeAt (now sizes) j ≤ mostPoints) × (first ≤ 1) × (rest ≤ capacity) × (capacity ≤ mostPoints) × (total (capacities (now sizes) first) ≡ capacity) ⌝ }
     ensures { λ _. ⌜ now (sizes .exit) ≡ quotasBy (now (sizes .entry)) first rest ⌝ }
 {
     let pool = at_least_one(capacity);
@@ -192,7 +193,7 @@ fn deal(sizes: &mut [usize], first: usize, rest: usize, capacity: usize)
 
 // The quotas for s seats, of leaves with `rows` rows in all, in the place of their sizes.
 fn share(sizes: &mut [usize], rows: usize, s: usize)
-    requires { ⌜ (rows ≡ total (now sizes)) × (rows ≤ 1048576) × (s ≤ rows) ⌝ }
+    requires { ⌜ (rows ≡ total (now sizes)) × (rows ≤ mostPoints) × (s ≤ rows) ⌝ }
     ensures { λ _. ⌜ now (sizes .exit) ≡ quotasFor (now (sizes .entry)) s ⌝ }
 {
     let d = count_nonempty(sizes);
@@ -205,7 +206,7 @@ fn share(sizes: &mut [usize], rows: usize, s: usize)
 
 // The same for leaves whose sizes are the first m numbers of the list. What stands past them stays.
 pub fn share_in_place(list: &mut [usize], m: usize, rows: usize, s: usize)
-    requires { ⌜ (m ≤ length (now list)) × (rows ≡ total (take m (now list))) × (rows ≤ 1048576) × (s ≤ rows) ⌝ }
+    requires { ⌜ (m ≤ length (now list)) × (rows ≡ total (take m (now list))) × (rows ≤ mostPoints) × (s ≤ rows) ⌝ }
     ensures { λ _. ⌜ now (list .exit) ≡ written (quotasFor (take m (now (list .entry))) s) (now (list .entry)) ⌝ }
 {
     share(&mut list[..m], rows, s);
@@ -230,7 +231,7 @@ pub fn get_domain_coarse_quotas(
     ensures { λ r. ⌜ SeatsShared (now (sizes .entry)) wanted (now (quotas .entry)) (now (quotas .exit)) (now (room .entry)) (now (room .exit)) (quotaReport r) ⌝ }
 {
     let rows = total_size(sizes);
-    if LIMIT < rows {
+    if MOST_POINTS < rows {
         return QuotaAnswer::TooManyPoints;
     }
     if quotas.len() < sizes.len() {

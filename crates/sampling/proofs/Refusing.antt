@@ -3,19 +3,18 @@ use mathlib.Core.Path.{_≡_, refl, sym, ap, _∙_}
 use mathlib.Core.Bool.{Bool, true, false, not, cond, _||_}
 use mathlib.Core.List.{List, [], _∷_}
 use Prim.Native.Nat.{ℕ, zero, suc, _+_, _*_, _/_, _≤_, _<_}
-use native.Mathlib.Nat.{zero-add, div-mul-le-self, le-trans, le-of-eq, mul-le-mul-right, suc-mul}
+use native.Mathlib.Nat.{zero-add, div-mul-le-self}
 use native.Mathlib.Omega.{arith}
 use borrow.Author.Tests.{ltb-false, leb-false, eqb-false, not-false}
 use lib.Dec.{ltb, leb, eqb}
 use lib.ListN.{length, getD, take, drop}
 use lib.Seq.{take-at}
-use lib.Ieee.{Float}
+use lib.Ieee.{Float, nan}
 use lib.Ieee.Scale.{finite}
 use Rattle.lists.specs.Lists.{anyOf, from, put}
-use Rattle.lists.specs.Ascends.{All, Ascends}
-use Rattle.lists.proofs.All.{all-of}
-use Rattle.lists.proofs.Ascends.{ascends-from}
-use Rattle.lists.proofs.From.{all-from, length-from, getD-from}
+use Rattle.lists.specs.Ascends.{All}
+use Rattle.lists.proofs.All.{all-of, all-at}
+use Rattle.lists.proofs.From.{length-from, getD-from}
 use Rattle.lists.proofs.Put.{put-zero}
 use Rattle.lists.proofs.Members.{none-any}
 use Rattle.lists.proofs.Tests.{or-none}
@@ -23,6 +22,8 @@ use Rattle.definition.specs.Packed.{sampleStated}
 use Rattle.definition.specs.Refusals.{on, Verdict, accepted, refused, wrongDimension, coordinatesMissing, firstBad, notFinite, mostPoints, sampleShort, sampleVerdict}
 use Rattle.definition.specs.Sampling.{sample}
 use Rattle.definition.specs.Outcome.{answered, numberOf, placeOf, valueOf, written, listAfter, RoomAfter, sampleCall, sampleAnswer, sampleOutput}
+use Rattle.rows.specs.Rows.{GoodRows}
+use Rattle.rows.proofs.AllRows.{all-rows-good}
 use Rattle.definition_laws.proofs.Accepted.{passes, right-dimension}
 use Rattle.sampling.specs.declared.SampleAnswer.{SampleAnswer}
 use Rattle.sampling.specs.declared.SampleAnswer.the-variants.{Sampled, Refused}
@@ -72,7 +73,7 @@ above-zero (suc n) h = omega arith
 
 pub record Accepted (d : ℕ) (cs : List Float) (wanted seed o f w : ℕ) : Type 0 where
   pub axes : (1 ≤ d) × (d ≤ 3)
-  pub few : length cs / d ≤ 1048576
+  pub few : length cs / d ≤ mostPoints
   pub some-wanted : 0 < wanted
   pub wanted-in : wanted ≤ length cs / d
   pub seed-in : seed < length cs / d
@@ -118,28 +119,21 @@ accepted-call d cs wanted seed o f w count x e h =
 
 -- ---- all rows of the point list
 
-all-inside : (d : ℕ) (cs : List Float) → All (λ i. i * d + d ≤ length cs) (from 0 (length cs / d))
-all-inside d cs =
-    all-from (λ i. i * d + d ≤ length cs) 0 (length cs / d)
-    (λ i l h. le-trans (le-of-eq (sym (suc-mul i d))) (le-trans (mul-le-mul-right d (omega arith)) (div-mul-le-self (length cs) d)))
-
 -- their numbers stand at the front of the list that they were written to
 pub numbered : (n : ℕ) (w l : List ℕ) → l ≡ put w 0 (from 0 n) → take n l ≡ from 0 n
 numbered n w l e = ap (take n) (e ∙ put-zero w (from 0 n)) ∙ take-at (from 0 n) (drop (length (from 0 n)) w) n (length-from 0 n)
 
 module _ (d : ℕ) (cs : List Float) (wanted seed o f w count : ℕ) (a : Accepted d cs wanted seed o f w) (e : wanted ≡ count) (rows : List ℕ) (r : rows ≡ from 0 (length cs / d)) where
   -- what the sampling of a list of rows asks
-  pub call-ready : (Ascends rows × All (λ i. i * d + d ≤ length cs) rows)
-      × (All (λ x. finite x ≡ true) cs × (((0 < count) × (count ≤ length rows) × (seed < length rows)) × ((0 + count ≤ o) × (length rows ≤ f))))
+  pub call-ready : GoodRows d cs rows × (((0 < count) × (count ≤ length rows) × (seed < length rows)) × ((0 + count ≤ o) × (length rows ≤ f)))
   call-ready =
       let n : length rows ≡ length cs / d = ap length r ∙ length-from 0 (length cs / d) in (
-        (rw r (ascends-from 0 (length cs / d)), rw r (all-inside d cs)),
+        rw r
+            (all-rows-good d cs (length cs / d) (a .few) (div-mul-le-self (length cs) d)
+            (λ i h. all-at (λ x. finite x ≡ true) cs i nan (a .finites) h)),
         (
-          a .finites,
-          (
-            (omega (arith, a .some-wanted), omega (arith, a .wanted-in), omega (arith, a .seed-in)),
-            (omega (arith, a .output), omega (arith, a .floats)),
-          ),
+          (omega (arith, a .some-wanted), omega (arith, a .wanted-in), omega (arith, a .seed-in)),
+          (omega (arith, a .output), omega (arith, a .floats)),
         ),
       )
 

@@ -4,10 +4,11 @@ ghost use mathlib.Core.Bool.{_||_};
 ghost use Prim.Native.Nat.{_≤_};
 ghost use lib.Dec.{eqb, ltb, leb};
 ghost use Rattle.definition.specs.Packed.{sampleStated};
-ghost use Rattle.definition.specs.Refusals.{wrongDimension, sampleShort, sampleVerdict};
+ghost use Rattle.definition.specs.Refusals.{wrongDimension, mostPoints, sampleShort, sampleVerdict};
 ghost use Rattle.sampling.specs.Answers.{lentSizes, shown, answerOf};
 ghost use Rattle.sampling.specs.Outcome.{RowsSampled};
 use distances::LocalIdx;
+use rows::MOST_POINTS;
 
 // What a sampling answers: the count of rows written, or a refusal's number and place.
 pub enum SampleAnswer {
@@ -43,7 +44,7 @@ fn wrong_choice(rows: usize, wanted: usize, seed: usize) -> bool
 
 // Whether a lent list is shorter than stated.
 fn lists_short(rows: usize, wanted: usize, output: usize, floats: usize, wholes: usize) -> bool
-    requires { ⌜ rows ≤ 1048576 ⌝ }
+    requires { ⌜ rows ≤ mostPoints ⌝ }
     ensures { λ r. ⌜ r ≡ sampleShort (lentSizes output floats wholes) (sampleStated rows wanted) ⌝ }
 {
     if output < wanted {
@@ -79,7 +80,7 @@ fn sampling_verdict(
         return SampleAnswer::Refused(7, 0);
     }
     let rows = count / dimensions;
-    if 1048576 < rows {
+    if MOST_POINTS < rows {
         return SampleAnswer::Refused(8, 0);
     }
     if wrong_choice(rows, wanted, seed) {

@@ -3,7 +3,7 @@ use mathlib.Core.Path.{_≡_, refl, sym, ap, _∙_, subst}
 use mathlib.Core.Logic.{inl, inr}
 use mathlib.Core.Bool.{Bool, true, false, not}
 use mathlib.Core.List.{List, [], _∷_, _++_, map, List·Memᴰ, List·Memᴰ·head}
-use Prim.Native.Nat.{ℕ, suc, _+_, _-_, _*_, _≤_, _<_}
+use Prim.Native.Nat.{ℕ, suc, _+_, _-_, _≤_, _<_}
 use native.Mathlib.Nat.{not-suc-le-zero}
 use native.Mathlib.Decide.{ℕ-discrete}
 use native.Mathlib.Omega.{arith}
@@ -11,26 +11,25 @@ use borrow.Author.Tests.{not-true}
 use lib.ListN.{length, getD, set, length-append, length-set}
 use lib.Seq.{set-set}
 use lib.Ieee.{Float, nan, inf, lt}
-use lib.Ieee.Scale.{finite}
 use Rattle.lists.specs.Lists.{keep, member, anyOf, best, put}
-use Rattle.lists.specs.Ascends.{All, Ascends}
 use Rattle.lists.proofs.Tests.{clash}
-use Rattle.lists.proofs.All.{all-mem}
 use Rattle.lists.proofs.Map.{map-snoc}
 use Rattle.lists.proofs.Best.{best-snoc}
 use Rattle.lists.proofs.Put.{set-put, put-snoc, put-set}
 use Rattle.lists.proofs.Members.{mem-at, keep-at, member-last, member-other}
-use Rattle.lists.proofs.Times.{times, times-nil, mem-times, times-mem, others-count, member-zero, times-more}
-use Rattle.lists.proofs.Ascends.{ascends-once, ascends-differ}
+use Rattle.lists.specs.Times.{times}
+use Rattle.lists.proofs.Times.{times-nil, mem-times, times-mem, others-count, member-zero, times-more}
+use Rattle.lists.proofs.Ascends.{ascends-differ}
 use Rattle.definition.specs.Number.{squareRoot}
 use Rattle.definition.specs.Points.{distance, rowsSq, rowsApart, leastOf}
 use Rattle.definition.specs.Sampling.{gap, pick, sampleMore, sample}
 use Rattle.root_laws.specs.Sorts.{good}
+use Rattle.rows.specs.Rows.{GoodRows}
+use Rattle.rows.proofs.Good.{good-at, good-mem, good-once}
 use Rattle.definition_laws.proofs.Finite.{rows-apart-good}
-use Rattle.sampling_rounds.specs.Rounds.{lesser, minusOne, Kept, lessened, Chosen}
+use Rattle.sampling_rounds.specs.Rounds.{lesser, minusOne, KeptSquare, lessened, Chosen}
 use Rattle.sampling_rounds.proofs.Orders.{one-not-good, lesser-one, lesser-inf}
-use Rattle.extents.proofs.Rows.{row-fits}
-use Rattle.sampling_rounds.proofs.Passes.{square-good}
+use Rattle.sampling_rounds.proofs.Passes.{pair-good}
 use Rattle.sampling_rounds.proofs.Alike.{Alike, alike-inf, alike-lt, alike-lesser}
 use Rattle.sampling_rounds.proofs.Picking.{pick-is}
 
@@ -56,7 +55,7 @@ module _ (d : ℕ) (cs : List Float) where
   Entry true m l = m ≡ minusOne
   Entry false m l = Alike m l
 
-  pub entry-kept : (t : Bool) (m l : Float) → Entry t m l → Kept m
+  pub entry-kept : (t : Bool) (m l : Float) → Entry t m l → KeptSquare m
   entry-kept true m l e = inl e
   entry-kept false m l a = inr (a .good-m)
 
@@ -84,7 +83,7 @@ module _ (d : ℕ) (cs : List Float) where
       pub entries : (i : ℕ) → i < length rows → Entry (member (row i) (prior ++ row last ∷ [])) (getD least i nan) (reach prior (row i))
       pub own : (r : ℕ) → times r (prior ++ row last ∷ []) ≤ times r rows
 
-    module _ (asc : Ascends rows) (inside : All (λ i. i * d + d ≤ length cs) rows) (fin : All (λ x. finite x ≡ true) cs) where
+    module _ (g : GoodRows d cs rows) where
       -- the row at p is chosen, and the other values are those that hold for the rows chosen before it
       marked : (chosen : List ℕ) (p : ℕ) (v : ℕ → Float) (l : List Float) → p < length rows
           → ((i : ℕ) → i < length rows → Entry (member (row i) chosen) (v i) (reach chosen (row i)))
@@ -94,7 +93,7 @@ module _ (d : ℕ) (cs : List Float) where
         | yes q ↦ subst (λ (t : Bool). Entry t (getD l i nan) (reach chosen (row i)))
             (sym (ap (λ (j : ℕ). member (row j) (chosen ++ row p ∷ [])) q ∙ member-last chosen (row p))) (rw q m)
         | no n ↦ subst (λ (t : Bool). Entry t (getD l i nan) (reach chosen (row i)))
-            (sym (member-other (row i) chosen (row p) (λ q. ascends-differ rows i p asc b h n (sym q)))) (rw (s i b n) (e i b))
+            (sym (member-other (row i) chosen (row p) (λ q. ascends-differ rows i p (g .ascends) b h n (sym q)))) (rw (s i b n) (e i b))
       ]
 
       row-times : (i : ℕ) → i < length rows → 0 < times (row i) rows
@@ -123,14 +122,14 @@ module _ (d : ℕ) (cs : List Float) where
         unfolding chosen
         chosen-length = omega (arith, length-append (c .prior) (row last ∷ []), c .many)
 
-        pub choosing-kept : (i : ℕ) → i < length rows → Kept (getD least i nan)
+        pub choosing-kept : (i : ℕ) → i < length rows → KeptSquare (getD least i nan)
         choosing-kept i h = entry-kept (member (row i) (c .prior ++ row last ∷ [])) (getD least i nan) (reach (c .prior) (row i)) (c .entries i h)
 
         -- a row is left
         pub choosing-open : k < length rows → (i : ℕ) × ((i < length rows) × (good (getD least i nan) ≡ true))
         unfolding chosen
         choosing-open h =
-            let n : 0 < length (keep (λ i. not (member i chosen)) rows) = omega (arith, others-count rows (ascends-once rows asc) chosen (c .own), chosen-length) in
+            let n : 0 < length (keep (λ i. not (member i chosen)) rows) = omega (arith, others-count rows (good-once rows g) chosen (c .own), chosen-length) in
             let r = keep-at (λ i. not (member i chosen)) rows 0 0 n in
             let a : Alike (getD least (r .0) nan) (reach (c .prior) (row (r .0))) =
             subst (λ (t : Bool). Entry t (getD least (r .0) nan) (reach (c .prior) (row (r .0)))) (not-true (member (row (r .0)) chosen) (r .3)) (c .entries (r .0) (r .1)) in
@@ -145,15 +144,15 @@ module _ (d : ℕ) (cs : List Float) where
         values i h =
             rw (reach-snoc (c .prior) (row last) (row i))
             (entry-lesser (member (row i) chosen) (rowsSq d cs (row last) (row i)) (getD least i nan) (reach (c .prior) (row i))
-            (square-good d cs rows last least inside fin (c .within) i h) (c .entries i h))
+            (pair-good d cs rows last least g (c .within) i h) (c .entries i h))
 
         reach-is : (i : ℕ) → i < length rows → reach chosen (row i) ≡ gap d cs chosen (row i)
         unfolding chosen
         reach-is i h =
             reach-gap chosen (row i) (omega (arith, chosen-length, c .many))
-            (λ x m. rows-apart-good d cs (all-mem (λ x. finite x ≡ true) cs fin) x (row i)
-            (all-mem (λ i. i * d + d ≤ length cs) rows inside x (times-mem rows x (omega (arith, mem-times chosen x m, c .own x))))
-            (row-fits d cs rows inside i h))
+            (λ x m. rows-apart-good d cs x (row i)
+            (good-mem rows g x (times-mem rows x (omega (arith, mem-times chosen x m, c .own x))) .finite-row)
+            (good-at rows g i h .finite-row))
 
         -- two rows that are not chosen compare by their roots
         compared : (i j : ℕ) → i < length rows → j < length rows → member (row i) chosen ≡ false → member (row j) chosen ≡ false

@@ -13,7 +13,7 @@ use Rattle.definition.specs.Number.{times}
 use Rattle.root_laws.specs.Sorts.{notNegative, good}
 use Rattle.root_laws.proofs.Operations.{round-nn}
 use Rattle.root_laws.proofs.Order.{Good, top, num, view, both, lt-irrefl, lt-asym, le-le}
-use Rattle.sampling_rounds.specs.Rounds.{lesser, minusOne, Kept}
+use Rattle.sampling_rounds.specs.Rounds.{lesser, minusOne, KeptSquare}
 
 below-of : {x : Float} → Good x → lt minusOne x ≡ true
 unfolding lt neg ofBits
@@ -42,42 +42,42 @@ one-not-good = refl
 
 -- ---- on the kept values `lt` is a strict order of numbers
 
-pub kept-above : (x : Float) → Kept x → lt x minusOne ≡ false
+pub kept-above : (x : Float) → KeptSquare x → lt x minusOne ≡ false
 kept-above x (inl e) = rw e one-itself
 kept-above x (inr g) = none-below x g
 
-pub kept-irr : (x : Float) → Kept x → lt x x ≡ false
+pub kept-irr : (x : Float) → KeptSquare x → lt x x ≡ false
 kept-irr x (inl e) = rw e one-itself
 kept-irr x (inr g) = lt-irrefl x g
 
 -- x ≤ y ≤ z
-pub kept-le : (x y z : Float) → Kept x → Kept y → Kept z → lt y x ≡ false → lt z y ≡ false → lt z x ≡ false
+pub kept-le : (x y z : Float) → KeptSquare x → KeptSquare y → KeptSquare z → lt y x ≡ false → lt z y ≡ false → lt z x ≡ false
 kept-le x y z (inl e) b c h k = rw e (kept-above z c)
 kept-le x y z (inr f) (inl e) c h k = clash (one-below x f) (rw e at h)
 kept-le x y z (inr f) (inr g) (inl e) h k = clash (one-below y g) (rw e at k)
 kept-le x y z (inr f) (inr g) (inr i) h k = le-le x y z f g i h k
 
-pub kept-asym : (x y : Float) → Kept x → Kept y → lt x y ≡ true → lt y x ≡ false
+pub kept-asym : (x y : Float) → KeptSquare x → KeptSquare y → lt x y ≡ true → lt y x ≡ false
 kept-asym x y (inl e) b h = rw e (kept-above y b)
 kept-asym x y (inr f) (inl e) h = clash h (rw e (none-below x f))
 kept-asym x y (inr f) (inr g) h = lt-asym x y f g h
 
 -- a kept value that -1 is not below is -1
-pub kept-least : (x : Float) → Kept x → lt minusOne x ≡ false → x ≡ minusOne
+pub kept-least : (x : Float) → KeptSquare x → lt minusOne x ≡ false → x ≡ minusOne
 kept-least x (inl e) h = e
 kept-least x (inr g) h = clash (one-below x g) h
 
 -- a kept value above another one is a square
-pub kept-good : (x y : Float) → Kept x → Kept y → lt x y ≡ true → good y ≡ true
+pub kept-good : (x y : Float) → KeptSquare x → KeptSquare y → lt x y ≡ true → good y ≡ true
 kept-good x y k (inl e) h = clash h (rw e (kept-above x k))
 kept-good x y k (inr g) h = g
 
 -- ---- the lesser of a square and a kept value
 
-pub lesser-kept : (x y : Float) → good x ≡ true → Kept y → Kept (lesser x y)
+pub lesser-kept : (x y : Float) → good x ≡ true → KeptSquare y → KeptSquare (lesser x y)
 lesser-kept x y g k = go (lt x y)
   where
-    go : (b : Bool) → Kept (cond b x y)
+    go : (b : Bool) → KeptSquare (cond b x y)
     go true = inr g
     go false = k
 

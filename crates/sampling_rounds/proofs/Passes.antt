@@ -4,34 +4,32 @@ use mathlib.Core.Path.{_≡_, refl, sym, ap₂, _∙_}
 use mathlib.Core.Logic.{_⊎_, inl, inr, ⊎-elim}
 use mathlib.Core.Bool.{Bool, true, false, cond}
 use mathlib.Core.List.{List}
-use Prim.Native.Nat.{ℕ, _+_, _*_, _≤_, _<_}
+use Prim.Native.Nat.{ℕ, _+_, _≤_, _<_}
 use native.Mathlib.Omega.{arith}
 use borrow.Author.Count.{below-none, below-more}
 use lib.ListN.{length, getD, set, length-set}
 use lib.Seq.{getD-set-other}
 use lib.Ieee.{Float, nan, lt}
-use lib.Ieee.Scale.{finite}
-use Rattle.lists.specs.Ascends.{All}
-use Rattle.lists.proofs.All.{all-mem}
 use Rattle.lists.proofs.From.{noted-more}
 use Rattle.definition.specs.Points.{rowsSq}
 use Rattle.root_laws.specs.Sorts.{good}
 use Rattle.definition_laws.proofs.Finite.{rows-sq-good}
-use Rattle.extents.proofs.Rows.{row-fits}
-use Rattle.sampling_rounds.specs.Rounds.{lesser, lessened, minusOne, Kept, Held, Peaked}
+use Rattle.rows.specs.Rows.{GoodRows}
+use Rattle.rows.proofs.Good.{good-at}
+use Rattle.sampling_rounds.specs.Rounds.{lesser, lessened, minusOne, KeptSquare, Held, Peaked}
 use Rattle.sampling_rounds.proofs.Orders.{kept-irr, kept-le, kept-asym, kept-least, lesser-kept}
 
 -- ---- the elements of l are v below i, and from i on as they were
-pub record Passed (v : ℕ → Float) (l₀ l : List Float) (i : ℕ) : Type 0 where
+pub record PassedTo (v : ℕ → Float) (l₀ l : List Float) (i : ℕ) : Type 0 where
   pub same : length l ≡ length l₀
   pub done : (k : ℕ) → k < i → getD l k nan ≡ v k
   pub left : (k : ℕ) → i ≤ k → getD l k nan ≡ getD l₀ k nan
 
 module _ (v : ℕ → Float) (l₀ : List Float) where
-  pub passed-none : Passed v l₀ l₀ 0
+  pub passed-none : PassedTo v l₀ l₀ 0
   passed-none = record { same = refl; done = below-none _; left = λ k h. refl }
 
-  pub passed-more : (l : List Float) (i : ℕ) (x : Float) → Passed v l₀ l i → i < length l → x ≡ v i → Passed v l₀ (set l i x) (i + 1)
+  pub passed-more : (l : List Float) (i : ℕ) (x : Float) → PassedTo v l₀ l i → i < length l → x ≡ v i → PassedTo v l₀ (set l i x) (i + 1)
   passed-more l i x p h e =
       record {
         same = length-set l i x ∙ p .same;
@@ -46,25 +44,25 @@ module _ (d : ℕ) (cs : List Float) (rows : List ℕ) (last : ℕ) (l : List Fl
   unfolding lessened
   lessened-at i x y z e f g = g ∙ ap₂ lesser e f
 
-  module _ (inside : All (λ i. i * d + d ≤ length cs) rows) (fin : All (λ x. finite x ≡ true) cs) (h : last < length rows) where
-    pub square-good : (i : ℕ) → i < length rows → good (rowsSq d cs (getD rows last 0) (getD rows i 0)) ≡ true
-    square-good i b = rows-sq-good d cs (all-mem (λ x. finite x ≡ true) cs fin) (getD rows last 0) (getD rows i 0) (row-fits d cs rows inside last h) (row-fits d cs rows inside i b)
+  module _ (g : GoodRows d cs rows) (h : last < length rows) where
+    pub pair-good : (i : ℕ) → i < length rows → good (rowsSq d cs (getD rows last 0) (getD rows i 0)) ≡ true
+    pair-good i b = rows-sq-good d cs (getD rows last 0) (getD rows i 0) (good-at rows g last h .finite-row) (good-at rows g i b .finite-row)
 
-    pub lessened-kept : ((i : ℕ) → i < length rows → Kept (getD l i nan)) → (i : ℕ) → i < length rows → Kept (lessened d cs rows last l i)
+    pub lessened-kept : ((i : ℕ) → i < length rows → KeptSquare (getD l i nan)) → (i : ℕ) → i < length rows → KeptSquare (lessened d cs rows last l i)
     unfolding lessened
-    lessened-kept k i b = lesser-kept (rowsSq d cs (getD rows last 0) (getD rows i 0)) (getD l i nan) (square-good i b) (k i b)
+    lessened-kept k i b = lesser-kept (rowsSq d cs (getD rows last 0) (getD rows i 0)) (getD l i nan) (pair-good i b) (k i b)
 
     pub lessened-good : (i : ℕ) → i < length rows → good (getD l i nan) ≡ true → good (lessened d cs rows last l i) ≡ true
     unfolding lessened
-    lessened-good i b g = go (lt (rowsSq d cs (getD rows last 0) (getD rows i 0)) (getD l i nan))
+    lessened-good i b e = go (lt (rowsSq d cs (getD rows last 0) (getD rows i 0)) (getD l i nan))
       where
         go : (t : Bool) → good (cond t (rowsSq d cs (getD rows last 0) (getD rows i 0)) (getD l i nan)) ≡ true
-        go true = square-good i b
-        go false = g
+        go true = pair-good i b
+        go false = e
 
 -- ---- `most` is the greatest of the values below i, and the one at `place`; it is -1 before there is one
 pub record Seen (v : ℕ → Float) (i place : ℕ) (most second : Float) : Type 0 where
-  pub kept : Kept most
+  pub kept : KeptSquare most
   pub greatest : (j : ℕ) → j < i → lt most (v j) ≡ false
   pub earlier : Held v place second
   pub found : ((place ≡ 0) × (most ≡ minusOne)) ⊎ ((place < i) × (most ≡ v place))
@@ -81,7 +79,7 @@ module _ (v : ℕ → Float) where
 
   module _ (i place : ℕ) (most second : Float) (s : Seen v i place most second) where
     -- the value at i is greater than those before it
-    pub seen-greater : (x : Float) → x ≡ v i → ((j : ℕ) → j ≤ i → Kept (v j)) → lt most x ≡ true → Seen v (i + 1) i x most
+    pub seen-greater : (x : Float) → x ≡ v i → ((j : ℕ) → j ≤ i → KeptSquare (v j)) → lt most x ≡ true → Seen v (i + 1) i x most
     seen-greater x e k t =
         let h : lt most (v i) ≡ true = rw e at t in
         rw e (record {
@@ -104,7 +102,7 @@ module _ (v : ℕ → Float) where
           found = ⊎-elim (λ e. inl e) (λ f. inr (omega (arith, f .0), f .1)) (s .found);
         }
 
-  pub seen-all : (n place : ℕ) (most second : Float) → Seen v n place most second → 0 < n → ((j : ℕ) → j < n → Kept (v j)) → Peaked v n place most second
+  pub seen-all : (n place : ℕ) (most second : Float) → Seen v n place most second → 0 < n → ((j : ℕ) → j < n → KeptSquare (v j)) → Peaked v n place most second
   seen-all n place most second s p k =
       ⊎-elim
       (λ e. record {

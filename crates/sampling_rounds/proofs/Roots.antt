@@ -16,7 +16,7 @@ use Rattle.definition.specs.Number.{plusZero, squareRoot}
 use Rattle.root_laws.specs.Sorts.{good}
 use Rattle.root_laws.proofs.Order.{lt-irrefl, le-le, le-lt, lt-le, view, Good, top, num}
 use Rattle.root_laws.proofs.Values.{root-good, root-order}
-use Rattle.sampling_rounds.specs.Rounds.{minusOne, Kept, Held, Peaked, Earliest, Chosen}
+use Rattle.sampling_rounds.specs.Rounds.{minusOne, KeptSquare, Held, Peaked, Earliest, Chosen}
 use Rattle.sampling_rounds.proofs.Orders.{one-below}
 
 -- every square up to one with a lesser root has a lesser root
@@ -33,7 +33,7 @@ not-negative x g = zero-of (view x g)
 
 -- ---- looking back: the squares passed have roots less than r, and so has every square up to `low`
 pub record Looked (v : ℕ → Float) (r low : Float) (i : ℕ) : Type 0 where
-  pub kept : Kept low
+  pub kept : KeptSquare low
   pub passed : (j : ℕ) → j < i → good (v j) ≡ true → lt (squareRoot (v j)) r ≡ true
   pub lower : (x : Float) → good x ≡ true → lt low x ≡ false → lt (squareRoot x) r ≡ true
 
@@ -99,7 +99,7 @@ module _ (v : ℕ → Float) (best : ℕ) (g : good (v best) ≡ true) where
 -- ---- the first of those with the greatest root, once it is chosen
 module _ (v : ℕ → Float) (n best : ℕ) (most second : Float) (p : Peaked v n best most second) where
   -- the greatest value is a square where one of them is
-  pub greatest-good : ((i : ℕ) → i < n → Kept (v i)) → (i : ℕ) → i < n → good (v i) ≡ true → good (v best) ≡ true
+  pub greatest-good : ((i : ℕ) → i < n → KeptSquare (v i)) → (i : ℕ) → i < n → good (v i) ≡ true → good (v best) ≡ true
   greatest-good k i h g =
       ⊎-elim (λ e. clash (one-below (v i) g) (subst (λ (x : Float). lt x (v i) ≡ false) (p .here ∙ e) (p .greatest i h))) (λ f. f) (k best (p .inside))
 

@@ -19,8 +19,8 @@ abbrev pub minusOne : Float
 minusOne = neg (ofBits binary64 0x3ff0_0000_0000_0000)
 
 -- what is kept for a row: -1 where it is chosen, and otherwise its square (+0, a positive number or +infinity)
-abbrev pub Kept : Float → Type 0
-Kept x = (x ≡ minusOne) ⊎ (good x ≡ true)
+abbrev pub KeptSquare : Float → Type 0
+KeptSquare x = (x ≡ minusOne) ⊎ (good x ≡ true)
 
 -- the least squares l, with the squared distance to the row at the place `last` taken in, by place
 unfoldable pub lessened : ℕ → List Float → List ℕ → ℕ → List Float → ℕ → Float
@@ -28,7 +28,7 @@ lessened d cs rows last l i = lesser (rowsSq d cs (getD rows last 0) (getD rows 
 
 -- no value before `place` is greater than `second`
 pub record Held (v : ℕ → Float) (place : ℕ) (second : Float) : Type 0 where
-  pub kept : Kept second
+  pub kept : KeptSquare second
   pub bound : (j : ℕ) → j < place → lt second (v j) ≡ false
 
 -- of the n values none is greater than `most`, which is the one at `place`

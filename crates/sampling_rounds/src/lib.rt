@@ -2,15 +2,14 @@
 // and the farthest row is chosen. -1 stands for the square of a chosen row: it is below every squared distance.
 ghost use mathlib.Core.Path.{_≡_};
 ghost use mathlib.Core.Bool.{true, false};
-ghost use Prim.Native.Nat.{ℕ, _+_, _*_, _<_, _≤_};
+ghost use Prim.Native.Nat.{ℕ, _+_, _<_, _≤_};
 ghost use lib.ListN.{length, getD};
 ghost use lib.Ieee.{nan, inf};
-ghost use lib.Ieee.Scale.{finite};
 ghost use Rattle.lists.specs.Lists.{put};
-ghost use Rattle.lists.specs.Ascends.{All, Ascends};
 ghost use Rattle.definition.specs.Sampling.{sample};
 ghost use Rattle.root_laws.specs.Sorts.{good};
-ghost use Rattle.sampling_rounds.specs.Rounds.{lesser, lessened, Kept, Peaked, Held, Earliest, Chosen};
+ghost use Rattle.rows.specs.Rows.{GoodRows};
+ghost use Rattle.sampling_rounds.specs.Rounds.{lesser, lessened, KeptSquare, Peaked, Held, Earliest, Chosen};
 use distances::GlobalIdx;
 use distances::LocalIdx;
 
@@ -51,10 +50,9 @@ fn lessen(
     last: LocalIdx,
     least: &mut [f64],
 ) -> Peak
-    requires inside { ⌜ All (λ i. i * dimensions + dimensions ≤ length (now points)) (now rows) ⌝ }
-    requires finite { ⌜ All (λ x. finite x ≡ true) (now points) ⌝ }
+    requires rows { ⌜ GoodRows dimensions (now points) (now rows) ⌝ }
     requires room { ⌜ (last .0 < length (now rows)) × (length (now rows) ≤ length (now least)) ⌝ }
-    requires kept { ⌜ ((i : ℕ) → i < length (now rows) → Kept (getD (now least) i nan)) ⌝ }
+    requires kept { ⌜ ((i : ℕ) → i < length (now rows) → KeptSquare (getD (now least) i nan)) ⌝ }
     ensures values { λ _. ⌜ ((i : ℕ) → i < length (now (rows .entry)) → getD (now (least .exit)) i nan ≡ lessened dimensions (now (points .entry)) (now (rows .entry)) (last .0) (now (least .entry)) i) ⌝ }
     ensures peak { λ r. ⌜ Peaked (lessened dimensions (now (points .entry)) (now (rows .entry)) (last .0) (now (least .entry))) (length (now (rows .entry))) (r .place) (r .most) (r .second) ⌝ }
 {
@@ -87,7 +85,7 @@ fn lessen(
 fn look_back(least: &[f64], best: usize) -> usize
     requires { ⌜ best < length (now least) ⌝ }
     requires { ⌜ good (getD (now least) best nan) ≡ true ⌝ }
-    requires { ⌜ ((i : ℕ) → i < best → Kept (getD (now least) i nan)) ⌝ }
+    requires { ⌜ ((i : ℕ) → i < best → KeptSquare (getD (now least) i nan)) ⌝ }
     ensures { λ r. ⌜ Earliest (λ i. getD (now (least .entry)) i nan) best r ⌝ }
 {
     let most = least[best];
@@ -117,7 +115,7 @@ fn look_back(least: &[f64], best: usize) -> usize
 fn first_farthest(least: &[f64], peak: Peak) -> usize
     requires { ⌜ (peak .place < length (now least)) × (peak .most ≡ getD (now least) (peak .place) nan) ⌝ }
     requires { ⌜ good (peak .most) ≡ true ⌝ }
-    requires { ⌜ ((i : ℕ) → i < peak .place → Kept (getD (now least) i nan)) ⌝ }
+    requires { ⌜ ((i : ℕ) → i < peak .place → KeptSquare (getD (now least) i nan)) ⌝ }
     requires { ⌜ Held (λ i. getD (now least) i nan) (peak .place) (peak .second) ⌝ }
     ensures { λ r. ⌜ Earliest (λ i. getD (now (least .entry)) i nan) (peak .place) r ⌝ }
 {
@@ -139,10 +137,9 @@ fn next_place(
     last: LocalIdx,
     least: &mut [f64],
 ) -> LocalIdx
-    requires inside { ⌜ All (λ i. i * dimensions + dimensions ≤ length (now points)) (now rows) ⌝ }
-    requires finite { ⌜ All (λ x. finite x ≡ true) (now points) ⌝ }
+    requires rows { ⌜ GoodRows dimensions (now points) (now rows) ⌝ }
     requires room { ⌜ (last .0 < length (now rows)) × (length (now rows) ≤ length (now least)) ⌝ }
-    requires kept { ⌜ ((i : ℕ) → i < length (now rows) → Kept (getD (now least) i nan)) ⌝ }
+    requires kept { ⌜ ((i : ℕ) → i < length (now rows) → KeptSquare (getD (now least) i nan)) ⌝ }
     requires open { ⌜ ((i : ℕ) × ((i < length (now rows)) × (good (getD (now least) i nan) ≡ true))) ⌝ }
     ensures { λ r. ⌜ Chosen (lessened dimensions (now (points .entry)) (now (rows .entry)) (last .0) (now (least .entry))) (length (now (rows .entry))) (r .0) (now (least .exit)) ⌝ }
 {
@@ -164,8 +161,7 @@ pub fn sample_rows(
     at: usize,
     least: &mut [f64],
 )
-    requires rows { ⌜ Ascends (now rows) × All (λ i. i * dimensions + dimensions ≤ length (now points)) (now rows) ⌝ }
-    requires finite { ⌜ All (λ x. finite x ≡ true) (now points) ⌝ }
+    requires rows { ⌜ GoodRows dimensions (now points) (now rows) ⌝ }
     requires wanted { ⌜ (0 < wanted) × (wanted ≤ length (now rows)) × (seed .0 < length (now rows)) ⌝ }
     requires room { ⌜ (at + wanted ≤ length (now out)) × (length (now rows) ≤ length (now least)) ⌝ }
     ensures { λ _. ⌜ now (out .exit) ≡ put (now (out .entry)) at (sample dimensions (now (points .entry)) (now (rows .entry)) wanted (getD (now (rows .entry)) (seed .0) 0)) ⌝ }

@@ -11,9 +11,7 @@ use lib.Dec.{lit≤}
 use lib.ListN.{length, getD, drop, take}
 use lib.Seq.{drop-cons, drop-length}
 use lib.Ieee.{Float, nan, lt}
-use lib.Ieee.Scale.{finite}
-use Rattle.lists.specs.Ascends.{All}
-use Rattle.lists.proofs.All.{all-of, all-mem}
+use Rattle.lists.proofs.All.{all-of}
 use Rattle.lists.proofs.Members.{split-at, each-before, each-behind}
 use Rattle.definition.specs.Number.{plusZero, plus, over, squareRoot}
 use Rattle.definition.specs.Keys.{keyed, nearestRow}
@@ -23,7 +21,8 @@ use Rattle.root_laws.specs.Sorts.{good}
 use Rattle.root_laws.proofs.Order.{lt-irrefl, lt-asym, le-le, lt-le}
 use Rattle.root_laws.proofs.Values.{root-good, root-order}
 use Rattle.definition_laws.proofs.Finite.{centroid-sq-good}
-use Rattle.extents.proofs.Rows.{row-fits}
+use Rattle.rows.specs.Rows.{GoodRows}
+use Rattle.rows.proofs.Good.{good-at, good-mem}
 use Rattle.definition_laws.proofs.Choice.{nearest-is}
 
 -- ---- the sum of a column, from row i on
@@ -70,12 +69,11 @@ unfolding fromCenter
 center-square d cs rows center i s h e =
     e ∙ distance-same d (pointAt center 0) (centroid d cs rows) (coordinate d cs (getD rows i 0)) (λ a b. ap (λ (k : ℕ). getD center k nan) (zero-add a) ∙ h a b)
 
-pub center-good : (d : ℕ) (cs : List Float) (rows : List ℕ) → All (λ i. i * d + d ≤ length cs) rows → All (λ x. finite x ≡ true) cs
-    → 0 < length rows → length rows ≤ 1048576 → (i : ℕ) → i < length rows → good (fromCenter d cs rows i) ≡ true
+pub center-good : (d : ℕ) (cs : List Float) (rows : List ℕ) → GoodRows d cs rows → 0 < length rows → (i : ℕ) → i < length rows
+    → good (fromCenter d cs rows i) ≡ true
 unfolding fromCenter
-center-good d cs rows inside fin p q i h =
-    centroid-sq-good d cs (all-mem (λ x. finite x ≡ true) cs fin) rows (all-mem (λ i. i * d + d ≤ length cs) rows inside) p (le-trans q (lit≤ tt))
-    (getD rows i 0) (row-fits d cs rows inside i h)
+center-good d cs rows g p i h =
+    centroid-sq-good d cs rows (λ j m. good-mem rows g j m .finite-row) p (le-trans (g .few) (lit≤ tt)) (getD rows i 0) (good-at rows g i h .finite-row)
 
 -- ---- the scan: `best` is the first nearest of the places below i, `near` its distance, and no square from `low` up has a
 -- lesser root

@@ -1,18 +1,15 @@
 // The seed of a leaf's sampling: the first row nearest the centroid of its rows.
 ghost use mathlib.Core.Path.{_≡_};
-ghost use mathlib.Core.Bool.{true};
-ghost use Prim.Native.Nat.{ℕ, _+_, _*_, _<_, _≤_};
+ghost use Prim.Native.Nat.{ℕ, _<_, _≤_};
 ghost use lib.ListN.{length, getD};
 ghost use lib.Ieee.{nan};
-ghost use lib.Ieee.Scale.{finite};
-ghost use Rattle.lists.specs.Ascends.{All};
 ghost use Rattle.definition.specs.Sampling.{centroid, seedOf};
+ghost use Rattle.rows.specs.Rows.{GoodRows};
 use distances::LocalIdx;
 
 // The centroid of the rows on one axis: the sum in row order, divided by the count.
 fn centroid_axis(points: &[f64], dimensions: usize, rows: &[usize], axis: usize) -> f64
-    requires inside { ⌜ All (λ i. i * dimensions + dimensions ≤ length (now points)) (now rows) ⌝ }
-    requires few { ⌜ (axis < dimensions) × (length (now rows) ≤ 1048576) ⌝ }
+    requires { ⌜ GoodRows dimensions (now points) (now rows) × (axis < dimensions) ⌝ }
     ensures { λ r. ⌜ r ≡ centroid dimensions (now (points .entry)) (now (rows .entry)) axis ⌝ }
 {
     let mut sum = 0.0;
@@ -27,8 +24,7 @@ fn centroid_axis(points: &[f64], dimensions: usize, rows: &[usize], axis: usize)
 
 // The centroid of the rows on each axis in use.
 fn get_centroid(points: &[f64], dimensions: usize, rows: &[usize]) -> [f64; 3]
-    requires inside { ⌜ All (λ i. i * dimensions + dimensions ≤ length (now points)) (now rows) ⌝ }
-    requires few { ⌜ (dimensions ≤ 3) × (length (now rows) ≤ 1048576) ⌝ }
+    requires { ⌜ GoodRows dimensions (now points) (now rows) × (dimensions ≤ 3) ⌝ }
     ensures { λ r. ⌜ ((a : ℕ) → a < dimensions → getD r a nan ≡ centroid dimensions (now (points .entry)) (now (rows .entry)) a) ⌝ }
 {
     let mut center = [0.0; 3];
@@ -43,9 +39,7 @@ fn get_centroid(points: &[f64], dimensions: usize, rows: &[usize]) -> [f64; 3]
 // The place of the first row nearest the centroid. A root is taken only of a square that is less than all before it: roots
 // keep the order of their squares.
 pub fn sampling_seed(points: &[f64], dimensions: usize, rows: &[usize]) -> LocalIdx
-    requires inside { ⌜ All (λ i. i * dimensions + dimensions ≤ length (now points)) (now rows) ⌝ }
-    requires finite { ⌜ All (λ x. finite x ≡ true) (now points) ⌝ }
-    requires few { ⌜ (dimensions ≤ 3) × (0 < length (now rows)) × (length (now rows) ≤ 1048576) ⌝ }
+    requires { ⌜ GoodRows dimensions (now points) (now rows) × (dimensions ≤ 3) × (0 < length (now rows)) ⌝ }
     ensures { λ r. ⌜ (r .0 < length (now (rows .entry))) × (getD (now (rows .entry)) (r .0) 0 ≡ seedOf dimensions (now (points .entry)) (now (rows .entry))) ⌝ }
 {
     let center = get_centroid(points, dimensions, rows);

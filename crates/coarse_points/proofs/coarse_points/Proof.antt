@@ -5,7 +5,7 @@ use native.Mathlib.Omega.{arith}
 use lib.ListN.{length}
 use Rattle.lists.specs.Lists.{part}
 use Rattle.lists.proofs.Put.{length-part}
-use Rattle.coarse_points.proofs.Stages.{all-rows, leaves-fit, sent-size, up-size, written-up}
+use Rattle.coarse_points.proofs.Stages.{counts-all, leaves-fit, sent-size, up-size, written-up}
 use borrow.Author.Needs.{needs}
 use Rattle.coarse_points.proofs.coarse_points.Statement.{statement}
 use Rattle.coarse_points.proofs.coarse_points.Tie as tie
@@ -18,8 +18,8 @@ leaf-quotas-requires c κs =
     let n = length-part (a .level-points .now) (a .from) (a .a) (omega (arith, p .1 .1)) in (
       p .0 .leaves .rows,
       p .1 .2,
-      sym (all-rows _ _ _ _ _ _ _ (p .0) ∙ n),
-      omega (arith, n, p .0 .few),
+      sym (counts-all _ _ _ _ _ _ _ (p .0) ∙ n),
+      omega (arith, n, p .0 .rows .few),
       p .1 .0,
     )
 

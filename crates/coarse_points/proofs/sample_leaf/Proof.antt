@@ -18,12 +18,12 @@ returns c =
 sampling-seed-requires : tie.Need-sampling-seed-requires
 sampling-seed-requires c κs =
     let p = c .before .before .before .before .before .pre in
-    (p .0 .1, (p .1 .0, (omega arith, omega arith, omega arith)))
+    (p .0, p .1 .0 .0, omega arith)
 
 sample-rows-requires : tie.Need-sample-rows-requires
 sample-rows-requires c κs =
     let p = c .before .before .before .before .before .before .before .before .pre in
-    (p .0, (p .1 .0, ((omega arith, p .1 .1 .0 .1, c .before .before .sampling-seed .ensures .0), p .1 .1 .1)))
+    (p .0, ((omega arith, p .1 .0 .1, c .before .before .sampling-seed .ensures .0), p .1 .1))
 
 same-length : tie.Need-same-length
 same-length c = search needs

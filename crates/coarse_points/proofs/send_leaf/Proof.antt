@@ -5,7 +5,7 @@ use Prim.Native.Nat.{ℕ}
 use native.Mathlib.Omega.{arith}
 use Rattle.lists.specs.Lists.{put}
 use Rattle.definition.specs.Sampling.{sentBy}
-use Rattle.coarse_points.proofs.Stages.{own-lent, lent-ascends, lent-inside, lent-length}
+use Rattle.coarse_points.proofs.Stages.{own-lent, lent-good, lent-length}
 use borrow.Author.Needs.{needs}
 use Rattle.coarse_points.proofs.send_leaf.Statement.{statement}
 use Rattle.coarse_points.proofs.send_leaf.Tie as tie
@@ -36,8 +36,8 @@ sample-leaf-requires c κs =
     let row = c .before .before .before .before .read-row in
     let e = own-lent (a .internals .now) (a .domains .now) (a .r) (row .result) (row .ensures) in
     let n = lent-length _ _ _ _ _ _ _ f _ e in (
-      (lent-ascends _ _ _ _ _ _ _ f _ e, lent-inside _ _ _ _ _ _ _ f _ e),
-      (f .finite-all, ((f .axes, omega (arith, n, f .within), omega (arith, n, f .few)), (s .pre .1, omega (arith, n, f .floats)))),
+      lent-good _ _ _ _ _ _ _ f _ e,
+      ((f .axes, omega (arith, n, f .within)), (s .pre .1, omega (arith, n, f .floats))),
     )
 
 same-length : tie.Need-same-length

@@ -8,7 +8,7 @@ use Rattle.lists.specs.Lists.{put}
 use Rattle.lists.proofs.Put.{put-nil}
 use Rattle.coarse_points.specs.Sent.{sentAt, LeafFits}
 use Rattle.coarse_points.proofs.Sending.{sent-first}
-use Rattle.coarse_points.proofs.Stages.{turn-room, turn-end, turn-list}
+use Rattle.coarse_points.proofs.Stages.{leaf-room, leaf-end, leaf-list}
 use Rattle.coarse_points.proofs.send_leaves.Statement.{statement}
 use Rattle.coarse_points.proofs.send_leaves.Tie as tie
 
@@ -41,7 +41,7 @@ send-leaf-requires c κs =
     let a = s .args in
     let i = c .before .before .before .before .loop in
     let f = s .pre .each (i .l) (omega arith) in
-    let r = turn-room _ _ _ _ _ _ _ _ _ _ (s .pre) (i .l) (omega arith) in (
+    let r = leaf-room _ _ _ _ _ _ _ _ _ _ (s .pre) (i .l) (omega arith) in (
       subst (λ (k : ℕ). LeafFits (a .dimensions) (a .points .now) (a .internals .now) (a .domains .now) (a .first + i .l) (getD (a .shares .now) (i .l) 0) k) (sym (i .inv .2)) f,
       omega (arith, r, i .inv .1, i .inv .3),
     )
@@ -49,7 +49,7 @@ send-leaf-requires c κs =
 add-end : tie.Need-add-end Inv-loop μ-loop
 add-end c =
     let i = c .before .before .before .before .before .before .before .before .before .loop in
-    let r = turn-room _ _ _ _ _ _ _ _ _ _ (c .before .before .before .before .before .before .before .before .before .before .before .before .before .before .before .before .pre) (i .l) (omega arith) in
+    let r = leaf-room _ _ _ _ _ _ _ _ _ _ (c .before .before .before .before .before .before .before .before .before .before .before .before .before .before .before .before .pre) (i .l) (omega arith) in
     omega (arith, r, i .inv .3)
 
 add-l : tie.Need-add-l Inv-loop μ-loop
@@ -63,8 +63,8 @@ loop-again c =
     let s = c .before .before .before .before .before .before .before .before .before .before .before .before .before .before .before .before in
     let i = c .before .before .before .before .before .before .before .before .before .loop in
     let h : i .l < s .args .m = omega arith in
-    let e = c .before .before .before .before .send-leaf .ensures ∙ turn-list _ _ _ _ _ _ _ _ _ _ (s .pre) (i .l) (i .end) (i .out) h (i .inv .3) (i .inv .4) in
-    (omega arith, omega arith, omega arith, omega (arith, turn-end _ _ _ _ _ _ _ _ _ _ (s .pre) (i .l), i .inv .3), e)
+    let e = c .before .before .before .before .send-leaf .ensures ∙ leaf-list _ _ _ _ _ _ _ _ _ _ (s .pre) (i .l) (i .end) (i .out) h (i .inv .3) (i .inv .4) in
+    (omega arith, omega arith, omega arith, omega (arith, leaf-end _ _ _ _ _ _ _ _ _ _ (s .pre) (i .l), i .inv .3), e)
 
 same-length : tie.Need-same-length Inv-loop μ-loop
 same-length c = omega arith

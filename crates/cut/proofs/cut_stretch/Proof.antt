@@ -1,7 +1,7 @@
 -- `cut::cut_stretch` meets its contract. Assumes nothing.
 use native.Mathlib.Omega.{arith}
 use borrow.Author.Needs.{needs}
-use Rattle.cut.proofs.Stretch.{lent-some, lent-inside, axis-is, axis-in, halved, value-in, value-is}
+use Rattle.cut.proofs.Stretch.{lent-some, lent-inside, axis-is, axis-in, halved, value-in, plane-value}
 use Rattle.cut.proofs.cut_stretch.Statement.{statement}
 use Rattle.cut.proofs.cut_stretch.Tie as tie
 
@@ -67,7 +67,7 @@ returns c =
       halved _ _ _ _ _ _ (p .0 .0) (p .0 .1) (p .0 .2) (p .1 .0) (p .1 .1) _ x _ (h .0),
       (
         axis-is _ _ _ _ _ _ (p .0 .0) (p .0 .1) (p .0 .2) (p .1 .0) (p .1 .1) _ x,
-        value-is _ _ _ _ _ _ (p .0 .0) (p .0 .1) (p .0 .2) (p .1 .0) (p .1 .1) _ x _ (h .1),
+        plane-value _ _ _ _ _ _ (p .0 .0) (p .0 .1) (p .0 .2) (p .1 .0) (p .1 .1) _ x _ (h .1),
       ),
     )
 

@@ -7,12 +7,12 @@ use Rattle.lists.proofs.All.{all-at}
 use mathlib.Core.Bool.{true}
 use Rattle.halving.specs.Cuts.{onSide}
 use Rattle.argsort.proofs.Orders.{row-inside}
-use Rattle.halving.proofs.Turns.{Counted, counted-first, counted-in, counted-out, counted-end}
+use Rattle.halving.proofs.Turns.{CountedTo, counted-first, counted-in, counted-out, counted-end}
 use Rattle.halving.proofs.count_before.Statement.{statement}
 use Rattle.halving.proofs.count_before.Tie as tie
 
 abbrev Inv-loop : tie.InvT-loop
-Inv-loop points d axis rows p n₀ t₀ n t = Counted (onSide d points axis p true) rows n t
+Inv-loop points d axis rows p n₀ t₀ n t = CountedTo (onSide d points axis p true) rows n t
 
 abbrev μ-loop : tie.MeasureT-loop
 μ-loop points d axis rows p n₀ t₀ n t = length rows - t

@@ -7,16 +7,16 @@ use native.Mathlib.Omega.{arith}
 use lib.ListN.{length}
 use lib.Ieee.{Float}
 use Rattle.lists.specs.Lists.{part}
-use Rattle.halving.specs.Rows.{GoodRows}
-use Rattle.halving.specs.Cuts.{Room}
-use Rattle.halving.proofs.Cutting.{spent-finite, spent-room, middle-inside, low-most, parted-length, halved}
+use Rattle.rows.specs.Rows.{GoodRows}
+use Rattle.halving.specs.Cuts.{CutRoom}
+use Rattle.halving.proofs.Cutting.{spent-finite, spent-room, middle-inside, low-most, parted-length, cut-halved}
 use Rattle.halving.proofs.halves.Statement.{statement}
 use Rattle.halving.proofs.halves.Tie as tie
 
 -- what the function asks, by name
 room : (d : ℕ) (cs : List Float) (axis : ℕ) (work : List ℕ) (start count spare : ℕ)
     → (axis < d) × (1 ≤ count) × (start + count ≤ spare) × (spare + count ≤ length work) × GoodRows d cs (part work start count)
-    → Room d cs axis work start count spare
+    → CutRoom d cs axis work start count spare
 room d cs axis work start count spare p = record { axis-in = p .0; some = p .1; apart = p .2; fit = p .3; good = p .4 }
 
 middle-of-requires : tie.Need-middle-of-requires
@@ -77,7 +77,7 @@ returns c =
     (c .before .before .before .before .before .before .before .before .before .before .before .before .before .before .pre) in
     let e = c .before .before .before .before .before .before .before .before .before .before .middle-of .ensures in
     let f = c .before .before .before .before .before .before .part-rows .ensures in
-    (halved r (e .1) (e .0) (f .0) (f .1) _ (c .before .before .copy .ensures), e .1)
+    (cut-halved r (e .1) (e .0) (f .0) (f .1) _ (c .before .before .copy .ensures), e .1)
 
 pub halves-spec : {M : Type 1} → statement M
 halves-spec =

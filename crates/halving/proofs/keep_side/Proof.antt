@@ -4,12 +4,12 @@ use mathlib.Core.Path.{sym, _∙_}
 use Prim.Native.Nat.{_-_}
 use Rattle.halving.specs.Cuts.{onSide}
 use Rattle.argsort.proofs.Orders.{row-inside}
-use Rattle.halving.proofs.Turns.{Kept, kept-first, kept-row, kept-in, kept-out, kept-end}
+use Rattle.halving.proofs.Turns.{KeptFront, kept-first, kept-row, kept-in, kept-out, kept-end}
 use Rattle.halving.proofs.keep_side.Statement.{statement}
 use Rattle.halving.proofs.keep_side.Tie as tie
 
 abbrev Inv-loop : tie.InvT-loop
-Inv-loop points d axis rows₀ m p low n₀ t₀ rows n t = Kept (onSide d points axis p low) rows₀ m rows n t
+Inv-loop points d axis rows₀ m p low n₀ t₀ rows n t = KeptFront (onSide d points axis p low) rows₀ m rows n t
 
 abbrev μ-loop : tie.MeasureT-loop
 μ-loop points d axis rows₀ m p low n₀ t₀ rows n t = m - t

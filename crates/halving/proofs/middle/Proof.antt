@@ -7,7 +7,7 @@ use native.Mathlib.Omega.{arith}
 use borrow.Author.Tests.{leb-true}
 use lib.ListN.{length}
 use Rattle.halving.specs.Cuts.{Narrows}
-use Rattle.halving.proofs.Good.{good-short}
+use Rattle.definition.specs.Refusals.{mostPoints}
 use Rattle.halving.proofs.Cutting.{search-first, search-more, end-asks, end-front, end-inside, end-middle}
 use Rattle.halving.proofs.middle.Statement.{statement}
 use Rattle.halving.proofs.middle.Tie as tie
@@ -16,16 +16,16 @@ abbrev Inv-loop : tie.InvT-loop
 Inv-loop points d axis rows₀ m₀ k₀ left₀ round₀ rows m k left round =
     Narrows d points axis rows₀ (length rows₀) (length rows₀ / 2) rows m k × (length rows ≡ length rows₀)
     × (32 * round + left ≤ 8 * length rows₀)
-    × (length rows₀ ≤ 4294967296)
+    × (length rows₀ ≤ mostPoints)
 
 abbrev μ-loop : tie.MeasureT-loop
 μ-loop points d axis rows₀ m₀ k₀ left₀ round₀ rows m k left round = left
 
 mul-left : tie.Need-mul-left Inv-loop μ-loop
-mul-left c = let p = c .before .before .pre in let s = good-short _ (p .0) _ (p .2) in search needs
+mul-left c = let p = c .before .before .pre in let s = p .2 .few in search needs
 
 loop-holds : tie.Need-loop-holds Inv-loop μ-loop
-loop-holds c = let p = c .before .before .pre in (search-first _ (p .1) (p .2), refl, omega arith, good-short _ (p .0) _ (p .2))
+loop-holds c = let p = c .before .before .pre in (search-first _ (p .1) (p .2), refl, omega arith, p .2 .few)
 
 mul-at : tie.Need-mul-at Inv-loop μ-loop
 mul-at c = search needs

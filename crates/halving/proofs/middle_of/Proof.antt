@@ -2,7 +2,7 @@
 use borrow.Author.Needs.{needs}
 use native.Mathlib.Omega.{arith}
 use mathlib.Core.Logic.{inl}
-use Rattle.halving.proofs.Cutting.{lent-good, lent-some, lent-back}
+use Rattle.halving.proofs.Cutting.{spare-good, spare-some, spare-back}
 use Rattle.halving.proofs.middle_of.Statement.{statement}
 use Rattle.halving.proofs.middle_of.Tie as tie
 
@@ -28,7 +28,7 @@ middle-requires : tie.Need-middle-requires
 middle-requires c κs =
     let r = c .before .before .before .before .before .before .before .pre in
     let e = c .before .before .before .copy .ensures in
-    (r .axis-in, lent-some r _ e, lent-good r _ e)
+    (r .axis-in, spare-some r _ e, spare-good r _ e)
 
 same-length : tie.Need-same-length
 same-length c = search needs
@@ -36,7 +36,7 @@ same-length c = search needs
 returns : tie.Need-returns
 returns c =
     let m = c .before .before .middle in
-    lent-back (c .before .before .before .before .before .before .before .before .before .before .pre) _
+    spare-back (c .before .before .before .before .before .before .before .before .before .before .pre) _
     (c .before .before .before .before .before .before .copy .ensures) (m .last .1 .1 .1 .0) _ (m .kept .1 .1 .1 .0) (m .ensures)
 
 pub middle-of-spec : {M : Type 1} → statement M

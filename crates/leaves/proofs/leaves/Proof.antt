@@ -4,17 +4,18 @@ use mathlib.Core.Path.{refl, _∙_}
 use native.Mathlib.Omega.{arith}
 use lib.ListN.{length}
 use borrow.Author.Needs.{needs}
+use Rattle.rows.proofs.Good.{good-inside}
 use Rattle.queue.proofs.Loop.{cutsLeft}
 use Rattle.queue.proofs.View.{roomIn}
 use Rattle.boxes.specs.Boxes.{floatsOf}
-use Rattle.leaves.proofs.Turns.{Run, Kept, kept-next, run-first, run-end, front, known, wait, wait-less, done, done-less, width-most, axis-fit}
+use Rattle.leaves.proofs.Turns.{Run, KeptLengths, kept-next, run-first, run-end, front, known, wait, wait-less, next-leaves, next-leaves-less, width-most, axis-fit}
 use Rattle.leaves.proofs.leaves.Statement.{statement}
 use Rattle.leaves.proofs.leaves.Tie as tie
 
 abbrev Inv-loop : tie.InvT-loop
 Inv-loop points dimensions leaf active work₀ held₀ internals₀ at domains₀ first boxes₀ n floats head₀ tail₀ end₀ k₀ work held internals domains boxes head tail end k =
     Run dimensions points leaf active internals₀ domains₀ boxes₀ at first work internals domains held boxes head tail end k
-    × Kept work₀ internals₀ domains₀ held₀ boxes₀ work internals domains held boxes
+    × KeptLengths work₀ internals₀ domains₀ held₀ boxes₀ work internals domains held boxes
 
 abbrev μ-loop : tie.MeasureT-loop
 μ-loop points dimensions leaf active work₀ held₀ internals₀ at domains₀ first boxes₀ n floats head₀ tail₀ end₀ k₀ work held internals domains boxes head tail end k =
@@ -29,7 +30,7 @@ put-root-requires : tie.Need-put-root-requires Inv-loop μ-loop
 put-root-requires c κs =
     let a = c .before .before .before .before .before .before .before .before .before in
     let p = a .pre in
-    ((p .0 .1, p .0 .3, p .0 .4 .inside), (omega (arith, p .0 .3, p .1 .0 .0), omega (arith, width-most (a .args .dimensions) (length (a .args .active .now)) (p .0 .3), p .1 .0 .1)))
+    ((p .0 .1, p .0 .3, good-inside _ (p .0 .4)), (omega (arith, p .0 .3, p .1 .0 .0), omega (arith, width-most (a .args .dimensions) (length (a .args .active .now)) (p .0 .3), p .1 .0 .1)))
 
 loop-holds : tie.Need-loop-holds Inv-loop μ-loop
 loop-holds c =
@@ -234,7 +235,7 @@ loop-less-2 c =
     let t = read .before .before .before .before in
     let i = t .before .loop .inv in
     let x = front (i .0) (t .loop-test .taken) in
-    done-less x _ (cut .cut-stretch .ensures .0) (cut .cut-stretch .result .axis) (cut .cut-stretch .result .value) (floatsOf (read .read-box .result)) (read .read-box .result .dimensions)
+    next-leaves-less x _ (cut .cut-stretch .ensures .0) (cut .cut-stretch .result .axis) (cut .cut-stretch .result .value) (floatsOf (read .read-box .result)) (read .read-box .result .dimensions)
     (cut .cut-stretch .ensures .1 .0) (cut .cut-stretch .ensures .1 .1) (read .read-box .ensures .1) (read .read-box .ensures .0)
 
 loop-again-2 : tie.Need-loop-again-2 Inv-loop μ-loop
@@ -247,7 +248,7 @@ loop-again-2 c =
     let t = read .before .before .before .before in
     let i = t .before .loop .inv in
     let x = front (i .0) (t .loop-test .taken) in (
-      done x _ (cut .cut-stretch .ensures .0) (cut .cut-stretch .result .axis) (cut .cut-stretch .result .value) (floatsOf (read .read-box .result)) (read .read-box .result .dimensions)
+      next-leaves x _ (cut .cut-stretch .ensures .0) (cut .cut-stretch .result .axis) (cut .cut-stretch .result .value) (floatsOf (read .read-box .result)) (read .read-box .result .dimensions)
           (cut .cut-stretch .ensures .1 .0) (cut .cut-stretch .ensures .1 .1) (read .read-box .ensures .1) (read .read-box .ensures .0) (test .if1 .left) _ _ _ (packed .pack-leaves .ensures .0) (packed .pack-leaves .ensures .1) (wrote .write-halves2 .ensures),
       kept-next (i .1) (cut .cut-stretch .kept .1 .1 .0) (packed .pack-leaves .kept .1 .1 .1 .0) (packed .pack-leaves .kept .1 .1 .1 .1 .1 .0) refl (wrote .write-halves2 .kept .1 .1 .1 .0),
     )

@@ -4,7 +4,7 @@ use Prim.Native.Nat.{_+_, _*_, _≤_}
 use mathlib.Core.Path.{_≡_, sym}
 use lib.ListN.{length, getD, take}
 use lib.Seq.{length-take-le}
-use Rattle.lists.proofs.All.{all-at}
+use Rattle.rows.proofs.Good.{good-at}
 use native.Mathlib.Omega.{arith}
 use borrow.Author.Needs.{needs}
 use Rattle.overlap_pairs.proofs.send_row.Statement.{statement}
@@ -27,7 +27,7 @@ nearest-requires c κs =
     let s = c .before .before .before .before .before .before in
     let a = s .args in (
       s .pre .0,
-      all-at (λ i. i * a .dimensions + a .dimensions ≤ length (a .points .now)) (a .active .now) (a .p) 0 (s .pre .0 .inside) (s .pre .2),
+      good-at (a .active .now) (s .pre .0) (a .p) (s .pre .2),
       omega arith,
       omega arith,
     )

@@ -1,4 +1,4 @@
--- `sampling_rounds::lessen` meets its contract. The loop's invariant: the squares passed are lessened (`Passed`), and `most`
+-- `sampling_rounds::lessen` meets its contract. The loop's invariant: the squares passed are lessened (`PassedTo`), and `most`
 -- is the greatest of them (`Seen`). Assumes nothing.
 use mathlib.Core.Path.{_≡_, subst}
 use mathlib.Core.Logic.{⊎-elim}
@@ -8,14 +8,14 @@ use native.Mathlib.Omega.{arith}
 use borrow.Author.Needs.{needs}
 use lib.ListN.{length}
 use Rattle.sampling_rounds.specs.Rounds.{lessened}
-use Rattle.extents.proofs.Rows.{row-fits}
-use Rattle.sampling_rounds.proofs.Passes.{Passed, Seen, passed-none, passed-more, seen-none, seen-greater, seen-other, seen-all, lessened-at, lessened-kept}
+use Rattle.rows.proofs.Good.{good-at}
+use Rattle.sampling_rounds.proofs.Passes.{PassedTo, Seen, passed-none, passed-more, seen-none, seen-greater, seen-other, seen-all, lessened-at, lessened-kept}
 use Rattle.sampling_rounds.proofs.lessen.Statement.{statement}
 use Rattle.sampling_rounds.proofs.lessen.Tie as tie
 
 abbrev Inv-loop : tie.InvT-loop
 Inv-loop points dimensions rows least₀ from row place₀ most₀ second₀ i₀ least place most second i =
-    (i ≤ length rows) × ((length rows ≤ length least₀) × (Passed (lessened dimensions points rows from least₀) least₀ least i
+    (i ≤ length rows) × ((length rows ≤ length least₀) × (PassedTo (lessened dimensions points rows from least₀) least₀ least i
     × Seen (lessened dimensions points rows from least₀) i place most second))
 
 abbrev μ-loop : tie.MeasureT-loop
@@ -29,7 +29,7 @@ shared-slice-read-row c = search needs
 
 loop-holds : tie.Need-loop-holds Inv-loop μ-loop
 loop-holds c = let s = c .before .before .before .before in
-    (omega arith, (s .pre .1 .1 .0 .1, (passed-none _ _, seen-none _)))
+    (omega arith, (s .pre .1 .0 .1, (passed-none _ _, seen-none _)))
 
 mul-least : tie.Need-mul-least Inv-loop μ-loop
 mul-least c = search needs
@@ -39,8 +39,8 @@ shared-slice-read-least c = search needs
 
 distance-sq-requires : tie.Need-distance-sq-requires Inv-loop μ-loop
 distance-sq-requires c κs = let s = c .before .before .before .before .before .before .before in
-    let fits = row-fits (s .args .dimensions) (s .args .points .now) (s .args .rows .now) (s .pre .0) in
-    (fits (s .args .last .0) (s .pre .1 .1 .0 .0), fits (c .before .before .loop .i) (c .before .loop-test .taken))
+    let at = good-at (s .args .rows .now) (s .pre .0) in
+    (at (s .args .last .0) (s .pre .1 .0 .0) .inside, at (c .before .before .loop .i) (c .before .loop-test .taken) .inside)
 
 mul-lesser-of : tie.Need-mul-lesser-of Inv-loop μ-loop
 mul-lesser-of c = search needs
@@ -70,7 +70,7 @@ loop-again c = let s = c .before .before .before .before .before .before .before
     let h = c .before .before .before .before .before .loop-test .taken in
     let p = l .inv .1 .1 .0 in
     let v = lessened (a .dimensions) (a .points .now) (a .rows .now) (a .last .0) (a .least .now) in
-    let k = lessened-kept _ _ _ _ (a .least .now) (s .pre .0) (s .pre .1 .0) (s .pre .1 .1 .0 .0) (s .pre .1 .1 .1) in
+    let k = lessened-kept _ _ _ _ (a .least .now) (s .pre .0) (s .pre .1 .0 .0) (s .pre .1 .1) in
     let e : c .before .lesser-of .result ≡ v (l .i) =
     lessened-at _ _ _ _ _ (l .i) _ _ _ (c .before .before .before .distance-sq .ensures) (p .left (l .i) (omega arith)) (c .before .lesser-of .ensures) in
     let q = passed-more v (a .least .now) (l .least) (l .i) (c .before .lesser-of .result) p (omega (arith, h, l .inv, p .same)) e in
@@ -109,8 +109,8 @@ returns c = let s = c .before .before .before .before .before .before in
     let v = lessened (a .dimensions) (a .points .now) (a .rows .now) (a .last .0) (a .least .now) in
     let e : l .i ≡ length (a .rows .now) = le-antisymm (l .inv .0) (c .loop-test .left) in (
       (λ i h. l .inv .1 .1 .0 .done i (omega (arith, e))),
-      seen-all v _ _ _ _ (subst (λ (n : ℕ). Seen v n (l .place) (l .most) (l .second)) e (l .inv .1 .1 .1)) (omega (arith, s .pre .1 .1 .0))
-          (lessened-kept _ _ _ _ (a .least .now) (s .pre .0) (s .pre .1 .0) (s .pre .1 .1 .0 .0) (s .pre .1 .1 .1)),
+      seen-all v _ _ _ _ (subst (λ (n : ℕ). Seen v n (l .place) (l .most) (l .second)) e (l .inv .1 .1 .1)) (omega (arith, s .pre .1 .0))
+          (lessened-kept _ _ _ _ (a .least .now) (s .pre .0) (s .pre .1 .0 .0) (s .pre .1 .1)),
     )
 
 pub lessen-spec : {M : Type 1} → statement M

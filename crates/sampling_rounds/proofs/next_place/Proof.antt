@@ -19,11 +19,11 @@ first-farthest-requires c κs = let s = c .before .before .before .before .befor
     let le = c .before .before .before .lessen in
     let a = s .args in
     let v = lessened (a .dimensions) (a .points .now) (a .rows .now) (a .last .0) (a .least .now) in
-    let left = s .pre .1 .1 .1 .1 in
-    let room = s .pre .1 .1 .0 in
-    let kept = lessened-kept _ _ _ _ (a .least .now) (s .pre .0) (s .pre .1 .0) (room .0) (s .pre .1 .1 .1 .0) in
+    let left = s .pre .1 .1 .1 in
+    let room = s .pre .1 .0 in
+    let kept = lessened-kept _ _ _ _ (a .least .now) (s .pre .0) (room .0) (s .pre .1 .1 .0) in
     let good-best = greatest-good v _ _ _ _ (le .ensures .1) kept (left .0) (left .1 .0)
-    (lessened-good _ _ _ _ (a .least .now) (s .pre .0) (s .pre .1 .0) (room .0) (left .0) (left .1 .0) (left .1 .1)) in
+    (lessened-good _ _ _ _ (a .least .now) (s .pre .0) (room .0) (left .0) (left .1 .0) (left .1 .1)) in
     let new = le .last .1 .1 .1 .1 .0 in
     let p = peaked-in v new _ _ _ _ (le .ensures .0) (le .ensures .1) in (
       (omega (arith, p .inside, room, le .kept .1 .1 .1 .1 .0), p .here),
@@ -47,11 +47,11 @@ returns c = let s = c .before .before .before .before .before .before .before .b
     let le = c .before .before .before .before .lessen in
     let a = s .args in
     let v = lessened (a .dimensions) (a .points .now) (a .rows .now) (a .last .0) (a .least .now) in
-    let left = s .pre .1 .1 .1 .1 in
-    let room = s .pre .1 .1 .0 in
-    let kept = lessened-kept _ _ _ _ (a .least .now) (s .pre .0) (s .pre .1 .0) (room .0) (s .pre .1 .1 .1 .0) in
+    let left = s .pre .1 .1 .1 in
+    let room = s .pre .1 .0 in
+    let kept = lessened-kept _ _ _ _ (a .least .now) (s .pre .0) (room .0) (s .pre .1 .1 .0) in
     let good-best = greatest-good v _ _ _ _ (le .ensures .1) kept (left .0) (left .1 .0)
-    (lessened-good _ _ _ _ (a .least .now) (s .pre .0) (s .pre .1 .0) (room .0) (left .0) (left .1 .0) (left .1 .1)) in
+    (lessened-good _ _ _ _ (a .least .now) (s .pre .0) (room .0) (left .0) (left .1 .0) (left .1 .1)) in
     first-chosen v _ _ _ _ (le .ensures .1) (le .last .1 .1 .1 .1 .0) _ (le .ensures .0) (omega (arith, room, le .kept .1 .1 .1 .1 .0)) good-best (c .first-farthest .ensures)
 
 pub next-place-spec : {M : Type 1} → statement M

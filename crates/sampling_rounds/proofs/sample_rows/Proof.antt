@@ -49,13 +49,13 @@ loop-holds : tie.Need-loop-holds Inv-loop μ-loop
 loop-holds c = let s = c .before .before .before .before .before .before .before .before .before in
     let a = s .args in
     let cl = c .before .before .before .clear in
-    let r = s .pre .1 .1 .1 in
+    let r = s .pre .1 .1 in
     let q : a .seed .0 < length (cl .last .0) = omega (arith, s .pre, cl .kept .0) in (
       omega (arith, s .pre),
       (
         ((refl, refl), (simp length-set (r .0), simp length-set (omega (arith, r, cl .kept .0)))),
-        choosing-start _ _ _ (s .pre .0 .0) (s .pre .0 .1) (s .pre .1 .0) (a .wanted) (a .out .now) (a .at) (a .seed .0) (set (cl .last .0) (a .seed .0) minusOne)
-            (omega (arith, s .pre)) (s .pre .1 .1 .0 .2)
+        choosing-start _ _ _ (s .pre .0) (a .wanted) (a .out .now) (a .at) (a .seed .0) (set (cl .last .0) (a .seed .0) minusOne)
+            (omega (arith, s .pre)) (s .pre .1 .0 .2)
             (getD-set-same (cl .last .0) (a .seed .0) minusOne nan q)
             (λ i h n. getD-set-other (cl .last .0) (a .seed .0) i minusOne nan n ∙ cl .ensures i h),
       ),
@@ -64,9 +64,9 @@ loop-holds c = let s = c .before .before .before .before .before .before .before
 next-place-requires : tie.Need-next-place-requires Inv-loop μ-loop
 next-place-requires c κs = let s = c .before .before .before .before .before .before .before .before .before .before .before .before in
     let l = c .before .before .loop in
-    let t = choosing-kept _ _ _ (s .pre .0 .0) (s .pre .0 .1) (s .pre .1 .0) _ _ _ _ _ _ _ _ (l .inv .1 .1) in
-    let o = choosing-open _ _ _ (s .pre .0 .0) (s .pre .0 .1) (s .pre .1 .0) _ _ _ _ _ _ _ _ (l .inv .1 .1) (omega (arith, s .pre, c .before .loop-test .taken)) in
-    (s .pre .0 .1, (s .pre .1 .0, ((l .inv .1 .1 .within, l .inv .1 .0 .1 .1), (t, o))))
+    let t = choosing-kept _ _ _ (s .pre .0) _ _ _ _ _ _ _ _ (l .inv .1 .1) in
+    let o = choosing-open _ _ _ (s .pre .0) _ _ _ _ _ _ _ _ (l .inv .1 .1) (omega (arith, s .pre, c .before .loop-test .taken)) in
+    (s .pre .0, ((l .inv .1 .1 .within, l .inv .1 .0 .1 .1), (t, o)))
 
 mul-out-3 : tie.Need-mul-out-3 Inv-loop μ-loop
 mul-out-3 c = omega arith
@@ -98,7 +98,7 @@ loop-again c = let s = c .before .before .before .before .before .before .before
       omega (arith, h),
       (
         ((length-set (l .out) (s .args .at + l .k) (getD (s .args .rows .now) (np .result .0) 0) ∙ z .0 .0, np .kept .1 .1 .1 .1 .0 ∙ z .0 .1), (simp length-set (z .1 .0), omega (arith, z, np .kept .1 .1 .1 .1 .0))),
-        choosing-more _ _ _ (s .pre .0 .0) (s .pre .0 .1) (s .pre .1 .0) _ _ _ _ _ _ _ _ (l .inv .1 .1) (np .result .0) (np .last .1 .1 .1 .1 .0) h
+        choosing-more _ _ _ (s .pre .0) _ _ _ _ _ _ _ _ (l .inv .1 .1) (np .result .0) (np .last .1 .1 .1 .1 .0) h
             (omega (arith, h, z)) (np .ensures),
       ),
     )
@@ -112,7 +112,7 @@ same-length-2 c = c .before .loop .inv .1 .0 .0 .1 ∙ simp length-set (c .befor
 returns : tie.Need-returns Inv-loop μ-loop
 returns c = let s = c .before .before .before .before .before .before .before .before .before .before .before in
     let l = c .before .loop in
-    choosing-end _ _ _ (s .pre .0 .0) (s .pre .0 .1) (s .pre .1 .0) _ _ _ _ _ _ _ _ (l .inv .1 .1) (s .args .out .now) _ refl (le-antisymm (c .loop-test .left) (l .inv .0))
+    choosing-end _ _ _ (s .pre .0) _ _ _ _ _ _ _ _ (l .inv .1 .1) (s .args .out .now) _ refl (le-antisymm (c .loop-test .left) (l .inv .0))
 
 pub sample-rows-spec : {M : Type 1} → statement M
 sample-rows-spec =

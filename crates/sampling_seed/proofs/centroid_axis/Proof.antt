@@ -5,7 +5,7 @@ use native.Mathlib.Omega.{arith}
 use lib.Dec.{le→leb, lit≤}
 use lib.ListN.{length}
 use lib.Ieee.{inFloat}
-use Rattle.extents.proofs.Rows.{row-fits}
+use Rattle.rows.proofs.Good.{good-at}
 use Rattle.sampling_seed.proofs.Nearest.{Summed, summed-none, summed-more, summed-all}
 use Rattle.sampling_seed.proofs.centroid_axis.Statement.{statement}
 use Rattle.sampling_seed.proofs.centroid_axis.Tie as tie
@@ -30,7 +30,7 @@ mul-sum c = let s = c .before .before .before in
     omega (
       arith,
       s .pre .1,
-      row-fits (s .args .dimensions) (s .args .points .now) (s .args .rows .now) (s .pre .0) (c .before .before .loop .i) (c .before .loop-test .taken),
+      good-at (s .args .rows .now) (s .pre .0) (c .before .before .loop .i) (c .before .loop-test .taken) .inside,
     )
 
 add-sum : tie.Need-add-sum Inv-loop μ-loop
@@ -38,7 +38,7 @@ add-sum c = let s = c .before .before .before in
     omega (
       arith,
       s .pre .1,
-      row-fits (s .args .dimensions) (s .args .points .now) (s .args .rows .now) (s .pre .0) (c .before .before .loop .i) (c .before .loop-test .taken),
+      good-at (s .args .rows .now) (s .pre .0) (c .before .before .loop .i) (c .before .loop-test .taken) .inside,
     )
 
 mul-sum-2 : tie.Need-mul-sum-2 Inv-loop μ-loop
@@ -46,7 +46,7 @@ mul-sum-2 c = let s = c .before .before .before in
     omega (
       arith,
       s .pre .1,
-      row-fits (s .args .dimensions) (s .args .points .now) (s .args .rows .now) (s .pre .0) (c .before .before .loop .i) (c .before .loop-test .taken),
+      good-at (s .args .rows .now) (s .pre .0) (c .before .before .loop .i) (c .before .loop-test .taken) .inside,
     )
 
 shared-slice-read-sum : tie.Need-shared-slice-read-sum Inv-loop μ-loop
@@ -54,7 +54,7 @@ shared-slice-read-sum c = let s = c .before .before .before .before in
     omega (
       arith,
       s .pre .1,
-      row-fits (s .args .dimensions) (s .args .points .now) (s .args .rows .now) (s .pre .0) (c .before .before .before .loop .i) (c .before .before .loop-test .taken),
+      good-at (s .args .rows .now) (s .pre .0) (c .before .before .before .loop .i) (c .before .before .loop-test .taken) .inside,
     )
 
 add-i : tie.Need-add-i Inv-loop μ-loop
@@ -68,7 +68,7 @@ loop-again c = (omega (arith, c .before .before .loop-test .taken), summed-more 
 
 int-to-float-result : tie.Need-int-to-float-result Inv-loop μ-loop
 unfolding inFloat
-int-to-float-result c = le→leb (length (c .before .before .before .args .rows .now)) (2 ^ 53) (le-trans (c .before .before .before .pre .1 .1) (lit≤ tt))
+int-to-float-result c = le→leb (length (c .before .before .before .args .rows .now)) (2 ^ 53) (le-trans (c .before .before .before .pre .0 .few) (lit≤ tt))
 
 returns : tie.Need-returns Inv-loop μ-loop
 returns c = let l = c .before .before .loop in summed-all _ _ _ _ _ _ (le-antisymm (l .inv .0) (c .before .loop-test .left)) (l .inv .1)

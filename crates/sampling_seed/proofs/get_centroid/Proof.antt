@@ -21,7 +21,7 @@ loop-holds : tie.Need-loop-holds Inv-loop μ-loop
 loop-holds c = (omega arith, (refl, below-none _))
 
 centroid-axis-requires : tie.Need-centroid-axis-requires Inv-loop μ-loop
-centroid-axis-requires c κs = let s = c .before .before .before .before in (s .pre .0, (c .loop-test .taken, s .pre .1 .1))
+centroid-axis-requires c κs = let s = c .before .before .before .before in (s .pre .0, c .loop-test .taken)
 
 mul-center : tie.Need-mul-center Inv-loop μ-loop
 mul-center c = omega arith

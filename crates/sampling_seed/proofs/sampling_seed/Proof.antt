@@ -8,7 +8,7 @@ use native.Mathlib.Omega.{arith}
 use borrow.Author.Needs.{needs}
 use lib.ListN.{length}
 use Rattle.root_laws.specs.Sorts.{good}
-use Rattle.extents.proofs.Rows.{row-fits}
+use Rattle.rows.proofs.Good.{good-at}
 use Rattle.sampling_seed.proofs.Nearest.{fromCenter, center-square, center-good, Nearest, nearest-start, nearest-far, nearest-tie, nearest-less, nearest-end}
 use Rattle.sampling_seed.proofs.sampling_seed.Statement.{statement}
 use Rattle.sampling_seed.proofs.sampling_seed.Tie as tie
@@ -21,10 +21,10 @@ abbrev μ-loop : tie.MeasureT-loop
 μ-loop points dimensions rows center first best₀ low₀ near₀ i₀ best low near i = length rows - i
 
 get-centroid-requires : tie.Need-get-centroid-requires Inv-loop μ-loop
-get-centroid-requires c κs = let p = c .before .before .pre in (p .0, (p .1 .1 .0, p .1 .1 .2))
+get-centroid-requires c κs = let p = c .before .before .pre in (p .0, p .1)
 
 shared-slice-read-first : tie.Need-shared-slice-read-first Inv-loop μ-loop
-shared-slice-read-first c = c .before .before .before .before .pre .1 .1 .1
+shared-slice-read-first c = c .before .before .before .before .pre .2
 
 slice-aggregate-distance-sq-at : tie.Need-slice-aggregate-distance-sq-at Inv-loop μ-loop
 slice-aggregate-distance-sq-at c = search needs
@@ -34,13 +34,13 @@ mul-distance-sq-at c = let s = c .before .before .before .before .before in
     omega (
       arith,
       s .good,
-      row-fits (s .args .dimensions) (s .args .points .now) (s .args .rows .now) (s .pre .0) 0 (s .pre .1 .1 .1),
+      good-at (s .args .rows .now) (s .pre .0) 0 (s .pre .2) .inside,
     )
 
 distance-sq-at-requires : tie.Need-distance-sq-at-requires Inv-loop μ-loop
 distance-sq-at-requires c κs = let s = c .before .before .before .before .before in (
-  omega (arith, s .pre .1 .1 .0, c .before .before .get-centroid .ok),
-  row-fits (s .args .dimensions) (s .args .points .now) (s .args .rows .now) (s .pre .0) 0 (s .pre .1 .1 .1),
+  omega (arith, s .pre .1, c .before .before .get-centroid .ok),
+  good-at (s .args .rows .now) (s .pre .0) 0 (s .pre .2) .inside,
 )
 
 root-requires : tie.Need-root-requires Inv-loop μ-loop
@@ -51,9 +51,9 @@ loop-holds c = let s = c .before .before .before .before .before .before .before
     let a = s .args in
     let m = c .before .before .before .before .get-centroid in
     let v = fromCenter (a .dimensions) (a .points .now) (a .rows .now) in
-    let g = center-good (a .dimensions) (a .points .now) (a .rows .now) (s .pre .0) (s .pre .1 .0) (s .pre .1 .1 .1) (s .pre .1 .1 .2) in (
-      s .pre .1 .1 .1,
-      nearest-start v _ _ (g 0 (s .pre .1 .1 .1)) (center-square _ _ _ (m .result) 0 _ (m .ensures) (c .before .distance-sq-at .ensures)) (c .root .ensures),
+    let g = center-good (a .dimensions) (a .points .now) (a .rows .now) (s .pre .0) (s .pre .2) in (
+      s .pre .2,
+      nearest-start v _ _ (g 0 (s .pre .2)) (center-square _ _ _ (m .result) 0 _ (m .ensures) (c .before .distance-sq-at .ensures)) (c .root .ensures),
     )
 
 mul-row : tie.Need-mul-row Inv-loop μ-loop
@@ -70,13 +70,13 @@ mul-distance-sq-at-2 c = let s = c .before .before .before .before .before .befo
     omega (
       arith,
       s .good,
-      row-fits (s .args .dimensions) (s .args .points .now) (s .args .rows .now) (s .pre .0) (c .before .before .before .loop .i) (c .before .before .loop-test .taken),
+      good-at (s .args .rows .now) (s .pre .0) (c .before .before .before .loop .i) (c .before .before .loop-test .taken) .inside,
     )
 
 distance-sq-at-requires-2 : tie.Need-distance-sq-at-requires-2 Inv-loop μ-loop
 distance-sq-at-requires-2 c κs = let s = c .before .before .before .before .before .before .before .before .before .before .before in (
-  omega (arith, s .pre .1 .1 .0, c .before .before .before .before .before .before .before .before .get-centroid .ok),
-  row-fits (s .args .dimensions) (s .args .points .now) (s .args .rows .now) (s .pre .0) (c .before .before .before .loop .i) (c .before .before .loop-test .taken),
+  omega (arith, s .pre .1, c .before .before .before .before .before .before .before .before .get-centroid .ok),
+  good-at (s .args .rows .now) (s .pre .0) (c .before .before .before .loop .i) (c .before .before .loop-test .taken) .inside,
 )
 
 root-requires-2 : tie.Need-root-requires-2 Inv-loop μ-loop
@@ -93,7 +93,7 @@ loop-again c = let s = c .before .before .before .before .before .before .before
     let a = s .args in
     let m = c .before .before .before .before .before .before .before .before .before .before .get-centroid in
     let v = fromCenter (a .dimensions) (a .points .now) (a .rows .now) in
-    let g = center-good (a .dimensions) (a .points .now) (a .rows .now) (s .pre .0) (s .pre .1 .0) (s .pre .1 .1 .1) (s .pre .1 .1 .2) in
+    let g = center-good (a .dimensions) (a .points .now) (a .rows .now) (s .pre .0) (s .pre .2) in
     let l = c .before .before .before .before .before .loop in
     let h = c .before .before .before .before .loop-test .taken in
     let q = c .before .distance-sq-at2 in

@@ -9,7 +9,7 @@ use lib.ListN.{length}
 use lib.Ieee.{Float}
 use Rattle.definition.specs.Points.{coordinate}
 use Rattle.extents.specs.Sides.{beyond}
-use Rattle.extents.proofs.Rows.{row-fits}
+use Rattle.rows.proofs.Good.{row-fits}
 use Rattle.extents.proofs.Firsts.{bestIn, bound-first, bound-yes, bound-no, bound-end}
 use Rattle.extents.proofs.bounds.bound.Statement.{statement}
 use Rattle.extents.proofs.bounds.bound.Tie as tie

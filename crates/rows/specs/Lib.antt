@@ -1,0 +1,2 @@
+-- What the contracts over rows cite.
+pub mod Rows
