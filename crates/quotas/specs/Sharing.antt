@@ -6,7 +6,7 @@ use mathlib.Core.List.{List, map}
 use lib.ListN.{length}
 use Rattle.lists.specs.Lists.{total, from}
 use Rattle.definition.specs.Quotas.{sizeAt, remainderAt, seatsAt}
-use Rattle.definition.proofs.SeatCut.{above, CutBy}
+use Rattle.definition.specs.SeatCut.{above, CutBy}
 
 -- the capacities that remain
 abbrev pub capacities : List ℕ → ℕ → List ℕ

@@ -2,7 +2,7 @@
 ghost use mathlib.Core.Path.{_≡_};
 ghost use lib.ListN.{length, take};
 ghost use lib.Dec.{eqb};
-ghost use Prim.Native.Nat.{ℕ, _-_, _*_, _≤_, _<_, min, max};
+ghost use Prim.Native.Nat.{ℕ, _+_, _-_, _*_, _≤_, _<_, min, max};
 ghost use Rattle.lists.specs.Lists.{oneIf, total};
 ghost use Rattle.definition.specs.Quotas.{sizeAt, nonempty, leftover, quotasFor};
 ghost use Rattle.definition.specs.Refusals.{mostPoints};
