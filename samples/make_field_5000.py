@@ -39,13 +39,14 @@ def wells(r):
             yield r.uniform(0, 20000), r.uniform(0, 14000)
 
 
-def main():
-    r = random.Random(SEED)
-    with open(os.path.join(HERE, "field_5000.csv"), "w", encoding="utf-8", newline="\n") as f:
-        f.write("# 5,000 wells along a made-up river, by samples/make_field_5000.py.\nleaf,64\nneighbours,16\nfactor,8\ncoarse,200\nwell,x,y\n")
-        for i, (x, y) in enumerate(wells(r), 1):
-            f.write(f"P{i:04d},{x:.1f},{y:.1f}\n")
+def table():
+    """The table as text."""
+    lines = ["# 5,000 wells along a made-up river, by samples/make_field_5000.py.", "leaf,64", "neighbours,16", "factor,8", "coarse,200",
+             "well,x,y"]
+    lines += [f"P{i:04d},{x:.1f},{y:.1f}" for i, (x, y) in enumerate(wells(random.Random(SEED)), 1)]
+    return "\n".join(lines) + "\n"
 
 
 if __name__ == "__main__":
-    main()
+    with open(os.path.join(HERE, "field_5000.csv"), "w", encoding="utf-8", newline="\n") as f:
+        f.write(table())

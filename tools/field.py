@@ -51,7 +51,7 @@ def work(argv):
     parser.add_argument("-o", "--output", metavar="FOLDER", default=".", help="where the pictures go (where not given: here)")
     parser.add_argument("--links", action="store_true", help="draw what each leaf borrows (up to 150 wells)")
     parser.add_argument("--rows", action="store_true", help="write rows instead of the table's names")
-    args = parser.parse_args(argv)
+    args = parser.parse_intermixed_args(argv)
     table, settings, taken = make_job.table_of(args, job_settings.LIBRARY)
     levels = built(table, settings).levels
     name = namer(table, args.rows)

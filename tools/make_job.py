@@ -67,7 +67,7 @@ def table_of(args, limits):
 def work(argv):
     parser = options("make_job.py", __doc__)
     parser.add_argument("-o", "--output", metavar="JOB", help="where the job stream goes (where not given: standard output)")
-    args = parser.parse_args(argv)
+    args = parser.parse_intermixed_args(argv)
     table, settings, _ = table_of(args, job_settings.PROGRAM)
     data = job_stream.pack(job_stream.Job(settings, table.dimension, table.coordinates))
     if args.output:

@@ -70,7 +70,7 @@ def store(folder, field, text, with_links):
 
 
 def work(argv):
-    args = options().parse_args(argv)
+    args = options().parse_intermixed_args(argv)
     job = job_stream.unpack(read_bytes(args.job))
     table = table_of(args, job)
     name = namer(table, args.rows)

@@ -57,3 +57,10 @@ class InFolder(unittest.TestCase):
 def sample(name):
     with open(os.path.join(SAMPLES, name), "rb") as f:
         return f.read()
+
+
+def need_library():
+    """For setUpModule: a library to test with, or a word that there is none."""
+    sys.path.append(os.path.join(ROOT, "python", "tests"))
+    import linked_library
+    linked_library.need_library()
