@@ -72,16 +72,16 @@ def heading(level):
 def entries(field, level, with_links):
     """What the legend has to explain."""
     if level.coarse:
-        out = [("pale" if field.dots else "outline", "a well of the coarse domain")]
+        out = [("dark" if field.dots else "outline", "a well of the coarse domain")]
     elif field.dots:
         out = [("box", "a leaf and its number"), ("pale", "a well"), ("dark", "a well that is sent up")]
     else:
         out = [("box", "a leaf and its number"), ("outline", "outline: a well that stays"), ("filled", "filled: a well that is sent up")]
         if with_links:
             out.append(("dashed", "dashed: from a leaf to a well that it borrows"))
-    if field.dots:
+    if field.dots and len({field.point(row) for row in level.active}) < len(level.active):
         out.append(("ring", "ring: several wells at one place"))
-    elif len(level.active) < len(field.columns[0]):
+    elif not field.dots and len(level.active) < len(field.columns[0]):
         out.append(("grey", "a well that is not active on this level"))
     return out
 
@@ -158,8 +158,9 @@ def dotted(field, level, plane):
     placer = Placer(plane.left, plane.top, plane.left + plane.wide, plane.top + plane.high)
     out = [drawn(i, area, True, field.tint) for i, area in enumerate(areas)]
     out += [part for i, area in enumerate(areas) for part in small_number(placer, i, area)]
-    out += dots(field, plane, [row for row in level.active if row not in level.sent], "#8ab", 2.2)
-    out += dots(field, plane, sorted(level.sent), "#111", 2.8)
+    dark = set(level.active) if level.coarse else level.sent
+    out += dots(field, plane, [row for row in level.active if row not in dark], "#8ab", 2.2)
+    out += dots(field, plane, sorted(dark), "#111", 2.8)
     out += [svg.circle(x, y, 4.5, fill="none", stroke="#c00", stroke_width=0.8, class_="ring")
             for x, y in crowded(plane, field.point, level.active)]
     return out

@@ -1,7 +1,7 @@
 """Where wells stand in a picture. Nested wells, which share a place or nearly so, are fanned out around it."""
 import math
 
-APART = 9    # wells that stand nearer than this in the picture are nested
+APART = 5    # wells that stand nearer than this in the picture are nested
 TURN = 2.4   # the angle from one fanned well to the next
 FAN = 10     # how far the first stands from the place
 
