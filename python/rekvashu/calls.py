@@ -70,13 +70,13 @@ def sample(points, wanted, seed, *, dimension=None):
     result = slot(layout.SAMPLE_SLOT)
     number = load().ddm_sample(given.c, given.length, given.dimension, wanted, seed, out.c, out.entries, floats.c, floats.entries,
                                wholes.c, wholes.entries, result, len(result))
-    passed(number, result[layout.SLOT_PLACE])
+    passed(number, result[layout.SAMPLE_PLACE])
     return out.cut(result[layout.SAMPLE_WRITTEN])[:]
 
 
 def level_size(active, threshold, reductions):
     """The size of the next level, of this many active rows at the threshold with so many reductions left."""
-    result = slot(layout.SIZE_SLOT)
+    result = slot(layout.LEVEL_SIZE_SLOT)
     passed(load().ddm_level_size(size("active", active), uint32("threshold", threshold), uint32("reductions", reductions), result,
                                  len(result)))
     return result[0]

@@ -5,12 +5,17 @@ LISTS = ("level_points", "internals", "domains", "boxes", "borrowed", "floats", 
 
 # A domain row: its numbers, and the floats that belong to it.
 ROW_NUMBERS = 4
-OWN_START, OWN_COUNT, BORROWED_START, BORROWED_COUNT = range(4)
+COLUMN_OWN_START, COLUMN_OWN_COUNT, COLUMN_BORROWED_START, COLUMN_BORROWED_COUNT = range(4)
+
+
+def box_floats(dimension):
+    """A box: the lower bounds by axis, then the upper ones."""
+    return 2 * dimension
 
 
 def row_floats(dimension):
-    """A box: the lower bounds by axis, then the upper ones."""
-    return 2 * dimension
+    """What a domain row has among the boxes: the box comes first."""
+    return box_floats(dimension)
 
 
 # The slot of a build: place, levels, rows of each level, domains of each level.
@@ -19,11 +24,12 @@ SLOT_PLACE, SLOT_LEVELS, SLOT_ROWS = 0, 1, 2
 SLOT_DOMAINS = SLOT_ROWS + MOST_LEVELS
 BUILD_SLOT = SLOT_DOMAINS + MOST_LEVELS
 
-# The slots of the other calls. Sampling's is place, rows written; the quotas' is entries written, seats.
-SAMPLE_SLOT, SAMPLE_WRITTEN = 2, 1
-SIZE_SLOT = 1
-QUOTA_SLOT, QUOTA_WRITTEN = 2, 0
-ROOT_SLOT = 1
+# Sampling's slot, and that of the quotas.
+SAMPLE_PLACE, SAMPLE_WRITTEN, SAMPLE_SLOT = 0, 1, 2
+QUOTA_WRITTEN, QUOTA_SEATS, QUOTA_SLOT = 0, 1, 2
+
+# The level size and the root are one value; the sizes are one for each list.
+LEVEL_SIZE_SLOT = ROOT_SLOT = 1
 SIZES_SLOT = len(LISTS)
 
 

@@ -7,6 +7,8 @@ try:
 except ImportError:
     numpy = None
 
+# Room is not set aside for pages before they are touched.
+MAPPED = mmap.MAP_PRIVATE | mmap.MAP_ANONYMOUS | getattr(mmap, "MAP_NORESERVE", 0) if hasattr(mmap, "MAP_PRIVATE") else 0
 FORMATS = {ctypes.c_size_t: "N", ctypes.c_double: "d"}
 
 
@@ -16,7 +18,7 @@ class Lent:
     def __init__(self, kind, entries):
         self.kind, self.entries = kind, entries
         try:
-            self.pages = mmap.mmap(-1, max(1, entries) * ctypes.sizeof(kind), flags=mmap.MAP_PRIVATE | mmap.MAP_ANONYMOUS)
+            self.pages = mmap.mmap(-1, max(1, entries) * ctypes.sizeof(kind), flags=MAPPED)
         except (OSError, OverflowError, ValueError):
             raise MemoryError(f"there is no memory for a list of {entries} entries") from None
         self.c = (kind * max(1, entries)).from_buffer(self.pages)

@@ -25,7 +25,7 @@ class Packed:
         return [int(x) for x in self.domains[at + first:at + last + 1]]
 
     def borrowed_end(self, domain):
-        start, count = self.numbers(domain, layout.BORROWED_START, layout.BORROWED_COUNT)
+        start, count = self.numbers(domain, layout.COLUMN_BORROWED_START, layout.COLUMN_BORROWED_COUNT)
         return start + count
 
 
@@ -90,12 +90,12 @@ class Leaf:
 
     @property
     def own(self):
-        start, count = self._packed.numbers(self._domain, layout.OWN_START, layout.OWN_COUNT)
+        start, count = self._packed.numbers(self._domain, layout.COLUMN_OWN_START, layout.COLUMN_OWN_COUNT)
         return self._packed.internals[start:start + count]
 
     @property
     def borrowed(self):
-        start, count = self._packed.numbers(self._domain, layout.BORROWED_START, layout.BORROWED_COUNT)
+        start, count = self._packed.numbers(self._domain, layout.COLUMN_BORROWED_START, layout.COLUMN_BORROWED_COUNT)
         return self._packed.borrowed[start:start + count]
 
     @property
@@ -105,7 +105,7 @@ class Leaf:
             return None
         dimension = self._packed.dimension
         at = layout.row_floats(dimension) * self._domain
-        return self._packed.boxes[at:at + dimension], self._packed.boxes[at + dimension:at + 2 * dimension]
+        return self._packed.boxes[at:at + dimension], self._packed.boxes[at + dimension:at + layout.box_floats(dimension)]
 
     def __repr__(self):
         return f"<Leaf {self.number}: own {list(map(int, self.own))}, borrowed {list(map(int, self.borrowed))}>"

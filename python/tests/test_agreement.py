@@ -1,16 +1,17 @@
-"""The package's table of refusals, its strides and its functions against README.md and c/ddm.h. No library is needed."""
+"""The package's sentences, strides and functions against c/ddm.h and README.md. No library is needed."""
 import os
 import re
 import unittest
 
 import support
 
-from rekvashu import layout, library, refusals
+from rekvashu import layout, library, refusals, settings, version
 
-# A word of each refusal that every text has to have.
-WORDS = {1: "dimension", 2: "leaf threshold", 3: "factor", 4: "coarse threshold", 5: "neighbour", 6: "no points", 7: "coordinate",
-         8: "1,048,576", 9: "factor", 10: "infinite", 11: "short", 12: "past its list", 13: "seed", 14: "threshold", 15: "root",
-         16: "stream", 17: "32 points"}
+# The header's names, and what they are called here.
+NAMED = {name: getattr(layout, name) for name in dir(layout) if name.isupper() and name != "LISTS"}
+NAMED.update({f"SIZES_{name.upper()}": i for i, name in enumerate(layout.LISTS)})
+NAMED.update({name: getattr(settings, name) for name in ("MOST_POINTS", "MOST_NEIGHBOURS", "POLICY_AUTO", "POLICY_FIXED")})
+NAMED["VERSION"] = version.NUMBER
 
 
 def text_of(*names):
@@ -18,60 +19,50 @@ def text_of(*names):
         return f.read()
 
 
-def section(text, mender):
-    """What a text says after naming who can mend it, up to the next one named."""
-    flat = re.sub(r"\s*\n[ *|]*", "   ", text)
-    start = flat.index(mender) + len(mender)
-    others = [flat.find(other, start) for other in (refusals.SETTER, refusals.BRINGER, refusals.CALLER, refusals.FEEDER) if other != mender]
-    return flat[start:min([at for at in others if at >= 0], default=len(flat))]
-
-
-def items(part):
-    """Number to words, of a list such as `1 one thing; 2 another` or with wide spaces between."""
-    found = {}
-    for item in re.split(r";|\s{3,}|\|", part):
-        match = re.match(r"\s*:?\s*(\d+) (.*)", item)
-        if match:
-            found.setdefault(int(match.group(1)), match.group(2))
-    return found
-
-
-class Refusals(unittest.TestCase):
-    def test_each_sentence_has_its_word(self):
-        self.assertEqual(set(refusals.REFUSALS), set(WORDS))
-        for number, (sentence, _) in refusals.REFUSALS.items():
-            self.assertIn(WORDS[number], sentence)
-
-    def agree(self, text, menders):
-        for mender in menders:
-            said = items(section(text, mender))
-            for number, (_, who) in refusals.REFUSALS.items():
-                if who == mender:
-                    self.assertIn(number, said, f"{mender}: {said}")
-                    self.assertIn(WORDS[number].split()[0], said[number])
-
-    def test_readme(self):
-        text = text_of("README.md")
-        self.agree(text[text.index("## Refusals"):], [refusals.SETTER, refusals.BRINGER, refusals.CALLER, refusals.FEEDER])
-
-    def test_header(self):
-        text = text_of("c", "ddm.h")
-        self.agree(text[text.index("Refusal numbers"):text.index("#ifndef")], [refusals.SETTER, refusals.BRINGER, refusals.CALLER])
+def header():
+    """The header without its comments."""
+    return re.sub(r"/\*.*?\*/", "", text_of("c", "ddm.h"), flags=re.S)
 
 
 class Header(unittest.TestCase):
-    def test_functions_are_declared(self):
-        code = re.sub(r"/\*.*?\*/", "", text_of("c", "ddm.h"), flags=re.S)
-        declared = set(re.findall(r"\b(ddm_\w+)\s*\(", code))
-        self.assertLessEqual(set(library.FUNCTIONS), declared)
+    def test_functions(self):
+        code = re.sub(r"static inline.*?\n}", "", header(), flags=re.S)
+        self.assertEqual(set(re.findall(r"\b(ddm_\w+)\s*\(", code)), set(library.FUNCTIONS))
 
-    def test_strides_and_slots(self):
-        code = re.sub(r"/\*.*?\*/", "", text_of("c", "ddm.h"), flags=re.S)
-        values = dict(re.findall(r"#define DDM_(\w+) (\d+)\s", code))
-        named = {"ROW_NUMBERS", "BUILD_SLOT", "SAMPLE_SLOT", "SIZE_SLOT", "QUOTA_SLOT", "SLOT_PLACE", "SLOT_LEVELS", "SLOT_ROWS",
-                 "SLOT_DOMAINS", "MOST_LEVELS"} & set(values)
-        self.assertIn("BUILD_SLOT", named)
-        self.assertEqual({n: getattr(layout, n) for n in named}, {n: int(values[n]) for n in named})
+    def test_arguments(self):
+        """As many arguments as the header has, floats and pointers where it has them."""
+        for name, arguments in library.FUNCTIONS.items():
+            words = re.search(rf"\b{name}\s*\(([^)]*)\)", header()).group(1)
+            kinds = [] if words == "void" else [re.sub(r"\bconst\b|\w+$", "", word).replace(" ", "") for word in words.split(",")]
+            ours = [{library.SIZE: "size_t", library.UINT32: "uint32_t", library.DOUBLE: "double", library.WHOLES[0]: "size_t*",
+                     library.FLOATS[0]: "double*"}[a] for a in arguments]
+            self.assertEqual(kinds, ours, name)
+
+    def test_strides_slots_and_limits(self):
+        defined = dict(re.findall(r"#define DDM_(\w+) (.+)", header()))
+        said = {name: int(eval(value.replace("DDM_", ""), {n: eval(v) for n, v in defined.items() if v.isdigit()} | NAMED))
+                for name, value in defined.items() if "(" not in name}
+        self.assertEqual(said, NAMED)
+        for d in (1, 2, 3):
+            for name, ours in (("BOX_FLOATS", layout.box_floats), ("ROW_FLOATS", layout.row_floats)):
+                words = re.search(rf"#define DDM_{name}\(dimensions\) (.+)", header()).group(1)
+                self.assertEqual(eval(words, {"dimensions": d, "DDM_BOX_FLOATS": layout.box_floats}), ours(d))
+
+    def test_sentences(self):
+        said = {int(number): words for number, words in re.findall(r'case (\d+): return "(.*)";', header())}
+        said.pop(0, None)
+        self.assertEqual(said, {number: words for number, (words, _) in refusals.REFUSALS.items()})
+
+
+class Readme(unittest.TestCase):
+    def test_who_can_mend_it(self):
+        text = text_of("README.md")
+        rows = re.findall(r"^\| (who\w+ .*?|the calling program) \| (.*?) \|$", text[text.index("## Refusals"):], flags=re.M)
+        said = {mender: sorted(int(re.match(r"\d+", item.strip()).group()) for item in items.split(";")) for mender, items in rows}
+        ours = {}
+        for number, (_, mender) in refusals.REFUSALS.items():
+            ours.setdefault(mender, []).append(number)
+        self.assertEqual(said, {mender: sorted(numbers) for mender, numbers in ours.items()})
 
 
 if __name__ == "__main__":
