@@ -33,7 +33,7 @@ class Header(unittest.TestCase):
         """As many arguments as the header has, floats and pointers where it has them."""
         for name, arguments in library.FUNCTIONS.items():
             words = re.search(rf"\b{name}\s*\(([^)]*)\)", header()).group(1)
-            kinds = [] if words == "void" else [re.sub(r"\bconst\b|\w+$", "", word).replace(" ", "") for word in words.split(",")]
+            kinds = [] if words == "void" else [re.sub(r"\bconst\b|\w+$|\s", "", word) for word in words.split(",")]
             ours = [{library.SIZE: "size_t", library.UINT32: "uint32_t", library.DOUBLE: "double", library.WHOLES[0]: "size_t*",
                      library.FLOATS[0]: "double*"}[a] for a in arguments]
             self.assertEqual(kinds, ours, name)

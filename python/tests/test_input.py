@@ -1,6 +1,10 @@
 """What comes in: shapes, types and ranges are tested, and nothing is copied twice. What comes out can't be written."""
 import array
 import ctypes
+import inspect
+import os
+import subprocess
+import sys
 import unittest
 
 import support
@@ -8,6 +12,7 @@ from support import NUMPY, both, plain
 
 import rekvashu
 from rekvashu.coordinates import coordinates
+from rekvashu.lent import Lent
 
 setUpModule = support.need_library
 
@@ -63,6 +68,10 @@ class Wrong(unittest.TestCase):
 
 
 class Given(unittest.TestCase):
+    def test_what_is_taken_where_nothing_is_given(self):
+        taken = {name: p.default for name, p in inspect.signature(rekvashu.build).parameters.items()}
+        self.assertEqual(list(taken.items())[1:5], [("leaf", 256), ("neighbours", 16), ("factor", 128), ("coarse", "auto")])
+
     @both
     def test_the_same_points_in_many_forms(self):
         flat = [0.0, 0.0, 5.0, 1.0, 2.0, 8.0]
@@ -79,6 +88,35 @@ class Given(unittest.TestCase):
         flat = array.array("d", [0.0, 1.0])
         given = coordinates(flat)
         self.assertEqual(ctypes.addressof(given.c), flat.buffer_info()[0])
+
+
+class Room(unittest.TestCase):
+    def test_settings_are_judged_before_room_is_asked_for(self):
+        """Under a limit of memory that the lists of 1,048,576 points do not fit."""
+        code = """
+import resource, sys
+sys.path.insert(0, sys.argv[1])
+import rekvashu
+rekvashu.library_version()
+points = memoryview(bytes(8 * 1_048_576)).cast("d")
+resource.setrlimit(resource.RLIMIT_AS, (400 << 20, 400 << 20))
+for settings in ({"leaf": 0}, {}):
+    try:
+        rekvashu.build(points, **settings)
+    except (rekvashu.Refusal, MemoryError) as error:
+        print(type(error).__name__, error)
+"""
+        done = subprocess.run([sys.executable, "-c", code, os.path.join(support.ROOT, "python")], capture_output=True, text=True,
+                              env={**os.environ, "OPENBLAS_NUM_THREADS": "1"})
+        self.assertEqual(done.stderr, "")
+        refused, room = done.stdout.splitlines()
+        self.assertTrue(refused.startswith("Refusal refused 2 at 0"))
+        self.assertTrue(room.startswith("MemoryError there is no memory for a list of"))
+
+    def test_a_list_that_no_memory_holds(self):
+        for entries in (2 ** 50, 2 ** 62):
+            with self.assertRaises(MemoryError):
+                Lent(ctypes.c_size_t, entries)
 
 
 class Views(unittest.TestCase):
