@@ -13,12 +13,10 @@ exit status: 0 made, 1 the table is refused (what is wrong is said with its line
 import sys
 
 import estimate
-import make_job
-import settings as job_settings
-from picture import Field
+from drawing.picture import Field
+from output import namer, put_out
 from progress import with_progress
-from summary import summary
-from view_tree import SHOWN, namer, store
+from reading import command, settings as job_settings
 from wrong import Wrong, WrongUse, run
 
 import rekvashu
@@ -47,18 +45,14 @@ def built(table, settings):
 
 
 def work(argv):
-    parser = make_job.options("field.py", __doc__)
+    parser = command.options("field.py", __doc__)
     parser.add_argument("-o", "--output", metavar="FOLDER", default=".", help="where the pictures go (where not given: here)")
     parser.add_argument("--links", action="store_true", help="draw what each leaf borrows (up to 150 wells)")
     parser.add_argument("--rows", action="store_true", help="write rows instead of the table's names")
     args = parser.parse_intermixed_args(argv)
-    table, settings, taken = make_job.table_of(args, job_settings.LIBRARY)
-    levels = built(table, settings).levels
-    name = namer(table, args.rows)
-    field = Field(table.dimension, table.coordinates, levels, name)
-    text = summary(settings, table.dimension, levels, name, taken)
-    store(args.output, field, text, args.links)
-    sys.stdout.write(summary(settings, table.dimension, levels, name, taken, most=SHOWN))
+    table, settings, taken = command.table_of(args, job_settings.LIBRARY)
+    field = Field(table.dimension, table.coordinates, built(table, settings).levels, namer(table, args.rows))
+    put_out(args.output, field, settings, args.links, taken)
 
 
 def main(argv):

@@ -19,56 +19,18 @@ where not given: leaf 256, neighbours 16, factor 128, coarse auto (the wells / 3
 sees one coarse level then, so give a small coarse).
 exit status: 0 made, 1 the table is refused (what is wrong is said with its line, and nothing is written), 2 wrong use.
 """
-import argparse
 import sys
 
-import job_stream
-import settings as job_settings
-import wells
-from rekvashu.version import VERSION
-from wrong import Wrong, WrongUse, run, write_bytes
-
-
-def options(tool, text):
-    """The options that all tools which read a table share."""
-    parser = argparse.ArgumentParser(prog=tool, description=text, formatter_class=argparse.RawDescriptionHelpFormatter)
-    parser.add_argument("table", metavar="TABLE", help="the CSV table of wells")
-    parser.add_argument("--version", action="version", version=f"{tool} {VERSION}")
-    parser.add_argument("--columns", metavar="NAME,X[,Y[,Z]]",
-                        help="read these columns of the table instead of well,x,y,z ('-' for no names), and pass over the others")
-    for name, words in job_settings.NAMES.items():
-        parser.add_argument(f"--{name}", metavar="N", help=f"the {words} (where not given: {job_settings.DEFAULTS[name]})")
-    return parser
-
-
-def table_of(args, limits):
-    """The table of a command, all settings, refused where the build would refuse them, and the names of those taken, which are said."""
-    columns = None if args.columns is None else args.columns.split(",")
-    if columns is not None and not 2 <= len(columns) <= 4:
-        raise WrongUse("--columns names the wells' names and one to three axes, as in --columns id,easting,northing")
-    try:
-        given = {n: job_settings.Setting(job_settings.value_of(n, v, f"--{n}"), f"--{n}")
-                 for n, v in vars(args).items() if n in job_settings.NAMES and v is not None}
-    except Wrong as wrong:
-        raise WrongUse(str(wrong)) from None
-    try:
-        table = wells.read(args.table, limits, columns)
-        given = {**table.settings, **given}
-        settings = job_settings.taken(given)
-        job_settings.refuse(settings, len(table), limits)
-    except Wrong as wrong:
-        raise Wrong(f"{args.table}, {wrong}") from None
-    notes = [f"columns passed over: {', '.join(table.passed)}"] if table.passed else []
-    for note in notes + job_settings.notes(given, job_settings.values(settings), len(table)):
-        print(note, file=sys.stderr)
-    return table, job_settings.values(settings), job_settings.not_given(given)
+from reading import command, job_stream
+from reading.settings import PROGRAM
+from wrong import run, write_bytes
 
 
 def work(argv):
-    parser = options("make_job.py", __doc__)
+    parser = command.options("make_job.py", __doc__)
     parser.add_argument("-o", "--output", metavar="JOB", help="where the job stream goes (where not given: standard output)")
     args = parser.parse_intermixed_args(argv)
-    table, settings, _ = table_of(args, job_settings.PROGRAM)
+    table, settings, _ = command.table_of(args, PROGRAM)
     data = job_stream.pack(job_stream.Job(settings, table.dimension, table.coordinates))
     if args.output:
         write_bytes(args.output, data)

@@ -1,7 +1,8 @@
 """A tree in the wall sheet's three lines: A the settings and what they come to, B who owns each well, C what each leaf sends up."""
 from collections import Counter
 
-import settings as job_settings
+from reading import settings as job_settings
+from rows import rows_of
 
 
 def summary(values, dimension, levels, name, taken=(), most=None):
@@ -38,11 +39,6 @@ def span(numbers):
 
 def counted(number, one, many):
     return f"{number:,} {one if number == 1 else many}"
-
-
-def rows_of(view):
-    """Rows as plain numbers."""
-    return view.tolist() if hasattr(view, "tolist") else view
 
 
 def owner_lines(number, level, name, coarse, most):

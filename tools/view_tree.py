@@ -10,20 +10,14 @@ The summary has the wall sheet's lines: A the settings and what they come to, B 
 exit status: 0 made, 1 refused (a printout that is not whole, that does not belong to the job, or that is a refusal), 2 wrong use.
 """
 import argparse
-import os
 import sys
 
-import belonging
-import job_stream
-import settings as job_settings
-import tree_text
-import wells
-from picture import Field, picture
+from drawing.picture import Field
+from output import namer, put_out
+from reading import belonging, command, job_stream, tree_text, wells
+from reading.settings import PROGRAM
 from rekvashu.version import VERSION
-from summary import summary
-from wrong import Wrong, cannot, read_bytes, run, write_bytes
-
-SHOWN = 20   # detail lines of a level on the screen; the file has all
+from wrong import Wrong, read_bytes, run
 
 
 def options():
@@ -39,34 +33,16 @@ def options():
     return parser
 
 
-def namer(table, rows):
-    """The words for a row: the table's name for it, or the row."""
-    if table is None or table.names is None or rows:
-        return str
-    return table.names.__getitem__
-
-
 def table_of(args, job):
     """The table of a job, or None."""
     if args.table is None:
         return None
     try:
-        table = wells.read(args.table, job_settings.PROGRAM, args.columns and args.columns.split(","))
+        table = wells.read(args.table, PROGRAM, command.columns_of(args))
     except Wrong as wrong:
         raise Wrong(f"{args.table}, {wrong}") from None
     belonging.check_table(job, table)
     return table
-
-
-def store(folder, field, text, with_links):
-    """Writes the pictures and the summary."""
-    try:
-        os.makedirs(folder, exist_ok=True)
-    except (OSError, ValueError) as error:
-        raise cannot("made", folder, error) from None
-    for number in range(len(field.levels)):
-        write_bytes(os.path.join(folder, f"level{number}.svg"), picture(field, number, with_links).encode("utf-8"))
-    write_bytes(os.path.join(folder, "summary.txt"), text.encode("utf-8"))
 
 
 def work(argv):
@@ -79,9 +55,7 @@ def work(argv):
     except tree_text.Refused as refused:
         raise belonging.named_refusal(refused, job, name) from None
     belonging.check_tree(job, levels)
-    field = Field(job.dimension, job.coordinates, levels, name)
-    store(args.output, field, summary(job.settings, job.dimension, levels, name), args.links)
-    sys.stdout.write(summary(job.settings, job.dimension, levels, name, most=SHOWN))
+    put_out(args.output, Field(job.dimension, job.coordinates, levels, name), job.settings, args.links)
 
 
 def main(argv):

@@ -1,6 +1,7 @@
 """What each refusal number means, once, for the package and for the tools."""
 
-SETTER, BRINGER, CALLER, FEEDER = "whoever sets the station", "whoever brings the points", "the calling program", "whoever feeds the program"
+SETTER, BRINGER = "whoever sets the station", "whoever brings the points"
+CALLER, FEEDER = "the calling program", "whoever feeds the program"
 
 # number: (what is wrong, who can mend it)
 REFUSALS = {

@@ -1,6 +1,4 @@
 """Every refusal comes back as a Refusal with its number and place, and the sentences agree with README.md and c/ddm.h."""
-import os
-import re
 import unittest
 
 import support

@@ -7,8 +7,8 @@ import support
 import make_job
 import view_tree
 
-BITS = [b",", b",,", b";", b"\n", b"\r", b"\"", b"#", b"\0", b"nan", b"1e999", b"-", b"\xff", b"\xc3\xa9", b"leaf,", b"coarse,0\n", b"well", b"x", b"9" * 30,
-        b" ", b"\t", b"levels ", b"refused 3 at 1\n", b"domain ", b"ST", b"PT", b"\xe2\x80\xa8", b"W01", b"7ff0000000000000"]
+BITS = [b",", b",,", b";", b"\n", b"\r", b"\"", b"#", b"\0", b"nan", b"1e999", b"-", b"\xff", b"\xc3\xa9", b"leaf,", b"coarse,0\n", b"well",
+        b"x", b"9" * 30, b" ", b"\t", b"levels ", b"refused 3 at 1\n", b"domain ", b"ST", b"PT", b"\xe2\x80\xa8", b"W01", b"7ff0000000000000"]
 
 
 def changed(r, data):
@@ -41,7 +41,7 @@ class AnyInput(support.InFolder):
     def test_tables(self):
         r, statuses = random.Random(1), set()
         tables = [support.sample("field_32.csv"), support.sample("four_wells.csv")]
-        for _ in range(1500):
+        for _ in range(400):
             said = support.said_by(make_job.main, self.write("t.csv", changed(r, r.choice(tables))), "-o", self.path("job"))
             self.check(said)
             statuses.add(said[0])
@@ -50,7 +50,7 @@ class AnyInput(support.InFolder):
     def test_jobs_and_printouts(self):
         r, statuses = random.Random(2), set()
         job, text, table = (support.sample("four_wells" + end) for end in (".job", ".txt", ".csv"))
-        for _ in range(1500):
+        for _ in range(400):
             files = [job, text, table]
             which = r.randrange(3)
             files[which] = changed(r, files[which])

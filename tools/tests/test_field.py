@@ -11,8 +11,7 @@ from bad_tables import BAD
 import estimate
 import field
 import progress
-import settings
-import wells
+from reading import settings, wells
 from wrong import Wrong, run
 
 setUpModule = support.need_library

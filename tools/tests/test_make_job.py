@@ -7,8 +7,7 @@ import support
 from bad_tables import BAD
 
 import make_job
-import settings
-import wells
+from reading import settings, wells
 from wrong import Wrong
 
 FOUR = os.path.join(support.SAMPLES, "four_wells.csv")

@@ -4,12 +4,12 @@ import unittest
 
 import support
 
-import job_stream
+from reading import job_stream
 import model
 import summary
 import view_tree
 from rekvashu.refusals import REFUSALS
-from tree_text import Leaf, Level
+from reading.tree_text import Leaf, Level
 
 
 def sample(name):
@@ -70,8 +70,18 @@ class Together(Viewing):
 
     def test_outer_box(self):
         job = job_stream.unpack(support.sample("four_wells.job"))
-        other = job_stream.pack(job._replace(coordinates=[0.0, 1.0, 3.0, 8.0]))
-        self.assertIn("reach from [0.0] to [8.0]", self.refused(other, support.sample("four_wells.txt")))
+        for last in (8.0, 6.0):
+            other = job_stream.pack(job._replace(coordinates=[0.0, 1.0, 3.0, last]))
+            self.assertIn(f"reach from [0.0] to [{last}]", self.refused(other, support.sample("four_wells.txt")))
+        inner = support.sample("four_wells.txt").replace(b"box 3ff0000000000000 4008", b"box 7ff8000000000000 4008")
+        self.assertIn("leaf 1 of level 0 from [nan]", self.refused(support.sample("four_wells.job"), inner))
+
+    def test_coordinates_that_the_program_refuses(self):
+        job = job_stream.unpack(support.sample("four_wells.job"))
+        for value in (float("nan"), float("inf")):
+            other = job_stream.pack(job._replace(coordinates=[0.0, 1.0, 3.0, value]))
+            self.assertIn("refusal 10", self.refused(other, support.sample("four_wells.txt")))
+            self.assertIn("refusal 10", self.refused(other, b"levels 1\nlevel 0 points 0 1 2 3\ndomain 0 internal 0 1 2 3 overlap - box -\n"))
 
     def test_settings(self):
         job = job_stream.unpack(support.sample("field_32.job"))

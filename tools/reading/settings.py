@@ -2,7 +2,6 @@
 import re
 from collections import namedtuple
 
-import repository  # noqa: F401  (puts the package on the path)
 import model
 from rekvashu import settings as library
 from rekvashu.refusals import REFUSALS

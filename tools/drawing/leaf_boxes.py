@@ -1,7 +1,7 @@
 """The leaves of a level in a picture. A leaf without width is drawn as a narrow strip, so that it stays visible."""
 from collections import Counter
 
-import svg
+from drawing import svg
 
 COLOURS = ["#1b6ca8", "#b5651d", "#2e7d32", "#7b1fa2", "#c2185b", "#00838f", "#5d4037", "#455a64"]
 LEAST = 6       # pixels: nothing is drawn narrower

@@ -1,6 +1,6 @@
 """The legend of a picture: a sign and its words, one after the other, in as many lines as it takes."""
-import svg
-from labels import width
+from drawing import svg
+from drawing.labels import width
 
 SIGN, GAP, LINE = 26, 18, 19
 

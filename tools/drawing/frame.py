@@ -1,7 +1,7 @@
 """The frame of a picture's panel: its axes with their marks and names."""
-import svg
-from labels import width
-from plane import spelt, ticks
+from drawing import svg
+from drawing.labels import width
+from drawing.plane import spelt, ticks
 
 LEFT, RIGHT, TOP, BOTTOM = 70, 16, 44, 46   # room around the frame
 MARK, GREY, SIZE = 5, "#666", 10

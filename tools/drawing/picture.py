@@ -1,12 +1,12 @@
 """A level of a tree as an SVG picture: its wells, its leaves, and what is sent up. Three axes are shown as three projections."""
-import svg
-from frame import BOTTOM, LEFT, RIGHT, TOP, frame
-from labels import NEAR, Placer, around, inside, shortened, width
-from leaf_boxes import boxes, colour, drawn, links
-from legend import legend
-from plane import Plane
-from spots import crowded, spots
-from summary import rows_of
+from drawing import svg
+from drawing.frame import BOTTOM, LEFT, RIGHT, TOP, frame
+from drawing.labels import NEAR, Placer, around, inside, shortened, width
+from drawing.leaf_boxes import boxes, colour, drawn, links
+from drawing.legend import legend
+from drawing.plane import Plane
+from drawing.spots import crowded, spots
+from rows import rows_of
 
 MOST_LABELLED = 150   # above this many wells: dots without labels
 PROJECTIONS = {1: [(0,)], 2: [(0, 1)], 3: [(0, 1), (0, 2), (1, 2)]}

@@ -4,8 +4,8 @@ import math
 import re
 from collections import namedtuple
 
-from settings import NAMES, Setting, refusal, value_of
-from table_text import blank, cells_of, numbered, separator_hint, text_of, width_hint
+from reading.settings import NAMES, Setting, refusal, value_of
+from reading.table_text import blank, cells_of, numbered, separator_hint, text_of, width_hint
 from wrong import Wrong, read_bytes
 
 AXES = ["x", "y", "z"]

@@ -2,7 +2,7 @@
 import math
 
 import model
-import settings
+from reading import settings
 from wrong import Wrong
 
 APART = "the job and the printout do not belong together"
@@ -33,6 +33,8 @@ def refuse_job(job, wells):
         if wells == 0:
             raise Wrong("the job has no wells")
         settings.refuse(given, wells, settings.PROGRAM)
+        if not all(map(math.isfinite, job.coordinates)):
+            raise Wrong(f"the job has a coordinate that is not finite {settings.refusal(10)}")
     except Wrong as wrong:
         raise Wrong(f"{APART}: the printout is a tree, and the program refuses this job; {wrong}") from None
 
@@ -49,18 +51,19 @@ def check_rows(levels, wells):
 def check_boxes(job, levels):
     """Refuses boxes of another dimension, and an outer box of level 0 that is not that of the wells."""
     d = job.dimension
-    boxes = [leaf.box for level in levels[:-1] for leaf in level.leaves]
-    for lower, upper in boxes:
-        if len(lower) != d or len(upper) != d:
-            raise Wrong(f"{APART}: the job has {d} axes, and a box of the printout has {len(lower) + len(upper)} bounds")
-    if len(levels) == 1:
-        return
-    first = [leaf.box for leaf in levels[0].leaves]
-    outer = [min(b[0][a] for b in first) for a in range(d)], [max(b[1][a] for b in first) for a in range(d)]
-    wells = model.bounds(job.coordinates, d, range(len(job.coordinates) // d))
-    if outer != wells:
-        raise Wrong(f"{APART}: the wells of the job reach from {wells[0]} to {wells[1]}, and the leaves of level 0 from {outer[0]} "
-                    f"to {outer[1]}")
+    low, high = model.bounds(job.coordinates, d, range(len(job.coordinates) // d))
+    reach = f"{APART}: the wells of the job reach from {low} to {high}"
+    for number, level in enumerate(levels[:-1]):
+        for leaf, (_, _, (lower, upper)) in enumerate(level.leaves):
+            if len(lower) != d or len(upper) != d:
+                raise Wrong(f"{APART}: the job has {d} axes, and a box of the printout has {len(lower) + len(upper)} bounds")
+            if not all(low[a] <= lower[a] <= upper[a] <= high[a] for a in range(d)):
+                raise Wrong(f"{reach}, and leaf {leaf} of level {number} from {lower} to {upper}")
+    if len(levels) > 1:
+        first = [leaf.box for leaf in levels[0].leaves]
+        outer = [min(b[0][a] for b in first) for a in range(d)], [max(b[1][a] for b in first) for a in range(d)]
+        if outer != (low, high):
+            raise Wrong(f"{reach}, and the leaves of level 0 from {outer[0]} to {outer[1]}")
 
 
 def check_table(job, table):
