@@ -51,6 +51,18 @@ class Placer:
         return None
 
 
+    def beside(self, x, y, wide, high, mark):
+        """Takes the first free rectangle beside a mark of this radius: near ones first, then any of the frame."""
+        return self.put(wide, high, around(x, y, wide, high, mark)) or self.put(wide, high, self.anywhere(x, y, wide, high))
+
+    def anywhere(self, x, y, wide, high):
+        """Middles all over the frame, those near a place first."""
+        left, top, right, bottom = self.frame
+        across, down = int((right - left - wide) // 8), int((bottom - top - high) // 4)
+        middles = [(left + wide / 2 + 8 * i, top + high / 2 + 4 * j) for i in range(across) for j in range(down)]
+        return sorted(middles, key=lambda m: math.hypot(m[0] - x, m[1] - y))
+
+
 def around(x, y, wide, high, mark):
     """Middles of a label around a mark of this radius, near ones first."""
     for ring in RINGS:

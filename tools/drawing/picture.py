@@ -1,7 +1,7 @@
 """A level of a tree as an SVG picture: its wells, its leaves, and what is sent up. Three axes are shown as three projections."""
 from drawing import svg
 from drawing.frame import BOTTOM, LEFT, RIGHT, TOP, frame
-from drawing.labels import NEAR, Placer, around, inside, shortened, width
+from drawing.labels import NEAR, Placer, inside, shortened, width
 from drawing.leaf_boxes import boxes, colour, drawn, links
 from drawing.legend import legend
 from drawing.plane import Plane
@@ -103,7 +103,16 @@ def labelled(field, level, plane, with_links):
     numbers = [part for i, area in enumerate(areas) for part in leaf_number(placer, i, area)]
     wells = [part for row in level.active for part in well(field, level, row, places[row])]
     names = [part for row in level.active for part in well_name(placer, field, row, places[row])]
-    return out + wells + numbers + names
+    left_out = len(areas) + len(level.active) - sum("<text" in part for part in numbers + names)
+    return out + wells + numbers + names + no_room(plane, left_out)
+
+
+def no_room(plane, labels):
+    """Says how many labels could not be placed."""
+    if not labels:
+        return []
+    words = f"{labels} labels have no room: rest the pointer on a well or a leaf"
+    return [svg.text(plane.left + plane.wide, plane.top - 6, words, text_anchor="end", fill="#c00", class_="no-room")]
 
 
 def leaf_colour(level, row):
@@ -130,7 +139,7 @@ def leaf_number(placer, leaf, area):
     spot = placer.put(wide, high, inside(area, wide, high))
     if spot is None:
         middle = (area[0] + area[2]) / 2, (area[1] + area[3]) / 2
-        spot = placer.put(wide, high, around(*middle, wide, high, min(area[2] - area[0], area[3] - area[1]) / 2))
+        spot = placer.beside(*middle, wide, high, min(area[2] - area[0], area[3] - area[1]) / 2)
         if spot is None:
             return []
         line = joined(middle, spot, colour(leaf))
@@ -144,7 +153,7 @@ def well_name(placer, field, row, place):
     """A well's name beside it, joined by a thin line where it had to go far."""
     words = shortened(field.name(row))
     wide, high = width(words, LABEL) + 2, LABEL + 1
-    spot = placer.put(wide, high, around(*place, wide, high, RADIUS))
+    spot = placer.beside(*place, wide, high, RADIUS)
     if spot is None:
         return []
     far = max(abs(spot[0] - place[0]) - wide / 2, abs(spot[1] - place[1]) - high / 2) > NEAR
@@ -157,7 +166,8 @@ def dotted(field, level, plane):
     areas = [] if level.coarse else boxes(plane, level.leaves)
     placer = Placer(plane.left, plane.top, plane.left + plane.wide, plane.top + plane.high)
     out = [drawn(i, area, True, field.tint) for i, area in enumerate(areas)]
-    out += [part for i, area in enumerate(areas) for part in small_number(placer, i, area)]
+    numbers = [part for i, area in enumerate(areas) for part in small_number(placer, i, area)]
+    out += numbers + no_room(plane, len(areas) - len(numbers))
     dark = set(level.active) if level.coarse else level.sent
     out += dots(field, plane, [row for row in level.active if row not in dark], "#8ab", 2.2)
     out += dots(field, plane, sorted(dark), "#111", 2.8)

@@ -3,7 +3,8 @@ import math
 
 PAD = 32          # room between the frame and the outermost wells
 MOST_STRETCH = 6  # spans up to this ratio are drawn to one scale
-FLAT = 250        # the height of a picture of wells on a line
+FLAT = 0.45       # the height of a picture of wells on a line, as a part of its width, and that of one with many wells
+FLAT_MANY, MANY = 0.7, 1000
 
 
 def spread(low, high):
@@ -32,7 +33,7 @@ class Plane:
         self.axes = axes
         self.x = Axis("xyz"[axes[0]], columns[axes[0]])
         self.y = Axis("xyz"[axes[1]], columns[axes[1]]) if len(axes) > 1 else None
-        self.left, self.top, self.wide, self.high = left, top, size, size if self.y else FLAT
+        self.left, self.top, self.wide, self.high = left, top, size, size if self.y else (FLAT if size < MANY else FLAT_MANY) * size
         self.stretch = 0.0   # how many tenfolds y is drawn larger than x
         inner = size - 2 * PAD
         self.reach = [inner, inner if self.y else 0]

@@ -3,6 +3,7 @@ import random
 import re
 import unittest
 import xml.etree.ElementTree as xml
+from unittest import mock
 
 import support  # noqa: F401
 
@@ -84,6 +85,23 @@ class Labels(unittest.TestCase):
         root = self.nothing_covered(shown)
         self.assertEqual(len(of(root, "text", "well-name")), 150)
         self.assertEqual(len(of(root, "text", "leaf-number")), len(shown.levels[0].leaves))
+
+    def test_as_many_on_a_line_with_long_names(self):
+        r = random.Random(5)
+        shown = field([[r.choice([3, 3, 3, r.uniform(0, 9)])] for _ in range(150)], 1, 8, 2, 4, 10, name="Pumpwerk Nord, Galerie {}".format)
+        root = drawn(shown)
+        boxes = [label_box(t) for t in of(root, "text", "well-name") + of(root, "text", "leaf-number")]
+        self.assertEqual(len(boxes), 150 + len(shown.levels[0].leaves))
+        self.assertFalse(any(overlap(a, b) for i, a in enumerate(boxes) for b in boxes[:i]))
+
+    def test_labels_without_room_are_counted(self):
+        shown = random_field(40, leaf=2, name="Pumpwerk Nord, Galerie {}".format)
+        with mock.patch.object(Field, "size", lambda self: 200):
+            root = drawn(shown)
+        placed = len(of(root, "text", "well-name") + of(root, "text", "leaf-number"))
+        said = [int(t.text.split()[0]) for t in of(root, "text", "no-room")]
+        self.assertEqual(said, [40 + len(shown.levels[0].leaves) - placed])
+        self.assertGreater(said[0], 0)
 
     def test_nested_wells(self):
         shown = field([[x, y] for x, y in ((0, 0), (10, 3), (4, 9), (12, 12)) for _ in range(6)])
