@@ -1,0 +1,18 @@
+"""The proved tree construction of Rekvashu, for Python.
+
+    import rekvashu
+    tree = rekvashu.build([[0.0, 1.0], [2.0, 3.0], [4.0, 1.5]], leaf=1, neighbours=1, factor=2, coarse=1)
+    for level in tree.levels:
+        for leaf in level.leaves:
+            print(leaf.own, leaf.borrowed, leaf.box)
+
+The shared library is made by python/make_shared.sh. Arrays are numpy's where numpy is there, otherwise plain lists.
+"""
+from .calls import build, build_sizes, level_size, library_version, quotas, row_test, sample, square_root
+from .library import LibraryError
+from .refusals import Refusal
+from .tree import Leaf, Level, Tree
+from .version import VERSION as __version__
+
+__all__ = ["build", "build_sizes", "level_size", "library_version", "quotas", "row_test", "sample", "square_root", "LibraryError",
+           "Refusal", "Leaf", "Level", "Tree", "__version__"]

@@ -1,0 +1,115 @@
+"""The public calls: each lends the lists that the library asks for, calls it, and reads what it wrote."""
+import ctypes
+import numbers
+
+from . import layout, settings
+from .coordinates import coordinates
+from .lent import Lent
+from .library import load
+from .refusals import Refusal
+from .settings import size, uint32
+from .tree import Packed, Tree
+
+NO_ROOM = 11
+KINDS = {"boxes": ctypes.c_double, "floats": ctypes.c_double}
+
+
+def slot(entries):
+    return (ctypes.c_size_t * entries)()
+
+
+def passed(number, place=0):
+    """Nothing for 0, and a Refusal for any other number."""
+    if number:
+        raise Refusal(number, place)
+
+
+def build_sizes(rows, dimension, neighbours):
+    """The lengths of a build's lists, by name."""
+    result = slot(layout.SIZES_SLOT)
+    passed(load().ddm_build_sizes(size("rows", rows), size("dimension", dimension), uint32("neighbours", neighbours), result, len(result)))
+    return dict(zip(layout.LISTS, result))
+
+
+def build_into(given, params, lists):
+    """One call of the build with these lists: (refusal number, slot)."""
+    result = slot(layout.BUILD_SLOT)
+    lent = [x for name in layout.LISTS for x in (lists[name].c, lists[name].entries)]
+    number = load().ddm_build(given.c, given.length, given.dimension, *params, *lent, result, len(result))
+    return number, result
+
+
+def lists_of(lengths):
+    return {name: Lent(KINDS.get(name, ctypes.c_size_t), lengths.get(name, 0)) for name in layout.LISTS}
+
+
+def build(points, leaf=settings.LEAF, neighbours=settings.NEIGHBOURS, factor=settings.FACTOR, coarse=settings.COARSE, *,
+          dimension=None):
+    """The tree over the points.
+
+    points: rows of one to three numbers (a list of lists, an array), or numbers alone for one axis. With `dimension`, a flat list
+    of coordinates, that many for each row. coarse: "auto" or a whole number. A Refusal says what the library refused."""
+    given = coordinates(points, dimension)
+    params = [uint32("leaf", leaf), uint32("neighbours", neighbours), uint32("factor", factor), *settings.policy_of(coarse)]
+    # Settings and counts are judged before the lists: a call that lends none costs nothing, and 11 says that only they were missing.
+    number, result = build_into(given, params, lists_of({}))
+    if number != NO_ROOM:
+        passed(number, result[layout.SLOT_PLACE])
+    lists = lists_of(build_sizes(given.rows, given.dimension, neighbours))
+    number, result = build_into(given, params, lists)
+    passed(number, result[layout.SLOT_PLACE])
+    return Tree(Packed(given.dimension, lists, result))
+
+
+def sample(points, wanted, seed, *, dimension=None):
+    """Farthest point sampling: `wanted` rows of the points, from the row `seed` on, in the order in which they are taken."""
+    given, wanted, seed = coordinates(points, dimension), size("wanted", wanted), size("seed", seed)
+    rows = min(given.rows, settings.MOST_POINTS)
+    floats, wholes = layout.sample_room(rows)
+    out, floats, wholes = Lent(ctypes.c_size_t, min(wanted, rows)), Lent(ctypes.c_double, floats), Lent(ctypes.c_size_t, wholes)
+    result = slot(layout.SAMPLE_SLOT)
+    number = load().ddm_sample(given.c, given.length, given.dimension, wanted, seed, out.c, out.entries, floats.c, floats.entries,
+                               wholes.c, wholes.entries, result, len(result))
+    passed(number, result[layout.SAMPLE_PLACE])
+    return out.cut(result[layout.SAMPLE_WRITTEN])[:]
+
+
+def level_size(active, threshold, reductions):
+    """The size of the next level, of this many active rows at the threshold with so many reductions left."""
+    result = slot(layout.LEVEL_SIZE_SLOT)
+    passed(load().ddm_level_size(size("active", active), uint32("threshold", threshold), uint32("reductions", reductions), result,
+                                 len(result)))
+    return result[0]
+
+
+def quotas(sizes, wanted):
+    """How many wells each leaf sends up, of leaves of these sizes, for so many wanted in all."""
+    given = [size(f"sizes[{i}]", x) for i, x in enumerate(sizes)]
+    lent, out, room = slot(max(1, len(given))), Lent(ctypes.c_size_t, len(given)), Lent(ctypes.c_size_t, len(given))
+    lent[:len(given)] = given
+    result = slot(layout.QUOTA_SLOT)
+    passed(load().ddm_quotas(lent, len(given), size("wanted", wanted), out.c, out.entries, room.c, room.entries, result, len(result)))
+    return out.cut(result[layout.QUOTA_WRITTEN])[:]
+
+
+def square_root(x):
+    """The square root, rounded to the nearest value."""
+    if isinstance(x, bool) or not isinstance(x, numbers.Real):
+        raise TypeError(f"{x!r} is no number")
+    try:
+        x = float(x)
+    except OverflowError:
+        raise ValueError("the number is outside the range of a 64-bit float") from None
+    result = (ctypes.c_double * layout.ROOT_SLOT)()
+    passed(load().ddm_square_root(x, result, len(result)))
+    return result[0]
+
+
+def row_test(start, count, length):
+    """Refuses (12) a stretch whose start plus count ends past a list of this length."""
+    passed(load().ddm_row_test(size("start", start), size("count", count), size("length", length)))
+
+
+def library_version():
+    """The loaded library's version: major * 10000 + minor * 100 + patch."""
+    return load().ddm_version()

@@ -1,0 +1,38 @@
+"""The strides of the lists and the places in the result slots, each named once: later versions of the library widen the rows."""
+
+# The lists of a build, in the order in which the library takes them and ddm_build_sizes gives their lengths.
+LISTS = ("level_points", "internals", "domains", "boxes", "borrowed", "floats", "wholes")
+
+# A domain row: its numbers, and the floats that belong to it.
+ROW_NUMBERS = 4
+COLUMN_OWN_START, COLUMN_OWN_COUNT, COLUMN_BORROWED_START, COLUMN_BORROWED_COUNT = range(4)
+
+
+def box_floats(dimension):
+    """A box: the lower bounds by axis, then the upper ones."""
+    return 2 * dimension
+
+
+def row_floats(dimension):
+    """What a domain row has among the boxes: the box comes first."""
+    return box_floats(dimension)
+
+
+# The slot of a build: place, levels, rows of each level, domains of each level.
+MOST_LEVELS = 4
+SLOT_PLACE, SLOT_LEVELS, SLOT_ROWS = 0, 1, 2
+SLOT_DOMAINS = SLOT_ROWS + MOST_LEVELS
+BUILD_SLOT = SLOT_DOMAINS + MOST_LEVELS
+
+# Sampling's slot, and that of the quotas.
+SAMPLE_PLACE, SAMPLE_WRITTEN, SAMPLE_SLOT = 0, 1, 2
+QUOTA_WRITTEN, QUOTA_SEATS, QUOTA_SLOT = 0, 1, 2
+
+# The level size and the root are one value; the sizes are one for each list.
+LEVEL_SIZE_SLOT = ROOT_SLOT = 1
+SIZES_SLOT = len(LISTS)
+
+
+def sample_room(rows):
+    """Floats and whole numbers that sampling works in."""
+    return 2 * rows, rows

@@ -1,0 +1,136 @@
+"""The calls against the plain model of the paper (tools/model.py)."""
+import random
+import struct
+import threading
+import unittest
+
+import support
+from support import both, plain, table
+
+import model
+import rekvashu
+
+setUpModule = support.need_library
+
+
+def bits(numbers):
+    return [struct.pack(">d", x) for x in numbers]
+
+
+def seen(tree):
+    """A tree as plain lists, with the bits of each bound."""
+    return [(plain(level.points), [(plain(leaf.own), plain(leaf.borrowed), leaf.box and bits(plain(leaf.box[0]) + plain(leaf.box[1])))
+                                   for leaf in level.leaves]) for level in tree.levels]
+
+
+def expected(cs, d, leaf, neighbours, factor, policy, number):
+    levels = model.build(cs, d, leaf, neighbours, factor, policy, number)
+    return [(points, [(own, borrowed, box and bits(box[0] + box[1])) for own, borrowed, box in leaves]) for points, leaves in levels]
+
+
+def coordinate(r, kind):
+    return [lambda: r.uniform(-1000.0, 1000.0), lambda: float(r.randint(0, 6)), lambda: r.choice([0.0, -0.0, 5e-324, 1e308, -1e308]),
+            lambda: round(r.uniform(0, 20), 1)][kind]()
+
+
+class Build(unittest.TestCase):
+    @both
+    def test_the_papers_example(self):
+        tree = rekvashu.build([[0], [1], [3], [7]], leaf=2, neighbours=1, factor=2, coarse=2)
+        self.assertEqual([len(level.leaves) for level in tree.levels], [4, 1])
+        self.assertEqual([plain(leaf.own) for leaf in tree.levels[0].leaves], [[0], [1], [2], [3]])
+        self.assertEqual([plain(leaf.borrowed) for leaf in tree.levels[0].leaves], [[1], [0, 2], [1, 3], [2]])
+        self.assertEqual([plain(b) for b in tree.levels[0].leaves[1].box], [[1.0], [3.0]])
+        self.assertEqual(plain(tree.levels[1].points), [0, 1])
+        self.assertIsNone(tree.levels[1].leaves[0].box)
+        self.assertEqual([level.is_coarse for level in tree.levels], [False, True])
+
+    @both
+    def test_random_trees(self):
+        r = random.Random(7)
+        for _ in range(150):
+            n, d, kind = r.randint(1, 90), r.randint(1, 3), r.randint(0, 3)
+            cs = [coordinate(r, kind) for _ in range(n * d)]
+            leaf, neighbours, factor = r.randint(1, 12), r.randint(0, 9), r.randint(5, 9)
+            coarse = r.choice(["auto", r.randint(1, 40)])
+            tree = rekvashu.build(table([cs[i:i + d] for i in range(0, n * d, d)]), leaf, neighbours, factor, coarse)
+            policy = (0, 0) if coarse == "auto" else (1, coarse)
+            self.assertEqual(seen(tree), expected(cs, d, leaf, neighbours, factor, *policy))
+
+    @both
+    def test_defaults(self):
+        r = random.Random(3)
+        cs = [r.random() for _ in range(2 * 700)]
+        self.assertEqual(seen(rekvashu.build(cs, dimension=2)), expected(cs, 2, 256, 16, 128, 0, 0))
+
+    @both
+    def test_any_number_of_calls_at_once(self):
+        r = random.Random(5)
+        fields = [[[r.random(), r.random()] for _ in range(300)] for _ in range(4)]
+        alone = [seen(rekvashu.build(f, 8, 4, 8, 20)) for f in fields]
+        at_once = [None] * 4
+
+        def work(i):
+            at_once[i] = seen(rekvashu.build(fields[i], 8, 4, 8, 20))
+        threads = [threading.Thread(target=work, args=(i,)) for i in range(4)]
+        for t in threads:
+            t.start()
+        for t in threads:
+            t.join()
+        self.assertEqual(at_once, alone)
+
+    @both
+    def test_leaves_are_a_sequence(self):
+        leaves = rekvashu.build([0, 1, 3, 7], 2, 1, 2, 2).levels[0].leaves
+        self.assertEqual([leaf.number for leaf in leaves], [0, 1, 2, 3])
+        self.assertEqual(plain(leaves[-1].own), [3])
+        self.assertEqual([leaf.number for leaf in leaves[1:3]], [1, 2])
+        with self.assertRaises(IndexError):
+            leaves[4]
+
+
+class Others(unittest.TestCase):
+    @both
+    def test_sample(self):
+        self.assertEqual(plain(rekvashu.sample([0, 1, 3, 7], 3, 1)), [1, 3, 2])
+        r = random.Random(11)
+        for _ in range(60):
+            n, d = r.randint(1, 40), r.randint(1, 3)
+            cs = [coordinate(r, r.randint(0, 3)) for _ in range(n * d)]
+            wanted, seed = r.randint(1, n), r.randrange(n)
+            self.assertEqual(plain(rekvashu.sample(cs, wanted, seed, dimension=d)), model.sample(cs, d, range(n), wanted, seed))
+
+    def test_level_size(self):
+        r = random.Random(13)
+        self.assertEqual(rekvashu.level_size(10, 3, 2), 6)
+        for _ in range(300):
+            a = r.randint(2, 1_048_576)
+            c, k = r.randint(1, a - 1), r.randint(1, 3)
+            self.assertEqual(rekvashu.level_size(a, c, k), model.level_size(a, c, k))
+
+    @both
+    def test_quotas(self):
+        self.assertEqual(plain(rekvashu.quotas([5, 3, 0, 2], 4)), [2, 1, 0, 1])
+        self.assertEqual(plain(rekvashu.quotas([], 4)), [])
+        r = random.Random(17)
+        for _ in range(300):
+            sizes = [r.choice([0, r.randint(0, 9), r.randint(0, 300)]) for _ in range(r.randint(1, 20))]
+            wanted = r.randint(0, sum(sizes) + 3)
+            self.assertEqual(plain(rekvashu.quotas(sizes, wanted)), model.quotas(sizes, wanted))
+
+    def test_square_root(self):
+        import math
+        r = random.Random(19)
+        for _ in range(2000):
+            x = struct.unpack("<d", struct.pack("<Q", r.getrandbits(63)))[0]
+            if x >= 0:
+                self.assertEqual(bits([rekvashu.square_root(x)]), bits([math.sqrt(x)]))
+        self.assertEqual(bits([rekvashu.square_root(-0.0)]), bits([-0.0]))
+
+    def test_sizes(self):
+        self.assertEqual(rekvashu.build_sizes(10, 2, 3), {"level_points": 40, "internals": 40, "domains": 244, "boxes": 244,
+                                                         "borrowed": 240, "floats": 320, "wholes": 640})
+
+
+if __name__ == "__main__":
+    unittest.main()

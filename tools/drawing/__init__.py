@@ -1,0 +1,1 @@
+"""Pictures of a tree. picture.py is the way in."""
