@@ -139,20 +139,20 @@ static inline const char *ddm_refusal_text(size_t number) {
     case 1: return "the dimension is not 1, 2 or 3";
     case 2: return "the leaf threshold is 0";
     case 3: return "the factor is below 2";
-    case 4: return "the coarse threshold is 0";
+    case 4: return "the coarse threshold is fixed at 0";
     case 5: return "the neighbour count is above 64";
     case 6: return "there are no points";
     case 7: return "the coordinate count is no multiple of the dimension";
     case 8: return "there are more than 1,048,576 points";
-    case 9: return "the coarse threshold times the factor cubed is below the points, or the reductions asked are not 1, 2 or 3";
+    case 9: return "three reductions by the factor do not reach the coarse threshold (or the asked reductions are 0 or above 3)";
     case 10: return "a coordinate is infinite or not a number";
     case 11: return "a lent list is too short";
-    case 12: return "a stretch ends past its list";
-    case 13: return "the wanted rows are none or more than there are, or the seed is no row";
+    case 12: return "a domain row's stretch ends past its list";
+    case 13: return "the wanted rows or the seed do not fit the rows given";
     case 14: return "the active rows do not outnumber the threshold";
     case 15: return "a negative number or not-a-number has no root";
     case 16: return "the job stream is broken";
-    case 17: return "the job stream has over 32 points or 16 neighbours";
+    case 17: return "the job stream has over 32 points or over 16 neighbours";
     default: return "no refusal has this number";
     }
 }

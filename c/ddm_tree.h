@@ -36,14 +36,17 @@ typedef struct ddm_params {
     uint32_t coarse_threshold;
 } ddm_params;
 
-/* Why there is no tree: a refusal's number and its place (0 where it names none), or DDM_NO_MEMORY. */
+/* Why there is no tree: a refusal's number and its place (0 where it names none), or one of the two numbers below, which are no
+ * refusals. */
 typedef struct ddm_error {
     size_t number;
     size_t place;
 } ddm_error;
 
-/* No refusal: calloc gave nothing. */
+/* calloc gave nothing. */
 #define DDM_NO_MEMORY ((size_t)-1)
+/* The library is of another major or minor version than this header, so its rows may have other columns. */
+#define DDM_OTHER_VERSION ((size_t)-2)
 
 /* Rows of the point list, ascending; they stand in the tree and end with it. */
 typedef struct ddm_rows {
@@ -74,7 +77,11 @@ static inline ddm_params ddm_default_params(void) {
 
 /* The error in words. */
 static inline const char *ddm_error_text(ddm_error error) {
-    return error.number == DDM_NO_MEMORY ? "there is no memory for the lists" : ddm_refusal_text(error.number);
+    if (error.number == DDM_NO_MEMORY)
+        return "there is no memory for the lists";
+    if (error.number == DDM_OTHER_VERSION)
+        return "the library is of another version than the header";
+    return ddm_refusal_text(error.number);
 }
 
 /* ---- lists */
@@ -124,11 +131,13 @@ static inline size_t ddm_lists_build(ddm_lists *lists, const double *points, siz
                      sizes[DDM_SIZES_WHOLES], result, DDM_BUILD_SLOT);
 }
 
-/* The refusal of these settings and counts: a build that is lent nothing is refused with 11 where they are good. */
+/* The refusal of these settings and counts, 0 for none: where they are good, a build that is lent nothing is refused with 11. */
 static inline size_t ddm_lists_test(const double *points, size_t points_len, size_t dimensions, ddm_params params, size_t *result) {
     size_t whole = 0, number;
     double value = 0.0;
     ddm_lists none;
+    if (ddm_version() / 100 != DDM_VERSION / 100)
+        return DDM_OTHER_VERSION;
     none.level_points = none.internals = none.domains = none.borrowed = none.wholes = &whole;
     none.boxes = none.floats = &value;
     for (size_t i = 0; i < DDM_SIZES_SLOT; i++)

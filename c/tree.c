@@ -20,9 +20,19 @@ static void *allowed_realloc(void *list, size_t bytes) {
     return cutting ? realloc(list, bytes) : NULL;
 }
 
+/* The version that the library says. */
+static size_t version;
+
+static size_t said_version(void) {
+    return version;
+}
+
+#include "ddm.h"
+#define ddm_version said_version
 #define calloc counted_calloc
 #define realloc allowed_realloc
 #include "ddm_tree.h"
+#undef ddm_version
 #undef calloc
 #undef realloc
 
@@ -143,6 +153,19 @@ static void memory(void) {
     allowed = (size_t)-1;
 }
 
+/* ---- another library: its patches do no harm */
+
+static void versions(void) {
+    const double point = 0.0;
+    version = ddm_version() + 100;
+    EXPECT(refusal(&point, 1, 1, ddm_default_params()).number == DDM_OTHER_VERSION);
+    version = DDM_VERSION / 100 * 100 + 99;
+    ddm_tree *tree = ddm_tree_build(&point, 1, 1, ddm_default_params(), NULL);
+    EXPECT(tree && ddm_tree_levels(tree) == 1);
+    ddm_tree_free(tree);
+    version = ddm_version();
+}
+
 /* ---- what is not there */
 
 static void nowhere(void) {
@@ -163,10 +186,12 @@ static void nowhere(void) {
 }
 
 int main(void) {
+    version = ddm_version();
     for (size_t i = 0; i < 2000; i++)
         random_tree();
     refusals();
     memory();
+    versions();
     nowhere();
     if (wrong == 0)
         printf("tree: ok\n");
