@@ -12,8 +12,8 @@
  * shared, since they are only read.
  * Stack. Under 16 KiB for any input; nothing is allocated.
  * Memory. A build over n points asks for 768 + 96 * dimensions + 112 * (K + 1) bytes a point in its seven lists, with K neighbours:
- * 2,864 in two dimensions with 16. That is the most that any input can need, and few are touched: 5,000 random wells at the default
- * settings (leaf threshold 256) touch 74 of them a well, at leaf threshold 1 some 690. So lists from calloc cost little.
+ * 2,864 in two dimensions with 16. That is the most that any input can need, and few are touched: 5,000 random wells in two dimensions
+ * write some 70 of them a well at the default settings, some 620 at leaf threshold 1. So lists from calloc cost little.
  * Machine. x86-64 Linux only.
  * Floating environment. Round to nearest, and no flush to zero (the state in which a program starts). A program linked with -Ofast or
  * -ffast-math turns flush to zero on and gets another tree; the smallest input that shows it is the points 5e-324 and 0 with leaf

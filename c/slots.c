@@ -93,7 +93,7 @@ static void row_tests(void) {
 
 /* The sizes of document 01's lists, and the refusals in their order. */
 static void build_sizes(void) {
-    const size_t stated[DDM_SIZES_SLOT] = {4000, 4000, 24004, 24004, 54000, 32000, 104000};
+    const size_t rows = 6001, stated[DDM_SIZES_SLOT] = {4000, 4000, DDM_ROW_NUMBERS * rows, DDM_ROW_FLOATS(2) * rows, 54000, 32000, 104000};
     size_t slot[DDM_SIZES_SLOT + 1];
     mark(slot, DDM_SIZES_SLOT + 1);
     EXPECT(ddm_build_sizes(1000, 2, 8, slot, DDM_SIZES_SLOT - 1) == 11 && marked(slot, DDM_SIZES_SLOT + 1));
@@ -156,9 +156,16 @@ static void refused_builds(void) {
     }
 }
 
+/* Whether a domain row, in one dimension, has these stretches and this box. */
+static int row_is(size_t domain, size_t own, size_t owned, size_t lent, size_t count, double lower, double upper) {
+    const size_t *row = domains + DDM_ROW_NUMBERS * domain;
+    const double *box = boxes + DDM_ROW_FLOATS(1) * domain;
+    return row[DDM_COLUMN_OWN_START] == own && row[DDM_COLUMN_OWN_COUNT] == owned && row[DDM_COLUMN_BORROWED_START] == lent
+           && row[DDM_COLUMN_BORROWED_COUNT] == count && box[0] == lower && box[1] == upper;
+}
+
 static void builds(void) {
-    const double points[N] = {0.0, 1.0, 2.0, 10.0}, bounds[3 * DDM_ROW_FLOATS(1)] = {0.0, 2.0, 2.0, 10.0, 0.0, 0.0};
-    const size_t tree[3 * DDM_ROW_NUMBERS] = {0, 2, 0, 1, 2, 2, 1, 1, 4, 2, 2, 0};
+    const double points[N] = {0.0, 1.0, 2.0, 10.0};
     /* Auto: the threshold is 512, whatever stands in its place, so there is the coarse level alone */
     EXPECT(build(points, 1, 2, DDM_POLICY_AUTO, 0, DDM_BUILD_SLOT) == 0 && slot[DDM_SLOT_PLACE] == 0 && slot[DDM_SLOT_LEVELS] == 1);
     EXPECT(slot[DDM_SLOT_ROWS] == N && zeros(slot + DDM_SLOT_ROWS + 1, DDM_MOST_LEVELS - 1));
@@ -168,10 +175,7 @@ static void builds(void) {
     EXPECT(slot[DDM_SLOT_PLACE] == 0 && slot[DDM_SLOT_LEVELS] == 2 && slot[DDM_SLOT_ROWS] == N && slot[DDM_SLOT_ROWS + 1] == 2);
     EXPECT(zeros(slot + DDM_SLOT_ROWS + 2, DDM_MOST_LEVELS - 2));
     EXPECT(slot[DDM_SLOT_DOMAINS] == 2 && slot[DDM_SLOT_DOMAINS + 1] == 1 && zeros(slot + DDM_SLOT_DOMAINS + 2, DDM_MOST_LEVELS - 2));
-    for (size_t i = 0; i < 3 * DDM_ROW_NUMBERS; i++)
-        EXPECT(domains[i] == tree[i]);
-    for (size_t i = 0; i < 3 * DDM_ROW_FLOATS(1); i++)
-        EXPECT(boxes[i] == bounds[i]);
+    EXPECT(row_is(0, 0, 2, 0, 1, 0.0, 2.0) && row_is(1, 2, 2, 1, 1, 2.0, 10.0) && row_is(2, N, 2, 2, 0, 0.0, 0.0));
     EXPECT(borrowed[0] == 2 && borrowed[1] == 1 && marked(borrowed + 2, ROOM - 2));
     EXPECT(marked(level_points + N + 2, ROOM - N - 2) && marked(internals + N + 2, ROOM - N - 2));
     EXPECT(marked(domains + 3 * DDM_ROW_NUMBERS, ROOM - 3 * DDM_ROW_NUMBERS) && boxes[3 * DDM_ROW_FLOATS(1)] == MARK);

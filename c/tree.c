@@ -153,6 +153,44 @@ static void memory(void) {
     allowed = (size_t)-1;
 }
 
+/* ---- what ddm.h says of the lent bytes: how many they are, and that few are touched */
+
+/* Entries of a list, all bits of which were set, that are no longer so. */
+static size_t changed(const void *list, size_t entries) {
+    size_t count = 0;
+    for (size_t i = 0; i < entries; i++) {
+        uint64_t bits;
+        memcpy(&bits, (const char *)list + i * sizeof bits, sizeof bits);
+        count += bits != UINT64_MAX;
+    }
+    return count;
+}
+
+/* 5,000 random wells at this leaf threshold write fewer bytes a well than `most`. */
+static void lent_bytes(uint32_t leaf_threshold, size_t most) {
+    enum { WELLS = 5000, AXES = 2 };
+    static double points[AXES * WELLS];
+    ddm_params params = ddm_default_params();
+    ddm_lists lists;
+    size_t result[DDM_BUILD_SLOT], bytes = 0, touched = 0;
+    params.leaf_threshold = leaf_threshold;
+    for (size_t i = 0; i < AXES * WELLS; i++)
+        points[i] = (double)below(1000000) + 1;
+    EXPECT(ddm_build_sizes(WELLS, AXES, params.overlap_knn, lists.sizes, DDM_SIZES_SLOT) == 0 && ddm_lists_make(&lists));
+    void *all[DDM_SIZES_SLOT] = {lists.level_points, lists.internals, lists.domains, lists.boxes, lists.borrowed, lists.floats,
+                                 lists.wholes};
+    for (size_t i = 0; i < DDM_SIZES_SLOT; i++) {
+        bytes += lists.sizes[i] * sizeof(uint64_t);
+        memset(all[i], 0xff, lists.sizes[i] * sizeof(uint64_t));
+    }
+    EXPECT(bytes / WELLS == 768 + 96 * AXES + 112 * (params.overlap_knn + 1));
+    EXPECT(ddm_lists_build(&lists, points, AXES * WELLS, AXES, params, result) == 0);
+    for (size_t i = 0; i < DDM_SIZES_SLOT; i++)
+        touched += changed(all[i], lists.sizes[i]) * sizeof(uint64_t);
+    EXPECT(touched / WELLS < most);
+    ddm_lists_free(&lists);
+}
+
 /* ---- another library: its patches do no harm */
 
 static void versions(void) {
@@ -191,6 +229,8 @@ int main(void) {
         random_tree();
     refusals();
     memory();
+    lent_bytes(256, 100);
+    lent_bytes(1, 700);
     versions();
     nowhere();
     if (wrong == 0)

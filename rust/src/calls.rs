@@ -138,3 +138,18 @@ pub fn square_root(x: f64) -> Result<f64, Refusal> {
         number => Err(Refusal::new(number, 0)),
     }
 }
+
+#[cfg(test)]
+mod tests {
+    use super::*;
+
+    #[test]
+    fn sizes_are_document_01s() {
+        let (sizes, rows) = (build_sizes(1000, 3, 16).unwrap(), 6001);
+        assert_eq!((sizes.level_points, sizes.internals), (4000, 4000));
+        assert_eq!((sizes.domains, sizes.boxes), (ROW_NUMBERS * rows, row_floats(3) * rows));
+        assert_eq!((sizes.borrowed, sizes.floats, sizes.wholes), (102_000, 32_000, 168_000));
+        let refused = |n, d, k| build_sizes(n, d, k).unwrap_err().number;
+        assert_eq!((refused(0, 4, 65), refused(0, 3, 65), refused(0, 3, 64), refused(1_048_577, 3, 64)), (1, 5, 6, 8));
+    }
+}

@@ -1,5 +1,5 @@
 //! The tree's ways to be read, the settings' defaults, and the words of its refusals.
-use rekvashu::{build, build_sizes, DDMParams, Error, Leaf, Level, Mender, Refusal, SizePolicy, Tree};
+use rekvashu::{build, DDMParams, Error, Leaf, Level, Mender, Refusal, SizePolicy, Tree};
 
 /// Forty wells on a bent line, three levels.
 fn tree() -> Tree {
@@ -86,15 +86,6 @@ fn threads_may_read_and_build_at_once() {
             assert_eq!(built.join().unwrap(), alone);
         }
     });
-}
-
-#[test]
-fn sizes_are_document_01s() {
-    let sizes = build_sizes(1000, 3, 16).unwrap();
-    assert_eq!((sizes.level_points, sizes.internals, sizes.domains, sizes.boxes), (4000, 4000, 24_004, 36_006));
-    assert_eq!((sizes.borrowed, sizes.floats, sizes.wholes), (102_000, 32_000, 168_000));
-    let refused = |n, d, k| build_sizes(n, d, k).unwrap_err().number;
-    assert_eq!((refused(0, 4, 65), refused(0, 3, 65), refused(0, 3, 64), refused(1_048_577, 3, 64)), (1, 5, 6, 8));
 }
 
 #[test]
