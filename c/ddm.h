@@ -29,7 +29,8 @@
 extern "C" {
 #endif
 
-/* major * 10000 + minor * 100 + patch, of this header; ddm_version gives that of the library. */
+/* major * 10000 + minor * 100 + patch, of this header; ddm_version gives that of the library. Another minor version may have wider rows
+ * and more lists, so that a program which loads the shared library tests ddm_version() / 100 == DDM_VERSION / 100 first. */
 #define DDM_VERSION 200
 
 /* ---- limits and settings */

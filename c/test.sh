@@ -48,7 +48,11 @@ right_example() {
     diff c/example.out "$made/printed" || failed "$1 printed something else than c/example.out"
 }
 
-# ---- C, plain and under the sanitizers
+# ---- strides and slots stand by name in every program: a request that widens a row changes the headers alone
+literal='(row|result)\[[0-9]|[0-9] \+ level|[^0-9]4 \* |2 \* (d|dimensions?|AXES)[^a-z]'
+! grep -nE "$literal" c/*.c c/*.cpp c/ddm_tree.h rust/src/[!p]*.rs rust/examples/*.rs rust/tests/*.rs || failed "a stride or a slot without its name"
+
+# ---- C and C++, plain and under the sanitizers
 programs() {
     for name in example lists slots tree; do
         compile "$name" "$@"
@@ -57,6 +61,10 @@ programs() {
     right_example "$made/lists"
     "$made/slots"
     "$made/tree"
+    there "$cxx" || { skipped "the C++ program (there is no '$cxx')"; return; }
+    # shellcheck disable=SC2086
+    "$cxx" -std=c++11 $strict "$@" -o "$made/both" c/both.cpp "$lib"
+    "$made/both"
 }
 
 # one job stream as a batch of one: a count and a length of 4 bytes, little-endian
@@ -80,15 +88,6 @@ if echo 'int main(void) { return 0; }' | "$cc" -fsanitize=address,undefined -x c
     programs -g -fsanitize=address,undefined -fno-sanitize-recover=all
 else
     skipped "the sanitizers ('$cc' has none here)"
-fi
-
-# ---- C++
-if there "$cxx"; then
-    # shellcheck disable=SC2086
-    "$cxx" -std=c++11 $strict -o "$made/both" c/both.cpp "$lib"
-    "$made/both"
-else
-    skipped "the C++ program (there is no '$cxx')"
 fi
 
 # ---- the floating environment
