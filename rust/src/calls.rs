@@ -7,27 +7,33 @@ use crate::{sys, DDMParams, Error, Refusal, Tree};
 /// The refusal of a list that is too short.
 const SHORT_LIST: usize = 11;
 
-/// What major, minor and patch version come to in the library's number.
-const fn spelt(major: usize, minor: usize, patch: usize) -> usize {
-    major * 10_000 + minor * 100 + patch
+/// Major * 100 + minor of this crate, whose strides are those of that version.
+const SERIES: usize = whole(env!("CARGO_PKG_VERSION_MAJOR")) * 100 + whole(env!("CARGO_PKG_VERSION_MINOR"));
+
+/// A whole number in decimal digits.
+const fn whole(digits: &str) -> usize {
+    let (digits, mut number, mut at) = (digits.as_bytes(), 0, 0);
+    while at < digits.len() {
+        number = 10 * number + (digits[at] - b'0') as usize;
+        at += 1;
+    }
+    number
 }
 
 /// The version of the linked library: major * 10,000 + minor * 100 + patch.
 ///
 /// ```
-/// assert_eq!(rekvashu::version(), 200);
+/// assert!(rekvashu::version() >= 200);
 /// ```
 pub fn version() -> usize {
     sys::version()
 }
 
-/// The strides in this crate are those of version 0.2.
+/// Lists are lent only to a library of this crate's series: in another one the rows may be wider.
 fn right_version() -> Result<(), Error> {
-    let number = version();
-    if number / 100 == spelt(0, 2, 0) / 100 {
-        Ok(())
-    } else {
-        Err(Error::OtherVersion(number))
+    match version() {
+        number if number / 100 == SERIES => Ok(()),
+        number => Err(Error::OtherVersion(number)),
     }
 }
 
@@ -117,6 +123,7 @@ pub fn level_size(a: usize, c: u32, r: u32) -> Result<usize, Refusal> {
 /// # Ok::<(), rekvashu::Error>(())
 /// ```
 pub fn quotas(sizes: &[usize], wanted: usize) -> Result<Vec<usize>, Error> {
+    right_version()?;
     let (mut out, mut room, mut slot) = (reserved(sizes.len())?, reserved(sizes.len())?, [0; QUOTA_SLOT]);
     match sys::quotas(sizes, wanted, &mut out, &mut room, &mut slot) {
         0 => Ok(out),
@@ -142,6 +149,11 @@ pub fn square_root(x: f64) -> Result<f64, Refusal> {
 #[cfg(test)]
 mod tests {
     use super::*;
+
+    #[test]
+    fn versions_are_read() {
+        assert_eq!((whole("0"), whole("12"), SERIES), (0, 12, version() / 100));
+    }
 
     #[test]
     fn sizes_are_document_01s() {
