@@ -58,8 +58,9 @@ typedef struct ddm_rows {
 typedef struct ddm_tree {
     size_t dimensions;
     size_t result[DDM_BUILD_SLOT];
-    size_t *level_points, *internals, *domains, *borrowed;
+    size_t *level_points, *internals, *domains;
     double *boxes;
+    size_t *borrowed;
 } ddm_tree;
 
 /* ---- settings and errors */
@@ -89,13 +90,16 @@ static inline const char *ddm_error_text(ddm_error error) {
 /* The lists of one call, and how many entries they have. */
 typedef struct ddm_lists {
     size_t sizes[DDM_SIZES_SLOT];
-    size_t *level_points, *internals, *domains, *borrowed, *wholes;
-    double *boxes, *floats;
+    size_t *level_points, *internals, *domains;
+    double *boxes;
+    size_t *borrowed;
+    double *floats;
+    size_t *wholes;
 } ddm_lists;
 
 static inline void ddm_lists_free(ddm_lists *lists) {
-    free(lists->level_points), free(lists->internals), free(lists->domains), free(lists->borrowed), free(lists->wholes);
-    free(lists->boxes), free(lists->floats);
+    free(lists->level_points), free(lists->internals), free(lists->domains), free(lists->boxes), free(lists->borrowed);
+    free(lists->floats), free(lists->wholes);
 }
 
 static inline size_t *ddm_list_of_wholes(size_t entries) {
@@ -216,7 +220,7 @@ static inline ddm_tree *ddm_tree_build(const double *points, size_t points_len, 
 static inline void ddm_tree_free(ddm_tree *tree) {
     if (!tree)
         return;
-    free(tree->level_points), free(tree->internals), free(tree->domains), free(tree->borrowed), free(tree->boxes);
+    free(tree->level_points), free(tree->internals), free(tree->domains), free(tree->boxes), free(tree->borrowed);
     free(tree);
 }
 

@@ -91,16 +91,21 @@ fn threads_may_read_and_build_at_once() {
 #[test]
 fn version_is_the_packages() {
     let part = |text: &str| text.parse::<usize>().unwrap();
-    let package = part(env!("CARGO_PKG_VERSION_MAJOR")) * 10_000 + part(env!("CARGO_PKG_VERSION_MINOR")) * 100 + part(env!("CARGO_PKG_VERSION_PATCH"));
+    let (major, minor) = (part(env!("CARGO_PKG_VERSION_MAJOR")), part(env!("CARGO_PKG_VERSION_MINOR")));
+    let package = major * 10_000 + minor * 100 + part(env!("CARGO_PKG_VERSION_PATCH"));
     assert_eq!(rekvashu::version(), package);
     assert!(include_str!("../../c/ddm.h").contains(&format!("#define DDM_VERSION {package}\n")));
 }
 
 #[test]
 fn refusals_have_the_words_of_the_other_languages() {
-    for number in 0..=17 {
-        let words = format!("case {number}: return \"{}\";", Refusal::new(number, 0).reason());
-        assert!(include_str!("../../c/ddm.h").contains(&words), "c/ddm.h lacks: {words}");
+    let python = std::fs::read_to_string(concat!(env!("CARGO_MANIFEST_DIR"), "/../python/rekvashu/refusals.py"));
+    for number in 1..=17 {
+        let reason = Refusal::new(number, 0).reason();
+        assert!(include_str!("../../c/ddm.h").contains(&format!("case {number}: return \"{reason}\";")), "c/ddm.h lacks {number}: {reason}");
+        if let Ok(python) = &python {
+            assert!(python.contains(&format!("{number}: (\"{reason}\"")), "refusals.py lacks {number}: {reason}");
+        }
     }
     assert_eq!(Refusal::new(18, 0).reason(), Refusal::new(usize::MAX, 0).reason());
     assert!(!include_str!("../../c/ddm.h").contains("case 18:"));
