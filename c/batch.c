@@ -4,11 +4,13 @@
  *
  *   cc -O2 -o batch c/batch.c target/staticlib/libddm_c.a && ./batch < JOBS
  */
-#include "ddm.h"
+#include "ddm_tree.h"
 #include <inttypes.h>
 #include <stdio.h>
-#include <stdlib.h>
 #include <string.h>
+
+/* Where the settings of a job stream stand, and where its points start; each has a mark before its coordinates. */
+enum { DIMENSION = 2, LEAF = 3, NEIGHBOURS = 7, FACTOR = 11, POLICY = 15, THRESHOLD = 16, POINTS = 20, MARK = 2 };
 
 static void *list(size_t entries, size_t size) {
     void *p = calloc(entries ? entries : 1, size);
@@ -21,49 +23,58 @@ static uint32_t number(const unsigned char *b) {
     return b[0] | (uint32_t)b[1] << 8 | (uint32_t)b[2] << 16 | (uint32_t)b[3] << 24;
 }
 
-static void rows(const char *name, const size_t *list, size_t count) {
+static void rows(const char *name, ddm_rows of) {
     printf(" %s", name);
-    for (size_t i = 0; i < count; i++)
-        printf(" %zu", list[i]);
-    if (!count)
+    for (size_t i = 0; i < of.count; i++)
+        printf(" %zu", of.rows[i]);
+    if (!of.count)
         printf(" -");
 }
 
-static void job(const unsigned char *b, size_t len) {
-    const size_t d = b[2], size = 2 + 8 * d, n = (len - 20) / size, all = 6 * n + 1, near = (size_t)number(b + 7) + 1;
-    double *points = list(d * n, 8), *boxes = list(2 * d * all, 8), *floats = list(32 * n, 8);
-    size_t *level_points = list(4 * n, 8), *internals = list(4 * n, 8), *domains = list(4 * all, 8);
-    size_t *borrowed = list(6 * n * near, 8), *wholes = list(32 * n + 8 * n * near, 8), result[DDM_BUILD_SLOT];
-    for (size_t i = 0; i < n; i++)
-        memcpy(points + d * i, b + 20 + size * i + 2, 8 * d);
-    size_t refused = ddm_build(points, d * n, d, number(b + 3), number(b + 7), number(b + 11), b[15], number(b + 16), level_points,
-                               4 * n, internals, 4 * n, domains, 4 * all, boxes, 2 * d * all, borrowed, 6 * n * near, floats, 32 * n,
-                               wholes, 32 * n + 8 * n * near, result, DDM_BUILD_SLOT);
-    if (refused)
-        printf("refused %zu at %zu\n", refused, result[0]);
-    else
-        printf("levels %zu\n", result[1]);
-    size_t domain = 0, from = 0;
-    for (size_t level = 0; level < result[1]; level++) {
-        printf("level %zu", level);
-        rows("points", level_points + from, result[2 + level]);
-        printf("\n");
-        from += result[2 + level];
-        for (size_t leaf = 0; leaf < result[6 + level]; leaf++, domain++) {
-            const size_t *row = domains + 4 * domain;
-            printf("domain %zu", leaf);
-            rows("internal", internals + row[0], row[1]);
-            rows("overlap", borrowed + row[2], row[3]);
-            printf(" box");
-            for (size_t i = 0; i < 2 * d && level + 1 < result[1]; i++) {
-                uint64_t bits;
-                memcpy(&bits, boxes + 2 * d * domain + i, 8);
-                printf(" %016" PRIx64, bits);
-            }
-            printf(level + 1 < result[1] ? "\n" : " -\n");
-        }
+static void box(const double *bounds, size_t dimensions) {
+    printf(" box");
+    for (size_t i = 0; bounds && i < DDM_BOX_FLOATS(dimensions); i++) {
+        uint64_t bits;
+        memcpy(&bits, bounds + i, sizeof bits);
+        printf(" %016" PRIx64, bits);
     }
-    free(points), free(boxes), free(floats), free(level_points), free(internals), free(domains), free(borrowed), free(wholes);
+    printf(bounds ? "\n" : " -\n");
+}
+
+static void print_level(const ddm_tree *tree, size_t level) {
+    printf("level %zu", level);
+    rows("points", ddm_tree_rows(tree, level));
+    printf("\n");
+    for (size_t leaf = 0; leaf < ddm_tree_leaves(tree, level); leaf++) {
+        printf("domain %zu", leaf);
+        rows("internal", ddm_tree_own(tree, level, leaf));
+        rows("overlap", ddm_tree_borrowed(tree, level, leaf));
+        box(ddm_tree_box(tree, level, leaf), ddm_tree_dimensions(tree));
+    }
+}
+
+static ddm_tree *job(const unsigned char *b, size_t len, ddm_error *error) {
+    const size_t d = b[DIMENSION], wide = d * sizeof(double), n = (len - POINTS) / (MARK + wide);
+    const ddm_params params = {number(b + LEAF), number(b + NEIGHBOURS), number(b + FACTOR), b[POLICY], number(b + THRESHOLD)};
+    double *points = list(d * n, sizeof *points);
+    for (size_t i = 0; i < n; i++)
+        memcpy(points + d * i, b + POINTS + (MARK + wide) * i + MARK, wide);
+    ddm_tree *tree = ddm_tree_build(points, d * n, d, params, error);
+    free(points);
+    return tree;
+}
+
+static void print_job(const unsigned char *b, size_t len) {
+    ddm_error error;
+    ddm_tree *tree = job(b, len, &error);
+    if (!tree) {
+        printf("refused %zu at %zu\n", error.number, error.place);
+        return;
+    }
+    printf("levels %zu\n", ddm_tree_levels(tree));
+    for (size_t level = 0; level < ddm_tree_levels(tree); level++)
+        print_level(tree, level);
+    ddm_tree_free(tree);
 }
 
 int main(void) {
@@ -78,7 +89,7 @@ int main(void) {
         if (fread(data, 1, len, stdin) != len)
             return 1;
         printf("=== %" PRIu32 "\n", i);
-        job(data, len);
+        print_job(data, len);
         free(data);
     }
     return 0;

@@ -1,17 +1,23 @@
-/* The proved tree construction of Rekvashu, for C callers. Link libddm_c.a (made by `rt staticlib ddm_c`).
+/* The proved tree construction of Rekvashu, for C and C++ callers: every function of the library, over lists that the caller lends.
+ * ddm_tree.h lends the lists itself and is what most callers want. Link libddm_c.a (made by `rt staticlib ddm_c`) or libddm_c.so
+ * (c/shared.sh, c/install.sh).
  *
  * No function has a precondition beyond this: each pointer comes with the number of entries that stand behind it, and no two of a
- * call's lists overlap. Every function returns a refusal number, 0 for none. Counts and values go to the slot `result`, which is no
- * lent list: a refusal writes zeros there (and the place, where one is named) and touches nothing else. A slot that is too short is
- * refused with 11 before anything else is looked at, and then it is not written either.
+ * call's lists overlap. Every function but ddm_version returns a refusal number, 0 for none; ddm_refusal_text says it in words.
+ * Counts and values go to the slot `result`, which is no lent list: a refusal writes zeros there (and the place, where one is named)
+ * and touches nothing else. A slot that is too short is refused with 11 before anything else is looked at, and then it is not written
+ * either.
  *
- * Refusal numbers
- *   whoever sets the station:  1 dimension not 1, 2 or 3   2 leaf threshold 0   3 factor below 2   4 coarse threshold 0 (fixed)
- *                              5 neighbour count above 64   9 coarse threshold times factor cubed below the number of points
- *   whoever brings the points: 6 no points   7 coordinate count no multiple of the dimension   8 more than 1,048,576 points
- *                              10 a coordinate that is infinite or not a number (place: its position)
- *   the calling program:       11 a list or the slot too short   12 a stretch that ends past its list   13 wanted rows or seed
- *                              14 active rows not above the threshold   15 root of a negative number or not-a-number
+ * Threads. There is no global state: any number of calls may run at once, as long as no list is lent to two of them. Points may be
+ * shared, since they are only read.
+ * Stack. Under 16 KiB for any input; nothing is allocated.
+ * Memory. A build over n points asks for 768 + 96 * dimensions + 112 * (K + 1) bytes a point in its seven lists, with K neighbours:
+ * 2,864 in two dimensions with 16. That is the most that any input can need, and few are touched: 5,000 random wells in two dimensions
+ * write some 70 of them a well at the default settings, some 620 at leaf threshold 1. So lists from calloc cost little.
+ * Machine. x86-64 Linux only.
+ * Floating environment. Round to nearest, and no flush to zero (the state in which a program starts). A program linked with -Ofast or
+ * -ffast-math turns flush to zero on and gets another tree; the smallest input that shows it is the points 5e-324 and 0 with leaf
+ * threshold 2, no neighbours, factor 2, Fixed 1 (c/flush.c).
  */
 #ifndef DDM_H
 #define DDM_H
@@ -19,45 +25,141 @@
 #include <stddef.h>
 #include <stdint.h>
 
+#ifdef __cplusplus
+extern "C" {
+#endif
+
+/* major * 10000 + minor * 100 + patch, of this header; ddm_version gives that of the library. Another minor version may have wider rows
+ * and more lists, so that a program which loads the shared library tests ddm_version() / 100 == DDM_VERSION / 100 first. */
+#define DDM_VERSION 200
+
+/* ---- limits and settings */
+
+#define DDM_MOST_POINTS 1048576
+#define DDM_MOST_NEIGHBOURS 64
+#define DDM_MOST_LEVELS 4
+
 #define DDM_POLICY_AUTO 0
 #define DDM_POLICY_FIXED 1
 
-/* Entries of the result slots. */
-#define DDM_BUILD_SLOT 10  /* place, levels, rows of levels 0 to 3, domains of levels 0 to 3 */
-#define DDM_SAMPLE_SLOT 2  /* place, rows written */
-#define DDM_SIZE_SLOT 1    /* the size */
-#define DDM_QUOTA_SLOT 2   /* entries written, seats */
+/* ---- the packed lists: level by level and leaf by leaf, each stretch starting where the last one of its list ended */
 
-/* Builds the tree over n = points_len / dimensions points. With K = overlap_knn the lists need at least
- *   level_points 4n, internals 4n, domains 4(6n+1), boxes 2 * dimensions * (6n+1), borrowed 6n(K+1),
- *   floats 32n, wholes 32n + 8n(K+1) entries.
- * The lists are packed level by level and leaf by leaf. A domain row is four numbers: internal start and count, borrowed start and
- * count; its box is its lower bounds by axis, then its upper bounds. policy: 0 Auto (coarse_threshold is not looked at), any other
- * number Fixed. */
+/* A domain row has DDM_ROW_NUMBERS entries in `domains`: where the leaf's own (internal) rows start in `internals` and how many they
+ * are, then the same of its borrowed rows in `borrowed`. */
+#define DDM_COLUMN_OWN_START 0
+#define DDM_COLUMN_OWN_COUNT 1
+#define DDM_COLUMN_BORROWED_START 2
+#define DDM_COLUMN_BORROWED_COUNT 3
+#define DDM_ROW_NUMBERS 4
+
+/* The box itself: its lower bounds by axis, then its upper bounds; all +0 for the coarse domain, which has none. */
+#define DDM_BOX_FLOATS(dimensions) (2 * (dimensions))
+/* What a domain row has in `boxes`: the box comes first. */
+#define DDM_ROW_FLOATS(dimensions) DDM_BOX_FLOATS(dimensions)
+
+/* ---- the result slots: how many entries they have, and what stands where */
+
+/* The build's: the place of a refusal, the levels, then the rows and the domains of each level, 0 beyond the last. */
+#define DDM_SLOT_PLACE 0
+#define DDM_SLOT_LEVELS 1
+#define DDM_SLOT_ROWS 2
+#define DDM_SLOT_DOMAINS (DDM_SLOT_ROWS + DDM_MOST_LEVELS)
+#define DDM_BUILD_SLOT (DDM_SLOT_DOMAINS + DDM_MOST_LEVELS)
+
+/* That of ddm_build_sizes: the entries that each list of a build needs, in the order in which ddm_build takes them. */
+#define DDM_SIZES_LEVEL_POINTS 0
+#define DDM_SIZES_INTERNALS 1
+#define DDM_SIZES_DOMAINS 2
+#define DDM_SIZES_BOXES 3
+#define DDM_SIZES_BORROWED 4
+#define DDM_SIZES_FLOATS 5
+#define DDM_SIZES_WHOLES 6
+#define DDM_SIZES_SLOT 7
+
+/* Sampling's: the place of a refusal, the rows written. */
+#define DDM_SAMPLE_PLACE 0
+#define DDM_SAMPLE_WRITTEN 1
+#define DDM_SAMPLE_SLOT 2
+
+/* The quotas': the entries written, the seats. */
+#define DDM_QUOTA_WRITTEN 0
+#define DDM_QUOTA_SEATS 1
+#define DDM_QUOTA_SLOT 2
+
+/* The level size and the root: one value. */
+#define DDM_LEVEL_SIZE_SLOT 1
+#define DDM_ROOT_SLOT 1
+
+/* ---- functions */
+
+/* The version of the library, in the form of DDM_VERSION. */
+size_t ddm_version(void);
+
+/* The entries that each list needs for a build over n points (result: DDM_SIZES_SLOT). Refusals 1, 5, 6, 8. */
+size_t ddm_build_sizes(size_t n, size_t dimensions, uint32_t neighbours, size_t *result, size_t result_len);
+
+/* Builds the tree over n = points_len / dimensions points; the lists have at least the entries that ddm_build_sizes gives.
+ *   level_points  the active rows of each level       internals, borrowed  the rows of the leaves
+ *   domains       a domain row for each leaf          boxes                its floats
+ *   floats, wholes  working room
+ * policy: DDM_POLICY_AUTO (coarse_threshold is not looked at), any other number Fixed. result: DDM_BUILD_SLOT. Refusals 1 to 9, 11, 10,
+ * in this order. */
 size_t ddm_build(const double *points, size_t points_len, size_t dimensions, uint32_t leaf_threshold, uint32_t overlap_knn,
                  uint32_t coarse_reduction_factor, uint32_t policy, uint32_t coarse_threshold, size_t *level_points,
                  size_t level_points_len, size_t *internals, size_t internals_len, size_t *domains, size_t domains_len,
                  double *boxes, size_t boxes_len, size_t *borrowed, size_t borrowed_len, double *floats, size_t floats_len,
                  size_t *wholes, size_t wholes_len, size_t *result, size_t result_len);
 
-/* Farthest point sampling: `wanted` rows from the row `seed` on. out: at least wanted; floats 2n; wholes n. Refusals 1, 6, 7, 8, 13,
- * 11, 10. */
+/* Farthest point sampling: `wanted` rows from the row `seed` on. out: at least wanted; floats 2n; wholes n; result: DDM_SAMPLE_SLOT.
+ * Refusals 1, 6, 7, 8, 13, 11, 10. */
 size_t ddm_sample(const double *points, size_t points_len, size_t dimensions, size_t wanted, size_t seed, size_t *out,
                   size_t out_len, double *floats, size_t floats_len, size_t *wholes, size_t wholes_len, size_t *result,
                   size_t result_len);
 
-/* The size of the next level, of a active rows at the threshold c with r reductions left. Refusals 4, 8, 14, 9. */
+/* The size of the next level, of a active rows at the threshold c with r reductions left (result: DDM_LEVEL_SIZE_SLOT). Refusals 4, 8,
+ * 14, 9. */
 size_t ddm_level_size(size_t a, uint32_t c, uint32_t r, size_t *result, size_t result_len);
 
-/* The quotas of leaves of these sizes for `wanted` seats. quotas and room: one entry per leaf. Refusals 8, 11. */
+/* The quotas of leaves of these sizes for `wanted` seats. quotas and room: one entry per leaf; result: DDM_QUOTA_SLOT. Refusals 8,
+ * 11. */
 size_t ddm_quotas(const size_t *sizes, size_t sizes_len, size_t wanted, size_t *quotas, size_t quotas_len, size_t *room,
                   size_t room_len, size_t *result, size_t result_len);
 
-/* The square root, rounded to the nearest value; result: one entry. Refusal 15. */
+/* The square root, rounded to the nearest value (result: DDM_ROOT_SLOT). Refusal 15. */
 size_t ddm_square_root(double x, double *result, size_t result_len);
 
 /* The test of a domain row's stretch against the length of its list: 12 where start plus count ends past it, else 0. The rows of the
  * leaf are then list[start] to list[start + count - 1]. */
 size_t ddm_row_test(size_t start, size_t count, size_t list_len);
+
+/* A refusal in words. Whoever sets the station can mend 1 to 5 and 9; whoever brings the points 6, 7, 8 and 10; the calling program 11
+ * to 15; whoever feeds the program ddm_tree a job stream 16 and 17, which no function here gives. */
+static inline const char *ddm_refusal_text(size_t number) {
+    switch (number) {
+    case 0: return "nothing was refused";
+    case 1: return "the dimension is not 1, 2 or 3";
+    case 2: return "the leaf threshold is 0";
+    case 3: return "the factor is below 2";
+    case 4: return "the coarse threshold is fixed at 0";
+    case 5: return "the neighbour count is above 64";
+    case 6: return "there are no points";
+    case 7: return "the coordinate count is no multiple of the dimension";
+    case 8: return "there are more than 1,048,576 points";
+    case 9: return "three reductions by the factor do not reach the coarse threshold (or the asked reductions are 0 or above 3)";
+    case 10: return "a coordinate is infinite or not a number";
+    case 11: return "a lent list is too short";
+    case 12: return "a domain row's stretch ends past its list";
+    case 13: return "the wanted rows or the seed do not fit the rows given";
+    case 14: return "the active rows do not outnumber the threshold";
+    case 15: return "a negative number or not-a-number has no root";
+    case 16: return "the job stream is broken";
+    case 17: return "the job stream has over 32 points or over 16 neighbours";
+    default: return "no refusal has this number";
+    }
+}
+
+#ifdef __cplusplus
+}
+#endif
 
 #endif

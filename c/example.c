@@ -1,58 +1,46 @@
-/* Builds a tree of 1,000 wells and walks its leaves.
+/* Builds a tree of 1,000 wells and walks its leaves, by ddm_tree.h.
  *
  *   cc -O2 -o example c/example.c target/staticlib/libddm_c.a && ./example
  */
-#include "ddm.h"
+#include "ddm_tree.h"
 #include <stdio.h>
-#include <stdlib.h>
 
-enum { WELLS = 1000, AXES = 2, NEAR = 8 };
+enum { WELLS = 1000, AXES = 2 };
 
-static void *list(size_t entries, size_t size) {
-    void *p = calloc(entries, size);
-    if (!p) {
-        fprintf(stderr, "no memory\n");
-        exit(1);
+static void level_line(const ddm_tree *tree, size_t level) {
+    size_t own = 0, lent = 0, most = 0;
+    for (size_t leaf = 0; leaf < ddm_tree_leaves(tree, level); leaf++) {
+        const size_t count = ddm_tree_own(tree, level, leaf).count;
+        own += count;
+        lent += ddm_tree_borrowed(tree, level, leaf).count;
+        most = count > most ? count : most;
     }
-    return p;
+    printf("level %zu: %zu wells in %zu leaves, at most %zu a leaf, %zu borrowed; own wells %zu\n", level,
+           ddm_tree_rows(tree, level).count, ddm_tree_leaves(tree, level), most, lent, own);
 }
 
 int main(void) {
-    const size_t n = WELLS, rows = 6 * n + 1, near = NEAR + 1;
-    double *points = list(AXES * n, sizeof *points), *boxes = list(2 * AXES * rows, sizeof *boxes);
-    double *floats = list(32 * n, sizeof *floats);
-    size_t *level_points = list(4 * n, sizeof *level_points), *internals = list(4 * n, sizeof *internals);
-    size_t *domains = list(4 * rows, sizeof *domains), *borrowed = list(6 * n * near, sizeof *borrowed);
-    size_t *wholes = list(32 * n + 8 * n * near, sizeof *wholes);
-    size_t result[DDM_BUILD_SLOT];
+    static double points[AXES * WELLS];
+    ddm_params params = ddm_default_params();
+    ddm_error error;
     unsigned state = 12345;
-    for (size_t i = 0; i < AXES * n; i++) {
+    for (size_t i = 0; i < AXES * WELLS; i++) {
         state = state * 1103515245u + 12345u;
         points[i] = (state >> 8) % 100000 / 100.0;
     }
-    size_t refused = ddm_build(points, AXES * n, AXES, 32, NEAR, 4, DDM_POLICY_FIXED, 60, level_points, 4 * n, internals, 4 * n,
-                               domains, 4 * rows, boxes, 2 * AXES * rows, borrowed, 6 * n * near, floats, 32 * n, wholes,
-                               32 * n + 8 * n * near, result, DDM_BUILD_SLOT);
-    if (refused) {
-        fprintf(stderr, "refused %zu at %zu\n", refused, result[0]);
+    params.leaf_threshold = 32;
+    params.overlap_knn = 8;
+    params.coarse_reduction_factor = 4;
+    params.policy = DDM_POLICY_FIXED;
+    params.coarse_threshold = 60;
+    ddm_tree *tree = ddm_tree_build(points, AXES * WELLS, AXES, params, &error);
+    if (!tree) {
+        fprintf(stderr, "no tree: %s (number %zu, place %zu)\n", ddm_error_text(error), error.number, error.place);
         return 1;
     }
-    printf("levels %zu\n", result[1]);
-    size_t domain = 0;
-    for (size_t level = 0; level < result[1]; level++) {
-        size_t own = 0, lent = 0, most = 0;
-        for (size_t leaf = 0; leaf < result[6 + level]; leaf++, domain++) {
-            const size_t *row = domains + 4 * domain;
-            if (ddm_row_test(row[0], row[1], 4 * n) || ddm_row_test(row[2], row[3], 6 * n * near)) {
-                fprintf(stderr, "a domain row ends past its list\n");
-                return 1;
-            }
-            own += row[1];
-            lent += row[3];
-            most = row[1] > most ? row[1] : most;
-        }
-        printf("level %zu: %zu wells in %zu leaves, at most %zu a leaf, %zu borrowed; own wells %zu\n", level, result[2 + level],
-               result[6 + level], most, lent, own);
-    }
+    printf("levels %zu\n", ddm_tree_levels(tree));
+    for (size_t level = 0; level < ddm_tree_levels(tree); level++)
+        level_line(tree, level);
+    ddm_tree_free(tree);
     return 0;
 }

@@ -1,4 +1,4 @@
-"""What c/example.c prints, by tools/model.py, which shares nothing with the library:
+"""What c/example.c and c/lists.c print, by tools/model.py, which shares nothing with the library:
 
     python3 c/example_out.py > c/example.out
 """

@@ -1,10 +1,11 @@
-/* The result slots and the refusals: what each function returns and writes, and that it writes nothing else.
+/* ddm.h: what each function returns and writes to its slot and its lists, and that it writes nothing else.
  *
  *   cc -O2 -o slots c/slots.c target/staticlib/libddm_c.a && ./slots
  */
 #include "ddm.h"
 #include <math.h>
 #include <stdio.h>
+#include <string.h>
 
 /* What stands in every list before a call. */
 enum { MARK = 77 };
@@ -33,50 +34,55 @@ static int zeros(const size_t *list, size_t count) {
 }
 
 static void roots(void) {
-    double slot[2] = {MARK, MARK};
-    EXPECT(ddm_square_root(2.0, slot, 0) == 11 && slot[0] == MARK);
-    EXPECT(ddm_square_root(6.25, slot, 2) == 0 && slot[0] == 2.5 && slot[1] == MARK);
-    EXPECT(ddm_square_root(-1.0, slot, 2) == 15 && slot[0] == 0.0 && !signbit(slot[0]) && slot[1] == MARK);
-    EXPECT(ddm_square_root(NAN, slot, 1) == 15);
-    EXPECT(ddm_square_root(-0.0, slot, 1) == 0 && signbit(slot[0]));
+    double slot[DDM_ROOT_SLOT + 1] = {MARK, MARK};
+    EXPECT(ddm_square_root(2.0, slot, DDM_ROOT_SLOT - 1) == 11 && slot[0] == MARK);
+    EXPECT(ddm_square_root(6.25, slot, DDM_ROOT_SLOT + 1) == 0 && slot[0] == 2.5 && slot[1] == MARK);
+    EXPECT(ddm_square_root(-1.0, slot, DDM_ROOT_SLOT + 1) == 15 && slot[0] == 0.0 && !signbit(slot[0]) && slot[1] == MARK);
+    EXPECT(ddm_square_root(NAN, slot, DDM_ROOT_SLOT) == 15);
+    EXPECT(ddm_square_root(-0.0, slot, DDM_ROOT_SLOT) == 0 && signbit(slot[0]));
 }
 
 static void level_sizes(void) {
-    size_t slot[2] = {MARK, MARK};
-    EXPECT(ddm_level_size(1000, 60, 3, slot, 0) == 11 && marked(slot, 2));
-    EXPECT(ddm_level_size(1000, 60, 3, slot, 2) == 0 && slot[0] == 392 && slot[1] == MARK);
-    EXPECT(ddm_level_size(1000, 0, 3, slot, 1) == 4 && slot[0] == 0);
-    EXPECT(ddm_level_size(1048577, 1, 3, slot, 1) == 8);
-    EXPECT(ddm_level_size(60, 60, 3, slot, 1) == 14);
-    EXPECT(ddm_level_size(61, 60, 0, slot, 1) == 9 && ddm_level_size(61, 60, 4, slot, 1) == 9);
+    size_t slot[DDM_LEVEL_SIZE_SLOT + 1] = {MARK, MARK};
+    EXPECT(ddm_level_size(1000, 60, 3, slot, DDM_LEVEL_SIZE_SLOT - 1) == 11 && marked(slot, DDM_LEVEL_SIZE_SLOT + 1));
+    EXPECT(ddm_level_size(1000, 60, 3, slot, DDM_LEVEL_SIZE_SLOT + 1) == 0 && slot[0] == 392 && slot[1] == MARK);
+    EXPECT(ddm_level_size(1000, 0, 3, slot, DDM_LEVEL_SIZE_SLOT) == 4 && slot[0] == 0);
+    EXPECT(ddm_level_size(DDM_MOST_POINTS + 1, 1, 3, slot, DDM_LEVEL_SIZE_SLOT) == 8);
+    EXPECT(ddm_level_size(60, 60, 3, slot, DDM_LEVEL_SIZE_SLOT) == 14);
+    EXPECT(ddm_level_size(61, 60, 0, slot, DDM_LEVEL_SIZE_SLOT) == 9 && ddm_level_size(61, 60, 4, slot, DDM_LEVEL_SIZE_SLOT) == 9);
 }
 
 static void leaf_quotas(void) {
-    const size_t sizes[3] = {3, 0, 5}, large[2] = {1048576, 1};
-    size_t out[4], room[3], slot[3];
-    mark(out, 4), mark(room, 3), mark(slot, 3);
-    EXPECT(ddm_quotas(sizes, 3, 4, out, 4, room, 3, slot, 1) == 11 && marked(out, 4) && marked(room, 3) && marked(slot, 3));
-    EXPECT(ddm_quotas(sizes, 3, 4, out, 2, room, 3, slot, 3) == 11 && marked(out, 4) && zeros(slot, 2) && slot[2] == MARK);
-    EXPECT(ddm_quotas(large, 2, 4, out, 4, room, 3, slot, 2) == 8 && marked(out, 4) && zeros(slot, 2));
-    EXPECT(ddm_quotas(sizes, 3, 4, out, 4, room, 3, slot, 2) == 0 && slot[0] == 3 && slot[1] == 4);
+    const size_t sizes[3] = {3, 0, 5}, large[2] = {DDM_MOST_POINTS, 1};
+    size_t out[4], room[3], slot[DDM_QUOTA_SLOT + 1];
+    mark(out, 4), mark(room, 3), mark(slot, DDM_QUOTA_SLOT + 1);
+    EXPECT(ddm_quotas(sizes, 3, 4, out, 4, room, 3, slot, DDM_QUOTA_SLOT - 1) == 11 && marked(out, 4) && marked(room, 3));
+    EXPECT(marked(slot, DDM_QUOTA_SLOT + 1));
+    EXPECT(ddm_quotas(sizes, 3, 4, out, 2, room, 3, slot, DDM_QUOTA_SLOT + 1) == 11 && marked(out, 4));
+    EXPECT(zeros(slot, DDM_QUOTA_SLOT) && slot[DDM_QUOTA_SLOT] == MARK);
+    EXPECT(ddm_quotas(large, 2, 4, out, 4, room, 3, slot, DDM_QUOTA_SLOT) == 8 && marked(out, 4) && zeros(slot, DDM_QUOTA_SLOT));
+    EXPECT(ddm_quotas(sizes, 3, 4, out, 4, room, 3, slot, DDM_QUOTA_SLOT) == 0);
+    EXPECT(slot[DDM_QUOTA_WRITTEN] == 3 && slot[DDM_QUOTA_SEATS] == 4);
     EXPECT(out[0] == 2 && out[1] == 0 && out[2] == 2 && out[3] == MARK);
 }
 
 static void samples(void) {
     const double points[4] = {0.0, 1.0, 2.0, 10.0}, bad[4] = {0.0, 1.0, INFINITY, 10.0};
     double floats[8] = {0};
-    size_t out[4], wholes[4], slot[3];
-    mark(out, 4), mark(wholes, 4), mark(slot, 3);
-    EXPECT(ddm_sample(points, 4, 1, 3, 0, out, 4, floats, 8, wholes, 4, slot, 1) == 11);
-    EXPECT(marked(out, 4) && marked(wholes, 4) && marked(slot, 3));
-    EXPECT(ddm_sample(bad, 4, 1, 3, 0, out, 4, floats, 8, wholes, 4, slot, 3) == 10);
-    EXPECT(marked(out, 4) && marked(wholes, 4) && slot[0] == 2 && slot[1] == 0 && slot[2] == MARK);
-    EXPECT(ddm_sample(points, 4, 4, 1, 0, out, 4, floats, 8, wholes, 4, slot, 2) == 1 && zeros(slot, 2));
-    EXPECT(ddm_sample(points, 0, 1, 1, 0, out, 4, floats, 8, wholes, 4, slot, 2) == 6);
-    EXPECT(ddm_sample(points, 3, 2, 1, 0, out, 4, floats, 8, wholes, 4, slot, 2) == 7);
-    EXPECT(ddm_sample(points, 4, 1, 3, 4, out, 4, floats, 8, wholes, 4, slot, 2) == 13);
-    EXPECT(ddm_sample(points, 4, 1, 3, 0, out, 2, floats, 8, wholes, 4, slot, 2) == 11);
-    EXPECT(ddm_sample(points, 4, 1, 3, 0, out, 4, floats, 8, wholes, 4, slot, 2) == 0 && slot[0] == 0 && slot[1] == 3);
+    size_t out[4], wholes[4], slot[DDM_SAMPLE_SLOT + 1];
+    mark(out, 4), mark(wholes, 4), mark(slot, DDM_SAMPLE_SLOT + 1);
+    EXPECT(ddm_sample(points, 4, 1, 3, 0, out, 4, floats, 8, wholes, 4, slot, DDM_SAMPLE_SLOT - 1) == 11);
+    EXPECT(marked(out, 4) && marked(wholes, 4) && marked(slot, DDM_SAMPLE_SLOT + 1));
+    EXPECT(ddm_sample(bad, 4, 1, 3, 0, out, 4, floats, 8, wholes, 4, slot, DDM_SAMPLE_SLOT + 1) == 10);
+    EXPECT(marked(out, 4) && marked(wholes, 4) && slot[DDM_SAMPLE_PLACE] == 2 && slot[DDM_SAMPLE_WRITTEN] == 0);
+    EXPECT(slot[DDM_SAMPLE_SLOT] == MARK);
+    EXPECT(ddm_sample(points, 4, 4, 1, 0, out, 4, floats, 8, wholes, 4, slot, DDM_SAMPLE_SLOT) == 1 && zeros(slot, DDM_SAMPLE_SLOT));
+    EXPECT(ddm_sample(points, 0, 1, 1, 0, out, 4, floats, 8, wholes, 4, slot, DDM_SAMPLE_SLOT) == 6);
+    EXPECT(ddm_sample(points, 3, 2, 1, 0, out, 4, floats, 8, wholes, 4, slot, DDM_SAMPLE_SLOT) == 7);
+    EXPECT(ddm_sample(points, 4, 1, 3, 4, out, 4, floats, 8, wholes, 4, slot, DDM_SAMPLE_SLOT) == 13);
+    EXPECT(ddm_sample(points, 4, 1, 3, 0, out, 2, floats, 8, wholes, 4, slot, DDM_SAMPLE_SLOT) == 11);
+    EXPECT(ddm_sample(points, 4, 1, 3, 0, out, 4, floats, 8, wholes, 4, slot, DDM_SAMPLE_SLOT) == 0);
+    EXPECT(slot[DDM_SAMPLE_PLACE] == 0 && slot[DDM_SAMPLE_WRITTEN] == 3);
     EXPECT(out[0] == 0 && out[1] == 3 && out[2] == 2 && out[3] == MARK);
 }
 
@@ -85,66 +91,118 @@ static void row_tests(void) {
     EXPECT(ddm_row_test(6, 0, 5) == 12 && ddm_row_test((size_t)-1, 2, 5) == 12 && ddm_row_test(2, (size_t)-1, 5) == 12);
 }
 
-/* A build over four points on one axis, with one neighbour. */
-enum { N = 4, ROWS = 6 * N + 1, NEAR = 2 };
+/* The sizes of document 01's lists, and the refusals in their order. */
+static void build_sizes(void) {
+    const size_t rows = 6001, stated[DDM_SIZES_SLOT] = {4000, 4000, DDM_ROW_NUMBERS * rows, DDM_ROW_FLOATS(2) * rows, 54000, 32000, 104000};
+    size_t slot[DDM_SIZES_SLOT + 1];
+    mark(slot, DDM_SIZES_SLOT + 1);
+    EXPECT(ddm_build_sizes(1000, 2, 8, slot, DDM_SIZES_SLOT - 1) == 11 && marked(slot, DDM_SIZES_SLOT + 1));
+    EXPECT(ddm_build_sizes(1000, 2, 8, slot, DDM_SIZES_SLOT + 1) == 0 && slot[DDM_SIZES_SLOT] == MARK);
+    for (size_t i = 0; i < DDM_SIZES_SLOT; i++)
+        EXPECT(slot[i] == stated[i]);
+    EXPECT(ddm_build_sizes(0, 0, DDM_MOST_NEIGHBOURS + 1, slot, DDM_SIZES_SLOT) == 1 && zeros(slot, DDM_SIZES_SLOT));
+    EXPECT(ddm_build_sizes(0, 4, 0, slot, DDM_SIZES_SLOT) == 1);
+    EXPECT(ddm_build_sizes(0, 3, DDM_MOST_NEIGHBOURS + 1, slot, DDM_SIZES_SLOT) == 5 && zeros(slot, DDM_SIZES_SLOT));
+    EXPECT(ddm_build_sizes(0, 3, DDM_MOST_NEIGHBOURS, slot, DDM_SIZES_SLOT) == 6 && zeros(slot, DDM_SIZES_SLOT));
+    EXPECT(ddm_build_sizes(DDM_MOST_POINTS + 1, 3, 0, slot, DDM_SIZES_SLOT) == 8 && zeros(slot, DDM_SIZES_SLOT));
+    EXPECT(ddm_build_sizes((size_t)-1, 3, 0, slot, DDM_SIZES_SLOT) == 8);
+    EXPECT(ddm_build_sizes(DDM_MOST_POINTS, 3, DDM_MOST_NEIGHBOURS, slot, DDM_SIZES_SLOT) == 0);
+    EXPECT(slot[DDM_SIZES_BORROWED] == (size_t)6 * DDM_MOST_POINTS * (DDM_MOST_NEIGHBOURS + 1));
+}
 
-static size_t level_points[4 * N], internals[4 * N], domains[4 * ROWS], borrowed[6 * N * NEAR], wholes[32 * N + 8 * N * NEAR];
-static double boxes[2 * ROWS], floats[32 * N];
+/* A build over four points on one axis, with one neighbour; each list has room past the length that is lent. */
+enum { N = 4, NEAR = 1, ROOM = 512 };
+
+static size_t level_points[ROOM], internals[ROOM], domains[ROOM], borrowed[ROOM], wholes[ROOM], sizes[DDM_SIZES_SLOT];
+static double boxes[ROOM], floats[ROOM];
 static size_t slot[DDM_BUILD_SLOT + 1];
 
+static void mark_all(void) {
+    mark(level_points, ROOM), mark(internals, ROOM), mark(domains, ROOM), mark(borrowed, ROOM), mark(wholes, ROOM);
+    mark(slot, DDM_BUILD_SLOT + 1);
+    for (size_t i = 0; i < ROOM; i++)
+        boxes[i] = floats[i] = MARK;
+}
+
 static size_t build(const double *points, uint32_t leaf, uint32_t factor, uint32_t policy, uint32_t threshold, size_t slot_len) {
-    mark(level_points, 4 * N), mark(internals, 4 * N), mark(domains, 4 * ROWS), mark(borrowed, 6 * N * NEAR);
-    mark(wholes, 32 * N + 8 * N * NEAR), mark(slot, DDM_BUILD_SLOT + 1);
-    for (size_t i = 0; i < 2 * ROWS; i++)
-        boxes[i] = MARK;
-    for (size_t i = 0; i < 32 * N; i++)
-        floats[i] = MARK;
-    return ddm_build(points, N, 1, leaf, 1, factor, policy, threshold, level_points, 4 * N, internals, 4 * N, domains, 4 * ROWS,
-                     boxes, 2 * ROWS, borrowed, 6 * N * NEAR, floats, 32 * N, wholes, 32 * N + 8 * N * NEAR, slot, slot_len);
+    mark_all();
+    return ddm_build(points, N, 1, leaf, NEAR, factor, policy, threshold, level_points, sizes[DDM_SIZES_LEVEL_POINTS], internals,
+                     sizes[DDM_SIZES_INTERNALS], domains, sizes[DDM_SIZES_DOMAINS], boxes, sizes[DDM_SIZES_BOXES], borrowed,
+                     sizes[DDM_SIZES_BORROWED], floats, sizes[DDM_SIZES_FLOATS], wholes, sizes[DDM_SIZES_WHOLES], slot, slot_len);
 }
 
 static int untouched(void) {
-    for (size_t i = 0; i < 2 * ROWS; i++)
-        if (boxes[i] != MARK)
+    for (size_t i = 0; i < ROOM; i++)
+        if (boxes[i] != MARK || floats[i] != MARK)
             return 0;
-    for (size_t i = 0; i < 32 * N; i++)
-        if (floats[i] != MARK)
-            return 0;
-    return marked(level_points, 4 * N) && marked(internals, 4 * N) && marked(domains, 4 * ROWS) && marked(borrowed, 6 * N * NEAR)
-           && marked(wholes, 32 * N + 8 * N * NEAR);
+    return marked(level_points, ROOM) && marked(internals, ROOM) && marked(domains, ROOM) && marked(borrowed, ROOM)
+           && marked(wholes, ROOM);
 }
 
-static void builds(void) {
+static void refused_builds(void) {
     const double points[N] = {0.0, 1.0, 2.0, 10.0}, bad[N] = {0.0, 1.0, 2.0, NAN};
-    const size_t tree[12] = {0, 2, 0, 1, 2, 2, 1, 1, 4, 2, 2, 0};
     EXPECT(build(points, 1, 2, DDM_POLICY_FIXED, 2, DDM_BUILD_SLOT - 1) == 11 && untouched() && marked(slot, DDM_BUILD_SLOT + 1));
     EXPECT(build(points, 0, 1, DDM_POLICY_FIXED, 0, DDM_BUILD_SLOT) == 2 && untouched() && zeros(slot, DDM_BUILD_SLOT));
     EXPECT(build(points, 1, 1, DDM_POLICY_FIXED, 0, DDM_BUILD_SLOT) == 3 && untouched());
     EXPECT(build(points, 1, 2, DDM_POLICY_FIXED, 0, DDM_BUILD_SLOT) == 4 && untouched());
     EXPECT(build(points, 1, 2, 4294967295u, 0, DDM_BUILD_SLOT) == 4 && untouched());
-    EXPECT(build(bad, 1, 2, DDM_POLICY_FIXED, 2, DDM_BUILD_SLOT + 1) == 10 && untouched());
-    EXPECT(slot[0] == 3 && zeros(slot + 1, DDM_BUILD_SLOT - 1) && slot[DDM_BUILD_SLOT] == MARK);
+    EXPECT(build(bad, 1, 2, DDM_POLICY_FIXED, 2, DDM_BUILD_SLOT + 1) == 10 && untouched() && slot[DDM_BUILD_SLOT] == MARK);
+    EXPECT(slot[DDM_SLOT_PLACE] == 3 && zeros(slot + DDM_SLOT_LEVELS, DDM_BUILD_SLOT - DDM_SLOT_LEVELS));
+    /* each list must have what ddm_build_sizes says, and no more */
+    for (size_t list = 0; list < DDM_SIZES_SLOT; list++) {
+        sizes[list]--;
+        EXPECT(build(bad, 1, 2, DDM_POLICY_FIXED, 2, DDM_BUILD_SLOT) == 11 && untouched() && zeros(slot, DDM_BUILD_SLOT));
+        sizes[list]++;
+    }
+}
+
+/* Whether a domain row, in one dimension, has these stretches and this box. */
+static int row_is(size_t domain, size_t own, size_t owned, size_t lent, size_t count, double lower, double upper) {
+    const size_t *row = domains + DDM_ROW_NUMBERS * domain;
+    const double *box = boxes + DDM_ROW_FLOATS(1) * domain;
+    return row[DDM_COLUMN_OWN_START] == own && row[DDM_COLUMN_OWN_COUNT] == owned && row[DDM_COLUMN_BORROWED_START] == lent
+           && row[DDM_COLUMN_BORROWED_COUNT] == count && box[0] == lower && box[1] == upper;
+}
+
+static void builds(void) {
+    const double points[N] = {0.0, 1.0, 2.0, 10.0};
     /* Auto: the threshold is 512, whatever stands in its place, so there is the coarse level alone */
-    EXPECT(build(points, 1, 2, DDM_POLICY_AUTO, 0, DDM_BUILD_SLOT) == 0);
-    EXPECT(slot[0] == 0 && slot[1] == 1 && slot[2] == 4 && zeros(slot + 3, 3) && slot[6] == 1 && zeros(slot + 7, 3));
+    EXPECT(build(points, 1, 2, DDM_POLICY_AUTO, 0, DDM_BUILD_SLOT) == 0 && slot[DDM_SLOT_PLACE] == 0 && slot[DDM_SLOT_LEVELS] == 1);
+    EXPECT(slot[DDM_SLOT_ROWS] == N && zeros(slot + DDM_SLOT_ROWS + 1, DDM_MOST_LEVELS - 1));
+    EXPECT(slot[DDM_SLOT_DOMAINS] == 1 && zeros(slot + DDM_SLOT_DOMAINS + 1, DDM_MOST_LEVELS - 1));
     /* Fixed at 2: two leaves of two rows, each with a row of the other's, and then the coarse level */
     EXPECT(build(points, 3, 2, DDM_POLICY_FIXED, 2, DDM_BUILD_SLOT + 1) == 0 && slot[DDM_BUILD_SLOT] == MARK);
-    EXPECT(slot[0] == 0 && slot[1] == 2 && slot[2] == 4 && slot[3] == 2 && zeros(slot + 4, 2));
-    EXPECT(slot[6] == 2 && slot[7] == 1 && zeros(slot + 8, 2));
-    for (size_t i = 0; i < 12; i++)
-        EXPECT(domains[i] == tree[i]);
-    EXPECT(borrowed[0] == 2 && borrowed[1] == 1);
-    EXPECT(boxes[0] == 0.0 && boxes[1] == 2.0 && boxes[2] == 2.0 && boxes[3] == 10.0 && boxes[4] == 0.0 && boxes[5] == 0.0);
-    EXPECT(marked(level_points + 6, 4 * N - 6) && marked(domains + 12, 4 * ROWS - 12) && boxes[6] == MARK && borrowed[2] == MARK);
+    EXPECT(slot[DDM_SLOT_PLACE] == 0 && slot[DDM_SLOT_LEVELS] == 2 && slot[DDM_SLOT_ROWS] == N && slot[DDM_SLOT_ROWS + 1] == 2);
+    EXPECT(zeros(slot + DDM_SLOT_ROWS + 2, DDM_MOST_LEVELS - 2));
+    EXPECT(slot[DDM_SLOT_DOMAINS] == 2 && slot[DDM_SLOT_DOMAINS + 1] == 1 && zeros(slot + DDM_SLOT_DOMAINS + 2, DDM_MOST_LEVELS - 2));
+    EXPECT(row_is(0, 0, 2, 0, 1, 0.0, 2.0) && row_is(1, 2, 2, 1, 1, 2.0, 10.0) && row_is(2, N, 2, 2, 0, 0.0, 0.0));
+    EXPECT(borrowed[0] == 2 && borrowed[1] == 1 && marked(borrowed + 2, ROOM - 2));
+    EXPECT(marked(level_points + N + 2, ROOM - N - 2) && marked(internals + N + 2, ROOM - N - 2));
+    EXPECT(marked(domains + 3 * DDM_ROW_NUMBERS, ROOM - 3 * DDM_ROW_NUMBERS) && boxes[3 * DDM_ROW_FLOATS(1)] == MARK);
+}
+
+/* Every refusal has words of its own, and so has a number that is none. */
+static void texts(void) {
+    enum { LAST = 17 };
+    for (size_t i = 0; i <= LAST + 1; i++)
+        for (size_t j = 0; j < i; j++)
+            EXPECT(strcmp(ddm_refusal_text(i), ddm_refusal_text(j)) != 0);
+    EXPECT(strcmp(ddm_refusal_text((size_t)-1), ddm_refusal_text(LAST + 1)) == 0);
+    EXPECT(strcmp(ddm_refusal_text(2), "the leaf threshold is 0") == 0);
 }
 
 int main(void) {
+    EXPECT(ddm_version() == DDM_VERSION);
+    EXPECT(ddm_build_sizes(N, 1, NEAR, sizes, DDM_SIZES_SLOT) == 0);
     roots();
     level_sizes();
     leaf_quotas();
     samples();
     row_tests();
+    build_sizes();
+    refused_builds();
     builds();
+    texts();
     if (wrong == 0)
         printf("slots: ok\n");
     return wrong != 0;

@@ -34,28 +34,27 @@ fn job(b: &[u8], out: &mut String) {
         .collect();
     let tree = match build(&points, d, params) {
         Ok(tree) => tree,
-        Err(refused) => {
+        Err(error) => {
+            let refused = error.refusal().expect("memory for the lists");
             let _ = writeln!(out, "refused {} at {}", refused.number, refused.place);
             return;
         }
     };
-    let _ = writeln!(out, "levels {}", tree.levels().count());
+    let _ = writeln!(out, "levels {}", tree.len());
     for (t, level) in tree.levels().enumerate() {
         let _ = write!(out, "level {t}");
-        rows(out, "points", level.points());
+        rows(out, "points", level.rows());
         out.push('\n');
         for (i, leaf) in level.leaves().enumerate() {
             let _ = write!(out, "domain {i}");
             rows(out, "internal", leaf.own());
             rows(out, "overlap", leaf.borrowed());
             out.push_str(" box");
-            if level.is_coarse() {
-                out.push_str(" -");
-            } else {
-                let (lower, upper) = leaf.bounds();
-                for x in lower.iter().chain(upper) {
+            match leaf.bounds() {
+                None => out.push_str(" -"),
+                Some((lower, upper)) => lower.iter().chain(upper).for_each(|x| {
                     let _ = write!(out, " {:016x}", x.to_bits());
-                }
+                }),
             }
             out.push('\n');
         }

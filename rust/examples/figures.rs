@@ -7,25 +7,25 @@
 #[path = "../tests/plain/mod.rs"]
 mod plain;
 
-use rekvashu::{build, square_root, DDMParams};
+use rekvashu::{build, build_sizes, square_root, DDMParams, SizePolicy};
 use std::hint::black_box;
 
 #[link(name = "ddm_stages", kind = "static")]
 extern "C" {
     fn stage_leaves(
         points: *const f64, points_len: usize, dimensions: usize, leaf: usize, active: *const usize, active_len: usize,
-        work: *mut usize, work_len: usize, held: *mut f64, held_len: usize, internals: *mut usize, internals_len: usize,
+        wholes: *mut usize, wholes_len: usize, floats: *mut f64, floats_len: usize, internals: *mut usize, internals_len: usize,
         domains: *mut usize, domains_len: usize, boxes: *mut f64, boxes_len: usize,
     ) -> usize;
     fn stage_overlaps(
         points: *const f64, points_len: usize, dimensions: usize, neighbours: usize, active: *const usize, active_len: usize,
         internals: *const usize, internals_len: usize, domains: *mut usize, domains_len: usize, m: usize,
-        borrowed: *mut usize, borrowed_len: usize, work: *mut usize, work_len: usize,
+        borrowed: *mut usize, borrowed_len: usize, wholes: *mut usize, wholes_len: usize,
     ) -> usize;
     fn stage_coarse_points(
         points: *const f64, points_len: usize, dimensions: usize, size: usize, internals: *const usize, internals_len: usize,
         domains: *const usize, domains_len: usize, m: usize, level_points: *mut usize, level_points_len: usize, a: usize,
-        work: *mut usize, work_len: usize, least: *mut f64, least_len: usize,
+        wholes: *mut usize, wholes_len: usize, floats: *mut f64, floats_len: usize,
     ) -> usize;
     fn clock_gettime(id: i32, time: *mut [i64; 2]) -> i32;
 }
@@ -60,28 +60,28 @@ fn line(what: &str, (ours, theirs): (f64, f64)) {
 /// The three stages of the first level, each on the same input as the plain ones.
 fn stages(coords: &[f64], d: usize, s: &plain::Settings, turns: usize) {
     let n = coords.len() / d;
-    let near = s.neighbours as usize + 1;
+    let sizes = build_sizes(n, d, s.neighbours).unwrap();
     let rows: Vec<usize> = (0..n).collect();
     let points = plain::Points { coords, d };
     // entries that no stage writes keep these values
-    let (mut work, mut held) = (vec![usize::MAX; 32 * n + 8 * n * near], vec![-7.5f64; 32 * n]);
-    let (mut internals, mut domains, mut boxes) = (vec![0usize; n], vec![0usize; 4 * 2 * n], vec![0.0; 2 * d * 2 * n]);
+    let (mut wholes, mut floats) = (vec![usize::MAX; sizes.wholes], vec![-7.5f64; sizes.floats]);
+    let (mut internals, mut domains, mut boxes) = (vec![0usize; n], vec![0usize; sizes.domains], vec![0.0; sizes.boxes]);
     let mut m = 0;
     let cut = compared(turns, || unsafe {
         m = stage_leaves(
-            coords.as_ptr(), coords.len(), d, s.leaf as usize, rows.as_ptr(), n, work.as_mut_ptr(), work.len(), held.as_mut_ptr(),
-            held.len(), internals.as_mut_ptr(), n, domains.as_mut_ptr(), domains.len(), boxes.as_mut_ptr(), boxes.len(),
+            coords.as_ptr(), coords.len(), d, s.leaf as usize, rows.as_ptr(), n, wholes.as_mut_ptr(), wholes.len(), floats.as_mut_ptr(),
+            floats.len(), internals.as_mut_ptr(), n, domains.as_mut_ptr(), domains.len(), boxes.as_mut_ptr(), boxes.len(),
         )
     }, || plain::leaves(&points, s.leaf, &rows));
     line("cut", cut);
     let leaves = plain::leaves(&points, s.leaf, &rows);
     assert_eq!(m, leaves.len());
-    let mut borrowed = vec![0usize; 2 * n * near];
+    let mut borrowed = vec![0usize; sizes.borrowed];
     let turns = if n > 20_000 { 1 } else { turns };
     let overlaps = compared(turns, || unsafe {
         stage_overlaps(
             coords.as_ptr(), coords.len(), d, s.neighbours as usize, rows.as_ptr(), n, internals.as_ptr(), n, domains.as_mut_ptr(),
-            domains.len(), m, borrowed.as_mut_ptr(), borrowed.len(), work.as_mut_ptr(), work.len(),
+            domains.len(), m, borrowed.as_mut_ptr(), borrowed.len(), wholes.as_mut_ptr(), wholes.len(),
         )
     }, || {
         let mut leaves = leaves.clone();
@@ -91,25 +91,29 @@ fn stages(coords: &[f64], d: usize, s: &plain::Settings, turns: usize) {
     line("neighbours and overlaps", overlaps);
     let c = plain::threshold(s.policy, n);
     let size = plain::level_size(n, c, plain::reductions(n, c, s.factor));
-    let mut list = vec![0usize; 2 * n];
-    list[..n].copy_from_slice(&rows);
+    let mut level_points = vec![0usize; sizes.level_points];
+    level_points[..n].copy_from_slice(&rows);
     let mut next = 0;
     let sampling = compared(turns, || unsafe {
         next = stage_coarse_points(
-            coords.as_ptr(), coords.len(), d, size, internals.as_ptr(), n, domains.as_ptr(), domains.len(), m, list.as_mut_ptr(),
-            list.len(), n, work.as_mut_ptr(), work.len(), held.as_mut_ptr(), held.len(),
+            coords.as_ptr(), coords.len(), d, size, internals.as_ptr(), n, domains.as_ptr(), domains.len(), m,
+            level_points.as_mut_ptr(), level_points.len(), n, wholes.as_mut_ptr(), wholes.len(), floats.as_mut_ptr(), floats.len(),
         )
     }, || plain::send(&points, &leaves, size));
-    assert_eq!(&list[n..n + next], &plain::send(&points, &leaves, size)[..]);
+    assert_eq!(&level_points[n..n + next], &plain::send(&points, &leaves, size)[..]);
     line("quotas and sampling", sampling);
-    let wholes = work.iter().filter(|x| **x != usize::MAX).count();
-    let floats = held.iter().filter(|x| **x != -7.5).count();
-    println!("  room touched: {wholes} of {} whole numbers, {floats} of {} floats", work.len(), held.len());
+    let (whole, float) = (wholes.iter().filter(|x| **x != usize::MAX).count(), floats.iter().filter(|x| **x != -7.5).count());
+    println!("  room touched: {whole} of {} whole numbers, {float} of {} floats", wholes.len(), floats.len());
 }
 
 fn main() {
-    let params = DDMParams::default();
-    let s = plain::Settings { leaf: 64, neighbours: 16, factor: 8, policy: plain::Policy::Auto };
+    let params = DDMParams { leaf_threshold: 64, overlap_knn: 16, coarse_reduction_factor: 8, coarse_threshold: SizePolicy::Auto };
+    let s = plain::Settings {
+        leaf: params.leaf_threshold,
+        neighbours: params.overlap_knn,
+        factor: params.coarse_reduction_factor,
+        policy: plain::Policy::Auto,
+    };
     let mut state = 0x9e37_79b9_7f4a_7c15u64;
     let mut unit = || {
         state ^= state << 13;
@@ -117,7 +121,7 @@ fn main() {
         state ^= state << 17;
         (state >> 11) as f64 / (1u64 << 53) as f64
     };
-    println!("leaf 64, neighbours 16, factor 8, Auto; library, plain Rust");
+    println!("leaf {}, neighbours {}, factor {}, Auto; library, plain Rust", s.leaf, s.neighbours, s.factor);
     for n in [1_000usize, 10_000, 50_000] {
         for d in [2, 3] {
             let coords: Vec<f64> = (0..n * d).map(|_| unit() * 1000.0).collect();

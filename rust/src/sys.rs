@@ -1,15 +1,13 @@
-//! The static library's functions, each behind a safe one. Every pointer comes with its length from one slice, which is all that
-//! the library asks: its functions have no preconditions, and read and write inside these slices only.
+//! The static library's functions, each behind a safe one. Every pointer comes with its length from one list, which is all that the
+//! library asks: its functions have no preconditions, read and write inside these lists only, and no answer depends on what stood in a
+//! list that they write. So lists are lent by their capacity, and after an accepted call they get the length that was written.
+use crate::lists::Lists;
+use crate::packed::*;
 use crate::{DDMParams, SizePolicy};
 
-/// Numbers in the build's result slot: place, levels, four row counts, four domain counts.
-pub const BUILD_SLOT: usize = 10;
-/// In sampling's: place, rows written.
-pub const SAMPLE_SLOT: usize = 2;
-/// In the quotas': entries written, seats.
-pub const QUOTA_SLOT: usize = 2;
-
 extern "C" {
+    fn ddm_version() -> usize;
+    fn ddm_build_sizes(n: usize, dimensions: usize, neighbours: u32, result: *mut usize, result_len: usize) -> usize;
     fn ddm_build(
         points: *const f64, points_len: usize, dimensions: usize, leaf_threshold: u32, overlap_knn: u32,
         coarse_reduction_factor: u32, policy: u32, coarse_threshold: u32, level_points: *mut usize, level_points_len: usize,
@@ -29,53 +27,95 @@ extern "C" {
     fn ddm_square_root(x: f64, result: *mut f64, result_len: usize) -> usize;
 }
 
-#[allow(clippy::too_many_arguments)]
-pub fn build(
-    points: &[f64], dimensions: usize, params: DDMParams, level_points: &mut [usize], internals: &mut [usize],
-    domains: &mut [usize], boxes: &mut [f64], borrowed: &mut [usize], floats: &mut [f64], wholes: &mut [usize],
-    result: &mut [usize],
-) -> usize {
+pub fn version() -> usize {
+    unsafe { ddm_version() }
+}
+
+pub fn build_sizes(n: usize, dimensions: usize, neighbours: u32, result: &mut [usize; SIZES_SLOT]) -> usize {
+    unsafe { ddm_build_sizes(n, dimensions, neighbours, result.as_mut_ptr(), result.len()) }
+}
+
+/// Builds into the lists, and after an accepted call gives each its length; the working room stays empty.
+pub fn build(points: &[f64], dimensions: usize, params: DDMParams, lists: &mut Lists, result: &mut [usize; BUILD_SLOT]) -> usize {
     let (policy, threshold) = match params.coarse_threshold {
         SizePolicy::Auto => (0, 0),
         SizePolicy::Fixed(c) => (1, c),
     };
-    unsafe {
+    let l = &mut *lists;
+    let number = unsafe {
         ddm_build(
             points.as_ptr(), points.len(), dimensions, params.leaf_threshold, params.overlap_knn,
-            params.coarse_reduction_factor, policy, threshold, level_points.as_mut_ptr(), level_points.len(),
-            internals.as_mut_ptr(), internals.len(), domains.as_mut_ptr(), domains.len(), boxes.as_mut_ptr(), boxes.len(),
-            borrowed.as_mut_ptr(), borrowed.len(), floats.as_mut_ptr(), floats.len(), wholes.as_mut_ptr(), wholes.len(),
-            result.as_mut_ptr(), result.len(),
+            params.coarse_reduction_factor, policy, threshold, l.level_points.as_mut_ptr(), l.level_points.capacity(),
+            l.internals.as_mut_ptr(), l.internals.capacity(), l.domains.as_mut_ptr(), l.domains.capacity(), l.boxes.as_mut_ptr(),
+            l.boxes.capacity(), l.borrowed.as_mut_ptr(), l.borrowed.capacity(), l.floats.as_mut_ptr(), l.floats.capacity(),
+            l.wholes.as_mut_ptr(), l.wholes.capacity(), result.as_mut_ptr(), result.len(),
         )
+    };
+    if number == 0 {
+        let rows: usize = result[SLOT_ROWS..SLOT_ROWS + MOST_LEVELS].iter().sum();
+        let leaves: usize = result[SLOT_DOMAINS..SLOT_DOMAINS + MOST_LEVELS].iter().sum();
+        // an accepted build writes the front of these lists: a row of each level, a domain row of each leaf
+        unsafe {
+            written(&mut l.level_points, rows);
+            written(&mut l.internals, rows);
+            written(&mut l.domains, ROW_NUMBERS * leaves);
+            written(&mut l.boxes, row_floats(dimensions) * leaves);
+        }
+        let last = &l.domains[ROW_NUMBERS * (leaves - 1)..];
+        let borrowed = last[BORROWED_START] + last[BORROWED_COUNT];
+        // and the last leaf's borrowed rows end the list of these
+        unsafe { written(&mut l.borrowed, borrowed) };
     }
+    number
 }
 
+/// Samples into `out`, and after an accepted call gives it its length.
 #[allow(clippy::too_many_arguments)]
 pub fn sample(
-    points: &[f64], dimensions: usize, wanted: usize, seed: usize, out: &mut [usize], floats: &mut [f64],
-    wholes: &mut [usize], result: &mut [usize],
+    points: &[f64], dimensions: usize, wanted: usize, seed: usize, out: &mut Vec<usize>, floats: &mut Vec<f64>,
+    wholes: &mut Vec<usize>, result: &mut [usize; SAMPLE_SLOT],
 ) -> usize {
-    unsafe {
+    let number = unsafe {
         ddm_sample(
-            points.as_ptr(), points.len(), dimensions, wanted, seed, out.as_mut_ptr(), out.len(), floats.as_mut_ptr(),
-            floats.len(), wholes.as_mut_ptr(), wholes.len(), result.as_mut_ptr(), result.len(),
+            points.as_ptr(), points.len(), dimensions, wanted, seed, out.as_mut_ptr(), out.capacity(), floats.as_mut_ptr(),
+            floats.capacity(), wholes.as_mut_ptr(), wholes.capacity(), result.as_mut_ptr(), result.len(),
         )
+    };
+    if number == 0 {
+        // an accepted call writes as many rows as it says
+        unsafe { written(out, result[SAMPLE_WRITTEN]) };
     }
+    number
 }
 
-pub fn level_size(a: usize, c: u32, r: u32, result: &mut [usize]) -> usize {
+pub fn level_size(a: usize, c: u32, r: u32, result: &mut [usize; LEVEL_SIZE_SLOT]) -> usize {
     unsafe { ddm_level_size(a, c, r, result.as_mut_ptr(), result.len()) }
 }
 
-pub fn quotas(sizes: &[usize], wanted: usize, out: &mut [usize], room: &mut [usize], result: &mut [usize]) -> usize {
-    unsafe {
+/// Writes the quotas to `out`, and after an accepted call gives it its length.
+pub fn quotas(sizes: &[usize], wanted: usize, out: &mut Vec<usize>, room: &mut Vec<usize>, result: &mut [usize; QUOTA_SLOT]) -> usize {
+    let number = unsafe {
         ddm_quotas(
-            sizes.as_ptr(), sizes.len(), wanted, out.as_mut_ptr(), out.len(), room.as_mut_ptr(), room.len(),
+            sizes.as_ptr(), sizes.len(), wanted, out.as_mut_ptr(), out.capacity(), room.as_mut_ptr(), room.capacity(),
             result.as_mut_ptr(), result.len(),
         )
+    };
+    if number == 0 {
+        // an accepted call writes one entry for each leaf, and says so
+        unsafe { written(out, result[QUOTA_WRITTEN]) };
     }
+    number
 }
 
-pub fn square_root(x: f64, result: &mut [f64]) -> usize {
+pub fn square_root(x: f64, result: &mut [f64; ROOT_SLOT]) -> usize {
     unsafe { ddm_square_root(x, result.as_mut_ptr(), result.len()) }
+}
+
+/// The list's length after a call that wrote its first entries.
+///
+/// # Safety
+/// The first `entries` entries have been written.
+unsafe fn written<T>(list: &mut Vec<T>, entries: usize) {
+    assert!(entries <= list.capacity(), "the library wrote past a list");
+    list.set_len(entries);
 }

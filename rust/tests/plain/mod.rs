@@ -25,7 +25,7 @@ pub struct Leaf {
 
 #[derive(Clone, Debug, PartialEq)]
 pub struct Level {
-    pub points: Vec<usize>,
+    pub rows: Vec<usize>,
     pub leaves: Vec<Leaf>,
 }
 
@@ -313,11 +313,11 @@ pub fn build(coords: &[f64], d: usize, s: &Settings) -> Result<Vec<Level>, (usiz
         borrow(&points, s.neighbours, &active, &mut leaves);
         let r = k.saturating_sub(levels.len() as u32).max(1);
         let next = send(&points, &leaves, level_size(active.len(), c, r));
-        levels.push(Level { points: active, leaves });
+        levels.push(Level { rows: active, leaves });
         active = next;
     }
     let zeros = vec![0.0; d];
     let leaf = Leaf { own: active.clone(), borrowed: Vec::new(), lower: zeros.clone(), upper: zeros };
-    levels.push(Level { points: active, leaves: vec![leaf] });
+    levels.push(Level { rows: active, leaves: vec![leaf] });
     Ok(levels)
 }

@@ -1,0 +1,290 @@
+/* A tree of domains as one thing to build, walk and free, over ddm.h: for C99 and C++, header only.
+ *
+ *   ddm_error error;
+ *   ddm_tree *tree = ddm_tree_build(points, points_len, 2, ddm_default_params(), &error);
+ *   if (!tree) {
+ *       fprintf(stderr, "%s\n", ddm_error_text(error));
+ *       return 1;
+ *   }
+ *   for (size_t level = 0; level < ddm_tree_levels(tree); level++)
+ *       for (size_t leaf = 0; leaf < ddm_tree_leaves(tree, level); leaf++) {
+ *           ddm_rows own = ddm_tree_own(tree, level, leaf);
+ *           ..
+ *       }
+ *   ddm_tree_free(tree);
+ *
+ * The lists come from calloc, so that what the build does not touch costs nothing; afterwards the working room is given back and the
+ * others are cut to what they hold. A tree is only read by the functions that walk it: any number of threads may do so at once. A level
+ * or leaf that is not there has no rows, no leaves and no box.
+ */
+#ifndef DDM_TREE_H
+#define DDM_TREE_H
+
+#include "ddm.h"
+#include <stdlib.h>
+
+#ifdef __cplusplus
+extern "C" {
+#endif
+
+/* The settings of a build. policy is DDM_POLICY_AUTO, under which coarse_threshold is not looked at, or DDM_POLICY_FIXED. */
+typedef struct ddm_params {
+    uint32_t leaf_threshold;
+    uint32_t overlap_knn;
+    uint32_t coarse_reduction_factor;
+    uint32_t policy;
+    uint32_t coarse_threshold;
+} ddm_params;
+
+/* Why there is no tree: a refusal's number and its place (0 where it names none), or one of the two numbers below, which are no
+ * refusals. */
+typedef struct ddm_error {
+    size_t number;
+    size_t place;
+} ddm_error;
+
+/* calloc gave nothing. */
+#define DDM_NO_MEMORY ((size_t)-1)
+/* The library is of another major or minor version than this header, so its rows may have other columns. */
+#define DDM_OTHER_VERSION ((size_t)-2)
+
+/* Rows of the point list, ascending; they stand in the tree and end with it. */
+typedef struct ddm_rows {
+    const size_t *rows;
+    size_t count;
+} ddm_rows;
+
+/* A tree. Its fields are for the functions below. */
+typedef struct ddm_tree {
+    size_t dimensions;
+    size_t result[DDM_BUILD_SLOT];
+    size_t *level_points, *internals, *domains;
+    double *boxes;
+    size_t *borrowed;
+} ddm_tree;
+
+/* ---- settings and errors */
+
+/* The defaults: leaf threshold 256, 16 neighbours, factor 128, Auto. */
+static inline ddm_params ddm_default_params(void) {
+    ddm_params params;
+    params.leaf_threshold = 256;
+    params.overlap_knn = 16;
+    params.coarse_reduction_factor = 128;
+    params.policy = DDM_POLICY_AUTO;
+    params.coarse_threshold = 0;
+    return params;
+}
+
+/* The error in words. */
+static inline const char *ddm_error_text(ddm_error error) {
+    if (error.number == DDM_NO_MEMORY)
+        return "there is no memory for the lists";
+    if (error.number == DDM_OTHER_VERSION)
+        return "the library is of another version than the header";
+    return ddm_refusal_text(error.number);
+}
+
+/* ---- lists */
+
+/* The lists of one call, and how many entries they have. */
+typedef struct ddm_lists {
+    size_t sizes[DDM_SIZES_SLOT];
+    size_t *level_points, *internals, *domains;
+    double *boxes;
+    size_t *borrowed;
+    double *floats;
+    size_t *wholes;
+} ddm_lists;
+
+static inline void ddm_lists_free(ddm_lists *lists) {
+    free(lists->level_points), free(lists->internals), free(lists->domains), free(lists->boxes), free(lists->borrowed);
+    free(lists->floats), free(lists->wholes);
+}
+
+static inline size_t *ddm_list_of_wholes(size_t entries) {
+    return (size_t *)calloc(entries, sizeof(size_t));
+}
+
+static inline double *ddm_list_of_floats(size_t entries) {
+    return (double *)calloc(entries, sizeof(double));
+}
+
+/* Whether there was memory for the lists of these sizes; if not, none is kept. */
+static inline int ddm_lists_make(ddm_lists *lists) {
+    lists->level_points = ddm_list_of_wholes(lists->sizes[DDM_SIZES_LEVEL_POINTS]);
+    lists->internals = ddm_list_of_wholes(lists->sizes[DDM_SIZES_INTERNALS]);
+    lists->domains = ddm_list_of_wholes(lists->sizes[DDM_SIZES_DOMAINS]);
+    lists->boxes = ddm_list_of_floats(lists->sizes[DDM_SIZES_BOXES]);
+    lists->borrowed = ddm_list_of_wholes(lists->sizes[DDM_SIZES_BORROWED]);
+    lists->floats = ddm_list_of_floats(lists->sizes[DDM_SIZES_FLOATS]);
+    lists->wholes = ddm_list_of_wholes(lists->sizes[DDM_SIZES_WHOLES]);
+    if (lists->level_points && lists->internals && lists->domains && lists->boxes && lists->borrowed && lists->floats && lists->wholes)
+        return 1;
+    ddm_lists_free(lists);
+    return 0;
+}
+
+static inline size_t ddm_lists_build(ddm_lists *lists, const double *points, size_t points_len, size_t dimensions, ddm_params params,
+                                     size_t *result) {
+    const size_t *sizes = lists->sizes;
+    return ddm_build(points, points_len, dimensions, params.leaf_threshold, params.overlap_knn, params.coarse_reduction_factor,
+                     params.policy, params.coarse_threshold, lists->level_points, sizes[DDM_SIZES_LEVEL_POINTS], lists->internals,
+                     sizes[DDM_SIZES_INTERNALS], lists->domains, sizes[DDM_SIZES_DOMAINS], lists->boxes, sizes[DDM_SIZES_BOXES],
+                     lists->borrowed, sizes[DDM_SIZES_BORROWED], lists->floats, sizes[DDM_SIZES_FLOATS], lists->wholes,
+                     sizes[DDM_SIZES_WHOLES], result, DDM_BUILD_SLOT);
+}
+
+/* The refusal of these settings and counts, 0 for none: where they are good, a build that is lent nothing is refused with 11. */
+static inline size_t ddm_lists_test(const double *points, size_t points_len, size_t dimensions, ddm_params params, size_t *result) {
+    size_t whole = 0, number;
+    double value = 0.0;
+    ddm_lists none;
+    if (ddm_version() / 100 != DDM_VERSION / 100)
+        return DDM_OTHER_VERSION;
+    none.level_points = none.internals = none.domains = none.borrowed = none.wholes = &whole;
+    none.boxes = none.floats = &value;
+    for (size_t i = 0; i < DDM_SIZES_SLOT; i++)
+        none.sizes[i] = 0;
+    number = ddm_lists_build(&none, points, points_len, dimensions, params, result);
+    return number == 11 ? 0 : number;
+}
+
+/* A list cut to its first entries; where realloc gives nothing it stays as it is. */
+static inline size_t *ddm_cut_wholes(size_t *list, size_t entries) {
+    size_t *cut = (size_t *)realloc(list, (entries ? entries : 1) * sizeof(size_t));
+    return cut ? cut : list;
+}
+
+static inline double *ddm_cut_floats(double *list, size_t entries) {
+    double *cut = (double *)realloc(list, (entries ? entries : 1) * sizeof(double));
+    return cut ? cut : list;
+}
+
+/* ---- building */
+
+static inline size_t ddm_tree_sum(const size_t *counts, size_t many) {
+    size_t sum = 0;
+    while (many--)
+        sum += counts[many];
+    return sum;
+}
+
+/* The tree takes what the lists hold, and gives the working room back. */
+static inline void ddm_tree_take(ddm_tree *tree, ddm_lists *lists) {
+    const size_t rows = ddm_tree_sum(tree->result + DDM_SLOT_ROWS, DDM_MOST_LEVELS);
+    const size_t leaves = ddm_tree_sum(tree->result + DDM_SLOT_DOMAINS, DDM_MOST_LEVELS);
+    const size_t *last = lists->domains + DDM_ROW_NUMBERS * (leaves - 1);
+    const size_t lent = last[DDM_COLUMN_BORROWED_START] + last[DDM_COLUMN_BORROWED_COUNT];
+    free(lists->floats), free(lists->wholes);
+    tree->level_points = ddm_cut_wholes(lists->level_points, rows);
+    tree->internals = ddm_cut_wholes(lists->internals, rows);
+    tree->domains = ddm_cut_wholes(lists->domains, DDM_ROW_NUMBERS * leaves);
+    tree->boxes = ddm_cut_floats(lists->boxes, DDM_ROW_FLOATS(tree->dimensions) * leaves);
+    tree->borrowed = ddm_cut_wholes(lists->borrowed, lent);
+}
+
+/* Builds the tree over points_len / dimensions points, or gives NULL and says why in *error, which may be NULL. What the settings and
+ * the counts refuse is refused before a list is made. */
+static inline ddm_tree *ddm_tree_build(const double *points, size_t points_len, size_t dimensions, ddm_params params, ddm_error *error) {
+    ddm_error kept;
+    ddm_lists lists;
+    ddm_tree *tree = NULL;
+    size_t result[DDM_BUILD_SLOT];
+    kept.place = 0;
+    kept.number = ddm_lists_test(points, points_len, dimensions, params, result);
+    if (!kept.number)
+        kept.number = ddm_build_sizes(points_len / dimensions, dimensions, params.overlap_knn, lists.sizes, DDM_SIZES_SLOT);
+    if (!kept.number) {
+        tree = (ddm_tree *)calloc(1, sizeof(ddm_tree));
+        if (!tree || !ddm_lists_make(&lists)) {
+            kept.number = DDM_NO_MEMORY;
+        } else {
+            tree->dimensions = dimensions;
+            kept.number = ddm_lists_build(&lists, points, points_len, dimensions, params, tree->result);
+            kept.place = tree->result[DDM_SLOT_PLACE];
+            if (kept.number)
+                ddm_lists_free(&lists);
+            else
+                ddm_tree_take(tree, &lists);
+        }
+    }
+    if (error)
+        *error = kept;
+    if (!kept.number)
+        return tree;
+    free(tree);
+    return NULL;
+}
+
+static inline void ddm_tree_free(ddm_tree *tree) {
+    if (!tree)
+        return;
+    free(tree->level_points), free(tree->internals), free(tree->domains), free(tree->boxes), free(tree->borrowed);
+    free(tree);
+}
+
+/* ---- walking */
+
+static inline size_t ddm_tree_dimensions(const ddm_tree *tree) {
+    return tree->dimensions;
+}
+
+/* How many levels there are: level 0 has all points, the last one is the coarse level. */
+static inline size_t ddm_tree_levels(const ddm_tree *tree) {
+    return tree->result[DDM_SLOT_LEVELS];
+}
+
+/* How many leaves a level has. */
+static inline size_t ddm_tree_leaves(const ddm_tree *tree, size_t level) {
+    return level < DDM_MOST_LEVELS ? tree->result[DDM_SLOT_DOMAINS + level] : 0;
+}
+
+/* The active rows of a level. */
+static inline ddm_rows ddm_tree_rows(const ddm_tree *tree, size_t level) {
+    ddm_rows rows = {NULL, 0};
+    if (level < ddm_tree_levels(tree)) {
+        rows.rows = tree->level_points + ddm_tree_sum(tree->result + DDM_SLOT_ROWS, level);
+        rows.count = tree->result[DDM_SLOT_ROWS + level];
+    }
+    return rows;
+}
+
+/* Where a leaf stands among those of all levels. */
+static inline size_t ddm_tree_domain(const ddm_tree *tree, size_t level, size_t leaf) {
+    return ddm_tree_sum(tree->result + DDM_SLOT_DOMAINS, level) + leaf;
+}
+
+/* The stretch of a list that two columns of a leaf's domain row name. */
+static inline ddm_rows ddm_tree_stretch(const ddm_tree *tree, size_t level, size_t leaf, const size_t *list, size_t start, size_t count) {
+    ddm_rows rows = {NULL, 0};
+    if (leaf < ddm_tree_leaves(tree, level)) {
+        const size_t *row = tree->domains + DDM_ROW_NUMBERS * ddm_tree_domain(tree, level, leaf);
+        rows.rows = list + row[start];
+        rows.count = row[count];
+    }
+    return rows;
+}
+
+/* A leaf's own (internal) rows. */
+static inline ddm_rows ddm_tree_own(const ddm_tree *tree, size_t level, size_t leaf) {
+    return ddm_tree_stretch(tree, level, leaf, tree->internals, DDM_COLUMN_OWN_START, DDM_COLUMN_OWN_COUNT);
+}
+
+/* The rows that a leaf borrows. */
+static inline ddm_rows ddm_tree_borrowed(const ddm_tree *tree, size_t level, size_t leaf) {
+    return ddm_tree_stretch(tree, level, leaf, tree->borrowed, DDM_COLUMN_BORROWED_START, DDM_COLUMN_BORROWED_COUNT);
+}
+
+/* A leaf's box, DDM_BOX_FLOATS(dimensions) floats: lower bounds by axis, then upper ones. NULL for the coarse domain, which has none. */
+static inline const double *ddm_tree_box(const ddm_tree *tree, size_t level, size_t leaf) {
+    if (level + 1 >= ddm_tree_levels(tree) || leaf >= ddm_tree_leaves(tree, level))
+        return NULL;
+    return tree->boxes + DDM_ROW_FLOATS(tree->dimensions) * ddm_tree_domain(tree, level, leaf);
+}
+
+#ifdef __cplusplus
+}
+#endif
+
+#endif

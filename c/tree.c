@@ -1,0 +1,239 @@
+/* ddm_tree.h: its trees against lists read by hand, refusals, what is not there, and memory that is not to be had.
+ *
+ *   cc -O2 -o tree c/tree.c target/staticlib/libddm_c.a && ./tree
+ */
+#include <math.h>
+#include <stdio.h>
+#include <stdlib.h>
+#include <string.h>
+
+/* How many lists may still be made, how many were, and whether cutting them works. */
+static size_t allowed = (size_t)-1, made;
+static int cutting = 1;
+
+static void *counted_calloc(size_t entries, size_t size) {
+    made++;
+    return allowed-- ? calloc(entries, size) : NULL;
+}
+
+static void *allowed_realloc(void *list, size_t bytes) {
+    return cutting ? realloc(list, bytes) : NULL;
+}
+
+/* The version that the library says. */
+static size_t version;
+
+static size_t said_version(void) {
+    return version;
+}
+
+#include "ddm.h"
+#define ddm_version said_version
+#define calloc counted_calloc
+#define realloc allowed_realloc
+#include "ddm_tree.h"
+#undef ddm_version
+#undef calloc
+#undef realloc
+
+static int wrong;
+
+#define EXPECT(fact) ((fact) ? (void)0 : (wrong++, (void)printf("c/tree.c:%d: %s does not hold\n", __LINE__, #fact)))
+
+static int same(ddm_rows rows, const size_t *list, size_t count) {
+    return rows.count == count && memcmp(rows.rows, list, count * sizeof *list) == 0;
+}
+
+static uint64_t state = 88172645463325252u;
+
+static uint64_t below(uint64_t n) {
+    state ^= state << 13;
+    state ^= state >> 7;
+    state ^= state << 17;
+    return state % n;
+}
+
+/* ---- the tree is what the lists hold */
+
+/* One level: its leaves' domain rows start at `row`, their floats at `box`. */
+static void same_level(const ddm_tree *tree, const ddm_lists *lists, size_t level, const size_t *row, const double *box) {
+    const size_t d = ddm_tree_dimensions(tree), last = ddm_tree_levels(tree) - 1;
+    for (size_t leaf = 0; leaf < ddm_tree_leaves(tree, level); leaf++, row += DDM_ROW_NUMBERS, box += DDM_ROW_FLOATS(d)) {
+        EXPECT(same(ddm_tree_own(tree, level, leaf), lists->internals + row[DDM_COLUMN_OWN_START], row[DDM_COLUMN_OWN_COUNT]));
+        EXPECT(same(ddm_tree_borrowed(tree, level, leaf), lists->borrowed + row[DDM_COLUMN_BORROWED_START],
+                    row[DDM_COLUMN_BORROWED_COUNT]));
+        if (level == last)
+            EXPECT(!ddm_tree_box(tree, level, leaf));
+        else
+            EXPECT(memcmp(ddm_tree_box(tree, level, leaf), box, DDM_BOX_FLOATS(d) * sizeof *box) == 0);
+    }
+}
+
+static void same_tree(const ddm_tree *tree, const ddm_lists *lists, const size_t *result) {
+    size_t from = 0, domain = 0;
+    EXPECT(ddm_tree_levels(tree) == result[DDM_SLOT_LEVELS]);
+    for (size_t level = 0; level < result[DDM_SLOT_LEVELS]; level++) {
+        EXPECT(same(ddm_tree_rows(tree, level), lists->level_points + from, result[DDM_SLOT_ROWS + level]));
+        EXPECT(ddm_tree_leaves(tree, level) == result[DDM_SLOT_DOMAINS + level]);
+        same_level(tree, lists, level, lists->domains + DDM_ROW_NUMBERS * domain,
+                   lists->boxes + DDM_ROW_FLOATS(ddm_tree_dimensions(tree)) * domain);
+        from += result[DDM_SLOT_ROWS + level];
+        domain += result[DDM_SLOT_DOMAINS + level];
+    }
+}
+
+static void random_tree(void) {
+    double points[3 * 120];
+    const size_t d = 1 + below(3), n = 1 + below(120);
+    ddm_params params = ddm_default_params();
+    ddm_lists lists;
+    ddm_error error;
+    size_t result[DDM_BUILD_SLOT], refused;
+    for (size_t i = 0; i < n * d; i++)
+        points[i] = (double)below(n < 60 ? 5 : 1000);
+    params.leaf_threshold = (uint32_t)(1 + below(12));
+    params.overlap_knn = (uint32_t)below(9);
+    params.coarse_reduction_factor = (uint32_t)(2 + below(4));
+    params.policy = below(5) ? DDM_POLICY_FIXED : DDM_POLICY_AUTO;
+    params.coarse_threshold = (uint32_t)(1 + below(30));
+    EXPECT(ddm_build_sizes(n, d, params.overlap_knn, lists.sizes, DDM_SIZES_SLOT) == 0 && ddm_lists_make(&lists));
+    refused = ddm_lists_build(&lists, points, n * d, d, params, result);
+    cutting = below(2) == 0;
+    ddm_tree *tree = ddm_tree_build(points, n * d, d, params, &error);
+    cutting = 1;
+    EXPECT(error.number == refused && error.place == 0 && !tree == (refused != 0));
+    if (tree)
+        same_tree(tree, &lists, result);
+    ddm_tree_free(tree);
+    ddm_lists_free(&lists);
+}
+
+/* ---- refusals */
+
+static ddm_error refusal(const double *points, size_t points_len, size_t dimensions, ddm_params params) {
+    ddm_error error;
+    ddm_tree *tree = ddm_tree_build(points, points_len, dimensions, params, &error);
+    EXPECT(!tree && !ddm_tree_build(points, points_len, dimensions, params, NULL));
+    return error;
+}
+
+static void refusals(void) {
+    const double points[4] = {0.0, 1.0, 2.0, NAN};
+    const ddm_params good = ddm_default_params();
+    ddm_params leaf = good, factor = good, threshold = good, near = good, low = good;
+    leaf.leaf_threshold = 0, factor.coarse_reduction_factor = 1, near.overlap_knn = DDM_MOST_NEIGHBOURS + 1;
+    threshold.policy = low.policy = DDM_POLICY_FIXED, low.coarse_threshold = 1, low.coarse_reduction_factor = 2;
+    made = 0;
+    EXPECT(refusal(points, 4, 0, leaf).number == 1 && refusal(points, 4, 4, leaf).number == 1);
+    EXPECT(refusal(points, 4, 1, leaf).number == 2 && refusal(points, 4, 1, factor).number == 3);
+    EXPECT(refusal(points, 4, 1, threshold).number == 4 && refusal(points, 4, 1, near).number == 5);
+    EXPECT(refusal(NULL, 0, 1, good).number == 6 && refusal(points, 3, 2, good).number == 7);
+    /* of these points none is read, since there are too many, or too many for the threshold */
+    EXPECT(refusal(points, DDM_MOST_POINTS + 1, 1, good).number == 8 && refusal(points, (size_t)-1, 1, good).number == 8);
+    EXPECT(refusal(points, DDM_MOST_POINTS, 1, low).number == 9);
+    EXPECT(made == 0);
+    EXPECT(refusal(points, 4, 1, good).number == 10 && refusal(points, 4, 1, good).place == 3 && made != 0);
+}
+
+/* ---- memory */
+
+static void memory(void) {
+    const double points[4] = {0.0, 1.0, 2.0, 10.0};
+    ddm_error error;
+    ddm_tree *tree;
+    size_t lists = 0;
+    for (allowed = 0; !(tree = ddm_tree_build(points, 4, 1, ddm_default_params(), &error)); allowed = ++lists)
+        EXPECT(error.number == DDM_NO_MEMORY && error.place == 0);
+    EXPECT(strcmp(ddm_error_text(error), "nothing was refused") == 0);
+    ddm_tree_free(tree);
+    error.number = DDM_NO_MEMORY;
+    EXPECT(strcmp(ddm_error_text(error), "there is no memory for the lists") == 0);
+    /* the tree itself and its lists: with one fewer there is none */
+    EXPECT(lists == 1 + DDM_SIZES_SLOT);
+    allowed = (size_t)-1;
+}
+
+/* ---- what ddm.h says of the lent bytes: how many they are, and that few are touched */
+
+/* Entries of a list, all bits of which were set, that are no longer so. */
+static size_t changed(const void *list, size_t entries) {
+    size_t count = 0;
+    for (size_t i = 0; i < entries; i++) {
+        uint64_t bits;
+        memcpy(&bits, (const char *)list + i * sizeof bits, sizeof bits);
+        count += bits != UINT64_MAX;
+    }
+    return count;
+}
+
+/* 5,000 random wells at this leaf threshold write fewer bytes a well than `most`. */
+static void lent_bytes(uint32_t leaf_threshold, size_t most) {
+    enum { WELLS = 5000, AXES = 2 };
+    static double points[AXES * WELLS];
+    ddm_params params = ddm_default_params();
+    ddm_lists lists;
+    size_t result[DDM_BUILD_SLOT], bytes = 0, touched = 0;
+    params.leaf_threshold = leaf_threshold;
+    for (size_t i = 0; i < AXES * WELLS; i++)
+        points[i] = (double)below(1000000) + 1;
+    EXPECT(ddm_build_sizes(WELLS, AXES, params.overlap_knn, lists.sizes, DDM_SIZES_SLOT) == 0 && ddm_lists_make(&lists));
+    void *all[DDM_SIZES_SLOT] = {lists.level_points, lists.internals, lists.domains, lists.boxes, lists.borrowed, lists.floats,
+                                 lists.wholes};
+    for (size_t i = 0; i < DDM_SIZES_SLOT; i++) {
+        bytes += lists.sizes[i] * sizeof(uint64_t);
+        memset(all[i], 0xff, lists.sizes[i] * sizeof(uint64_t));
+    }
+    EXPECT(bytes / WELLS == 768 + 96 * AXES + 112 * (params.overlap_knn + 1));
+    EXPECT(ddm_lists_build(&lists, points, AXES * WELLS, AXES, params, result) == 0);
+    for (size_t i = 0; i < DDM_SIZES_SLOT; i++)
+        touched += changed(all[i], lists.sizes[i]) * sizeof(uint64_t);
+    EXPECT(touched / WELLS < most);
+    ddm_lists_free(&lists);
+}
+
+/* ---- another library: its patches do no harm */
+
+static void versions(void) {
+    const double point = 0.0;
+    version = ddm_version() + 100;
+    EXPECT(refusal(&point, 1, 1, ddm_default_params()).number == DDM_OTHER_VERSION);
+    version = DDM_VERSION / 100 * 100 + 99;
+    ddm_tree *tree = ddm_tree_build(&point, 1, 1, ddm_default_params(), NULL);
+    EXPECT(tree && ddm_tree_levels(tree) == 1);
+    ddm_tree_free(tree);
+    version = ddm_version();
+}
+
+/* ---- what is not there */
+
+static void nowhere(void) {
+    const double points[4] = {0.0, 1.0, 2.0, 10.0};
+    const size_t far = (size_t)-1;
+    ddm_params params = ddm_default_params();
+    ddm_error error;
+    params.policy = DDM_POLICY_FIXED, params.coarse_threshold = 2;
+    ddm_tree *tree = ddm_tree_build(points, 4, 1, params, &error);
+    EXPECT(tree && ddm_tree_levels(tree) == 2 && ddm_tree_leaves(tree, 0) == 2);
+    EXPECT(ddm_tree_leaves(tree, 2) == 0 && ddm_tree_leaves(tree, DDM_MOST_LEVELS) == 0 && ddm_tree_leaves(tree, far) == 0);
+    EXPECT(ddm_tree_rows(tree, 2).count == 0 && ddm_tree_rows(tree, far).count == 0 && !ddm_tree_rows(tree, far).rows);
+    EXPECT(ddm_tree_own(tree, 0, 2).count == 0 && ddm_tree_own(tree, far, 0).count == 0 && ddm_tree_own(tree, 0, far).count == 0);
+    EXPECT(ddm_tree_borrowed(tree, 0, 2).count == 0 && ddm_tree_borrowed(tree, 2, 0).count == 0);
+    EXPECT(ddm_tree_box(tree, 0, 1) && !ddm_tree_box(tree, 0, 2) && !ddm_tree_box(tree, 1, 0) && !ddm_tree_box(tree, far, 0));
+    ddm_tree_free(tree);
+    ddm_tree_free(NULL);
+}
+
+int main(void) {
+    version = ddm_version();
+    for (size_t i = 0; i < 2000; i++)
+        random_tree();
+    refusals();
+    memory();
+    lent_bytes(256, 100);
+    lent_bytes(1, 700);
+    versions();
+    nowhere();
+    if (wrong == 0)
+        printf("tree: ok\n");
+    return wrong != 0;
+}

@@ -1,0 +1,167 @@
+//! The library's calls. Where one lends lists, it is first made without any: what the settings and counts refuse is refused then, and
+//! otherwise the lists are too short (11), which asks for them.
+use crate::lists::{reserved, BuildSizes, Lists};
+use crate::packed::*;
+use crate::{sys, DDMParams, Error, Refusal, Tree};
+
+/// The refusal of a list that is too short.
+const SHORT_LIST: usize = 11;
+
+/// Major * 100 + minor of this crate, whose strides are those of that version.
+const SERIES: usize = whole(env!("CARGO_PKG_VERSION_MAJOR")) * 100 + whole(env!("CARGO_PKG_VERSION_MINOR"));
+
+/// A whole number in decimal digits.
+const fn whole(digits: &str) -> usize {
+    let (digits, mut number, mut at) = (digits.as_bytes(), 0, 0);
+    while at < digits.len() {
+        number = 10 * number + (digits[at] - b'0') as usize;
+        at += 1;
+    }
+    number
+}
+
+/// The version of the linked library: major * 10,000 + minor * 100 + patch.
+///
+/// ```
+/// assert!(rekvashu::version() >= 200);
+/// ```
+pub fn version() -> usize {
+    sys::version()
+}
+
+/// Lists are lent only to a library of this crate's series: in another one the rows may be wider.
+fn right_version() -> Result<(), Error> {
+    match version() {
+        number if number / 100 == SERIES => Ok(()),
+        number => Err(Error::OtherVersion(number)),
+    }
+}
+
+fn refused(number: usize, place: usize) -> Error {
+    Error::Refused(Refusal::new(number, place))
+}
+
+/// The entries that the lists of a build need, over `n` points of this dimension. Refusals 1, 5, 6, 8.
+///
+/// ```
+/// let sizes = rekvashu::build_sizes(1000, 2, 16)?;
+/// assert_eq!((sizes.level_points, sizes.borrowed, sizes.bytes() / 1000), (4000, 102_000, 2864));
+/// # Ok::<(), rekvashu::Refusal>(())
+/// ```
+pub fn build_sizes(n: usize, dimension: usize, neighbours: u32) -> Result<BuildSizes, Refusal> {
+    let mut slot = [0; SIZES_SLOT];
+    match sys::build_sizes(n, dimension, neighbours, &mut slot) {
+        0 => Ok(BuildSizes::of(&slot)),
+        number => Err(Refusal::new(number, 0)),
+    }
+}
+
+/// Builds the tree over the points: `points` holds the coordinates, `dimension` of them for each row. Refusals 1 to 10.
+///
+/// ```
+/// use rekvashu::{build, DDMParams};
+///
+/// let tree = build(&[0.0, 0.0, 3.0, 4.0], 2, DDMParams::default())?;
+/// assert_eq!(tree.level(0).unwrap().rows(), [0, 1]);
+/// # Ok::<(), rekvashu::Error>(())
+/// ```
+pub fn build(points: &[f64], dimension: usize, params: DDMParams) -> Result<Tree, Error> {
+    right_version()?;
+    let mut slot = [0; BUILD_SLOT];
+    match sys::build(points, dimension, params, &mut Lists::default(), &mut slot) {
+        SHORT_LIST => {}
+        number => return Err(refused(number, slot[SLOT_PLACE])),
+    }
+    let mut lists = Lists::reserved(&build_sizes(points.len() / dimension, dimension, params.overlap_knn)?)?;
+    match sys::build(points, dimension, params, &mut lists, &mut slot) {
+        0 => Ok(Tree::of(dimension, &slot, lists)),
+        number => Err(refused(number, slot[SLOT_PLACE])),
+    }
+}
+
+/// Farthest point sampling: `wanted` rows of the points, from the row `seed` on, in the order in which they are taken. Refusals 1, 6, 7,
+/// 8, 13, 10.
+///
+/// ```
+/// assert_eq!(rekvashu::sample(&[0.0, 1.0, 3.0, 7.0], 1, 3, 1)?, [1, 3, 2]);
+/// # Ok::<(), rekvashu::Error>(())
+/// ```
+pub fn sample(points: &[f64], dimension: usize, wanted: usize, seed: usize) -> Result<Vec<usize>, Error> {
+    right_version()?;
+    let mut slot = [0; SAMPLE_SLOT];
+    match sys::sample(points, dimension, wanted, seed, &mut Vec::new(), &mut Vec::new(), &mut Vec::new(), &mut slot) {
+        SHORT_LIST => {}
+        number => return Err(refused(number, slot[SAMPLE_PLACE])),
+    }
+    let n = points.len() / dimension;
+    let (mut out, mut floats, mut wholes) = (reserved(wanted)?, reserved(2 * n)?, reserved(n)?);
+    match sys::sample(points, dimension, wanted, seed, &mut out, &mut floats, &mut wholes, &mut slot) {
+        0 => Ok(out),
+        number => Err(refused(number, slot[SAMPLE_PLACE])),
+    }
+}
+
+/// The size of the next level, of `a` active rows at the threshold `c` with `r` reductions left. Refusals 4, 8, 14, 9.
+///
+/// ```
+/// assert_eq!(rekvashu::level_size(10, 3, 2)?, 6);
+/// assert_eq!(rekvashu::level_size(3, 3, 2).unwrap_err().number, 14);
+/// # Ok::<(), rekvashu::Refusal>(())
+/// ```
+pub fn level_size(a: usize, c: u32, r: u32) -> Result<usize, Refusal> {
+    let mut slot = [0; LEVEL_SIZE_SLOT];
+    match sys::level_size(a, c, r, &mut slot) {
+        0 => Ok(slot[0]),
+        number => Err(Refusal::new(number, 0)),
+    }
+}
+
+/// The quotas of leaves of these sizes for a level of `wanted` rows. Refusal 8.
+///
+/// ```
+/// assert_eq!(rekvashu::quotas(&[5, 3, 0, 2], 4)?, [2, 1, 0, 1]);
+/// # Ok::<(), rekvashu::Error>(())
+/// ```
+pub fn quotas(sizes: &[usize], wanted: usize) -> Result<Vec<usize>, Error> {
+    right_version()?;
+    let (mut out, mut room, mut slot) = (reserved(sizes.len())?, reserved(sizes.len())?, [0; QUOTA_SLOT]);
+    match sys::quotas(sizes, wanted, &mut out, &mut room, &mut slot) {
+        0 => Ok(out),
+        number => Err(refused(number, 0)),
+    }
+}
+
+/// The square root, rounded to the nearest value. Refusal 15.
+///
+/// ```
+/// assert_eq!(rekvashu::square_root(6.25)?, 2.5);
+/// assert_eq!(rekvashu::square_root(-1.0).unwrap_err().number, 15);
+/// # Ok::<(), rekvashu::Refusal>(())
+/// ```
+pub fn square_root(x: f64) -> Result<f64, Refusal> {
+    let mut slot = [0.0; ROOT_SLOT];
+    match sys::square_root(x, &mut slot) {
+        0 => Ok(slot[0]),
+        number => Err(Refusal::new(number, 0)),
+    }
+}
+
+#[cfg(test)]
+mod tests {
+    use super::*;
+
+    #[test]
+    fn versions_are_read() {
+        assert_eq!((whole("0"), whole("12"), SERIES), (0, 12, version() / 100));
+    }
+
+    #[test]
+    fn sizes_are_document_01s() {
+        let (sizes, rows) = (build_sizes(1000, 3, 16).unwrap(), 6001);
+        assert_eq!((sizes.level_points, sizes.internals), (4000, 4000));
+        assert_eq!((sizes.domains, sizes.boxes), (ROW_NUMBERS * rows, row_floats(3) * rows));
+        assert_eq!((sizes.borrowed, sizes.floats, sizes.wholes), (102_000, 32_000, 168_000));
+        let refused = |n, d, k| build_sizes(n, d, k).unwrap_err().number;
+        assert_eq!((refused(0, 4, 65), refused(0, 3, 65), refused(0, 3, 64), refused(1_048_577, 3, 64)), (1, 5, 6, 8));
+    }
+}

@@ -1,0 +1,95 @@
+//! The strides of the packed lists and the places in the result slots, each named once, as in c/ddm.h.
+
+/// The numbers of a domain row, by their columns.
+pub const OWN_START: usize = 0;
+pub const OWN_COUNT: usize = 1;
+pub const BORROWED_START: usize = 2;
+pub const BORROWED_COUNT: usize = 3;
+pub const ROW_NUMBERS: usize = 4;
+
+/// The box itself: lower bounds by axis, then upper ones.
+pub const fn box_floats(dimension: usize) -> usize {
+    2 * dimension
+}
+
+/// The floats of a domain row: the box comes first.
+pub const fn row_floats(dimension: usize) -> usize {
+    box_floats(dimension)
+}
+
+/// The most levels of a tree.
+pub const MOST_LEVELS: usize = 4;
+
+/// The build's slot: the place of a refusal, the levels, then the rows and the domains of each level.
+pub const SLOT_PLACE: usize = 0;
+pub const SLOT_LEVELS: usize = 1;
+pub const SLOT_ROWS: usize = 2;
+pub const SLOT_DOMAINS: usize = SLOT_ROWS + MOST_LEVELS;
+pub const BUILD_SLOT: usize = SLOT_DOMAINS + MOST_LEVELS;
+
+/// The slot of the sizes: one for each list of a build, in the order in which it takes them.
+pub const SIZES_LEVEL_POINTS: usize = 0;
+pub const SIZES_INTERNALS: usize = 1;
+pub const SIZES_DOMAINS: usize = 2;
+pub const SIZES_BOXES: usize = 3;
+pub const SIZES_BORROWED: usize = 4;
+pub const SIZES_FLOATS: usize = 5;
+pub const SIZES_WHOLES: usize = 6;
+pub const SIZES_SLOT: usize = 7;
+
+/// Sampling's slot: the place of a refusal, the rows written.
+pub const SAMPLE_PLACE: usize = 0;
+pub const SAMPLE_WRITTEN: usize = 1;
+pub const SAMPLE_SLOT: usize = 2;
+
+/// The quotas' slot: the entries written, the seats.
+pub const QUOTA_WRITTEN: usize = 0;
+pub const QUOTA_SLOT: usize = 2;
+
+/// The level size and the root: one value.
+pub const LEVEL_SIZE_SLOT: usize = 1;
+pub const ROOT_SLOT: usize = 1;
+
+#[cfg(test)]
+mod tests {
+    use super::*;
+
+    /// A number that c/ddm.h defines.
+    fn defined(name: &str) -> usize {
+        let head = format!("#define DDM_{name} ");
+        let line = include_str!("../../c/ddm.h").lines().find_map(|line| line.strip_prefix(&head));
+        line.and_then(|number| number.trim().parse().ok()).unwrap_or_else(|| panic!("c/ddm.h does not define DDM_{name} as a number"))
+    }
+
+    #[test]
+    fn names_are_the_headers() {
+        for (name, number) in [
+            ("COLUMN_OWN_START", OWN_START),
+            ("COLUMN_OWN_COUNT", OWN_COUNT),
+            ("COLUMN_BORROWED_START", BORROWED_START),
+            ("COLUMN_BORROWED_COUNT", BORROWED_COUNT),
+            ("ROW_NUMBERS", ROW_NUMBERS),
+            ("MOST_LEVELS", MOST_LEVELS),
+            ("SLOT_PLACE", SLOT_PLACE),
+            ("SLOT_LEVELS", SLOT_LEVELS),
+            ("SLOT_ROWS", SLOT_ROWS),
+            ("SIZES_LEVEL_POINTS", SIZES_LEVEL_POINTS),
+            ("SIZES_INTERNALS", SIZES_INTERNALS),
+            ("SIZES_DOMAINS", SIZES_DOMAINS),
+            ("SIZES_BOXES", SIZES_BOXES),
+            ("SIZES_BORROWED", SIZES_BORROWED),
+            ("SIZES_FLOATS", SIZES_FLOATS),
+            ("SIZES_WHOLES", SIZES_WHOLES),
+            ("SIZES_SLOT", SIZES_SLOT),
+            ("SAMPLE_PLACE", SAMPLE_PLACE),
+            ("SAMPLE_WRITTEN", SAMPLE_WRITTEN),
+            ("SAMPLE_SLOT", SAMPLE_SLOT),
+            ("QUOTA_WRITTEN", QUOTA_WRITTEN),
+            ("QUOTA_SLOT", QUOTA_SLOT),
+            ("LEVEL_SIZE_SLOT", LEVEL_SIZE_SLOT),
+            ("ROOT_SLOT", ROOT_SLOT),
+        ] {
+            assert_eq!(defined(name), number, "{name}");
+        }
+    }
+}

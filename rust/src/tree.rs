@@ -1,0 +1,182 @@
+//! A tree of domains, read from the lists that a build has written.
+use crate::lists::Lists;
+use crate::packed::*;
+
+/// A tree of domains over the points.
+///
+/// ```
+/// use rekvashu::{build, DDMParams, SizePolicy};
+///
+/// let params = DDMParams { leaf_threshold: 2, overlap_knn: 1, coarse_reduction_factor: 2, coarse_threshold: SizePolicy::Fixed(2) };
+/// let tree = build(&[0.0, 1.0, 3.0, 7.0], 1, params)?;
+/// let fine = tree.level(0).unwrap();
+/// assert_eq!((fine.len(), fine.rows()), (4, &[0, 1, 2, 3][..]));
+/// let leaf = fine.leaf(1).unwrap();
+/// assert_eq!((leaf.own(), leaf.borrowed(), leaf.bounds()), (&[1][..], &[0, 2][..], Some((&[1.0][..], &[3.0][..]))));
+/// let coarse = tree.levels().last().unwrap();
+/// assert!(coarse.is_coarse() && coarse.leaf(0).unwrap().bounds().is_none());
+/// # Ok::<(), rekvashu::Error>(())
+/// ```
+#[derive(Clone, Debug, PartialEq)]
+pub struct Tree {
+    dimension: usize,
+    levels: usize,
+    rows: [usize; MOST_LEVELS],
+    leaves: [usize; MOST_LEVELS],
+    level_points: Vec<usize>,
+    internals: Vec<usize>,
+    domains: Vec<usize>,
+    boxes: Vec<f64>,
+    borrowed: Vec<usize>,
+}
+
+/// A level of a tree: level 0 has all points, and the last one is the coarse level.
+#[derive(Clone, Copy, Debug)]
+pub struct Level<'a> {
+    tree: &'a Tree,
+    number: usize,
+}
+
+/// A leaf of a level.
+#[derive(Clone, Copy, Debug)]
+pub struct Leaf<'a> {
+    tree: &'a Tree,
+    level: usize,
+    domain: usize,
+}
+
+impl Tree {
+    /// What an accepted build has written: its slot and its lists, which are cut to what they hold.
+    pub(crate) fn of(dimension: usize, slot: &[usize; BUILD_SLOT], lists: Lists) -> Self {
+        let counts = |from: usize| std::array::from_fn(|level| slot[from + level]);
+        let mut tree = Tree {
+            dimension,
+            levels: slot[SLOT_LEVELS],
+            rows: counts(SLOT_ROWS),
+            leaves: counts(SLOT_DOMAINS),
+            level_points: lists.level_points,
+            internals: lists.internals,
+            domains: lists.domains,
+            boxes: lists.boxes,
+            borrowed: lists.borrowed,
+        };
+        for list in [&mut tree.level_points, &mut tree.internals, &mut tree.domains, &mut tree.borrowed] {
+            list.shrink_to_fit();
+        }
+        tree.boxes.shrink_to_fit();
+        tree
+    }
+
+    /// How many axes the points have.
+    pub fn dimension(&self) -> usize {
+        self.dimension
+    }
+
+    /// How many levels there are, the coarse one included.
+    #[allow(clippy::len_without_is_empty)]
+    pub fn len(&self) -> usize {
+        self.levels
+    }
+
+    /// The levels, from the finest to the coarse one.
+    pub fn levels(&self) -> impl ExactSizeIterator<Item = Level<'_>> + DoubleEndedIterator + Clone {
+        (0..self.levels).map(move |number| Level { tree: self, number })
+    }
+
+    /// The level of this number, from 0, where there is one.
+    pub fn level(&self, number: usize) -> Option<Level<'_>> {
+        (number < self.levels).then_some(Level { tree: self, number })
+    }
+}
+
+impl<'a> Level<'a> {
+    /// The active rows, ascending.
+    pub fn rows(&self) -> &'a [usize] {
+        let from: usize = self.tree.rows[..self.number].iter().sum();
+        &self.tree.level_points[from..from + self.tree.rows[self.number]]
+    }
+
+    /// How many leaves it has: one for the coarse level, at least two for another.
+    #[allow(clippy::len_without_is_empty)]
+    pub fn len(&self) -> usize {
+        self.tree.leaves[self.number]
+    }
+
+    /// The leaves, in their order.
+    pub fn leaves(&self) -> impl ExactSizeIterator<Item = Leaf<'a>> + DoubleEndedIterator + Clone + 'a {
+        let (tree, level, first) = (self.tree, self.number, self.first());
+        (first..first + self.len()).map(move |domain| Leaf { tree, level, domain })
+    }
+
+    /// The leaf of this number, from 0, where there is one.
+    pub fn leaf(&self, number: usize) -> Option<Leaf<'a>> {
+        (number < self.len()).then(|| Leaf { tree: self.tree, level: self.number, domain: self.first() + number })
+    }
+
+    /// Whether this is the coarse level, with one domain and no box.
+    pub fn is_coarse(&self) -> bool {
+        self.number + 1 == self.tree.levels
+    }
+
+    /// Where its first leaf stands among those of all levels.
+    fn first(&self) -> usize {
+        self.tree.leaves[..self.number].iter().sum()
+    }
+}
+
+impl<'a> Leaf<'a> {
+    fn numbers(&self) -> &'a [usize] {
+        &self.tree.domains[ROW_NUMBERS * self.domain..ROW_NUMBERS * (self.domain + 1)]
+    }
+
+    /// Its own (internal) rows, ascending.
+    pub fn own(&self) -> &'a [usize] {
+        let row = self.numbers();
+        &self.tree.internals[row[OWN_START]..row[OWN_START] + row[OWN_COUNT]]
+    }
+
+    /// The rows that it borrows, ascending.
+    pub fn borrowed(&self) -> &'a [usize] {
+        let row = self.numbers();
+        &self.tree.borrowed[row[BORROWED_START]..row[BORROWED_START] + row[BORROWED_COUNT]]
+    }
+
+    /// The rows in the order of the leaf's places: its own, then the borrowed ones. A solver's local index is a place, and the global
+    /// index its row; the places below `own().len()` are the internal ones.
+    ///
+    /// ```
+    /// # let params = rekvashu::DDMParams {
+    /// #     leaf_threshold: 2, overlap_knn: 1, coarse_reduction_factor: 2, coarse_threshold: rekvashu::SizePolicy::Fixed(2) };
+    /// # let tree = rekvashu::build(&[0.0, 1.0, 3.0, 7.0], 1, params)?;
+    /// let leaf = tree.level(0).unwrap().leaf(1).unwrap();
+    /// for (local, global) in leaf.rows().enumerate() {
+    ///     println!("place {local} is row {global}, internal: {}", local < leaf.own().len());
+    /// }
+    /// assert_eq!(leaf.rows().collect::<Vec<_>>(), [1, 0, 2]);
+    /// # Ok::<(), rekvashu::Error>(())
+    /// ```
+    pub fn rows(&self) -> impl ExactSizeIterator<Item = usize> + DoubleEndedIterator + Clone + 'a {
+        let (own, borrowed) = (self.own(), self.borrowed());
+        (0..own.len() + borrowed.len()).map(move |place| if place < own.len() { own[place] } else { borrowed[place - own.len()] })
+    }
+
+    /// How many places it has: own and borrowed rows.
+    pub fn len(&self) -> usize {
+        let row = self.numbers();
+        row[OWN_COUNT] + row[BORROWED_COUNT]
+    }
+
+    /// Whether it has no rows; a leaf can be empty where the leaf threshold is 1.
+    pub fn is_empty(&self) -> bool {
+        self.len() == 0
+    }
+
+    /// The lower and the upper bounds of its box, by axis. The coarse domain has none.
+    pub fn bounds(&self) -> Option<(&'a [f64], &'a [f64])> {
+        if self.level + 1 == self.tree.levels {
+            return None;
+        }
+        let from = row_floats(self.tree.dimension) * self.domain;
+        Some(self.tree.boxes[from..from + box_floats(self.tree.dimension)].split_at(self.tree.dimension))
+    }
+}

@@ -1,0 +1,124 @@
+//! The tree's ways to be read, the settings' defaults, and the words of its refusals.
+use rekvashu::{build, DDMParams, Error, Leaf, Level, Mender, Refusal, SizePolicy, Tree};
+
+/// Forty wells on a bent line, three levels.
+fn tree() -> Tree {
+    let points: Vec<f64> = (0..40).flat_map(|i| [i as f64, ((i * i) % 17) as f64]).collect();
+    let params = DDMParams { leaf_threshold: 3, overlap_knn: 4, coarse_reduction_factor: 3, coarse_threshold: SizePolicy::Fixed(6) };
+    build(&points, 2, params).unwrap()
+}
+
+#[test]
+fn defaults_are_those_of_the_type_whose_name_it_takes() {
+    let DDMParams { leaf_threshold, overlap_knn, coarse_reduction_factor, coarse_threshold } = DDMParams::default();
+    assert_eq!((leaf_threshold, overlap_knn, coarse_reduction_factor, coarse_threshold), (256, 16, 128, SizePolicy::Auto));
+    assert_eq!(SizePolicy::default(), SizePolicy::Auto);
+}
+
+#[test]
+fn levels_and_leaves_by_number() {
+    let tree = tree();
+    assert_eq!((tree.len(), tree.levels().len(), tree.dimension()), (3, 3, 2));
+    assert!(tree.level(3).is_none() && tree.level(usize::MAX).is_none());
+    for (i, level) in tree.levels().enumerate() {
+        assert_eq!(tree.level(i).unwrap().rows(), level.rows());
+        assert_eq!(level.leaves().len(), level.len());
+        assert!(level.leaf(level.len()).is_none() && level.leaf(usize::MAX).is_none());
+        for (j, leaf) in level.leaves().enumerate() {
+            assert_eq!(level.leaf(j).unwrap().own(), leaf.own());
+        }
+        let mut own: Vec<usize> = level.leaves().flat_map(|leaf| leaf.own()).copied().collect();
+        own.sort_unstable();
+        assert_eq!(own, level.rows());
+    }
+}
+
+#[test]
+fn iterators_know_how_much_is_left_and_go_both_ways() {
+    let tree = tree();
+    let mut levels = tree.levels();
+    assert_eq!((levels.len(), levels.next().unwrap().rows().len(), levels.len()), (3, 40, 2));
+    assert!(levels.next_back().unwrap().is_coarse() && levels.len() == 1);
+    let level = tree.level(0).unwrap();
+    let forwards: Vec<&[usize]> = level.leaves().map(|leaf| leaf.own()).collect();
+    let mut backwards: Vec<&[usize]> = level.leaves().rev().map(|leaf| leaf.own()).collect();
+    backwards.reverse();
+    assert_eq!(forwards, backwards);
+}
+
+#[test]
+fn a_leafs_places_are_its_own_rows_and_then_the_borrowed_ones() {
+    let tree = tree();
+    for leaf in tree.levels().flat_map(|level| level.leaves()) {
+        assert_eq!(leaf.rows().collect::<Vec<_>>(), [leaf.own(), leaf.borrowed()].concat());
+        assert_eq!((leaf.rows().len(), leaf.len()), (leaf.own().len() + leaf.borrowed().len(), leaf.rows().count()));
+        assert_eq!(leaf.rows().next_back(), leaf.borrowed().last().or(leaf.own().last()).copied());
+        assert!(!leaf.is_empty());
+    }
+    // leaf threshold 1 leaves empty leaves behind
+    let params = DDMParams { leaf_threshold: 1, overlap_knn: 1, coarse_reduction_factor: 2, coarse_threshold: SizePolicy::Fixed(2) };
+    let tree = build(&[0.0, 1.0, 2.0], 1, params).unwrap();
+    assert!(tree.level(0).unwrap().leaves().any(|leaf| leaf.is_empty()));
+}
+
+#[test]
+fn only_the_coarse_domain_has_no_box() {
+    for level in tree().levels() {
+        for leaf in level.leaves() {
+            assert_eq!(leaf.bounds().is_none(), level.is_coarse());
+            if let Some((lower, upper)) = leaf.bounds() {
+                assert!(lower.len() == 2 && upper.len() == 2 && lower.iter().zip(upper).all(|(l, u)| l <= u));
+            }
+        }
+    }
+}
+
+#[test]
+fn threads_may_read_and_build_at_once() {
+    fn shared<T: Send + Sync>() {}
+    shared::<Tree>();
+    shared::<Level<'_>>();
+    shared::<Leaf<'_>>();
+    let alone = tree();
+    std::thread::scope(|scope| {
+        let together: Vec<_> = (0..8).map(|_| scope.spawn(tree)).collect();
+        for built in together {
+            assert_eq!(built.join().unwrap(), alone);
+        }
+    });
+}
+
+#[test]
+fn version_is_the_packages() {
+    let part = |text: &str| text.parse::<usize>().unwrap();
+    let (major, minor) = (part(env!("CARGO_PKG_VERSION_MAJOR")), part(env!("CARGO_PKG_VERSION_MINOR")));
+    let package = major * 10_000 + minor * 100 + part(env!("CARGO_PKG_VERSION_PATCH"));
+    assert_eq!(rekvashu::version(), package);
+    assert!(include_str!("../../c/ddm.h").contains(&format!("#define DDM_VERSION {package}\n")));
+}
+
+#[test]
+fn refusals_have_the_words_of_the_other_languages() {
+    let python = std::fs::read_to_string(concat!(env!("CARGO_MANIFEST_DIR"), "/../python/rekvashu/refusals.py"));
+    for number in 1..=17 {
+        let reason = Refusal::new(number, 0).reason();
+        assert!(include_str!("../../c/ddm.h").contains(&format!("case {number}: return \"{reason}\";")), "c/ddm.h lacks {number}: {reason}");
+        if let Ok(python) = &python {
+            assert!(python.contains(&format!("{number}: (\"{reason}\"")), "refusals.py lacks {number}: {reason}");
+        }
+    }
+    assert_eq!(Refusal::new(18, 0).reason(), Refusal::new(usize::MAX, 0).reason());
+    assert!(!include_str!("../../c/ddm.h").contains("case 18:"));
+}
+
+#[test]
+fn refusals_say_who_can_mend_them() {
+    let refused = build(&[0.0], 1, DDMParams { leaf_threshold: 0, ..DDMParams::default() }).unwrap_err();
+    assert_eq!(refused.refusal().unwrap().mender(), Mender::Settings);
+    assert_eq!(refused.to_string(), "refused 2 at 0: the leaf threshold is 0; whoever sets the station can mend it");
+    assert_eq!(Refusal::new(11, 0).mender(), Mender::Program);
+    assert_eq!(Refusal::new(16, 20).to_string(), "refused 16 at 20: the job stream is broken; whoever feeds the program can mend it");
+    let refused = build(&[0.0, f64::NAN], 1, DDMParams::default()).unwrap_err();
+    assert_eq!(refused.to_string(), "refused 10 at 1: a coordinate is infinite or not a number; whoever brings the points can mend it");
+    assert_eq!((Error::OutOfMemory.refusal(), Error::OutOfMemory.to_string()), (None, "there is no memory for the lists".to_string()));
+}
