@@ -34,19 +34,24 @@ def cut(data, sizes):
     return lumps
 
 
+def lumped_pipe():
+    """A pipe of which each read takes what one write put there (packet mode of Linux), and no more."""
+    return os.pipe2(os.O_DIRECT)
+
+
 def piped(lumps):
-    """What the program writes for an input that comes in these lumps. A pipe takes each by a write of its own; the program may end
-    before it has taken all."""
-    run = subprocess.Popen([PROGRAM], stdin=subprocess.PIPE, stdout=subprocess.PIPE, stderr=subprocess.PIPE, bufsize=0)
+    """What the program writes for an input that comes in these lumps, a read for each. It may end before it has taken all."""
+    out, into = lumped_pipe()
+    run = subprocess.Popen([PROGRAM], stdin=out, stdout=subprocess.PIPE, stderr=subprocess.PIPE)
+    os.close(out)
     try:
         for lump in lumps:
-            run.stdin.write(lump)
-        run.stdin.close()
+            os.write(into, lump)
     except BrokenPipeError:
         pass
-    run.stdin = None
-    out, err = run.communicate(timeout=60)
-    return out.decode(), err.decode()
+    os.close(into)
+    written, said = run.communicate(timeout=60)
+    return written.decode(), said.decode()
 
 
 @unittest.skipUnless(os.access(PROGRAM, os.X_OK), "target/bin/ddm_tree is not built: rt check ddm_tree builds it")
@@ -55,6 +60,14 @@ class Program(unittest.TestCase):
         out, err = piped(lumps)
         self.assertEqual(err, "")
         self.assertEqual(out, model.printout(data))
+
+    def test_lumps_come_one_by_one(self):
+        out, into = lumped_pipe()
+        for lump in (b"a", b"bc"):
+            os.write(into, lump)
+        self.assertEqual([os.read(out, 9), os.read(out, 9)], [b"a", b"bc"])
+        os.close(out)
+        os.close(into)
 
     def test_stored(self):
         for name in ("four_wells", "field_32", "block_32", "block_33"):
@@ -84,7 +97,7 @@ class Program(unittest.TestCase):
         for data in (block + b"\0" * 4096, sample("block_33.job") + b"PT" * 4096, line):
             self.assertGreater(len(data), LIST)
             self.assertEqual(model.printout(data), model.printout(data[:DECISIVE]))
-            self.answers(data, [data])
+            self.answers(data, cut(data, [4096]))
             self.answers(data, cut(data, [100]))
 
     def test_as_long_as_the_list(self):
@@ -93,7 +106,9 @@ class Program(unittest.TestCase):
             self.answers(data[:end], [data[:end]])
 
     def test_input_that_cannot_be_read(self):
-        run = subprocess.run([PROGRAM], stdin=os.open(ROOT, os.O_RDONLY), capture_output=True, timeout=60)
+        folder = os.open(ROOT, os.O_RDONLY)
+        run = subprocess.run([PROGRAM], stdin=folder, capture_output=True, timeout=60)
+        os.close(folder)
         self.assertEqual(run.stdout, b"")
         self.assertTrue(run.stderr.startswith(b"standard input: "), run.stderr)
 
