@@ -1,2 +1,3 @@
--- A law of what reading came to.
-pub mod Reading
+-- Where reading stands, and that the printout of the front is the printout of the stream.
+pub mod Answers
+pub mod Fronts

@@ -1,9 +1,39 @@
--- What reading the input came to. Definitions only.
-use Prim.Native.Nat.{ℕ, _≤_}
-use Rattle.ddm_tree.specs.declared.Got.{Got}
-use Rattle.ddm_tree.specs.declared.Got.the-variants.{Bytes, Failed}
+-- What reading the input came to, and what is printed for it. Definitions only.
+use mathlib.Core.Path.{_≡_}
+use Prim.Native.Nat.{ℕ, zero, suc, _+_, _≤_}
+use mathlib.Core.List.{List}
+use lib.ListN.{length, take}
+use lib.IntN.{ℤ, pos, negsuc}
+use Rattle.formats.specs.Printout.{printout}
+use Rattle.ddm_tree.specs.declared.Front.{Front}
+use Rattle.ddm_tree.specs.declared.Front.the-variants.{Open, Ended, Failed}
+use Rattle.ddm_tree.specs.declared.Reply.{Reply}
+use Rattle.ddm_tree.specs.declared.Reply.the-variants.{Text, Unread}
 
--- the bytes read stand within a list of n bytes
-abbrev pub Within : Got → ℕ → Type 0
-Within (Bytes k) n = k ≤ n
-Within Failed n = Unit {0}
+-- where reading stands after a read that answered `got`, n bytes having been read before: -1 says that it failed, 0 that the input ended
+abbrev pub frontAfter : ℕ → ℤ → Front
+frontAfter n (pos zero) = Ended n
+frontAfter n (pos (suc k)) = Open (n + suc k)
+frontAfter n (negsuc k) = Failed
+
+-- reading into a list of `most` bytes stopped: an input whose end was not seen has filled the list
+abbrev pub Stopped : ℕ → Front → Type 0
+Stopped most (Open n) = n ≡ most
+Stopped most (Ended n) = n ≤ most
+Stopped most Failed = Unit {0}
+
+-- The streams that the input may be, when this much of it was read to the list `input`: those that begin so; the bytes themselves, where
+-- their end was seen; any, where a read failed.
+abbrev pub MayBe : Front → List ℕ → List ℕ → Type 0
+MayBe (Open n) input stream = take n stream ≡ take n input
+MayBe (Ended n) input stream = stream ≡ take n input
+MayBe Failed input stream = Unit {0}
+
+-- the text is the printout, whichever of them it is
+abbrev pub PrintoutFor : Front → List ℕ → List ℕ → Type 0
+PrintoutFor front input text = (stream : List ℕ) → MayBe front input stream → text ≡ printout stream
+
+-- the reply is the printout, at the front of `text`, or none where a read failed
+abbrev pub Replies : Front → List ℕ → List ℕ → Reply → Type 0
+Replies front input text (Text k) = (k ≤ length text) × PrintoutFor front input (take k text)
+Replies front input text Unread = front ≡ Failed

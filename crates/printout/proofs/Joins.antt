@@ -249,7 +249,7 @@ module _ (input output : List ℕ) where
   unfolding printCall verdict
   call-short h = rw (lt-ltb (length output) mostBytes h)
 
-  call-long : mostBytes ≤ length output → printCall output ≡ accepted
+  pub call-long : mostBytes ≤ length output → printCall output ≡ accepted
   unfolding printCall verdict
   call-long h = rw (le-ltb (length output) mostBytes h)
 

@@ -3,6 +3,11 @@ use borrow.Author.Needs.{needs}
 use Prim.Native.Nat.{_≤_, _-_}
 use mathlib.Core.Path.{_≡_}
 use lib.ListN.{length}
+use mir.Syntax.{w64}
+use mir.Val.{toZ, ofZ}
+use native.Mathlib.Omega.{arith}
+use Rattle.ddm_tree.proofs.Answers.{moved-back}
+use Rattle.ddm_tree.proofs.Fronts.{goes-on, stops}
 use Rattle.ddm_tree.proofs.read_input.Statement.{statement}
 use Rattle.ddm_tree.proofs.read_input.Tie as tie
 
@@ -15,56 +20,52 @@ abbrev μ-loop : tie.MeasureT-loop
 loop-holds : tie.Need-loop-holds Inv-loop μ-loop
 loop-holds c = search needs
 
-sub-read : tie.Need-sub-read Inv-loop μ-loop
-sub-read c = search needs
+read-lump-requires : tie.Need-read-lump-requires Inv-loop μ-loop
+read-lump-requires c κs = search needs
 
-part-read-start : tie.Need-part-read-start Inv-loop μ-loop
-part-read-start c = search needs
+front-after-requires : tie.Need-front-after-requires Inv-loop μ-loop
+front-after-requires c κs =
+    let lump = c .before .before .before .read-lump in
+    (search needs, moved-back _ _ (lump .result) (record { sfits = lump .ok }) (search needs) (lump .ensures .0))
 
-part-read-end : tie.Need-part-read-end Inv-loop μ-loop
-part-read-end c = search needs
-
-read-requires : tie.Need-read-requires Inv-loop μ-loop
-read-requires c κs = search needs
+enum-known-front : tie.Need-enum-known-front Inv-loop μ-loop
+enum-known-front c = search needs
 
 same-length : tie.Need-same-length Inv-loop μ-loop
 same-length c = search needs
 
 returns : tie.Need-returns Inv-loop μ-loop
-returns c = search needs
+returns c =
+    let after = c .before .front-after in
+    let lump = c .before .before .before .before .before .read-lump in
+    let done = c .before .before .before .before .before .before .before .before .loop .done in
+    stops (after .result) done (length (lump .last .0)) (toZ w64 (ofZ w64 (lump .result))) (after .ensures) (search needs) (c .match .keys2)
 
-sub-count : tie.Need-sub-count Inv-loop μ-loop
-sub-count c = search needs
+loop-less : tie.Need-loop-less Inv-loop μ-loop
+loop-less c =
+    let after = c .before .before .before .front-after in
+    let lump = c .before .before .before .before .before .before .before .read-lump in
+    let done = c .before .before .before .before .before .before .before .before .before .before .loop .done in
+    let z = toZ w64 (ofZ w64 (lump .result)) in
+    let moved = moved-back _ (length (lump .last .0) - done) (lump .result) (record { sfits = lump .ok }) (search needs) (lump .ensures .0) in
+    let more = goes-on (after .result) done (length (lump .last .0)) z (after .ensures) (search needs) _ (c .before .front .given .1) moved in
+    omega (arith, more)
 
-part-count-start : tie.Need-part-count-start Inv-loop μ-loop
-part-count-start c = search needs
-
-part-count-end : tie.Need-part-count-end Inv-loop μ-loop
-part-count-end c = search needs
-
-count-requires : tie.Need-count-requires Inv-loop μ-loop
-count-requires c κs = search needs
+loop-again : tie.Need-loop-again Inv-loop μ-loop
+loop-again c =
+    let after = c .before .before .before .front-after in
+    let lump = c .before .before .before .before .before .before .before .read-lump in
+    let done = c .before .before .before .before .before .before .before .before .before .before .loop .done in
+    let z = toZ w64 (ofZ w64 (lump .result)) in
+    let moved = moved-back _ (length (lump .last .0) - done) (lump .result) (record { sfits = lump .ok }) (search needs) (lump .ensures .0) in
+    let more = goes-on (after .result) done (length (lump .last .0)) z (after .ensures) (search needs) _ (c .before .front .given .1) moved in
+    (more .1, search needs)
 
 same-length-2 : tie.Need-same-length-2 Inv-loop μ-loop
 same-length-2 c = search needs
 
 returns-2 : tie.Need-returns-2 Inv-loop μ-loop
 returns-2 c = search needs
-
-add-done : tie.Need-add-done Inv-loop μ-loop
-add-done c = search needs
-
-loop-less : tie.Need-loop-less Inv-loop μ-loop
-loop-less c = search needs
-
-loop-again : tie.Need-loop-again Inv-loop μ-loop
-loop-again c = search needs
-
-same-length-3 : tie.Need-same-length-3 Inv-loop μ-loop
-same-length-3 c = search needs
-
-returns-3 : tie.Need-returns-3 Inv-loop μ-loop
-returns-3 c = search needs
 
 pub read-input-spec : {M : Type 1} → statement M
 read-input-spec =
@@ -73,20 +74,12 @@ read-input-spec =
     Inv-loop
     μ-loop
     loop-holds
-    sub-read
-    part-read-start
-    part-read-end
-    read-requires
+    read-lump-requires
+    front-after-requires
+    enum-known-front
     same-length
     returns
-    sub-count
-    part-count-start
-    part-count-end
-    count-requires
-    same-length-2
-    returns-2
-    add-done
     loop-less
     loop-again
-    same-length-3
-    returns-3)
+    same-length-2
+    returns-2)
