@@ -23,7 +23,7 @@ use Rattle.lists.proofs.Members.{mem-at, keep-at, member-last, member-other}
 use Rattle.lists.proofs.Times.{times, times-nil, mem-times, times-mem, others-count, member-zero, times-more}
 use Rattle.lists.proofs.Ascends.{ascends-once, ascends-differ}
 use Rattle.definition.specs.Number.{squareRoot}
-use Rattle.definition.specs.Points.{rowsSq, rowsApart, leastOf}
+use Rattle.definition.specs.Points.{distance, rowsSq, rowsApart, leastOf}
 use Rattle.definition.specs.Sampling.{gap, pick, sampleMore, sample}
 use Rattle.root_laws.specs.Sorts.{good}
 use Rattle.definition_laws.proofs.Finite.{rows-apart-good}
@@ -141,7 +141,7 @@ module _ (d : ℕ) (cs : List Float) where
         value i = lessened d cs rows last least i
 
         values : (i : ℕ) → i < length rows → Entry (member (row i) chosen) (value i) (reach chosen (row i))
-        unfolding chosen value lessened rowsApart
+        unfolding chosen value lessened rowsApart distance rowsSq
         values i h =
             rw (reach-snoc (c .prior) (row last) (row i))
             (entry-lesser (member (row i) chosen) (rowsSq d cs (row last) (row i)) (getD least i nan) (reach (c .prior) (row i))

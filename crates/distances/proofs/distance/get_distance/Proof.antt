@@ -2,7 +2,7 @@
 use mathlib.Core.Path.{ap, _∙_}
 use borrow.Author.Needs.{needs}
 use Rattle.definition.specs.Number.{squareRoot}
-use Rattle.definition.specs.Points.{rowsApart}
+use Rattle.definition.specs.Points.{distance, rowsSq, rowsApart}
 use Rattle.distances.proofs.distance.get_distance.Statement.{statement}
 use Rattle.distances.proofs.distance.get_distance.Tie as tie
 
@@ -13,7 +13,7 @@ root-requires : tie.Need-root-requires
 root-requires c κs = search needs
 
 returns : tie.Need-returns
-unfolding rowsApart
+unfolding rowsApart distance rowsSq
 returns c = c .root .ensures ∙ ap squareRoot (c .before .distance-sq .ensures)
 
 pub get-distance-spec : {M : Type 1} → statement M
