@@ -5,9 +5,9 @@ use Rattle.build_checks.specs.declared.Checked.{Checked}
 use Rattle.build_checks.specs.declared.Checked.the-variants.{Accepted, Refused}
 
 -- a number that stands for a verdict: 0 is accepted, and another is that refusal, with no place
-abbrev pub numbered : ℕ → Verdict
-numbered zero = accepted
-numbered (suc k) = refused (record { number = suc k; place = 0 })
+abbrev pub numberedVerdict : ℕ → Verdict
+numberedVerdict zero = accepted
+numberedVerdict (suc k) = refused (record { number = suc k; place = 0 })
 
 -- the verdict that an answer stands for
 abbrev pub verdictOf : Checked → Verdict

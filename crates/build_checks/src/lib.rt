@@ -5,9 +5,9 @@ ghost use Prim.Native.Nat.{_/_, _%_, _≤_};
 ghost use lib.Dec.{eqb};
 ghost use Rattle.definition.specs.Packed.{buildStated};
 ghost use Rattle.definition.specs.Refusals.{mostPoints, mostNeighbours, verdict, settingsTests, pointsTests, zeroThreshold, buildShort, buildVerdict};
-ghost use Rattle.config.specs.Params.{policyOf, settingsOf};
+ghost use Rattle.config.specs.Params.{thresholdPolicy, settingsOf};
 ghost use Rattle.build_sizes.specs.Sizes.{sizesOf};
-ghost use Rattle.build_checks.specs.Verdicts.{numbered, verdictOf};
+ghost use Rattle.build_checks.specs.Verdicts.{numberedVerdict, verdictOf};
 use build_sizes::BuildSizes;
 use config::DDMParams;
 use config::SizePolicy;
@@ -24,7 +24,7 @@ pub enum Checked {
 
 // Whether the coarse threshold is fixed at 0.
 fn zero_threshold(policy: SizePolicy) -> bool
-    ensures { λ r. ⌜ r ≡ zeroThreshold (policyOf policy) ⌝ }
+    ensures { λ r. ⌜ r ≡ zeroThreshold (thresholdPolicy policy) ⌝ }
 {
     match policy {
         SizePolicy::Auto => false,
@@ -34,7 +34,7 @@ fn zero_threshold(policy: SizePolicy) -> bool
 
 // The settings: the number of the first of 1 to 5 whose condition is met, or 0.
 fn settings_fault(dimensions: usize, params: DDMParams) -> usize
-    ensures number { λ r. ⌜ numbered r ≡ verdict (settingsTests (settingsOf dimensions params)) ⌝ }
+    ensures number { λ r. ⌜ numberedVerdict r ≡ verdict (settingsTests (settingsOf dimensions params)) ⌝ }
     ensures fine { λ r. ⌜ (r ≡ 0 → (1 ≤ dimensions) × (dimensions ≤ 3) × (2 ≤ params .«coarse_reduction_factor») × (params .«overlap_knn» ≤ 64)) ⌝ }
 {
     if dimensions < 1 {
@@ -62,7 +62,7 @@ fn settings_fault(dimensions: usize, params: DDMParams) -> usize
 // The points, of `count` coordinates: the number of the first of 6 to 9 whose condition is met, or 0.
 fn points_fault(count: usize, dimensions: usize, params: DDMParams) -> usize
     requires { ⌜ (1 ≤ dimensions) × (2 ≤ params .«coarse_reduction_factor») ⌝ }
-    ensures number { λ r. ⌜ numbered r ≡ verdict (pointsTests (settingsOf dimensions params) (count / dimensions) (not (eqb (count % dimensions) 0))) ⌝ }
+    ensures number { λ r. ⌜ numberedVerdict r ≡ verdict (pointsTests (settingsOf dimensions params) (count / dimensions) (not (eqb (count % dimensions) 0))) ⌝ }
     ensures fine { λ r. ⌜ (r ≡ 0 → count / dimensions ≤ mostPoints) ⌝ }
 {
     if count == 0 {

@@ -14,8 +14,8 @@ plusZero = ofBits binary64 0
 abbrev pub plus : Float → Float → Float
 plus x y = add binary64 x y
 
-abbrev pub less : Float → Float → Float
-less x y = sub binary64 x y
+abbrev pub minus : Float → Float → Float
+minus x y = sub binary64 x y
 
 abbrev pub times : Float → Float → Float
 times x y = mul binary64 x y
@@ -51,8 +51,8 @@ unitsOf (inf s) = 0
 unitsOf (fin s m e) = m * up e * 2 ^ 1074 / down e
 
 -- The value nearest to the root of u units: u * 2 ^ -1074 is (u * 2 ^ 1074) * 2 ^ -2148, so in units its root is the
--- root of u * 2 ^ 1074. Each value and each midpoint of two values is a whole number of half units, so the number from
--- `halves` rounds as twice the root itself does.
+-- root of u * 2 ^ 1074. A root is at least 2 ^ -537. There each value, and each midpoint of two values, is an even number of half
+-- units, with which the number from `halves` compares as twice the root does: so it rounds as that does.
 unfoldable pub rootOfUnits : ℕ → Float
 unfolding halves round
 rootOfUnits u = round binary64 false (halves (u * 2 ^ 1074)) (2 * 2 ^ 1074)

@@ -11,7 +11,7 @@ use Rattle.definition.specs.Levels.{levelSize}
 use Rattle.definition.specs.Quotas.{heldSeats, quotas}
 use Rattle.definition.specs.Sampling.{sample}
 use Rattle.definition.specs.Tree.{Settings, Level, levels, pointCount}
-use Rattle.definition.specs.Packed.{DomainRow, BuildSizes, buildStated, Counts, countsOf, packedPoints, packedOwn, packedDomains, packedBoxes, packedBorrowed}
+use Rattle.definition.specs.Packed.{DomainRow, BuildSizes, buildStated, Counts, countsOf, mostLevels, packedPoints, packedOwn, packedDomains, packedBoxes, packedBorrowed}
 use Rattle.definition.specs.Refusals.{Verdict, accepted, refused, buildVerdict, sizesVerdict, sampleVerdict, sizeVerdict, quotaVerdict, stretchVerdict, rootVerdict}
 
 -- ---- what a call answers, and what becomes of a lent list
@@ -121,7 +121,7 @@ buildCall s cs old floats wholes = buildVerdict s cs (lentSizes old floats whole
 
 -- what a refused build reports
 abbrev pub zeroCounts : Counts
-zeroCounts = record { levels = 0; rows = replicate 4 0; domains = replicate 4 0 }
+zeroCounts = record { levels = 0; rows = replicate mostLevels 0; domains = replicate mostLevels 0 }
 
 unfoldable pub buildAnswer : Settings → List Float → TreeLists → List Float → List ℕ → Answer Counts
 buildAnswer s cs old floats wholes = answered (buildCall s cs old floats wholes) (countsOf (levels s cs)) zeroCounts

@@ -1,11 +1,11 @@
 -- The lent lists: how large they are, what a domain row holds, and how a tree is packed into them. Definitions only.
-use Prim.Native.Nat.{ℕ, _+_, _*_}
+use Prim.Native.Nat.{ℕ, suc, _+_, _*_}
 use mathlib.Core.List.{List, [], _∷_, _++_, map}
-use lib.ListN.{length, take}
+use lib.ListN.{length, take, replicate}
 use lib.Ieee.{Float}
 use Rattle.lists.specs.Lists.{joined}
 use Rattle.definition.specs.Points.{boxWidth}
-use Rattle.definition.specs.Tree.{Leaf, Level}
+use Rattle.definition.specs.Tree.{Leaf, Level, mostFine}
 
 -- ---- a domain row
 
@@ -37,10 +37,6 @@ rowOf a b f =
       borrowedCount = length (f .borrowed);
     }
 
--- the places inside a leaf: internals first, then borrowed
-abbrev pub placesOf : Leaf → List ℕ
-placesOf f = f .own ++ f .borrowed
-
 -- ---- packing: level by level, leaf by leaf
 
 -- all leaves of the tree, in their order
@@ -70,9 +66,13 @@ packedDomains ls = stretches 0 0 (leavesIn ls)
 
 -- ---- counts
 
--- one number for each of four levels, and 0 beyond the last
+-- the most levels: the fine ones and the coarse one
+abbrev pub mostLevels : ℕ
+mostLevels = suc mostFine
+
+-- one number for each level that there can be, and 0 beyond the last
 unfoldable pub perLevel : (Level → ℕ) → List Level → List ℕ
-perLevel f ls = take 4 (map f ls ++ 0 ∷ 0 ∷ 0 ∷ 0 ∷ [])
+perLevel f ls = take mostLevels (map f ls ++ replicate mostLevels 0)
 
 -- what the build reports: the number of levels, and row and domain counts per level
 pub record Counts : Type 0 where

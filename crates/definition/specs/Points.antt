@@ -5,7 +5,7 @@ use mathlib.Core.List.{List, [], _∷_, _++_, map}
 use lib.ListN.{getD}
 use lib.Ieee.{Float, nan, lt}
 use Rattle.lists.specs.Lists.{best, from}
-use Rattle.definition.specs.Number.{plusZero, plus, less, times, squareRoot}
+use Rattle.definition.specs.Number.{plusZero, plus, minus, times, squareRoot}
 
 -- the point whose coordinates start at p: its coordinate on the axis a. (Past the list's end stands NaN.)
 abbrev pub pointAt : List Float → ℕ → ℕ → Float
@@ -22,7 +22,7 @@ coordinate d cs i a = pointAt cs (i * d) a
 unfoldable pub distanceSq : ℕ → (ℕ → Float) → (ℕ → Float) → Float
 distanceSq zero p q = plusZero
 distanceSq (suc a) p q =
-    let t = less (p a) (q a) in
+    let t = minus (p a) (q a) in
     plus (distanceSq a p q) (times t t)
 
 -- distance is its root
@@ -68,4 +68,4 @@ extents d cs rows = map (lowerBound d cs rows) (from 0 d) ++ map (upperBound d c
 
 -- the rows' extent on the axis a: greatest less least, rounded
 unfoldable pub extent : ℕ → List Float → List ℕ → ℕ → Float
-extent d cs rows a = less (upperBound d cs rows a) (lowerBound d cs rows a)
+extent d cs rows a = minus (upperBound d cs rows a) (lowerBound d cs rows a)

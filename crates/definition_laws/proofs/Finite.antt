@@ -15,7 +15,7 @@ use lib.Ieee.Positive.{positive, positive-of-value}
 use lib.Ieee.Back.{round-whole}
 use Rattle.lists.proofs.Tests.{clash}
 use Rattle.lists.proofs.Members.{map-mem}
-use Rattle.definition.specs.Number.{plusZero, plus, less, times, over}
+use Rattle.definition.specs.Number.{plusZero, plus, minus, times, over}
 use Rattle.definition.specs.Points.{coordinate, column, distanceSq, distance, rowsSq, rowsApart}
 use Rattle.definition.specs.Sampling.{sumFrom, centroid, fromCentroid}
 use Rattle.root_laws.specs.Sorts.{isNumber, good}
@@ -30,7 +30,7 @@ pub distance-sq-good : (d : ℕ) (p q : ℕ → Float) → ((a : ℕ) → a < d 
 unfolding distanceSq
 distance-sq-good zero p q f g = zero-good
 distance-sq-good (suc d) p q f g =
-    let t = less (p d) (q d) in
+    let t = minus (p d) (q d) in
     add-good (distanceSq d p q) (times t t)
     (distance-sq-good d p q (λ a h. f a (omega arith)) (λ a h. g a (omega arith)))
     (square-good t (sub-number (p d) (q d) (f d (omega arith)) (g d (omega arith))))

@@ -1,4 +1,4 @@
 -- The laws that belong to no one function.
 pub mod Written
-pub mod Shared
+pub mod OneLeaf
 pub mod Verdicts

@@ -7,7 +7,7 @@ use lib.IntN.{ℤ}
 use lib.Ieee.{Float, nan, inf, fin, Format, prec, emax, low, unlike, up, down, binary64, odd, units, round, sum, add, sub, neg, mul, ofBits, fits}
 use lib.Ieee.Fits.{round-is, add-fits, mul-fits}
 use lib.Ieee.Scale.{finite}
-use Rattle.definition.specs.Number.{plusZero, plus, less, times}
+use Rattle.definition.specs.Number.{plusZero, plus, minus, times}
 use Rattle.root_laws.specs.Sorts.{isNumber, notNegative, good}
 use Rattle.root_laws.proofs.Order.{Good, top, num, view, both}
 
@@ -82,8 +82,8 @@ pub inf-good : good (inf false) ≡ true
 unfolding fits
 inf-good = refl
 
--- a number less a finite one is a number
-pub sub-number : (x y : Float) → isNumber x ≡ true → finite y ≡ true → isNumber (less x y) ≡ true
+-- a number minus a finite one is a number
+pub sub-number : (x y : Float) → isNumber x ≡ true → finite y ≡ true → isNumber (minus x y) ≡ true
 unfolding sub add neg
 sub-number nan y h k = absurd (true≢false (sym h))
 sub-number (inf s) nan h k = absurd (true≢false (sym k))

@@ -27,7 +27,7 @@ use Rattle.rows.proofs.AllRows.{all-rows-good}
 use Rattle.definition_laws.proofs.Accepted.{passes, right-dimension}
 use Rattle.sampling.specs.declared.SampleAnswer.{SampleAnswer}
 use Rattle.sampling.specs.declared.SampleAnswer.the-variants.{Sampled, Refused}
-use Rattle.sampling.specs.Answers.{lentSizes, shown, answerOf}
+use Rattle.sampling.specs.Answers.{sampleLent, shown, sampleReport}
 use Rattle.sampling.specs.Outcome.{RowsSampled}
 
 -- ---- 10: the first coordinate that is not finite stands inside the list where there is one
@@ -82,7 +82,7 @@ pub record Accepted (d : ℕ) (cs : List Float) (wanted seed o f w : ℕ) : Type
   pub wholes : length cs / d ≤ w
   pub finites : All (λ x. finite x ≡ true) cs
 
-call-accepted : (d : ℕ) (cs : List Float) (wanted seed o f w : ℕ) → sampleVerdict d cs wanted seed (lentSizes o f w) ≡ accepted → Accepted d cs wanted seed o f w
+call-accepted : (d : ℕ) (cs : List Float) (wanted seed o f w : ℕ) → sampleVerdict d cs wanted seed (sampleLent o f w) ≡ accepted → Accepted d cs wanted seed o f w
 unfolding sampleVerdict sampleShort sampleStated
 call-accepted d cs wanted seed o f w e =
     let n = length cs / d in
@@ -111,10 +111,10 @@ call-accepted d cs wanted seed o f w e =
 
 -- what holds once the answer is a count
 pub accepted-call : (d : ℕ) (cs : List Float) (wanted seed o f w count : ℕ) (x : SampleAnswer)
-    → x ≡ shown (sampleVerdict d cs wanted seed (lentSizes o f w)) wanted → x ≡ Sampled count
-    → (sampleVerdict d cs wanted seed (lentSizes o f w) ≡ accepted) × (wanted ≡ count) × Accepted d cs wanted seed o f w
+    → x ≡ shown (sampleVerdict d cs wanted seed (sampleLent o f w)) wanted → x ≡ Sampled count
+    → (sampleVerdict d cs wanted seed (sampleLent o f w) ≡ accepted) × (wanted ≡ count) × Accepted d cs wanted seed o f w
 accepted-call d cs wanted seed o f w count x e h =
-    let c = sampled-count (sampleVerdict d cs wanted seed (lentSizes o f w)) wanted count (sym e ∙ h) in
+    let c = sampled-count (sampleVerdict d cs wanted seed (sampleLent o f w)) wanted count (sym e ∙ h) in
     (c .0, c .1, call-accepted d cs wanted seed o f w (c .0))
 
 -- ---- all rows of the point list
@@ -158,8 +158,8 @@ module _ (d : ℕ) (cs : List Float) (wanted seed : ℕ) (out : List ℕ) (float
 
   -- a refusal leaves each list as it was
   pub call-refused : (number place : ℕ) → shown (sampleCall d cs wanted seed out floats wholes) wanted ≡ Refused number place
-      → RowsSampled d cs wanted seed out out floats floats wholes wholes (answerOf (Refused number place))
-  unfolding answerOf sampleAnswer sampleOutput numberOf placeOf valueOf listAfter RoomAfter
+      → RowsSampled d cs wanted seed out out floats floats wholes wholes (sampleReport (Refused number place))
+  unfolding sampleReport sampleAnswer sampleOutput numberOf placeOf valueOf listAfter RoomAfter
   call-refused number place h =
       let e = refused-is (sampleCall d cs wanted seed out floats wholes) number place h in
       record { answers = simp e; output = simp e; floats-free = simp e refl; wholes-free = simp e refl }
@@ -168,7 +168,7 @@ module _ (d : ℕ) (cs : List Float) (wanted seed : ℕ) (out : List ℕ) (float
   pub call-sampled : (count : ℕ) → sampleCall d cs wanted seed out floats wholes ≡ accepted → wanted ≡ count
       → (new : List ℕ) → new ≡ written (sample d cs (from 0 (length cs / d)) wanted seed) out
       → (floats′ : List Float) → length floats′ ≡ length floats → (wholes′ : List ℕ) → length wholes′ ≡ length wholes
-      → RowsSampled d cs wanted seed out new floats floats′ wholes wholes′ (answerOf (Sampled count))
-  unfolding answerOf sampleAnswer sampleOutput numberOf placeOf valueOf listAfter RoomAfter
+      → RowsSampled d cs wanted seed out new floats floats′ wholes wholes′ (sampleReport (Sampled count))
+  unfolding sampleReport sampleAnswer sampleOutput numberOf placeOf valueOf listAfter RoomAfter
   call-sampled count e w new h floats′ f wholes′ g =
       record { answers = simp e (rw w); output = simp e h; floats-free = simp e f; wholes-free = simp e g }

@@ -5,7 +5,7 @@ ghost use Prim.Native.Nat.{_≤_};
 ghost use lib.Dec.{eqb, ltb, leb};
 ghost use Rattle.definition.specs.Packed.{sampleStated};
 ghost use Rattle.definition.specs.Refusals.{wrongDimension, mostPoints, sampleShort, sampleVerdict};
-ghost use Rattle.sampling.specs.Answers.{lentSizes, shown, answerOf};
+ghost use Rattle.sampling.specs.Answers.{sampleLent, shown, sampleReport};
 ghost use Rattle.sampling.specs.Outcome.{RowsSampled};
 use distances::LocalIdx;
 use rows::MOST_POINTS;
@@ -45,7 +45,7 @@ fn wrong_choice(rows: usize, wanted: usize, seed: usize) -> bool
 // Whether a lent list is shorter than stated.
 fn lists_short(rows: usize, wanted: usize, output: usize, floats: usize, wholes: usize) -> bool
     requires { ⌜ rows ≤ mostPoints ⌝ }
-    ensures { λ r. ⌜ r ≡ sampleShort (lentSizes output floats wholes) (sampleStated rows wanted) ⌝ }
+    ensures { λ r. ⌜ r ≡ sampleShort (sampleLent output floats wholes) (sampleStated rows wanted) ⌝ }
 {
     if output < wanted {
         return true;
@@ -67,7 +67,7 @@ fn sampling_verdict(
     floats: usize,
     wholes: usize,
 ) -> SampleAnswer
-    ensures { λ r. ⌜ r ≡ shown (sampleVerdict dimensions (now (points .entry)) wanted seed (lentSizes output floats wholes)) wanted ⌝ }
+    ensures { λ r. ⌜ r ≡ shown (sampleVerdict dimensions (now (points .entry)) wanted seed (sampleLent output floats wholes)) wanted ⌝ }
 {
     if wrong_dimension(dimensions) {
         return SampleAnswer::Refused(1, 0);
@@ -108,7 +108,7 @@ pub fn farthest_point_sampling(
     wholes: &mut [usize],
 ) -> SampleAnswer
     ensures { λ r. ⌜ RowsSampled dimensions (now (points .entry)) wanted seed (now (out .entry)) (now (out .exit))
-        (now (floats .entry)) (now (floats .exit)) (now (wholes .entry)) (now (wholes .exit)) (answerOf r) ⌝ }
+        (now (floats .entry)) (now (floats .exit)) (now (wholes .entry)) (now (wholes .exit)) (sampleReport r) ⌝ }
 {
     let answer = sampling_verdict(
         points,

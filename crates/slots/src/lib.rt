@@ -7,8 +7,8 @@ ghost use Rattle.lists.specs.Lists.{put};
 ghost use Rattle.root.specs.Answers as numbers-answers;
 ghost use Rattle.level_sizes.specs.Answers.{sizeReport};
 ghost use Rattle.quotas.specs.Answers.{quotaReport};
-ghost use Rattle.sampling.specs.Answers.{answerOf};
-ghost use Rattle.config.specs.Params.{policyOf};
+ghost use Rattle.sampling.specs.Answers.{sampleReport};
+ghost use Rattle.config.specs.Params.{thresholdPolicy};
 ghost use Rattle.build_sizes.specs.Sizes.{sizesOf};
 ghost use Rattle.slots.specs.Settings.{policyFrom};
 ghost use Rattle.slots.specs.Slots.{lengthsOf, versionNumber};
@@ -28,7 +28,7 @@ pub fn version() -> usize
 
 // The refusal's number of a root.
 pub fn root_number(answer: RootAnswer) -> usize
-    ensures { λ r. ⌜ r ≡ numbers-answers.answerOf answer .number ⌝ }
+    ensures { λ r. ⌜ r ≡ numbers-answers.sampleReport answer .number ⌝ }
 {
     match answer {
         RootAnswer::Value(_) => 0,
@@ -38,7 +38,7 @@ pub fn root_number(answer: RootAnswer) -> usize
 
 // The root itself, or 0 for a refusal.
 pub fn root_value(answer: RootAnswer) -> f64
-    ensures { λ r. ⌜ r ≡ numbers-answers.answerOf answer .value ⌝ }
+    ensures { λ r. ⌜ r ≡ numbers-answers.sampleReport answer .value ⌝ }
 {
     match answer {
         RootAnswer::Value(root) => root,
@@ -104,7 +104,7 @@ pub fn quota_report(answer: QuotaAnswer) -> Report
 
 // Of sampling: place, rows written.
 pub fn sample_report(answer: SampleAnswer) -> Report
-    ensures { λ r. ⌜ (r .number ≡ answerOf answer .number) × (r .first ≡ answerOf answer .place) × (r .second ≡ answerOf answer .value) ⌝ }
+    ensures { λ r. ⌜ (r .number ≡ sampleReport answer .number) × (r .first ≡ sampleReport answer .place) × (r .second ≡ sampleReport answer .value) ⌝ }
 {
     match answer {
         SampleAnswer::Sampled(count) => Report {
@@ -139,7 +139,7 @@ pub fn put_sizes(result: &mut [usize], sizes: BuildSizes)
 
 // The policy: 0 is Auto, any other number Fixed.
 pub fn policy_of(policy: u32, coarse_threshold: u32) -> SizePolicy
-    ensures { λ r. ⌜ policyOf r ≡ policyFrom policy «coarse_threshold» ⌝ }
+    ensures { λ r. ⌜ thresholdPolicy r ≡ policyFrom policy «coarse_threshold» ⌝ }
 {
     if policy == 0 {
         return SizePolicy::Auto;

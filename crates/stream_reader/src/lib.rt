@@ -6,7 +6,7 @@ ghost use mathlib.Core.Bool.{_&&_};
 ghost use Prim.Native.Nat.{_+_, _≤_};
 ghost use lib.ListN.{length, drop};
 ghost use Rattle.lists.specs.Lists.{put};
-ghost use Rattle.config.specs.Params.{policyOf};
+ghost use Rattle.config.specs.Params.{thresholdPolicy};
 ghost use Rattle.formats.specs.Bytes.{whole, markSize};
 ghost use Rattle.formats.specs.Stream.{settingsMark, settingsSize, policyFits, policyFrom, settingsIn, pointMark, pointSize, coordinatesAt, jobIn};
 ghost use Rattle.stream_reader.specs.Reading.{settingsAre, jobOf, Within};
@@ -69,7 +69,7 @@ fn settings_whole(input: &[u8]) -> bool
 }
 
 fn policy_of(kind: u64, threshold: u32) -> SizePolicy
-    ensures { λ r. ⌜ policyOf r ≡ policyFrom kind threshold ⌝ }
+    ensures { λ r. ⌜ thresholdPolicy r ≡ policyFrom kind threshold ⌝ }
 {
     if kind == 0 {
         return SizePolicy::Auto;

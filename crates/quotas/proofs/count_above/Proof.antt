@@ -11,7 +11,7 @@ use Rattle.lists.proofs.From.{count-below-yes, count-below-no, count-below-nil}
 use Rattle.definition.specs.Quotas.{remainderAt}
 use Rattle.definition.specs.SeatCut.{above}
 use Rattle.quotas.specs.Sharing.{capacities}
-use Rattle.quotas.proofs.Shared.{same-leaves, remainder-is}
+use Rattle.quotas.proofs.OneLeaf.{same-leaves, remainder-is}
 use Rattle.quotas.proofs.count_above.Statement.{statement}
 use Rattle.quotas.proofs.count_above.Tie as tie
 

@@ -11,7 +11,7 @@ use Rattle.lists.proofs.Count.{count-le}
 use Rattle.definition.specs.Quotas.{remainderAt}
 use Rattle.definition.specs.SeatCut.{above}
 use Rattle.quotas.specs.Sharing.{capacities, remaindersAbove}
-use Rattle.quotas.proofs.Shared.{top-cut}
+use Rattle.quotas.proofs.OneLeaf.{top-cut}
 use Rattle.quotas.proofs.cut.Statement.{statement}
 use Rattle.quotas.proofs.cut.Tie as tie
 

@@ -6,7 +6,7 @@ use native.Mathlib.Omega.{arith}
 use Rattle.lists.specs.Lists.{total}
 use Rattle.definition.specs.Quotas.{sizeAt}
 use Rattle.quotas.specs.Sharing.{Sharing, capacities}
-use Rattle.quotas.proofs.Shared.{cut-is}
+use Rattle.quotas.proofs.OneLeaf.{cut-is}
 use borrow.Author.Needs.{needs}
 use Rattle.quotas.proofs.deal.Statement.{statement}
 use Rattle.quotas.proofs.deal.Tie as tie

@@ -13,7 +13,7 @@ use Rattle.definition.specs.Quotas.{remainderAt}
 use Rattle.definition.specs.SeatCut.{ties}
 use Rattle.definition.proofs.Seats.{by-le}
 use Rattle.quotas.specs.Sharing.{capacities, quotaAt}
-use Rattle.quotas.proofs.Shared.{remainder-is, whole-small, quota-is}
+use Rattle.quotas.proofs.OneLeaf.{remainder-is, whole-small, quota-is}
 use Rattle.quotas.proofs.hand_out.Statement.{statement}
 use Rattle.quotas.proofs.hand_out.Tie as tie
 

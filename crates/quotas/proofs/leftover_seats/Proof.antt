@@ -9,7 +9,7 @@ use Rattle.lists.proofs.Sums.{sum-below-nil, sum-below-suc, sum-below-part}
 use Rattle.definition.specs.Quotas.{wholeAt}
 use Rattle.definition.proofs.Shares.{wholes-fit}
 use Rattle.quotas.specs.Sharing.{capacities}
-use Rattle.quotas.proofs.Shared.{same-leaves, whole-is}
+use Rattle.quotas.proofs.OneLeaf.{same-leaves, whole-is}
 use Rattle.quotas.proofs.leftover_seats.Statement.{statement}
 use Rattle.quotas.proofs.leftover_seats.Tie as tie
 
