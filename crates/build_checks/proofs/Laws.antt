@@ -14,7 +14,7 @@ use Rattle.lists.specs.Lists.{anyOf, least}
 use Rattle.lists.proofs.Least.{least-before, least-holds}
 use Rattle.definition.specs.Levels.{threshold, reductions}
 use Rattle.definition.specs.Tree.{Settings, pointCount}
-use Rattle.definition.specs.Packed.{BuildSizes, buildStated}
+use Rattle.definition.specs.Packed.{rowNumbers, rowFloats, mostRows, BuildSizes, buildStated}
 use Rattle.definition.specs.Refusals.{Test, Verdict, accepted, refused, on, verdict, mostPoints, mostNeighbours, zeroThreshold, firstBad, notFinite, coordinatesMissing, settingsTests, pointsTests, buildTests, buildVerdict, buildShort}
 use Rattle.build_checks.specs.Verdicts.{numbered}
 
@@ -159,30 +159,30 @@ module _ (lent : BuildSizes) (d n q : ℕ) where
     short-2 h = simp (le-ltb (lent .points) (4 * n) a, lt-ltb (lent .internals) (4 * n) h)
 
     module _ (b : 4 * n ≤ lent .internals) where
-      pub short-3 : lent .domains < 4 * (6 * n + 1) → true ≡ buildShort lent (buildStated d n q)
+      pub short-3 : lent .domains < rowNumbers * mostRows n → true ≡ buildShort lent (buildStated d n q)
       unfolding buildShort buildStated
-      short-3 h = simp (le-ltb (lent .points) (4 * n) a, le-ltb (lent .internals) (4 * n) b, lt-ltb (lent .domains) (4 * (6 * n + 1)) h)
+      short-3 h = simp (le-ltb (lent .points) (4 * n) a, le-ltb (lent .internals) (4 * n) b, lt-ltb (lent .domains) (rowNumbers * mostRows n) h)
 
-      module _ (e : 4 * (6 * n + 1) ≤ lent .domains) where
-        pub short-4 : lent .boxes < 2 * d * (6 * n + 1) → true ≡ buildShort lent (buildStated d n q)
+      module _ (e : rowNumbers * mostRows n ≤ lent .domains) where
+        pub short-4 : lent .boxes < rowFloats d * mostRows n → true ≡ buildShort lent (buildStated d n q)
         unfolding buildShort buildStated
         short-4 h =
             simp (
               le-ltb (lent .points) (4 * n) a,
               le-ltb (lent .internals) (4 * n) b,
-              le-ltb (lent .domains) (4 * (6 * n + 1)) e,
-              lt-ltb (lent .boxes) (2 * d * (6 * n + 1)) h,
+              le-ltb (lent .domains) (rowNumbers * mostRows n) e,
+              lt-ltb (lent .boxes) (rowFloats d * mostRows n) h,
             )
 
-        module _ (f : 2 * d * (6 * n + 1) ≤ lent .boxes) where
+        module _ (f : rowFloats d * mostRows n ≤ lent .boxes) where
           pub short-5 : lent .borrowed < 6 * n * (q + 1) → true ≡ buildShort lent (buildStated d n q)
           unfolding buildShort buildStated
           short-5 h =
               simp (
                 le-ltb (lent .points) (4 * n) a,
                 le-ltb (lent .internals) (4 * n) b,
-                le-ltb (lent .domains) (4 * (6 * n + 1)) e,
-                le-ltb (lent .boxes) (2 * d * (6 * n + 1)) f,
+                le-ltb (lent .domains) (rowNumbers * mostRows n) e,
+                le-ltb (lent .boxes) (rowFloats d * mostRows n) f,
                 lt-ltb (lent .borrowed) (6 * n * (q + 1)) h,
               )
 
@@ -193,8 +193,8 @@ module _ (lent : BuildSizes) (d n q : ℕ) where
                 simp (
                   le-ltb (lent .points) (4 * n) a,
                   le-ltb (lent .internals) (4 * n) b,
-                  le-ltb (lent .domains) (4 * (6 * n + 1)) e,
-                  le-ltb (lent .boxes) (2 * d * (6 * n + 1)) f,
+                  le-ltb (lent .domains) (rowNumbers * mostRows n) e,
+                  le-ltb (lent .boxes) (rowFloats d * mostRows n) f,
                   le-ltb (lent .borrowed) (6 * n * (q + 1)) g,
                   lt-ltb (lent .floats) (32 * n) h,
                 )
@@ -205,8 +205,8 @@ module _ (lent : BuildSizes) (d n q : ℕ) where
                 simp (
                   le-ltb (lent .points) (4 * n) a,
                   le-ltb (lent .internals) (4 * n) b,
-                  le-ltb (lent .domains) (4 * (6 * n + 1)) e,
-                  le-ltb (lent .boxes) (2 * d * (6 * n + 1)) f,
+                  le-ltb (lent .domains) (rowNumbers * mostRows n) e,
+                  le-ltb (lent .boxes) (rowFloats d * mostRows n) f,
                   le-ltb (lent .borrowed) (6 * n * (q + 1)) g,
                   le-ltb (lent .floats) (32 * n) h,
                 )

@@ -100,6 +100,7 @@ fn is_short(lent: Lent, dimensions: usize, n: usize, neighbours: usize) -> bool
     ensures { λ r. ⌜ r ≡ buildShort (sizesOf lent) (buildStated dimensions n neighbours) ⌝ }
 {
     let rows = 6 * n + 1;
+    let floats = packed::floats_before(dimensions, rows);
     let taken = neighbours + 1;
     if lent.level_points < 4 * n {
         return true;
@@ -107,10 +108,10 @@ fn is_short(lent: Lent, dimensions: usize, n: usize, neighbours: usize) -> bool
     if lent.internals < 4 * n {
         return true;
     }
-    if lent.domains < 4 * rows {
+    if lent.domains < packed::ROW_NUMBERS * rows {
         return true;
     }
-    if lent.boxes < 2 * dimensions * rows {
+    if lent.boxes < floats {
         return true;
     }
     if lent.borrowed < 6 * n * taken {

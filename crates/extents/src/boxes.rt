@@ -4,6 +4,7 @@ ghost use Prim.Native.Nat.{_+_, _*_, _≤_, _<_};
 ghost use lib.ListN.{length, set, take, replicate};
 ghost use Rattle.lists.specs.Lists.{part, put};
 ghost use Rattle.definition.specs.Number.{plusZero};
+ghost use Rattle.definition.specs.Points.{boxWidth};
 ghost use Rattle.extents.specs.Boxes.{floatsOf};
 
 // The bounds on up to three axes; those past the dimension are not used.
@@ -36,7 +37,7 @@ impl Extents {
 // The box whose bounds are all +0.
 pub fn zero_box(dimensions: usize) -> Extents
     requires { ⌜ dimensions ≤ 3 ⌝ }
-    ensures { λ r. ⌜ (r .dimensions ≡ dimensions) × (floatsOf r ≡ replicate (2 * dimensions) plusZero) ⌝ }
+    ensures { λ r. ⌜ (r .dimensions ≡ dimensions) × (floatsOf r ≡ replicate (boxWidth dimensions) plusZero) ⌝ }
 {
     Extents {
         lower: [0.0; 3],
@@ -61,8 +62,8 @@ fn read_bounds(list: &[f64], at: usize, count: usize) -> [f64; 3]
 
 // The box that stands in the list from `at` on.
 pub fn read_box(list: &[f64], at: usize, dimensions: usize) -> Extents
-    requires { ⌜ (at + 2 * dimensions ≤ length (now list)) × (dimensions ≤ 3) ⌝ }
-    ensures { λ r. ⌜ (r .dimensions ≡ dimensions) × (floatsOf r ≡ part (now (list .entry)) at (2 * dimensions)) ⌝ }
+    requires { ⌜ (at + boxWidth dimensions ≤ length (now list)) × (dimensions ≤ 3) ⌝ }
+    ensures { λ r. ⌜ (r .dimensions ≡ dimensions) × (floatsOf r ≡ part (now (list .entry)) at (boxWidth dimensions)) ⌝ }
 {
     let lower = read_bounds(list, at, dimensions);
     let upper = read_bounds(list, at + dimensions, dimensions);
@@ -87,7 +88,7 @@ fn write_bounds(bounds: [f64; 3], count: usize, out: &mut [f64], at: usize)
 
 // Writes the box to the list from `at` on.
 pub fn write_box(b: Extents, out: &mut [f64], at: usize)
-    requires { ⌜ (at + 2 * b .dimensions ≤ length (now out)) × (b .dimensions ≤ 3) ⌝ }
+    requires { ⌜ (at + boxWidth (b .dimensions) ≤ length (now out)) × (b .dimensions ≤ 3) ⌝ }
     ensures { λ _. ⌜ now (out .exit) ≡ put (now (out .entry)) at (floatsOf b) ⌝ }
 {
     let d = b.dimensions;

@@ -23,6 +23,7 @@ use Rattle.definition.specs.Number.{plusZero}
 use Rattle.definition.specs.Levels.{threshold, reductions}
 use Rattle.definition.specs.Cut.{Domain, rootDomain, cutKeys, leftOf, rightOf, queueLeaves, leavesOf}
 use Rattle.definition.specs.Overlaps.{nearOf, borrowedBy}
+use Rattle.definition.specs.Points.{boxWidth}
 use Rattle.definition.specs.Tree.{Settings, Leaf, Level, coarseLevel, fineLevel, mostFine, nextActive, levelsFrom, levelsOver, pointCount, levels}
 use Rattle.definition.specs.Refusals.{Refusal, Verdict, accepted, refused}
 use Rattle.definition.specs.Stream.{Job, job, broken, streamPoints, jobIn}
@@ -186,7 +187,7 @@ module _ (s : Settings) (cs : List Float) (axes : s .dimension ≤ 3) where
     leafFrom q =
         record { own = q .rows; borrowed = borrowedBy (map (nearOf (s .dimension) cs (s .neighbours) active) active) active (q .rows); box = q .box }
 
-    leaves-brief : (qs : List Domain) → All (λ (q : Domain). Small (q .rows)) qs → All (λ (q : Domain). length (q .box) ≡ 2 * s .dimension) qs
+    leaves-brief : (qs : List Domain) → All (λ (q : Domain). Small (q .rows)) qs → All (λ (q : Domain). length (q .box) ≡ boxWidth (s .dimension)) qs
         → All Brief (map leafFrom qs)
     unfolding All borrowedBy
     leaves-brief [] h g = tt
@@ -206,7 +207,7 @@ module _ (s : Settings) (cs : List Float) (axes : s .dimension ≤ 3) where
     coarse-long : (t : ℕ) → length (levelsText t (coarseLevel (s .dimension) active ∷ [])) ≤ 356
     unfolding levelsText coarseLevel coarseLines joined
     coarse-long t =
-        let f : Leaf = record { own = active; borrowed = []; box = replicate (2 * s .dimension) plusZero } in
+        let f : Leaf = record { own = active; borrowed = []; box = replicate (boxWidth (s .dimension)) plusZero } in
         let l : Level = record { points = active; leaves = f ∷ [] } in
         omega (
           arith,
