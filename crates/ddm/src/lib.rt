@@ -15,12 +15,12 @@ use build_checks::Lent;
 // The settings, and the other calls, each with its answer.
 pub use config::DDMParams;
 pub use config::SizePolicy;
-pub use leaf_rows::DomainRow;
 pub use leaf_rows::Which;
 pub use leaf_rows::row_test;
 pub use leaf_rows::rows_of;
 pub use level_sizes::LevelSize;
 pub use level_sizes::get_num_level_coarse_points;
+pub use packed::DomainRow;
 pub use quotas::QuotaAnswer;
 pub use quotas::get_domain_coarse_quotas;
 pub use root::RootAnswer;
