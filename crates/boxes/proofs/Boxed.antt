@@ -10,7 +10,7 @@ use Rattle.lists.specs.Lists.{part, put, from}
 use Rattle.lists.proofs.Put.{part-append, put-next-at}
 use Rattle.lists.proofs.Take.{set-front, set-second}
 use Rattle.lists.proofs.From.{fill-more}
-use Rattle.definition.specs.Points.{lowerBound, upperBound, extents}
+use Rattle.definition.specs.Points.{boxWidth, lowerBound, upperBound, extents}
 use Rattle.boxes.specs.Boxes.{floatsOf}
 use Rattle.boxes.specs.declared.Extents.{Extents}
 
@@ -32,11 +32,11 @@ module _ (l u : List Float) (d axis : ℕ) (v : Float) (e : length l ≡ 3) (h :
   unfolding floatsOf
   upper-changed = set-second l u d axis v (omega arith) h
 
-double : (d : ℕ) → d + d ≡ 2 * d
+double : (d : ℕ) → d + d ≡ boxWidth d
 double d = omega arith
 
 -- a box read, and one written
-pub box-read : (s l u : List Float) (at d : ℕ) → take d l ≡ part s at d → take d u ≡ part s (at + d) d → floatsOf (boxOf l u d) ≡ part s at (2 * d)
+pub box-read : (s l u : List Float) (at d : ℕ) → take d l ≡ part s at d → take d u ≡ part s (at + d) d → floatsOf (boxOf l u d) ≡ part s at (boxWidth d)
 unfolding floatsOf
 box-read s l u at d e f = rw (e, f) (part-append s at d d ∙ ap (part s at) (double d))
 

@@ -4,7 +4,7 @@ ghost use Prim.Native.Nat.{_+_, _*_, _≤_, _<_};
 ghost use mathlib.Core.List.{_++_};
 ghost use lib.ListN.{length, set, take};
 ghost use Rattle.lists.specs.Lists.{part, put};
-ghost use Rattle.definition.specs.Packed.{rowFloats};
+ghost use Rattle.definition.specs.Points.{boxWidth};
 ghost use Rattle.boxes.specs.Boxes.{floatsOf};
 
 // The bounds on up to three axes; those past the dimension are not used.
@@ -50,8 +50,8 @@ fn read_bounds(list: &[f64], at: usize, count: usize) -> [f64; 3]
 
 // The box that stands in the list from `at` on.
 pub fn read_box(list: &[f64], at: usize, dimensions: usize) -> Extents
-    requires { ⌜ (at + 2 * dimensions ≤ length (now list)) × (dimensions ≤ 3) ⌝ }
-    ensures { λ r. ⌜ (r .dimensions ≡ dimensions) × (floatsOf r ≡ part (now (list .entry)) at (2 * dimensions)) ⌝ }
+    requires { ⌜ (at + boxWidth dimensions ≤ length (now list)) × (dimensions ≤ 3) ⌝ }
+    ensures { λ r. ⌜ (r .dimensions ≡ dimensions) × (floatsOf r ≡ part (now (list .entry)) at (boxWidth dimensions)) ⌝ }
 {
     let lower = read_bounds(list, at, dimensions);
     let upper = read_bounds(list, at + dimensions, dimensions);
@@ -76,7 +76,7 @@ fn write_bounds(bounds: [f64; 3], count: usize, out: &mut [f64], at: usize)
 
 // Writes the box to the list from `at` on.
 pub fn write_box(b: Extents, out: &mut [f64], at: usize)
-    requires { ⌜ (at + 2 * b .dimensions ≤ length (now out)) × (b .dimensions ≤ 3) ⌝ }
+    requires { ⌜ (at + boxWidth (b .dimensions) ≤ length (now out)) × (b .dimensions ≤ 3) ⌝ }
     ensures { λ _. ⌜ now (out .exit) ≡ put (now (out .entry)) at (floatsOf b) ⌝ }
 {
     let d = b.dimensions;

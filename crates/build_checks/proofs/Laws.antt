@@ -14,7 +14,7 @@ use Rattle.lists.specs.Lists.{anyOf, least}
 use Rattle.lists.proofs.Least.{least-before, least-holds}
 use Rattle.definition.specs.Levels.{threshold, reductions}
 use Rattle.definition.specs.Tree.{Settings, pointCount}
-use Rattle.definition.specs.Packed.{BuildSizes, buildStated}
+use Rattle.definition.specs.Packed.{rowNumbers, rowFloats, mostRows, BuildSizes, buildStated}
 use Rattle.definition.specs.Refusals.{Test, Verdict, accepted, refused, on, verdict, mostPoints, mostNeighbours, zeroThreshold, firstBad, notFinite, coordinatesMissing, settingsTests, pointsTests, buildTests, buildVerdict, buildShort}
 use Rattle.build_checks.specs.Verdicts.{numberedVerdict}
 

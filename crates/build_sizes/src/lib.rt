@@ -2,11 +2,10 @@
 ghost use mathlib.Core.Path.{_≡_};
 ghost use Prim.Native.Nat.{_≤_};
 ghost use Rattle.definition.specs.Packed.{buildStated};
+ghost use Rattle.definition.specs.Refusals.{mostPoints, mostNeighbours};
 ghost use Rattle.definition.specs.Outcome.{sizesAnswer};
 ghost use Rattle.build_sizes.specs.Sizes.{sizesOf, sizesReport, refusedWith};
-
-// The most points that a build takes.
-const MOST_POINTS: usize = 1_048_576;
+use rows::MOST_POINTS;
 
 // The most neighbours.
 const MOST_NEIGHBOURS: u32 = 64;
@@ -30,7 +29,7 @@ pub struct SizesAnswer {
 
 // The lengths for n points on `dimensions` axes with this neighbour count.
 pub fn stated_sizes(dimensions: usize, n: usize, neighbours: usize) -> BuildSizes
-    requires { ⌜ (dimensions ≤ 3) × (n ≤ 1048576) × (neighbours ≤ 64) ⌝ }
+    requires { ⌜ (dimensions ≤ 3) × (n ≤ mostPoints) × (neighbours ≤ mostNeighbours) ⌝ }
     ensures { λ r. ⌜ sizesOf r ≡ buildStated dimensions n neighbours ⌝ }
 {
     let rows = 6 * n + 1;
@@ -38,8 +37,8 @@ pub fn stated_sizes(dimensions: usize, n: usize, neighbours: usize) -> BuildSize
     BuildSizes {
         level_points: 4 * n,
         internals: 4 * n,
-        domains: 4 * rows,
-        boxes: 2 * dimensions * rows,
+        domains: packed::ROW_NUMBERS * rows,
+        boxes: packed::floats_before(dimensions, rows),
         borrowed: 6 * n * taken,
         floats: 32 * n,
         wholes: 32 * n + 8 * n * taken,

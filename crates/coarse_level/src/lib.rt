@@ -5,17 +5,8 @@ ghost use Prim.Native.Nat.{_+_, _*_, _≤_};
 ghost use lib.ListN.{length, replicate};
 ghost use Rattle.lists.specs.Lists.{put, part};
 ghost use Rattle.definition.specs.Number.{plusZero};
+ghost use Rattle.definition.specs.Points.{boxWidth};
 ghost use Rattle.definition.specs.Packed.{rowNumbers, rowFloats};
-
-// Writes a domain row whose leaf borrows nothing.
-fn put_row(domains: &mut [usize], k: usize, start: usize, count: usize, lent: usize)
-    requires { ⌜ rowNumbers * (k + 1) ≤ length (now domains) ⌝ }
-    ensures { λ _. ⌜ now (domains .exit) ≡ put (now (domains .entry)) (rowNumbers * k) (start ∷ count ∷ lent ∷ 0 ∷ []) ⌝ }
-{
-    let at = 4 * k;
-    stretches::put_pair(domains, at, start, count);
-    stretches::put_pair(domains, at + 2, lent, 0);
-}
 
 // Writes `count` zeros from `at` on.
 fn put_zeros(list: &mut [f64], at: usize, count: usize)
@@ -44,10 +35,19 @@ pub fn coarse_level(
     requires { ⌜ (from + a ≤ length (now list)) × (from + a ≤ length (now internals)) × (rowNumbers * (first + 1) ≤ length (now domains)) × (rowFloats dimensions * (first + 1) ≤ length (now boxes)) × (dimensions ≤ 3) ⌝ }
     ensures internals { λ _. ⌜ now (internals .exit) ≡ put (now (internals .entry)) from (part (now (list .entry)) from a) ⌝ }
     ensures domains { λ _. ⌜ now (domains .exit) ≡ put (now (domains .entry)) (rowNumbers * first) (from ∷ a ∷ bat ∷ 0 ∷ []) ⌝ }
-    ensures boxes { λ _. ⌜ now (boxes .exit) ≡ put (now (boxes .entry)) (rowFloats dimensions * first) (replicate (rowFloats dimensions) plusZero) ⌝ }
+    ensures boxes { λ _. ⌜ now (boxes .exit) ≡ put (now (boxes .entry)) (rowFloats dimensions * first) (replicate (boxWidth dimensions) plusZero) ⌝ }
 {
-    let floats = 2 * dimensions;
     stretches::copy_rows(list, from, a, internals, from);
-    put_row(domains, first, from, a, bat);
-    put_zeros(boxes, floats * first, floats);
+    let row = packed::DomainRow {
+        internal_start: from,
+        internal_count: a,
+        borrowed_start: bat,
+        borrowed_count: 0,
+    };
+    packed::put_row(domains, first, row);
+    put_zeros(
+        boxes,
+        packed::floats_before(dimensions, first),
+        packed::box_width(dimensions),
+    );
 }

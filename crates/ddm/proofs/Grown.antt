@@ -13,7 +13,7 @@ use Rattle.lists.proofs.Put.{put-again}
 use Rattle.lists.proofs.From.{length-from}
 use Rattle.definition.specs.Levels.{threshold, reductions}
 use Rattle.definition.specs.Tree.{Settings, Level, mostFine, levelsFrom, levelsOver, levels, pointCount}
-use Rattle.definition.specs.Packed.{buildStated, packedPoints, countsOf}
+use Rattle.definition.specs.Packed.{rowFloats, mostRows, buildStated, packedPoints, countsOf}
 use Rattle.definition.specs.Outcome.{TreeLists, lentSizes}
 use Rattle.definition.proofs.Steps.{fineOf, nextOf, levels-last, levels-end, levels-more}
 use Rattle.definition_laws.proofs.Accepted.{Accepted}
@@ -87,7 +87,7 @@ module _ (s : Settings) (cs : List Float) (old : TreeLists) (floats : List Float
           twice : (n : ℕ) → 3 * (2 * n) ≡ 6 * n
           twice n = omega arith
 
-      rows : {L : ℕ} → 2 * d * (6 * n + 1) ≤ L → 2 * d * (0 + 3 * (2 * n) + 1) ≤ L
+      rows : {L : ℕ} → rowFloats d * mostRows n ≤ L → rowFloats d * (0 + 3 * (2 * n) + 1) ≤ L
       rows h = rw (six n) h
 
   pub few-reductions : reductions (pointCount (s .dimension) cs) (threshold (s .policy) (pointCount (s .dimension) cs)) (s .factor) ≤ 3

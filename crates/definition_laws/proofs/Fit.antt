@@ -16,6 +16,7 @@ use Rattle.definition.specs.Number.{plusZero}
 use Rattle.definition.specs.Levels.{threshold, reductions}
 use Rattle.definition.specs.Cut.{Domain, leavesOf}
 use Rattle.definition.specs.Tree.{Settings, Leaf, Level, coarseLevel, fineLevel, nextActive, mostFine, levelsFrom, levelsOver, pointCount, levels}
+use Rattle.definition.specs.Points.{boxWidth}
 use Rattle.definition.specs.Packed.{leavesIn, packedPoints, packedOwn, packedDomains, packedBoxes, packedBorrowed, stretches, rowNumbers, rowFloats, mostRows, BuildSizes, buildStated}
 use Rattle.definition.specs.Refusals.{accepted, buildVerdict}
 use Rattle.definition.proofs.Steps.{fineLeaf, fineOf}
@@ -52,7 +53,7 @@ length-borrowed ls =
     length-joined (map (λ f. f .borrowed) (leavesIn ls)) ∙ ap total (map-map length (λ (f : Leaf). f .borrowed) (leavesIn ls))
     ∙ leaves-in (λ f. length (f .borrowed)) ls
 
--- a domain row has four numbers
+-- the numbers of domain rows
 pub length-stretches : (a b : ℕ) (fs : List Leaf) → length (stretches a b fs) ≡ rowNumbers * length fs
 unfolding stretches
 length-stretches a b [] = omega arith
@@ -62,19 +63,19 @@ pub length-domains : (ls : List Level) → length (packedDomains ls) ≡ rowNumb
 unfolding packedDomains
 length-domains ls = length-stretches 0 0 (leavesIn ls)
 
--- ---- boxes of two bounds on each axis
-pub boxes-even : (d : ℕ) (fs : List Leaf) → All (λ (f : Leaf). length (f .box) ≡ 2 * d) fs → length (joined (map (λ f. f .box) fs)) ≤ rowFloats d * length fs
+-- ---- boxes, all of one width
+pub boxes-even : (d : ℕ) (fs : List Leaf) → All (λ (f : Leaf). length (f .box) ≡ boxWidth d) fs → length (joined (map (λ f. f .box) fs)) ≤ rowFloats d * length fs
 boxes-even d fs h =
     let a = length-joined (map (λ f. f .box) fs) ∙ ap total (map-map length (λ (f : Leaf). f .box) fs) in
-    let b = sum-most (λ (f : Leaf). length (f .box)) (2 * d) fs (λ f m. omega (arith, all-mem (λ (f : Leaf). length (f .box) ≡ 2 * d) fs h f m)) in
-    omega (arith, mul-comm (length fs) (2 * d))
+    let b = sum-most (λ (f : Leaf). length (f .box)) (boxWidth d) fs (λ f m. omega (arith, all-mem (λ (f : Leaf). length (f .box) ≡ boxWidth d) fs h f m)) in
+    omega (arith, mul-comm (length fs) (rowFloats d))
 
 -- ---- what is known of the packed lists of a tree over n rows
 pub record PackedFit (d n neighbours : ℕ) (ls : List Level) : Type 0 where
   -- at most three fine levels and the coarse one
   pub few : length ls ≤ suc mostFine
   pub rows : length (leavesIn ls) ≤ mostRows n
-  pub bounds : All (λ (f : Leaf). length (f .box) ≡ 2 * d) (leavesIn ls)
+  pub bounds : All (λ (f : Leaf). length (f .box) ≡ boxWidth d) (leavesIn ls)
   pub points : length (packedPoints ls) ≤ buildStated d n neighbours .points
   pub internals : length (packedOwn ls) ≤ buildStated d n neighbours .internals
   pub domains : length (packedDomains ls) ≤ buildStated d n neighbours .domains
@@ -124,10 +125,10 @@ module _ (s : Settings) (cs : List Float) (pos : 0 < s .dimension) (lp : 1 ≤ s
           mul-le-mul-right (s .neighbours + 1) h,
         )
 
-  fine-boxes : (active : List ℕ) → All (λ (f : Leaf). length (f .box) ≡ 2 * s .dimension) (fineOf s cs active .leaves)
+  fine-boxes : (active : List ℕ) → All (λ (f : Leaf). length (f .box) ≡ boxWidth (s .dimension)) (fineOf s cs active .leaves)
   unfolding fineLevel
   fine-boxes active =
-      all-map (λ (f : Leaf). length (f .box) ≡ 2 * s .dimension)
+      all-map (λ (f : Leaf). length (f .box) ≡ boxWidth (s .dimension))
       (fineLeaf (s .dimension) cs (s .neighbours) active)
       (leavesOf (s .dimension) cs (s .leaf) active) (leaves-boxes (s .dimension) cs (s .leaf) active)
 
@@ -140,9 +141,9 @@ module _ (s : Settings) (cs : List Float) (pos : 0 < s .dimension) (lp : 1 ≤ s
   unfolding coarseLevel total
   coarse-borrowed active = omega arith
 
-  coarse-boxes : (active : List ℕ) → All (λ (f : Leaf). length (f .box) ≡ 2 * s .dimension) (coarseLevel (s .dimension) active .leaves)
+  coarse-boxes : (active : List ℕ) → All (λ (f : Leaf). length (f .box) ≡ boxWidth (s .dimension)) (coarseLevel (s .dimension) active .leaves)
   unfolding coarseLevel All
-  coarse-boxes active = (length-replicate (2 * s .dimension) plusZero, tt)
+  coarse-boxes active = (length-replicate (boxWidth (s .dimension)) plusZero, tt)
 
   coarse-points : (active : List ℕ) → length (coarseLevel (s .dimension) active .points) ≡ length active
   unfolding coarseLevel
@@ -184,12 +185,12 @@ module _ (s : Settings) (cs : List Float) (pos : 0 < s .dimension) (lp : 1 ≤ s
           sum-of (ofLeaves (λ f. length (f .borrowed))) (2 * n * (s .neighbours + 1)) 0 fine-borrowed (λ active q. omega (arith, coarse-borrowed active)),
         )
 
-    all-boxes : All (λ (f : Leaf). length (f .box) ≡ 2 * s .dimension) (leavesIn ls)
+    all-boxes : All (λ (f : Leaf). length (f .box) ≡ boxWidth (s .dimension)) (leavesIn ls)
     unfolding leavesIn
     all-boxes =
-        all-joined (λ (f : Leaf). length (f .box) ≡ 2 * s .dimension) (map (λ l. l .leaves) ls)
-        (all-map (λ (fs : List Leaf). All (λ (f : Leaf). length (f .box) ≡ 2 * s .dimension) fs) (λ (l : Level). l .leaves) ls
-        (levels-all s cs c k Rows stays (λ l. All (λ (f : Leaf). length (f .box) ≡ 2 * s .dimension) (l .leaves))
+        all-joined (λ (f : Leaf). length (f .box) ≡ boxWidth (s .dimension)) (map (λ l. l .leaves) ls)
+        (all-map (λ (fs : List Leaf). All (λ (f : Leaf). length (f .box) ≡ boxWidth (s .dimension)) fs) (λ (l : Level). l .leaves) ls
+        (levels-all s cs c k Rows stays (λ l. All (λ (f : Leaf). length (f .box) ≡ boxWidth (s .dimension)) (l .leaves))
         (λ active q h. fine-boxes active) (λ active q. coarse-boxes active) fuel 0 active q))
 
 -- THE FIT LAW
@@ -212,7 +213,7 @@ packed-fit s cs active pos lp g =
       points = omega (arith, few-points s cs pos lp n c k mostFine active q);
       internals = omega (arith, few-own s cs pos lp n c k mostFine active q);
       domains = omega (arith, length-domains tree);
-      boxes = omega (arith, boxes-even (s .dimension) (leavesIn tree) b, mul-le-mul-left (2 * s .dimension) r);
+      boxes = omega (arith, boxes-even (s .dimension) (leavesIn tree) b, mul-le-mul-left (rowFloats (s .dimension)) r);
       borrowed = omega (arith, few-borrowed s cs pos lp n c k mostFine active q, six n (s .neighbours + 1));
     }
   where

@@ -14,7 +14,7 @@ use Rattle.lists.proofs.Tests.{le-or-lt}
 use Rattle.lists.proofs.All.{all-append, map-all}
 use Rattle.lists.proofs.From.{length-from}
 use Rattle.lists.proofs.Sums.{total-nil, total-cons, total-append, sum-nil, sum-cons, sum-two}
-use Rattle.definition.specs.Points.{extents}
+use Rattle.definition.specs.Points.{boxWidth, extents}
 use Rattle.definition.specs.Cut.{Domain, rootDomain, longestAxis, plane, leftOf, rightOf, queueLeaves, leavesOf}
 use Rattle.definition_laws.specs.Shape.{shapeQueue, shape}
 use Rattle.definition.proofs.Steps.{queue-wait, queue-done}
@@ -161,10 +161,10 @@ module _ (d : ℕ) (cs : List Float) (pos : 0 < d) (leaf : ℕ) where
 
 -- ---- each box has two bounds on each axis
 module _ (d : ℕ) (cs : List Float) where
-  pub leaves-boxes : (leaf : ℕ) (active : List ℕ) → All (λ q. length (q .box) ≡ 2 * d) (leavesOf d cs leaf active)
+  pub leaves-boxes : (leaf : ℕ) (active : List ℕ) → All (λ q. length (q .box) ≡ boxWidth d) (leavesOf d cs leaf active)
   unfolding leftOf rightOf rootDomain extents
   leaves-boxes leaf active =
-      leaves-all d cs (λ q. length (q .box) ≡ 2 * d)
+      leaves-all d cs (λ q. length (q .box) ≡ boxWidth d)
       (λ q h. length-set (q .box) (d + longestAxis d cs (q .rows)) (plane d cs (q .rows)) ∙ h)
       (λ q h. length-set (q .box) (longestAxis d cs (q .rows)) (plane d cs (q .rows)) ∙ h)
       leaf active (simp (length-append, length-map, length-from) (omega arith))

@@ -1,6 +1,6 @@
 -- The tree in what a build hands back: the reading's laws in the demand's words. Assumes nothing.
 use mathlib.Core.Path.{_≡_, ap, _∙_}
-use Prim.Native.Nat.{ℕ, _≤_, _<_}
+use Prim.Native.Nat.{ℕ, _<_}
 use lib.ListN.{length, getD}
 use mathlib.Core.List.{List}
 use Rattle.definition.specs.Tree.{Leaf, Level}

@@ -24,13 +24,14 @@ use Rattle.definition.specs.Overlaps.{borrowedBy}
 use Rattle.definition.specs.Quotas.{quotas}
 use Rattle.definition.specs.Sampling.{sentBy}
 use Rattle.definition.specs.Tree.{Leaf, fineLevel, sentLists}
-use Rattle.definition.specs.Packed.{stretches}
+use Rattle.definition.specs.Packed.{rowNumbers, rowFloats, stretches}
 use Rattle.definition.proofs.Cuts.{Good, leaves-times, leaves-sum}
 use Rattle.definition.proofs.Steps.{fineLeaf}
 use Rattle.definition_laws.proofs.Shape.{leaves-most}
 use Rattle.queue.specs.Rows.{withOwn}
 use Rattle.rows.proofs.Good.{good-good}
-use Rattle.overlap_owners.specs.Own.{ownAt, readOwn, Shared, Leaves}
+use Rattle.packed.specs.Reading.{ownAt, readOwn}
+use Rattle.overlap_owners.specs.Own.{Shared, Leaves}
 use Rattle.overlaps.specs.Borrowed.{borrowedLists, withBorrowed, Stage}
 use Rattle.coarse_points.specs.Sent.{sentRows, SendsUp}
 use Rattle.fine_level.specs.Fine.{leavesAt, nextAt, ownIn, Given}
@@ -105,9 +106,9 @@ module _ (d : ℕ) (cs : List Float) (leaf neighbours : ℕ) (active : List ℕ)
       ∙ length-keep p active
 
   -- ---- after the leaves: I₁ and D₁
-  module _ (I D : List ℕ) (at k : ℕ) (fI : at + length active ≤ length I) (fD : 4 * (k + 2 * length active) ≤ length D)
+  module _ (I D : List ℕ) (at k : ℕ) (fI : at + length active ≤ length I) (fD : rowNumbers * (k + 2 * length active) ≤ length D)
       (I₁ D₁ : List ℕ) (eI : I₁ ≡ put I at (joined (rowsIn (leavesOf d cs leaf active)))) (eD : D₁ ≡ withOwn at (rowsIn (leavesOf d cs leaf active)) k D) where
-    fit : 4 * (k + length own) ≤ length D
+    fit : rowNumbers * (k + length own) ≤ length D
     fit = omega (arith, number-most, own-number)
 
     inside : at + length (joined own) ≤ length I₁
@@ -145,7 +146,7 @@ module _ (d : ℕ) (cs : List Float) (leaf neighbours : ℕ) (active : List ℕ)
       unfolding borrowedLists
       many = length-map own _
 
-      fit-b : 4 * (k + length bs) ≤ length D₁
+      fit-b : rowNumbers * (k + length bs) ≤ length D₁
       fit-b = omega (arith, many, own-number, leaves-named .rows)
 
       same-own : (j : ℕ) → ownAt I₁ D₂ j ≡ ownAt I₁ D₁ j
@@ -164,14 +165,14 @@ module _ (d : ℕ) (cs : List Float) (leaf neighbours : ℕ) (active : List ℕ)
         shared = rw overlaps-read own-shared;
       }
 
-      pub overlaps-rows : D₂ ≡ put D (4 * k) (stretches at bat (leavesAt d cs leaf neighbours active))
+      pub overlaps-rows : D₂ ≡ put D (rowNumbers * k) (stretches at bat (leavesAt d cs leaf neighbours active))
       overlaps-rows =
           eD₂ ∙ rw (eD, ← level-borrowed d cs leaf neighbours active, ← level-own d cs leaf neighbours active)
           (both-columns at bat k (leavesAt d cs leaf neighbours active) D (omega (arith, level-number d cs leaf neighbours active, number-most)))
 
   -- ---- what the definition's level has packed is read back
-  module _ (I D : List ℕ) (at bat k : ℕ) (fI : at + length active ≤ length I) (fD : 4 * (k + 2 * length active) ≤ length D)
-      (I₁ D₂ : List ℕ) (eI : I₁ ≡ put I at (ownIn (leavesAt d cs leaf neighbours active))) (eD : D₂ ≡ put D (4 * k) (stretches at bat (leavesAt d cs leaf neighbours active))) where
+  module _ (I D : List ℕ) (at bat k : ℕ) (fI : at + length active ≤ length I) (fD : rowNumbers * (k + 2 * length active) ≤ length D)
+      (I₁ D₂ : List ℕ) (eI : I₁ ≡ put I at (ownIn (leavesAt d cs leaf neighbours active))) (eD : D₂ ≡ put D (rowNumbers * k) (stretches at bat (leavesAt d cs leaf neighbours active))) where
     own-due : I₁ ≡ put I at (joined own)
     own-due = rw (← level-own d cs leaf neighbours active) eI
 
@@ -191,8 +192,8 @@ module _ (d : ℕ) (cs : List Float) (leaf neighbours : ℕ) (active : List ℕ)
         sends-of d cs leaf active I₁ D₂ k (length (leavesOf d cs leaf active)) (g .axes-few) (g .good) packed-named packed-read
 
 -- ---- working room
-pub boxes-room : (d a : ℕ) → d ≤ 3 → 2 * d * (2 * a) ≤ 12 * a
-boxes-room d a h = let e : 2 * d * (2 * a) ≤ 6 * (2 * a) = mul-le-mul (omega arith) (omega arith) in omega arith
+pub boxes-room : (d a : ℕ) → d ≤ 3 → rowFloats d * (2 * a) ≤ 12 * a
+boxes-room d a h = let e : rowFloats d * (2 * a) ≤ rowFloats 3 * (2 * a) = mul-le-mul (omega arith) (omega arith) in omega arith
 
 pub codes-room : (a neighbours : ℕ) → a + 2 * a * (neighbours + 1) ≤ 32 * a + 8 * a * (neighbours + 1)
 codes-room a neighbours = let e : 2 * a * (neighbours + 1) ≤ 8 * a * (neighbours + 1) = mul-le-mul (omega arith) (omega arith) in omega arith

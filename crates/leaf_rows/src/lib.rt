@@ -3,22 +3,16 @@ ghost use mathlib.Core.Path.{_≡_};
 ghost use Rattle.lists.specs.Lists.{part};
 ghost use Rattle.definition.specs.Refusals.{stretchVerdict};
 ghost use Rattle.definition.specs.Outcome.{rowsAsked, rowTest, valueOf, numberOf};
-ghost use Rattle.leaf_rows.specs.Asked.{whichOf, domainRowOf};
+ghost use Rattle.packed.specs.Rows.{rowOf};
+ghost use Rattle.leaf_rows.specs.Asked.{whichOf};
 ghost use mathlib.Core.List.{[]};
 ghost use lib.ListN.{length};
+use packed::DomainRow;
 
 // What is asked for: a leaf's own rows, or its borrowed rows.
 pub enum Which {
     Own,
     Borrowed,
-}
-
-// A domain row: where the leaf's stretch of each list starts, and how many rows it has there.
-pub struct DomainRow {
-    pub internal_start: usize,
-    pub internal_count: usize,
-    pub borrowed_start: usize,
-    pub borrowed_count: usize,
 }
 
 // The number of the refusal of a stretch: 12 where it ends past a list of this length. The sum is never formed where it

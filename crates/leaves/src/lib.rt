@@ -59,7 +59,7 @@ pub fn leaves(
     ensures boxes { λ _. ⌜ now (boxes .exit) ≡ put (now (boxes .entry)) (rowFloats dimensions * first) (joined (map (λ q. q .box) (leavesOf dimensions (now (points .entry)) leaf (now (active .entry))))) ⌝ }
 {
     let n = active.len();
-    let floats = 2 * dimensions;
+    let floats = packed::row_floats(dimensions);
     put_root(points, dimensions, active, work, held);
     let mut head: usize = 0;
     let mut tail: usize = 1;

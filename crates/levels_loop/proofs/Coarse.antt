@@ -6,6 +6,7 @@ use lib.ListN.{length, replicate}
 use Rattle.lists.specs.Lists.{joined}
 use Rattle.definition.specs.Number.{plusZero}
 use Rattle.definition.specs.Tree.{Level, coarseLevel}
+use Rattle.definition.specs.Points.{boxWidth}
 use Rattle.definition.specs.Packed.{leavesIn, packedPoints, packedOwn, packedBorrowed, packedBoxes, stretches}
 
 module _ (d : ℕ) (active : List ℕ) where
@@ -21,9 +22,9 @@ module _ (d : ℕ) (active : List ℕ) where
   unfolding packedBorrowed leavesIn coarseLevel joined
   coarse-borrowed = refl
 
-  pub coarse-boxes : packedBoxes (coarseLevel d active ∷ []) ≡ replicate (2 * d) plusZero
+  pub coarse-boxes : packedBoxes (coarseLevel d active ∷ []) ≡ replicate (boxWidth d) plusZero
   unfolding packedBoxes leavesIn coarseLevel joined
-  coarse-boxes = append-nil (replicate (2 * d) plusZero)
+  coarse-boxes = append-nil (replicate (boxWidth d) plusZero)
 
   pub coarse-rows : (a b : ℕ) → stretches a b (leavesIn (coarseLevel d active ∷ [])) ≡ a ∷ length active ∷ b ∷ 0 ∷ []
   unfolding stretches leavesIn coarseLevel joined

@@ -19,7 +19,8 @@ use Rattle.definition.specs.Levels.{levelSize}
 use Rattle.definition.specs.Quotas.{quotas}
 use Rattle.definition.specs.Cut.{Domain, leavesOf}
 use Rattle.definition.specs.Tree.{Settings, Leaf, Level, coarseLevel, fineLevel, nextActive, mostFine, levelsFrom}
-use Rattle.definition.specs.Packed.{packedPoints}
+use Rattle.definition.specs.Points.{boxWidth}
+use Rattle.definition.specs.Packed.{rowFloats, packedPoints}
 use Rattle.definition.proofs.Steps.{fineOf, nextOf, levels-last, levels-end, levels-more}
 use Rattle.definition.proofs.Cuts.{Good, sizesOf, leaves-sum}
 use Rattle.definition_laws.proofs.Shape.{leaves-boxes}
@@ -57,12 +58,12 @@ module _ (d : ℕ) (cs : List Float) (leaf neighbours : ℕ) (active : List ℕ)
         borrowed-most d cs leaf neighbours active (g .axes) (g .leaf-some) good (g .rows-some),
       )
 
-  pub boxes-all : length (boxesIn (leavesAt d cs leaf neighbours active)) ≡ 2 * d * length (leavesAt d cs leaf neighbours active)
+  pub boxes-all : length (boxesIn (leavesAt d cs leaf neighbours active)) ≡ rowFloats d * length (leavesAt d cs leaf neighbours active)
   boxes-all =
       rw (level-box d cs leaf neighbours active, level-number d cs leaf neighbours active)
-      (joined-even (2 * d) (map (λ (q : Domain). q .box) (leavesOf d cs leaf active))
-      (all-map (λ (l : List Float). length l ≡ 2 * d) (λ (q : Domain). q .box) (leavesOf d cs leaf active) (leaves-boxes d cs leaf active))
-      ∙ ap (λ (z : ℕ). 2 * d * z) (length-map (leavesOf d cs leaf active) (λ (q : Domain). q .box)))
+      (joined-even (rowFloats d) (map (λ (q : Domain). q .box) (leavesOf d cs leaf active))
+      (all-map (λ (l : List Float). length l ≡ boxWidth d) (λ (q : Domain). q .box) (leavesOf d cs leaf active) (leaves-boxes d cs leaf active))
+      ∙ ap (λ (z : ℕ). rowFloats d * z) (length-map (leavesOf d cs leaf active) (λ (q : Domain). q .box)))
 
   module _ (size : ℕ) (small : size ≤ length active) where
     dealt : Dealt (sizesOf (leavesOf d cs leaf active)) size (quotas (sizesOf (leavesOf d cs leaf active)) size)

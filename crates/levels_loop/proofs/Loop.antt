@@ -16,7 +16,8 @@ use Rattle.definition.specs.Number.{plusZero}
 use Rattle.definition.specs.Levels.{levelSize}
 use Rattle.definition.specs.Tree.{Settings, Level, mostFine, reductionsLeft, coarseLevel}
 use Rattle.definition.specs.Refusals.{mostPoints}
-use Rattle.definition.specs.Packed.{leavesIn, packedPoints, packedOwn, packedDomains, packedBoxes, packedBorrowed, stretches}
+use Rattle.definition.specs.Points.{boxWidth}
+use Rattle.definition.specs.Packed.{rowNumbers, rowFloats, leavesIn, packedPoints, packedOwn, packedDomains, packedBoxes, packedBorrowed, stretches}
 use Rattle.definition.proofs.Steps.{fineOf, nextOf}
 use Rattle.definition_laws.proofs.Fit.{length-stretches}
 use Rattle.fine_level.specs.Fine.{leavesAt, nextAt, ownIn, borrowedIn, boxesIn, Given, Fits, Room}
@@ -38,8 +39,8 @@ pub record Outs (P I D : List ℕ) (B : List Float) (L rows counts : List ℕ) (
     (built at first bat : ℕ) : Type 0 where
   pub points : put P₁ at (packedPoints rest) ≡ put P 0 (packedPoints all)
   pub internals : put I₁ at (packedOwn rest) ≡ put I 0 (packedOwn all)
-  pub domains : put D₁ (4 * first) (stretches at bat (leavesIn rest)) ≡ put D 0 (packedDomains all)
-  pub boxes : put B₁ (2 * d * first) (packedBoxes rest) ≡ put B 0 (packedBoxes all)
+  pub domains : put D₁ (rowNumbers * first) (stretches at bat (leavesIn rest)) ≡ put D 0 (packedDomains all)
+  pub boxes : put B₁ (rowFloats d * first) (packedBoxes rest) ≡ put B 0 (packedBoxes all)
   pub borrowed : put L₁ bat (packedBorrowed rest) ≡ put L 0 (packedBorrowed all)
   pub row-counts : put rows₁ built (map rowCount rest) ≡ put rows 0 (map rowCount all)
   pub leaf-counts : put counts₁ built (map leafCount rest) ≡ put counts 0 (map leafCount all)
@@ -83,7 +84,7 @@ module _ {d : ℕ} {cs : List Float} {leaf q n : ℕ} {P I D : List ℕ} {B : Li
       points = refl;
       internals = refl;
       domains = refl;
-      boxes = ap (λ (z : ℕ). put B z (packedBoxes (levelsAfter d cs leaf q c k 0 (part P 0 n)))) (mul-zero (2 * d));
+      boxes = ap (λ (z : ℕ). put B z (packedBoxes (levelsAfter d cs leaf q c k 0 (part P 0 n)))) (mul-zero (rowFloats d));
       borrowed = refl;
       row-counts = refl;
       leaf-counts = refl;
@@ -103,8 +104,8 @@ module _ {d : ℕ} {cs : List Float} {leaf q n : ℕ} {P I D : List ℕ} {B : Li
     rows-few = omega (arith, v .given .good .few, many)
 
     -- ---- after the last: the coarse level
-    module _ (no : (ltb built mostFine && ltb c a) ≡ false) {I₂ D₂ : List ℕ} {B₂ : List Float} (eI : I₂ ≡ put I₁ at (part P₁ at a)) (eD : D₂ ≡ put D₁ (4 * first) (at ∷ a ∷ bat ∷ 0 ∷ []))
-        (eB : B₂ ≡ put B₁ (2 * d * first) (replicate (2 * d) plusZero)) where
+    module _ (no : (ltb built mostFine && ltb c a) ≡ false) {I₂ D₂ : List ℕ} {B₂ : List Float} (eI : I₂ ≡ put I₁ at (part P₁ at a)) (eD : D₂ ≡ put D₁ (rowNumbers * first) (at ∷ a ∷ bat ∷ 0 ∷ []))
+        (eB : B₂ ≡ put B₁ (rowFloats d * first) (replicate (boxWidth d) plusZero)) where
       abbrev all : List Level
       all = levelsAfter d cs leaf q c k 0 (part P 0 n)
 
@@ -185,7 +186,7 @@ module _ {d : ℕ} {cs : List Float} {leaf q n : ℕ} {P I D : List ℕ} {B : Li
         module _ {P₂ I₂ D₂ : List ℕ} {B₂ : List Float} {L₂ : List ℕ} {m z b : ℕ}
             (em : m ≡ length (leavesAt d cs leaf q (part P₁ at a))) (ez : z ≡ length (borrowedIn (leavesAt d cs leaf q (part P₁ at a)))) (eb : b ≡ length (nextAt d cs leaf size (part P₁ at a)))
             (eP : P₂ ≡ put P₁ (at + a) (nextAt d cs leaf size (part P₁ at a))) (eI : I₂ ≡ put I₁ at (ownIn (leavesAt d cs leaf q (part P₁ at a))))
-            (eD : D₂ ≡ put D₁ (4 * first) (stretches at bat (leavesAt d cs leaf q (part P₁ at a)))) (eB : B₂ ≡ put B₁ (2 * d * first) (boxesIn (leavesAt d cs leaf q (part P₁ at a))))
+            (eD : D₂ ≡ put D₁ (rowNumbers * first) (stretches at bat (leavesAt d cs leaf q (part P₁ at a)))) (eB : B₂ ≡ put B₁ (rowFloats d * first) (boxesIn (leavesAt d cs leaf q (part P₁ at a))))
             (eL : L₂ ≡ put L₁ bat (borrowedIn (leavesAt d cs leaf q (part P₁ at a)))) where
           abbrev s : Settings
           s = levelSettings d leaf q
@@ -232,7 +233,7 @@ module _ {d : ℕ} {cs : List Float} {leaf q n : ℕ} {P I D : List ℕ} {B : Li
                 domains =
                     rows-more f rest D₁ first m at a bat z (sym em) own-is (sym ez) (omega (arith, level-fits .domains)) D₂ _ eD refl ∙ o .domains;
                 boxes =
-                    boxes-more f rest (2 * d) B₁ first m (rw em (boxes-all d cs leaf q active (v .given))) (omega (arith, mul-add (2 * d) first (2 * a), level-fits .boxes)) B₂ _ eB refl
+                    boxes-more f rest (rowFloats d) B₁ first m (rw em (boxes-all d cs leaf q active (v .given))) (omega (arith, mul-add (rowFloats d) first (2 * a), level-fits .boxes)) B₂ _ eB refl
                     ∙ o .boxes;
                 borrowed = borrowed-more f rest L₁ bat z (sym ez) (omega (arith, level-fits .borrowed)) L₂ _ eL refl ∙ o .borrowed;
                 row-counts =
@@ -243,15 +244,15 @@ module _ {d : ℕ} {cs : List Float} {leaf q n : ℕ} {P I D : List ℕ} {B : Li
 
           next-long : (W₂ : List ℕ) (F₂ : List Float) → length W₂ ≡ length W₁ → length F₂ ≡ length F₁ → Long P₁ I₁ D₁ B₁ L₁ W₁ F₁ P₂ I₂ D₂ B₂ L₂ W₂ F₂
           next-long W₂ F₂ eW eF =
-              let rows-fit : 2 * d * first + length (boxesIn (leavesAt d cs leaf q active)) ≤ length B₁ =
-              omega (arith, boxes-all d cs leaf q active (v .given), mul-add (2 * d) first (length (leavesAt d cs leaf q active)), mul-le-mul-left (2 * d) few-rows, level-fits .boxes) in
+              let rows-fit : rowFloats d * first + length (boxesIn (leavesAt d cs leaf q active)) ≤ length B₁ =
+              omega (arith, boxes-all d cs leaf q active (v .given), mul-add (rowFloats d) first (length (leavesAt d cs leaf q active)), mul-le-mul-left (rowFloats d) few-rows, level-fits .boxes) in
               record {
                 points = rw eP (length-put P₁ (at + a) (nextAt d cs leaf size active) (omega (arith, level-points, next-is, eb, sizes .1)));
                 internals = rw eI (length-put I₁ at (ownIn (leavesAt d cs leaf q active)) (omega (arith, own-is, level-fits .internals)));
                 domains =
-                    rw eD (length-put D₁ (4 * first) (stretches at bat (leavesAt d cs leaf q active))
+                    rw eD (length-put D₁ (rowNumbers * first) (stretches at bat (leavesAt d cs leaf q active))
                     (omega (arith, length-stretches at bat (leavesAt d cs leaf q active), em, few-leaves, level-fits .domains)));
-                boxes = rw eB (length-put B₁ (2 * d * first) (boxesIn (leavesAt d cs leaf q active)) rows-fit);
+                boxes = rw eB (length-put B₁ (rowFloats d * first) (boxesIn (leavesAt d cs leaf q active)) rows-fit);
                 borrowed = rw eL (length-put L₁ bat (borrowedIn (leavesAt d cs leaf q active)) (omega (arith, ez, few-borrowed, level-fits .borrowed)));
                 wholes = eW;
                 floats = eF;

@@ -10,7 +10,7 @@ use Rattle.lists.specs.Lists.{put, part, joined}
 use Rattle.lists.proofs.Put.{put-next-at, put-part, length-part, put-again}
 use Rattle.lists.proofs.Joined.{joined-cons, joined-map-append}
 use Rattle.definition.specs.Tree.{Leaf, Level}
-use Rattle.definition.specs.Packed.{leavesIn, packedPoints, packedOwn, packedBorrowed, packedBoxes, stretches}
+use Rattle.definition.specs.Packed.{rowNumbers, leavesIn, packedPoints, packedOwn, packedBorrowed, packedBoxes, stretches}
 use Rattle.definition_laws.proofs.Fit.{length-stretches}
 use Rattle.fine_level.specs.Fine.{ownIn, borrowedIn, boxesIn}
 
@@ -75,8 +75,8 @@ module _ (l : Level) (ls : List Level) where
       e₂ ∙ rw (e₁, boxes-cons l ls) (put-next-at B (w * first) (boxesIn (l .leaves)) (packedBoxes ls) (w * (first + m)) f (omega (arith, mul-add w first m)))
 
   pub rows-more : (D : List ℕ) (first m at a bat z : ℕ) → length (l .leaves) ≡ m → length (ownIn (l .leaves)) ≡ a → length (borrowedIn (l .leaves)) ≡ z
-      → 4 * first ≤ length D → (D₁ D₂ : List ℕ) → D₁ ≡ put D (4 * first) (stretches at bat (l .leaves))
-      → D₂ ≡ put D₁ (4 * (first + m)) (stretches (at + a) (bat + z) (leavesIn ls)) → D₂ ≡ put D (4 * first) (stretches at bat (leavesIn (l ∷ ls)))
+      → rowNumbers * first ≤ length D → (D₁ D₂ : List ℕ) → D₁ ≡ put D (rowNumbers * first) (stretches at bat (l .leaves))
+      → D₂ ≡ put D₁ (rowNumbers * (first + m)) (stretches (at + a) (bat + z) (leavesIn ls)) → D₂ ≡ put D (rowNumbers * first) (stretches at bat (leavesIn (l ∷ ls)))
   rows-more D first m at a bat z em ea ez f D₁ D₂ e₁ e₂ =
       e₂ ∙ rw (e₁, leaves-cons l ls, stretches-append at bat (l .leaves) (leavesIn ls), ea, ez)
-      (put-next-at D (4 * first) (stretches at bat (l .leaves)) (stretches (at + a) (bat + z) (leavesIn ls)) (4 * (first + m)) f (omega (arith, length-stretches at bat (l .leaves))))
+      (put-next-at D (rowNumbers * first) (stretches at bat (l .leaves)) (stretches (at + a) (bat + z) (leavesIn ls)) (rowNumbers * (first + m)) f (omega (arith, length-stretches at bat (l .leaves))))

@@ -6,6 +6,7 @@ use native.Mathlib.Omega.{arith}
 use native.Mathlib.Nat.{mul-le-mul, mul-le-mul-left, suc-mul}
 use lib.ListN.{length}
 use lib.Ieee.{Float}
+use Rattle.definition.specs.Packed.{rowNumbers, rowFloats}
 use Rattle.fine_level.specs.Fine.{Fits, Room}
 use Rattle.levels_loop.specs.After.{Space}
 
@@ -16,10 +17,10 @@ part-less x y w v t h g = omega (arith, suc-mul t w, mul-le-mul-left t g)
 module _ {d q a t : ℕ} {P I D : List ℕ} {B : List Float} {L W : List ℕ} {F : List Float} {at first bat : ℕ} where
   -- the coarse level
   pub coarse-fits : Space d q a t P I D B L W F at first bat
-      → (at + a ≤ length P) × (at + a ≤ length I) × (4 * (first + 1) ≤ length D) × (2 * d * (first + 1) ≤ length B)
+      → (at + a ≤ length P) × (at + a ≤ length I) × (rowNumbers * (first + 1) ≤ length D) × (rowFloats d * (first + 1) ≤ length B)
   coarse-fits s =
       let one : first + 1 ≤ first + t * (2 * a) + 1 = omega arith in
-      (omega (arith, s .points, suc-mul t a), omega (arith, s .internals, suc-mul t a), omega (arith, s .domains), omega (arith, s .boxes, mul-le-mul-left (2 * d) one))
+      (omega (arith, s .points, suc-mul t a), omega (arith, s .internals, suc-mul t a), omega (arith, s .domains), omega (arith, s .boxes, mul-le-mul-left (rowFloats d) one))
 
   -- a fine level
   pub fine-fits : Space d q a (suc t) P I D B L W F at first bat → Fits d q a I D B L at first bat
@@ -28,7 +29,7 @@ module _ {d q a t : ℕ} {P I D : List ℕ} {B : List Float} {L W : List ℕ} {F
       record {
         internals = omega (arith, s .internals, suc-mul (suc t) a);
         domains = omega (arith, s .domains, suc-mul t (2 * a));
-        boxes = omega (arith, s .boxes, mul-le-mul-left (2 * d) rows);
+        boxes = omega (arith, s .boxes, mul-le-mul-left (rowFloats d) rows);
         borrowed = omega (arith, s .borrowed, suc-mul t (2 * a * (q + 1)));
       }
 
@@ -52,7 +53,7 @@ module _ {d q a t : ℕ} {P I D : List ℕ} {B : List Float} {L W : List ℕ} {F
         points = omega (arith, s .points, part-less at a a b (suc t) (omega arith) hb, eP);
         internals = omega (arith, s .internals, part-less at a a b (suc t) (omega arith) hb, eI);
         domains = omega (arith, s .domains, rows1, eD);
-        boxes = omega (arith, s .boxes, mul-le-mul-left (2 * d) rows1, eB);
+        boxes = omega (arith, s .boxes, mul-le-mul-left (rowFloats d) rows1, eB);
         borrowed = omega (arith, s .borrowed, part-less bat z (2 * a * (q + 1)) (2 * b * (q + 1)) t hz each, eL);
         wholes = omega (arith, s .wholes, each8, eW);
         floats = omega (arith, s .floats, eF);

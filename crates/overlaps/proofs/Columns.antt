@@ -6,12 +6,12 @@ use native.Mathlib.Omega.{arith}
 use native.Mathlib.Nat.{add-zero, add-assoc}
 use native.Mathlib.Numerals.{add-one}
 use native.Mathlib.Decide.{decLt, decLe}
-use lib.ListN.{length, getD, set, take, drop, length-set, length-map, length-append, length-drop, List·getD-append}
+use lib.ListN.{length, getD, take, drop, length-map, length-append, length-drop, List·getD-append}
 use lib.Seq.{drop-cons, getD-drop, getD-append-add, length-take-le, take-suc, take-length}
-use Rattle.lists.specs.Lists.{total, put}
+use Rattle.lists.specs.Lists.{total}
 use Rattle.lists.specs.Ascends.{All}
 use Rattle.lists.proofs.All.{all-at, all-imp, all-drop}
-use Rattle.lists.proofs.Put.{length-put, put-next-at, set-put, getD-put-before, getD-put-after}
+use Rattle.lists.proofs.Put.{length-put, getD-put-before, getD-put-after}
 use Rattle.lists.proofs.Sums.{total-snoc}
 use Rattle.lists.proofs.Map.{map-snoc}
 use Rattle.definition.specs.Packed.{rowNumbers}
@@ -26,7 +26,7 @@ pub columns-length : (at : ℕ) (ls : List (List ℕ)) (k : ℕ) (D : List ℕ) 
 unfolding withBorrowed
 columns-length at [] k D h = refl
 columns-length at (l ∷ ls) k D h =
-    let e = length-putBorrowed D k at (length l) (omega arith) in
+    let e = length-put D (rowNumbers * k + 2) (at ∷ length l ∷ []) (omega arith) in
     columns-length (at + length l) ls (k + 1) (putBorrowed D k at (length l)) (omega arith) ∙ e
 
 pub columns-snoc : (at : ℕ) (ls : List (List ℕ)) (l : List ℕ) (k : ℕ) (D : List ℕ)
@@ -54,7 +54,7 @@ pub columns-own : (at : ℕ) (ls : List (List ℕ)) (k : ℕ) (D : List ℕ) (j 
 unfolding withBorrowed
 columns-own at [] k D j r h g = refl
 columns-own at (l ∷ ls) k D j r h g =
-    let e = length-putBorrowed D k at (length l) (omega arith) in
+    let e = length-put D (rowNumbers * k + 2) (at ∷ length l ∷ []) (omega arith) in
     columns-own (at + length l) ls (k + 1) (putBorrowed D k at (length l)) j r (omega arith) g ∙ go (decLe j k)
   where
     go : Dec (j ≤ k) → getD (putBorrowed D k at (length l)) (rowNumbers * j + r) 0 ≡ getD D (rowNumbers * j + r) 0

@@ -40,8 +40,8 @@ pub fn row_floats(dimensions: usize) -> usize
     box_width(dimensions)
 }
 
-// Where the floats of the domain row number k start: those of its box come first.
-pub fn box_start(dimensions: usize, k: usize) -> usize
+// How many floats the first k domain rows take up: there the box of the row number k starts.
+pub fn floats_before(dimensions: usize, k: usize) -> usize
     requires { ⌜ (dimensions ≤ 3) × (rowFloats dimensions * k < 2 ^ 64) ⌝ }
     ensures { λ r. ⌜ r ≡ rowFloats dimensions * k ⌝ }
 {

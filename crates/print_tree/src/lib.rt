@@ -70,7 +70,7 @@ fn write_leaf(
     let oe = o + row.internal_count;
     let b = row.borrowed_start;
     let be = b + row.borrowed_count;
-    let x = packed::box_start(dimensions, j);
+    let x = packed::floats_before(dimensions, j);
     let xe = x + packed::box_width(dimensions);
     write_domain(
         i,

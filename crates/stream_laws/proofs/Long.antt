@@ -23,6 +23,7 @@ use Rattle.definition.specs.Number.{plusZero}
 use Rattle.definition.specs.Levels.{threshold, reductions}
 use Rattle.definition.specs.Cut.{Domain, rootDomain, cutKeys, leftOf, rightOf, queueLeaves, leavesOf}
 use Rattle.definition.specs.Overlaps.{borrowedBy}
+use Rattle.definition.specs.Points.{boxWidth}
 use Rattle.definition.specs.Tree.{Settings, Leaf, Level, coarseLevel, fineLevel, mostFine, nextActive, levelsFrom, levelsOver, pointCount, levels}
 use Rattle.definition.specs.Refusals.{Refusal, Verdict, accepted, refused}
 use Rattle.formats.specs.Stream.{Job, job, broken, streamPoints, jobIn}
@@ -185,7 +186,7 @@ module _ (s : Settings) (cs : List Float) (axes : s .dimension ≤ 3) where
     abbrev leafFrom : Domain → Leaf
     leafFrom = fineLeaf (s .dimension) cs (s .neighbours) active
 
-    leaves-brief : (qs : List Domain) → All (λ (q : Domain). FewRows (q .rows)) qs → All (λ (q : Domain). length (q .box) ≡ 2 * s .dimension) qs
+    leaves-brief : (qs : List Domain) → All (λ (q : Domain). FewRows (q .rows)) qs → All (λ (q : Domain). length (q .box) ≡ boxWidth (s .dimension)) qs
         → All Brief (map leafFrom qs)
     unfolding All borrowedBy
     leaves-brief [] h g = tt
@@ -205,7 +206,7 @@ module _ (s : Settings) (cs : List Float) (axes : s .dimension ≤ 3) where
     coarse-long : (t : ℕ) → length (levelsText t (coarseLevel (s .dimension) active ∷ [])) ≤ 356
     unfolding levelsText coarseLevel coarseLines joined
     coarse-long t =
-        let f : Leaf = record { own = active; borrowed = []; box = replicate (2 * s .dimension) plusZero } in
+        let f : Leaf = record { own = active; borrowed = []; box = replicate (boxWidth (s .dimension)) plusZero } in
         let l : Level = record { points = active; leaves = f ∷ [] } in
         omega (
           arith,

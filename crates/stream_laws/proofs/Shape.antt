@@ -14,7 +14,8 @@ use Rattle.definition.specs.Number.{plusZero}
 use Rattle.definition.specs.Levels.{threshold, reductions}
 use Rattle.definition.specs.Cut.{leavesOf}
 use Rattle.definition.specs.Tree.{Settings, Leaf, Level, coarseLevel, fineLevel, mostFine, levelsFrom, levelsOver, pointCount, levels}
-use Rattle.definition.specs.Packed.{rowFloats, leavesIn}
+use Rattle.definition.specs.Points.{boxWidth}
+use Rattle.definition.specs.Packed.{leavesIn}
 use Rattle.definition.proofs.Steps.{fineLeaf, fineOf, nextOf, levels-last, levels-end, levels-more}
 use Rattle.definition_laws.proofs.Shape.{leaves-boxes}
 
@@ -36,31 +37,31 @@ shaped-more w most l ls a s =
       wide = all-append (λ (f : Leaf). length (f .box) ≡ w) (l .leaves) _ a (s .wide);
     }
 
-shaped-one : (d most : ℕ) (active : List ℕ) → 1 ≤ most → Shaped (rowFloats d) most (coarseLevel d active ∷ [])
+shaped-one : (d most : ℕ) (active : List ℕ) → 1 ≤ most → Shaped (boxWidth d) most (coarseLevel d active ∷ [])
 unfolding leavesIn joined coarseLevel All
 shaped-one d most active h =
-    record { some = omega arith; few = h; last = refl; wide = (length-replicate (2 * d) plusZero, tt) }
+    record { some = omega arith; few = h; last = refl; wide = (length-replicate (boxWidth d) plusZero, tt) }
 
-fine-wide : (s : Settings) (cs : List Float) (active : List ℕ) → All (λ (f : Leaf). length (f .box) ≡ rowFloats (s .dimension)) (fineOf s cs active .leaves)
+fine-wide : (s : Settings) (cs : List Float) (active : List ℕ) → All (λ (f : Leaf). length (f .box) ≡ boxWidth (s .dimension)) (fineOf s cs active .leaves)
 unfolding fineLevel
 fine-wide s cs active =
     let d = s .dimension in
-    all-map (λ (f : Leaf). length (f .box) ≡ rowFloats d)
+    all-map (λ (f : Leaf). length (f .box) ≡ boxWidth d)
     (fineLeaf d cs (s .neighbours) active)
     (leavesOf d cs (s .leaf) active) (leaves-boxes d cs (s .leaf) active)
 
 module _ (s : Settings) (cs : List Float) (c k : ℕ) where
-  pub levels-shaped : (fuel built : ℕ) (active : List ℕ) → Shaped (rowFloats (s .dimension)) (suc fuel) (levelsFrom s cs c k fuel built active)
+  pub levels-shaped : (fuel built : ℕ) (active : List ℕ) → Shaped (boxWidth (s .dimension)) (suc fuel) (levelsFrom s cs c k fuel built active)
   levels-shaped zero built active = rw (levels-last s cs c k built active) (shaped-one (s .dimension) 1 active (omega arith))
   levels-shaped (suc fuel) built active =
       ⊎-elim
       (λ (few : length active ≤ c). rw (levels-end s cs c k fuel built active few) (shaped-one (s .dimension) (suc (suc fuel)) active (omega arith)))
       (λ (many : c < length active). rw (levels-more s cs c k fuel built active many)
-      (shaped-more (rowFloats (s .dimension)) (suc fuel) (fineOf s cs active) _ (fine-wide s cs active)
+      (shaped-more (boxWidth (s .dimension)) (suc fuel) (fineOf s cs active) _ (fine-wide s cs active)
       (levels-shaped fuel (suc built) (nextOf s cs c k built active))))
       (le-or-lt (length active) c)
 
-pub tree-shaped : (s : Settings) (cs : List Float) → Shaped (rowFloats (s .dimension)) (suc mostFine) (levels s cs)
+pub tree-shaped : (s : Settings) (cs : List Float) → Shaped (boxWidth (s .dimension)) (suc mostFine) (levels s cs)
 unfolding levels levelsOver
 tree-shaped s cs =
     let active = from 0 (pointCount (s .dimension) cs) in

@@ -1,12 +1,14 @@
 -- `leaves::leaves` meets its contract. The loop's invariant is `Run`, and that the lists keep their lengths; each turn brings down the
 -- number of cuts that are left. Assumes nothing.
-use mathlib.Core.Path.{refl, _∙_}
+use mathlib.Core.Path.{_≡_, refl, ap, _∙_}
+use Prim.Native.Nat.{ℕ, _*_}
 use native.Mathlib.Omega.{arith}
 use lib.ListN.{length}
 use borrow.Author.Needs.{needs}
 use Rattle.rows.proofs.Good.{good-inside}
 use Rattle.queue.proofs.Loop.{cutsLeft}
 use Rattle.queue.proofs.View.{roomIn}
+use Rattle.definition.specs.Packed.{rowFloats}
 use Rattle.boxes.specs.Boxes.{floatsOf}
 use Rattle.leaves.proofs.Turns.{Run, KeptLengths, kept-next, run-first, run-end, front, known, wait, wait-less, next-leaves, next-leaves-less, width-most, axis-fit}
 use Rattle.leaves.proofs.leaves.Statement.{statement}
@@ -15,27 +17,25 @@ use Rattle.leaves.proofs.leaves.Tie as tie
 abbrev Inv-loop : tie.InvT-loop
 Inv-loop points dimensions leaf active work₀ held₀ internals₀ at domains₀ first boxes₀ n floats head₀ tail₀ end₀ k₀ work held internals domains boxes head tail end k =
     Run dimensions points leaf active internals₀ domains₀ boxes₀ at first work internals domains held boxes head tail end k
-    × KeptLengths work₀ internals₀ domains₀ held₀ boxes₀ work internals domains held boxes
+    × KeptLengths work₀ internals₀ domains₀ held₀ boxes₀ work internals domains held boxes × (floats ≡ rowFloats dimensions)
 
 abbrev μ-loop : tie.MeasureT-loop
 μ-loop points dimensions leaf active work₀ held₀ internals₀ at domains₀ first boxes₀ n floats head₀ tail₀ end₀ k₀ work held internals domains boxes head tail end k =
     cutsLeft (roomIn (length active) work) head tail
 
-mul-floats : tie.Need-mul-floats Inv-loop μ-loop
-mul-floats c =
-    let a = c .before .before .before .before .before .before .before in
-    omega (arith, width-most (a .args .dimensions) (length (a .args .active .now)) (a .pre .0 .3), a .pre .1 .0 .1)
+row-floats-requires : tie.Need-row-floats-requires Inv-loop μ-loop
+row-floats-requires c κs = search needs
 
 put-root-requires : tie.Need-put-root-requires Inv-loop μ-loop
 put-root-requires c κs =
-    let a = c .before .before .before .before .before .before .before .before .before in
+    let a = c .before .before .before .before .before .before .before .before .before .before in
     let p = a .pre in
     ((p .0 .1, p .0 .3, good-inside _ (p .0 .4)), (omega (arith, p .0 .3, p .1 .0 .0), omega (arith, width-most (a .args .dimensions) (length (a .args .active .now)) (p .0 .3), p .1 .0 .1)))
 
 loop-holds : tie.Need-loop-holds Inv-loop μ-loop
 loop-holds c =
     let r = c .before .before .before .before in
-    let a = r .before .before .before .before .before .before .before .before .before .before in
+    let a = r .before .before .before .before .before .before .before .before .before .before .before in
     let p = a .pre in (
       run-first _ _ (p .0 .0) (p .0 .1) _ (p .0 .2) _ (p .0 .3) (p .0 .4) (a .args .work .now) _ (a .args .held .now) _ (p .1 .0 .0) (p .1 .0 .1)
           (r .put-root .ensures .0) (r .put-root .ensures .1) _ _ _ _ _ (p .1 .1 .0) (p .1 .1 .1) (p .1 .1 .2),
@@ -51,6 +51,7 @@ loop-holds c =
         cap-held = omega (arith, r .put-root .kept .1 .1 .1 .1 .0, a .good .1 .1 .1 .1 .1 .0 .0);
         cap-B = omega (arith, a .good .1 .1 .1 .1 .1 .1 .1 .1 .1 .1 .0 .0);
       },
+      r .before .before .before .row-floats .ensures,
     )
 
 mul-start : tie.Need-mul-start Inv-loop μ-loop
@@ -86,7 +87,7 @@ mul-read-box c =
     let i = t .before .loop .inv in
     let x = front (i .0) (t .loop-test .taken) in
     let u = known x in
-    omega (arith, u .read-fit, u .held-all, i .1 .same-held, i .1 .cap-held)
+    omega (arith, u .read-fit, u .held-all, i .1 .same-held, i .1 .cap-held, ap (λ (f : ℕ). f * t .before .loop .head) (i .2))
 
 read-box-requires : tie.Need-read-box-requires Inv-loop μ-loop
 read-box-requires c κs =
@@ -94,7 +95,7 @@ read-box-requires c κs =
     let i = t .before .loop .inv in
     let x = front (i .0) (t .loop-test .taken) in
     let u = known x in
-    (omega (arith, u .read-fit, u .held-all), i .0 .few)
+    (omega (arith, u .read-fit, u .held-all, ap (λ (f : ℕ). f * t .before .loop .head) (i .2)), i .0 .few)
 
 mul-cut-stretch : tie.Need-mul-cut-stretch Inv-loop μ-loop
 mul-cut-stretch c = search needs
@@ -134,7 +135,7 @@ mul-write-halves c =
     let i = t .before .loop .inv in
     let x = front (i .0) (t .loop-test .taken) in
     let u = known x in
-    omega (arith, u .held-all, i .1 .same-held, i .1 .cap-held)
+    omega (arith, u .held-all, i .1 .same-held, i .1 .cap-held, ap (λ (f : ℕ). f * t .before .loop .tail) (i .2))
 
 write-halves-requires : tie.Need-write-halves-requires Inv-loop μ-loop
 write-halves-requires c κs =
@@ -145,7 +146,7 @@ write-halves-requires c κs =
     let x = front (i .0) (t .loop-test .taken) in
     let u = known x in
     let e = read .read-box .ensures .0 in
-    (rw e (axis-fit x _ (cut .cut-stretch .ensures .1 .0)), rw e (i .0 .few), rw e (u .held-fit (c .before .before .before .before .before .if1 .taken)))
+    (rw e (axis-fit x _ (cut .cut-stretch .ensures .1 .0)), rw e (i .0 .few), rw (i .2, e) (u .held-fit (c .before .before .before .before .before .if1 .taken)))
 
 add-tail : tie.Need-add-tail Inv-loop μ-loop
 add-tail c = search needs
@@ -161,7 +162,7 @@ loop-less c =
     let i = t .before .loop .inv in
     let x = front (i .0) (t .loop-test .taken) in
     wait-less x _ (cut .cut-stretch .ensures .0) (cut .cut-stretch .result .axis) (cut .cut-stretch .result .value) (floatsOf (read .read-box .result)) (read .read-box .result .dimensions)
-    (cut .cut-stretch .ensures .1 .0) (cut .cut-stretch .ensures .1 .1) (read .read-box .ensures .1) (read .read-box .ensures .0) (test .if1 .taken) _ (put .put-halves .ensures)
+    (cut .cut-stretch .ensures .1 .0) (cut .cut-stretch .ensures .1 .1) (rw (i .2) at (read .read-box .ensures .1)) (read .read-box .ensures .0) (test .if1 .taken) _ (put .put-halves .ensures)
 
 loop-again : tie.Need-loop-again Inv-loop μ-loop
 loop-again c =
@@ -174,8 +175,9 @@ loop-again c =
     let i = t .before .loop .inv in
     let x = front (i .0) (t .loop-test .taken) in (
       wait x _ (cut .cut-stretch .ensures .0) (cut .cut-stretch .result .axis) (cut .cut-stretch .result .value) (floatsOf (read .read-box .result)) (read .read-box .result .dimensions)
-          (cut .cut-stretch .ensures .1 .0) (cut .cut-stretch .ensures .1 .1) (read .read-box .ensures .1) (read .read-box .ensures .0) (test .if1 .taken) _ (put .put-halves .ensures) _ (wrote .write-halves .ensures),
+          (cut .cut-stretch .ensures .1 .0) (cut .cut-stretch .ensures .1 .1) (rw (i .2) at (read .read-box .ensures .1)) (read .read-box .ensures .0) (test .if1 .taken) _ (put .put-halves .ensures) _ (rw (i .2) at (wrote .write-halves .ensures)),
       kept-next (i .1) (put .put-halves .kept .0 ∙ cut .cut-stretch .kept .1 .1 .0) refl refl (wrote .write-halves .kept .1 .1 .1 .0) refl,
+      i .2,
     )
 
 pack-leaves-requires : tie.Need-pack-leaves-requires Inv-loop μ-loop
@@ -196,7 +198,7 @@ mul-write-halves-2 c =
     let i = t .before .loop .inv in
     let x = front (i .0) (t .loop-test .taken) in
     let u = known x in
-    omega (arith, u .boxes-fit, i .1 .same-B, i .1 .cap-B)
+    omega (arith, u .boxes-fit, i .1 .same-B, i .1 .cap-B, ap (λ (f : ℕ). f * t .before .loop .k) (i .2))
 
 write-halves-requires-2 : tie.Need-write-halves-requires-2 Inv-loop μ-loop
 write-halves-requires-2 c κs =
@@ -207,7 +209,7 @@ write-halves-requires-2 c κs =
     let x = front (i .0) (t .loop-test .taken) in
     let u = known x in
     let e = read .read-box .ensures .0 in
-    (rw e (axis-fit x _ (cut .cut-stretch .ensures .1 .0)), rw e (i .0 .few), rw e (u .boxes-fit))
+    (rw e (axis-fit x _ (cut .cut-stretch .ensures .1 .0)), rw e (i .0 .few), rw (i .2, e) (u .boxes-fit))
 
 add-end : tie.Need-add-end Inv-loop μ-loop
 add-end c =
@@ -236,7 +238,7 @@ loop-less-2 c =
     let i = t .before .loop .inv in
     let x = front (i .0) (t .loop-test .taken) in
     next-leaves-less x _ (cut .cut-stretch .ensures .0) (cut .cut-stretch .result .axis) (cut .cut-stretch .result .value) (floatsOf (read .read-box .result)) (read .read-box .result .dimensions)
-    (cut .cut-stretch .ensures .1 .0) (cut .cut-stretch .ensures .1 .1) (read .read-box .ensures .1) (read .read-box .ensures .0)
+    (cut .cut-stretch .ensures .1 .0) (cut .cut-stretch .ensures .1 .1) (rw (i .2) at (read .read-box .ensures .1)) (read .read-box .ensures .0)
 
 loop-again-2 : tie.Need-loop-again-2 Inv-loop μ-loop
 loop-again-2 c =
@@ -249,8 +251,9 @@ loop-again-2 c =
     let i = t .before .loop .inv in
     let x = front (i .0) (t .loop-test .taken) in (
       next-leaves x _ (cut .cut-stretch .ensures .0) (cut .cut-stretch .result .axis) (cut .cut-stretch .result .value) (floatsOf (read .read-box .result)) (read .read-box .result .dimensions)
-          (cut .cut-stretch .ensures .1 .0) (cut .cut-stretch .ensures .1 .1) (read .read-box .ensures .1) (read .read-box .ensures .0) (test .if1 .left) _ _ _ (packed .pack-leaves .ensures .0) (packed .pack-leaves .ensures .1) (wrote .write-halves2 .ensures),
+          (cut .cut-stretch .ensures .1 .0) (cut .cut-stretch .ensures .1 .1) (rw (i .2) at (read .read-box .ensures .1)) (read .read-box .ensures .0) (test .if1 .left) _ _ _ (packed .pack-leaves .ensures .0) (packed .pack-leaves .ensures .1) (rw (i .2) at (wrote .write-halves2 .ensures)),
       kept-next (i .1) (cut .cut-stretch .kept .1 .1 .0) (packed .pack-leaves .kept .1 .1 .1 .0) (packed .pack-leaves .kept .1 .1 .1 .1 .1 .0) refl (wrote .write-halves2 .kept .1 .1 .1 .0),
+      i .2,
     )
 
 sub-result : tie.Need-sub-result Inv-loop μ-loop
@@ -282,7 +285,7 @@ leaves-spec =
     (tie.spec
     Inv-loop
     μ-loop
-    mul-floats
+    row-floats-requires
     put-root-requires
     loop-holds
     mul-start

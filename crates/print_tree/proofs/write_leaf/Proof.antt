@@ -16,8 +16,8 @@ add-oe c = search needs
 add-be : tie.Need-add-be
 add-be c = search needs
 
-box-start-requires : tie.Need-box-start-requires
-box-start-requires c κs = search needs
+floats-before-requires : tie.Need-floats-before-requires
+floats-before-requires c κs = search needs
 
 box-width-requires : tie.Need-box-width-requires
 box-width-requires c κs = search needs
@@ -66,7 +66,7 @@ write-domain-requires c κs =
     let start = c .before .before .before .before .before .before .before .before .before .before .before .before .before .before in
     let a = start .args in
     let row = c .before .before .before .before .before .before .before .before .read-row in
-    let from = c .before .before .before .before .before .box-start in
+    let from = c .before .before .before .before .before .floats-before in
     let width = c .before .before .before .before .box-width in
     room-spelt
     (leaf-line (a .fine) (a .i) (packed (a .own .now) (a .borrowed .now) (a .domains .now) (a .boxes .now) (a .dimensions)) (a .j) (row .result) (row .ensures) (from .result)
@@ -81,7 +81,7 @@ returns c =
     let start = c .before .before .before .before .before .before .before .before .before .before .before .before .before .before .before .before .before in
     let a = start .args in
     let row = c .before .before .before .before .before .before .before .before .before .before .before .read-row in
-    let from = c .before .before .before .before .before .before .before .before .box-start in
+    let from = c .before .before .before .before .before .before .before .before .floats-before in
     let width = c .before .before .before .before .before .before .before .box-width in
     spelt (sym
     (leaf-line (a .fine) (a .i) (packed (a .own .now) (a .borrowed .now) (a .domains .now) (a .boxes .now) (a .dimensions)) (a .j) (row .result) (row .ensures) (from .result)
@@ -95,7 +95,7 @@ write-leaf-spec =
     read-row-requires
     add-oe
     add-be
-    box-start-requires
+    floats-before-requires
     box-width-requires
     add-xe
     mul-write-domain

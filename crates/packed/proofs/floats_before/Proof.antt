@@ -1,10 +1,10 @@
--- `packed::box_start` meets its contract. Assumes nothing.
+-- `packed::floats_before` meets its contract. Assumes nothing.
 use mathlib.Core.Path.{ap}
 use Prim.Native.Nat.{ℕ, _*_}
 use native.Mathlib.Omega.{arith}
 use borrow.Author.Needs.{needs}
-use Rattle.packed.proofs.box_start.Statement.{statement}
-use Rattle.packed.proofs.box_start.Tie as tie
+use Rattle.packed.proofs.floats_before.Statement.{statement}
+use Rattle.packed.proofs.floats_before.Tie as tie
 
 row-floats-requires : tie.Need-row-floats-requires
 row-floats-requires c κs = search needs
@@ -15,5 +15,5 @@ mul-result c = omega (arith, ap (λ (f : ℕ). f * c .before .args .k) (c .row-f
 returns : tie.Need-returns
 returns c = ap (λ (f : ℕ). f * c .before .args .k) (c .row-floats .ensures)
 
-pub box-start-spec : {M : Type 1} → statement M
-box-start-spec = tie.close (tie.spec row-floats-requires mul-result returns)
+pub floats-before-spec : {M : Type 1} → statement M
+floats-before-spec = tie.close (tie.spec row-floats-requires mul-result returns)
