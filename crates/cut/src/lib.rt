@@ -1,12 +1,12 @@
 // The cut of a domain: its axis, its plane, and its rows in place in the working room.
 ghost use mathlib.Core.Path.{_≡_};
-ghost use Prim.Native.Nat.{_+_, _*_, _≤_, _<_};
+ghost use Prim.Native.Nat.{_+_, _≤_, _<_};
 ghost use lib.ListN.{length};
 ghost use Rattle.lists.specs.Lists.{part};
 ghost use Rattle.lists.specs.Ascends.{All};
 ghost use Rattle.definition.specs.Points.{extent};
 ghost use Rattle.definition.specs.Cut.{longestAxis, plane};
-ghost use Rattle.rows.specs.Rows.{GoodRows};
+ghost use Rattle.rows.specs.Rows.{Inside, GoodRows};
 ghost use Rattle.halving.specs.Cuts.{Halved};
 
 // Where a domain is cut: the axis, and the coordinate of the right row that comes first.
@@ -17,7 +17,7 @@ pub struct Plane {
 
 // The rounded extent of the rows on one axis.
 fn extent_on(points: &[f64], dimensions: usize, axis: usize, rows: &[usize]) -> f64
-    requires { ⌜ (axis < dimensions) × (0 < length (now rows)) × All (λ i. i * dimensions + dimensions ≤ length (now points)) (now rows) ⌝ }
+    requires { ⌜ (axis < dimensions) × (0 < length (now rows)) × All (Inside dimensions (now points)) (now rows) ⌝ }
     ensures { λ r. ⌜ r ≡ extent dimensions (now (points .entry)) (now (rows .entry)) axis ⌝ }
 {
     extents::upper_bound(points, dimensions, axis, rows)
@@ -26,7 +26,7 @@ fn extent_on(points: &[f64], dimensions: usize, axis: usize, rows: &[usize]) -> 
 
 // The first axis with the longest extent of the rows.
 pub fn longest_axis(points: &[f64], dimensions: usize, rows: &[usize]) -> usize
-    requires { ⌜ (0 < dimensions) × (0 < length (now rows)) × All (λ i. i * dimensions + dimensions ≤ length (now points)) (now rows) ⌝ }
+    requires { ⌜ (0 < dimensions) × (0 < length (now rows)) × All (Inside dimensions (now points)) (now rows) ⌝ }
     ensures { λ r. ⌜ r ≡ longestAxis dimensions (now (points .entry)) (now (rows .entry)) ⌝ }
 {
     let mut longest = 0;

@@ -1,4 +1,4 @@
--- From finite coordinates no NaN arises: a squared distance, a distance, and a distance from a centroid is +0, a positive
+-- From finite coordinates no NaN arises: a squared distance, of rows or from a centroid, and a distance of rows is +0, a positive
 -- number or +infinity, and a centroid's coordinate is a number (an infinity where the sum overflows). Assumes nothing.
 use mathlib.Core.Path.{_≡_, refl, sym}
 use mathlib.Core.Bool.{true, false, true≢false}
@@ -17,7 +17,7 @@ use Rattle.lists.proofs.Tests.{clash}
 use Rattle.lists.proofs.Members.{map-mem}
 use Rattle.definition.specs.Number.{plusZero, plus, minus, times, over}
 use Rattle.definition.specs.Points.{coordinate, column, distanceSq, distance, rowsSq, rowsApart}
-use Rattle.definition.specs.Sampling.{sumFrom, centroid, fromCentroid}
+use Rattle.definition.specs.Sampling.{sumFrom, centroid}
 use Rattle.root_laws.specs.Sorts.{isNumber, good}
 use Rattle.root_laws.proofs.Operations.{round-number, square-good, add-good, zero-good, sub-number, finite-number}
 use Rattle.root_laws.proofs.Values.{root-good}
@@ -38,10 +38,6 @@ distance-sq-good (suc d) p q f g =
 -- of two points of finite coordinates
 pub finite-sq-good : (d : ℕ) (p q : ℕ → Float) → ((a : ℕ) → a < d → finite (p a) ≡ true) → ((a : ℕ) → a < d → finite (q a) ≡ true) → good (distanceSq d p q) ≡ true
 finite-sq-good d p q f g = distance-sq-good d p q (λ a h. finite-number (p a) (f a h)) g
-
-pub distance-good : (d : ℕ) (p q : ℕ → Float) → ((a : ℕ) → a < d → isNumber (p a) ≡ true) → ((a : ℕ) → a < d → finite (q a) ≡ true) → good (distance d p q) ≡ true
-unfolding distance
-distance-good d p q f g = root-good (distanceSq d p q) (distance-sq-good d p q f g)
 
 -- ---- sums and quotients
 
@@ -105,11 +101,6 @@ module _ (d : ℕ) (cs : List Float) where
 
       pub centroid-sq-good : (i : ℕ) → FiniteRow d cs i → good (distanceSq d (centroid d cs rows) (coordinate d cs i)) ≡ true
       centroid-sq-good i h = distance-sq-good d (centroid d cs rows) (coordinate d cs i) centroid-number h
-
-      pub from-centroid-good : (i : ℕ) → FiniteRow d cs i → good (fromCentroid d cs rows i) ≡ true
-      unfolding fromCentroid distance
-      from-centroid-good i h =
-          root-good (distanceSq d (centroid d cs rows) (coordinate d cs i)) (centroid-sq-good i h)
 
 -- ---- no NaN, as a test
 good-known : (x : Float) → good x ≡ true → isNan x ≡ false

@@ -1,8 +1,9 @@
 // Squared distance and distance, with one fixed sequence of roundings for any number of axes.
 ghost use mathlib.Core.Path.{_≡_};
-ghost use Prim.Native.Nat.{_+_, _*_, _≤_};
+ghost use Prim.Native.Nat.{_+_, _≤_};
 ghost use lib.ListN.{length};
 ghost use Rattle.definition.specs.Points.{pointAt, distanceSq, rowsSq, rowsApart};
+ghost use Rattle.rows.specs.Rows.{Inside};
 
 // A place inside a leaf.
 pub struct LocalIdx(pub usize);
@@ -27,7 +28,7 @@ pub fn distance_sq_at(p: &[f64], a: usize, q: &[f64], b: usize, dimensions: usiz
 
 // The squared distance of two rows.
 pub fn distance_sq(points: &[f64], dimensions: usize, i: GlobalIdx, j: GlobalIdx) -> f64
-    requires { ⌜ (i .0 * dimensions + dimensions ≤ length (now points)) × (j .0 * dimensions + dimensions ≤ length (now points)) ⌝ }
+    requires { ⌜ Inside dimensions (now points) (i .0) × Inside dimensions (now points) (j .0) ⌝ }
     ensures { λ r. ⌜ r ≡ rowsSq dimensions (now (points .entry)) (i .0) (j .0) ⌝ }
 {
     let a = i.0;
@@ -37,7 +38,7 @@ pub fn distance_sq(points: &[f64], dimensions: usize, i: GlobalIdx, j: GlobalIdx
 
 // The distance of two rows.
 pub fn get_distance(points: &[f64], dimensions: usize, i: GlobalIdx, j: GlobalIdx) -> f64
-    requires { ⌜ (i .0 * dimensions + dimensions ≤ length (now points)) × (j .0 * dimensions + dimensions ≤ length (now points)) ⌝ }
+    requires { ⌜ Inside dimensions (now points) (i .0) × Inside dimensions (now points) (j .0) ⌝ }
     ensures { λ r. ⌜ r ≡ rowsApart dimensions (now (points .entry)) (i .0) (j .0) ⌝ }
 {
     root::root(distance_sq(points, dimensions, i, j))

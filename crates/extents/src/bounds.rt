@@ -1,10 +1,11 @@
 // The extents of some rows. Of equal zeros the sign met first stays.
 ghost use mathlib.Core.Path.{_≡_};
 ghost use mathlib.Core.Bool.{cond};
-ghost use Prim.Native.Nat.{_+_, _*_, _≤_, _<_};
+ghost use Prim.Native.Nat.{_≤_, _<_};
 ghost use lib.ListN.{length};
 ghost use Rattle.lists.specs.Ascends.{All};
 ghost use Rattle.definition.specs.Points.{leastOf, greatestOf, column, lowerBound, upperBound, extents};
+ghost use Rattle.rows.specs.Rows.{Inside};
 ghost use Rattle.boxes.specs.Boxes.{floatsOf};
 ghost use Rattle.extents.specs.Sides.{beyond};
 use boxes::Extents;
@@ -21,7 +22,7 @@ pub fn is_beyond(v: f64, w: f64, upper: bool) -> bool
 
 // The greatest coordinate of the rows on one axis, or the least where `upper` is false.
 fn bound(points: &[f64], dimensions: usize, axis: usize, rows: &[usize], upper: bool) -> f64
-    requires { ⌜ (axis < dimensions) × (0 < length (now rows)) × All (λ i. i * dimensions + dimensions ≤ length (now points)) (now rows) ⌝ }
+    requires { ⌜ (axis < dimensions) × (0 < length (now rows)) × All (Inside dimensions (now points)) (now rows) ⌝ }
     ensures { λ r. ⌜ r ≡ cond upper greatestOf leastOf (column dimensions (now (points .entry)) (now (rows .entry)) axis) ⌝ }
 {
     let mut best = points[rows[0] * dimensions + axis];
@@ -38,7 +39,7 @@ fn bound(points: &[f64], dimensions: usize, axis: usize, rows: &[usize], upper: 
 
 // The least coordinate of the rows on one axis.
 pub fn lower_bound(points: &[f64], dimensions: usize, axis: usize, rows: &[usize]) -> f64
-    requires { ⌜ (axis < dimensions) × (0 < length (now rows)) × All (λ i. i * dimensions + dimensions ≤ length (now points)) (now rows) ⌝ }
+    requires { ⌜ (axis < dimensions) × (0 < length (now rows)) × All (Inside dimensions (now points)) (now rows) ⌝ }
     ensures { λ r. ⌜ r ≡ lowerBound dimensions (now (points .entry)) (now (rows .entry)) axis ⌝ }
 {
     bound(points, dimensions, axis, rows, false)
@@ -46,7 +47,7 @@ pub fn lower_bound(points: &[f64], dimensions: usize, axis: usize, rows: &[usize
 
 // The greatest coordinate of the rows on one axis.
 pub fn upper_bound(points: &[f64], dimensions: usize, axis: usize, rows: &[usize]) -> f64
-    requires { ⌜ (axis < dimensions) × (0 < length (now rows)) × All (λ i. i * dimensions + dimensions ≤ length (now points)) (now rows) ⌝ }
+    requires { ⌜ (axis < dimensions) × (0 < length (now rows)) × All (Inside dimensions (now points)) (now rows) ⌝ }
     ensures { λ r. ⌜ r ≡ upperBound dimensions (now (points .entry)) (now (rows .entry)) axis ⌝ }
 {
     bound(points, dimensions, axis, rows, true)
@@ -54,7 +55,7 @@ pub fn upper_bound(points: &[f64], dimensions: usize, axis: usize, rows: &[usize
 
 // The box of the rows: their least and greatest coordinate on each axis.
 pub fn get_pointarray_extents(points: &[f64], dimensions: usize, rows: &[usize]) -> Extents
-    requires { ⌜ (dimensions ≤ 3) × (0 < length (now rows)) × All (λ i. i * dimensions + dimensions ≤ length (now points)) (now rows) ⌝ }
+    requires { ⌜ (dimensions ≤ 3) × (0 < length (now rows)) × All (Inside dimensions (now points)) (now rows) ⌝ }
     ensures { λ r. ⌜ (r .dimensions ≡ dimensions) × (floatsOf r ≡ extents dimensions (now (points .entry)) (now (rows .entry))) ⌝ }
 {
     let mut lower = [0.0; 3];

@@ -9,7 +9,7 @@ ghost use Rattle.definition.specs.Packed.{rowNumbers, rowFloats};
 ghost use Rattle.definition.specs.Points.{extents};
 ghost use Rattle.definition.specs.Cut.{leavesOf};
 ghost use Rattle.queue.specs.Rows.{withOwn};
-ghost use Rattle.rows.specs.Rows.{GoodRows};
+ghost use Rattle.rows.specs.Rows.{Inside, GoodRows};
 
 // Puts the root domain into the working room: the active rows, then its stretch as the first of the queue, and its box.
 fn put_root(
@@ -19,7 +19,7 @@ fn put_root(
     work: &mut [usize],
     held: &mut [f64],
 )
-    requires { ⌜ (dimensions ≤ 3) × (0 < length (now active)) × All (λ i. i * dimensions + dimensions ≤ length (now points)) (now active) ⌝ }
+    requires { ⌜ (dimensions ≤ 3) × (0 < length (now active)) × All (Inside dimensions (now points)) (now active) ⌝ }
     requires { ⌜ (length (now active) + 2 ≤ length (now work)) × (rowFloats dimensions ≤ length (now held)) ⌝ }
     ensures work { λ _. ⌜ now (work .exit) ≡ put (put (now (work .entry)) 0 (now (active .entry))) (length (now (active .entry))) (0 ∷ length (now (active .entry)) ∷ []) ⌝ }
     ensures held { λ _. ⌜ now (held .exit) ≡ put (now (held .entry)) 0 (extents dimensions (now (points .entry)) (now (active .entry))) ⌝ }

@@ -18,7 +18,7 @@ use Rattle.definition.proofs.Cuts.{Good}
 use Rattle.rows.specs.Rows.{rowLimit, Inside, FiniteAt, FiniteOn, GoodRow, GoodRows}
 
 -- a row of rows that stand in the list stands in it
-pub row-fits : (d : ℕ) (cs : List Float) (rows : List ℕ) → All (Inside d cs) rows → (i : ℕ) → i < length rows → getD rows i 0 * d + d ≤ length cs
+pub row-fits : (d : ℕ) (cs : List Float) (rows : List ℕ) → All (Inside d cs) rows → (i : ℕ) → i < length rows → Inside d cs (getD rows i 0)
 row-fits d cs rows inside i b = all-at (Inside d cs) rows i 0 inside b
 
 module _ {d : ℕ} {cs : List Float} (l : List ℕ) (g : GoodRows d cs l) where
@@ -34,7 +34,7 @@ module _ {d : ℕ} {cs : List Float} (l : List ℕ) (g : GoodRows d cs l) where
   good-inside = all-imp (GoodRow d cs) (Inside d cs) l (λ i r. r .inside) (g .each)
 
   pub good-finite : (axis : ℕ) → axis < d → FiniteOn d cs axis l
-  good-finite axis h = all-imp (GoodRow d cs) (λ i. FiniteAt d cs axis i) l (λ i r. r .finite-row axis h) (g .each)
+  good-finite axis h = all-imp (GoodRow d cs) (FiniteAt d cs axis) l (λ i r. r .finite-row axis h) (g .each)
 
   -- the place of a coordinate is inside the list
   pub good-place : (axis : ℕ) → axis < d → (i : ℕ) → List·Memᴰ i l → i * d + axis < length cs
