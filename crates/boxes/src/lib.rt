@@ -7,6 +7,14 @@ ghost use Rattle.lists.specs.Lists.{part, put};
 ghost use Rattle.definition.specs.Points.{boxWidth};
 ghost use Rattle.boxes.specs.Boxes.{floatsOf};
 
+// How many bounds a box has: a lower and an upper one on each axis.
+pub fn box_width(dimensions: usize) -> usize
+    requires { ⌜ dimensions ≤ 3 ⌝ }
+    ensures { λ r. ⌜ r ≡ boxWidth dimensions ⌝ }
+{
+    2 * dimensions
+}
+
 // The bounds on up to three axes; those past the dimension are not used.
 pub struct Extents {
     pub lower: [f64; 3],
@@ -89,10 +97,10 @@ pub fn write_box(b: Extents, out: &mut [f64], at: usize)
 // Writes the boxes of the two halves of a domain to a list, from `at` on. Each is the domain's box with one bound changed: on the
 // left the upper one, on the right the lower one.
 pub fn write_halves(whole: Extents, axis: usize, plane: f64, out: &mut [f64], at: usize)
-    requires { ⌜ (axis < whole .dimensions) × (whole .dimensions ≤ 3) × (at + 2 * rowFloats (whole .dimensions) ≤ length (now out)) ⌝ }
+    requires { ⌜ (axis < whole .dimensions) × (whole .dimensions ≤ 3) × (at + 2 * boxWidth (whole .dimensions) ≤ length (now out)) ⌝ }
     ensures { λ _. ⌜ now (out .exit) ≡ put (now (out .entry)) at (set (floatsOf whole) (whole .dimensions + axis) plane ++ set (floatsOf whole) axis plane) ⌝ }
 {
-    let right = at + 2 * whole.dimensions;
+    let right = at + box_width(whole.dimensions);
     write_box(whole.with_upper(axis, plane), out, at);
     write_box(whole.with_lower(axis, plane), out, right);
 }

@@ -48,6 +48,6 @@ pub fn coarse_level(
     put_zeros(
         boxes,
         packed::floats_before(dimensions, first),
-        packed::box_width(dimensions),
+        boxes::box_width(dimensions),
     );
 }

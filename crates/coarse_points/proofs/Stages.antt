@@ -34,7 +34,6 @@ use Rattle.packed.proofs.OwnRows.{read-length, read-at, row-own}
 use Rattle.coarse_points.specs.Sent.{sentRows, countsAt, sentAt, SendsUp, LeafFits, LeavesFit, Reordered}
 use Rattle.coarse_points.proofs.Sending.{sent-next, sent-zip, sent-many, sent-times, sorted-next, up-many}
 
-
 module _ (d : ℕ) (cs : List Float) (active I D : List ℕ) (first m : ℕ) (s : SendsUp d cs active I D first m) where
   abbrev own : List (List ℕ)
   own = readOwn I D first m

@@ -24,20 +24,12 @@ pub struct DomainRow {
     pub borrowed_count: usize,
 }
 
-// How many bounds a box has.
-pub fn box_width(dimensions: usize) -> usize
-    requires { ⌜ dimensions ≤ 3 ⌝ }
-    ensures { λ r. ⌜ r ≡ boxWidth dimensions ⌝ }
-{
-    2 * dimensions
-}
-
 // How many floats a domain row has: those of its box.
 pub fn row_floats(dimensions: usize) -> usize
     requires { ⌜ dimensions ≤ 3 ⌝ }
     ensures { λ r. ⌜ r ≡ rowFloats dimensions ⌝ }
 {
-    box_width(dimensions)
+    boxes::box_width(dimensions)
 }
 
 // How many floats the first k domain rows take up: there the box of the row number k starts.

@@ -71,7 +71,7 @@ fn write_leaf(
     let b = row.borrowed_start;
     let be = b + row.borrowed_count;
     let x = packed::floats_before(dimensions, j);
-    let xe = x + packed::box_width(dimensions);
+    let xe = x + boxes::box_width(dimensions);
     write_domain(
         i,
         &own[o..oe],

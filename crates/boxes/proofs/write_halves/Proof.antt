@@ -8,8 +8,8 @@ use Rattle.boxes.proofs.Halves.{length-floats, two-boxes}
 use Rattle.boxes.proofs.write_halves.Statement.{statement}
 use Rattle.boxes.proofs.write_halves.Tie as tie
 
-mul-right : tie.Need-mul-right
-mul-right c = search needs
+box-width-requires : tie.Need-box-width-requires
+box-width-requires c κs = search needs
 
 add-right : tie.Need-add-right
 add-right c = search needs
@@ -40,13 +40,13 @@ returns c =
     let g = s .good .0 .1 .1 in
     let w = length-floats b (three (b .lower) (g .0 .1 .0 .1)) (three (b .upper) (g .1 .0 .1 .0 .1)) (s .pre .1) in
     two-boxes (s .args .out .now) _ _ (floatsOf b) _ _ _ (b .dimensions) (b .dimensions + s .args .axis) (s .args .axis) (s .args .plane) w (omega (arith, s .pre .2)) (upper .with-upper .ensures .1) (lower .with-lower .ensures .1)
-    (first .write-box .ensures) (second .write-box2 .ensures)
+    (first .write-box .ensures) (rw (c .before .before .before .before .before .before .before .before .before .before .box-width .ensures) at (second .write-box2 .ensures))
 
 pub write-halves-spec : {M : Type 1} → statement M
 write-halves-spec =
     tie.close
     (tie.spec
-    mul-right
+    box-width-requires
     add-right
     with-upper-requires
     write-box-requires
