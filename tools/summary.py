@@ -37,6 +37,13 @@ def span(numbers):
     return f"least {min(numbers)}, most {max(numbers)}"
 
 
+def shares(sizes):
+    """Least and most, and how many leaves have each size where they differ and the sizes are few."""
+    times = sorted(Counter(sizes).items())
+    each = ", ".join(f"{size} in {counted(leaves, 'leaf', 'leaves')}" for size, leaves in times)
+    return span(sizes) + (f" ({each})" if 1 < len(times) <= 6 else "")
+
+
 def counted(number, one, many):
     return f"{number:,} {one if number == 1 else many}"
 
@@ -46,7 +53,7 @@ def owner_lines(number, level, name, coarse, most):
     active, own = rows_of(level.points), [rows_of(leaf.own) for leaf in level.leaves]
     wrong = misplaced(active, own, name)
     where = "the one domain of the coarse level" if coarse else f"{counted(len(own), 'leaf', 'leaves')}, wells a leaf: " \
-        + span([len(rows) for rows in own])
+        + shares([len(rows) for rows in own])
     verdict = "NOT each well has exactly one leaf:" if wrong else "each well has exactly one leaf"
     out = [f"   level {number}: {counted(len(active), 'well', 'wells')} in {where}; {verdict}"] + details(wrong, most)
     if not coarse:
@@ -71,7 +78,7 @@ def sent_lines(number, level, above, name, most):
     up = set(rows_of(above.points))
     own = [rows_of(leaf.own) for leaf in level.leaves]
     sent = [sum(1 for row in rows if row in up) for rows in own]
-    out = [f"   level {number}: {len(up):,} of {counted(len(level.points), 'well', 'wells')} go up, a leaf: {span(sent)}"]
+    out = [f"   level {number}: {len(up):,} of {counted(len(level.points), 'well', 'wells')} go up, a leaf: {shares(sent)}"]
     silent = [leaf for leaf, count in enumerate(sent) if count == 0]
     if silent:
         wells = sum(len(own[leaf]) for leaf in silent)

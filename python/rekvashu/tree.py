@@ -41,8 +41,7 @@ class Tree:
         return self._packed.dimension
 
     def __repr__(self):
-        levels = ", ".join(f"{len(level.points)} rows in {len(level.leaves)}" for level in self.levels)
-        return f"<Tree of {len(self.levels)} levels: {levels}>"
+        return f"<Tree: {', '.join(map(str, self.levels))}>"
 
 
 class Level:
@@ -59,7 +58,7 @@ class Level:
         return self._packed.level_points[start:start + self._packed.rows[self.number]]
 
     def __repr__(self):
-        return f"<Level {self.number}: {len(self.points)} rows in {len(self.leaves)} leaves>"
+        return f"<Level {self.number}: {len(self.points)} rows in {len(self.leaves)} {'leaf' if len(self.leaves) == 1 else 'leaves'}>"
 
 
 class Leaves(Sequence):

@@ -40,7 +40,7 @@ class Header(unittest.TestCase):
 
     def test_strides_slots_and_limits(self):
         defined = dict(re.findall(r"#define DDM_(\w+) (.+)", header()))
-        said = {name: int(eval(value.replace("DDM_", ""), {n: eval(v) for n, v in defined.items() if v.isdigit()} | NAMED))
+        said = {name: int(eval(value.replace("DDM_", ""), dict(NAMED)))
                 for name, value in defined.items() if "(" not in name}
         self.assertEqual(said, NAMED)
         for d in (1, 2, 3):

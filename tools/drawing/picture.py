@@ -30,7 +30,13 @@ class Field:
     def size(self):
         """The side of a frame: more wells need more room for their names."""
         wells = len(self.columns[0])
-        return 1000 if self.dots else 560 if wells <= 40 else 760 if wells <= 90 else 1000
+        if self.dots:
+            return 1000 if self.dimension < 3 else 760
+        return 560 if wells <= 40 else 760 if wells <= 90 else 1000
+
+    def flat(self):
+        """The height of a frame for wells on a line."""
+        return 250 if self.dots else self.size() * (0.45 if self.size() < 1000 else 0.7)
 
 
 class Drawn:
@@ -49,7 +55,7 @@ def picture(field, number, with_links=False):
     """The SVG of one level."""
     level, planes, left = Drawn(field, number), [], LEFT
     for axes in PROJECTIONS[field.dimension]:
-        planes.append(Plane(field.columns, axes, left, TOP, field.size()))
+        planes.append(Plane(field.columns, axes, left, TOP, field.size(), field.flat()))
         left += planes[-1].wide + RIGHT + LEFT
     high = max(plane.high for plane in planes)
     for plane in planes:

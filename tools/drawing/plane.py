@@ -3,8 +3,6 @@ import math
 
 PAD = 32          # room between the frame and the outermost wells
 MOST_STRETCH = 6  # spans up to this ratio are drawn to one scale
-FLAT = 0.45       # the height of a picture of wells on a line, as a part of its width, and that of one with many wells
-FLAT_MANY, MANY = 0.7, 1000
 
 
 def spread(low, high):
@@ -27,13 +25,13 @@ class Axis:
 
 
 class Plane:
-    """A frame of `wide` by `high` at (left, top), with x to the right and y upwards."""
+    """A frame of `wide` by `high` at (left, top), with x to the right and y upwards; `flat` is its height for wells on a line."""
 
-    def __init__(self, columns, axes, left, top, size):
+    def __init__(self, columns, axes, left, top, size, flat):
         self.axes = axes
         self.x = Axis("xyz"[axes[0]], columns[axes[0]])
         self.y = Axis("xyz"[axes[1]], columns[axes[1]]) if len(axes) > 1 else None
-        self.left, self.top, self.wide, self.high = left, top, size, size if self.y else (FLAT if size < MANY else FLAT_MANY) * size
+        self.left, self.top, self.wide, self.high = left, top, size, size if self.y else flat
         self.stretch = 0.0   # how many tenfolds y is drawn larger than x
         inner = size - 2 * PAD
         self.reach = [inner, inner if self.y else 0]

@@ -141,7 +141,7 @@ class Lines(Viewing):
 
     def test_the_east_edge_is_heard_by_nobody(self):
         lines = self.lines("field_32")
-        at = lines.index("   level 0: 12 of 32 wells go up, a leaf: least 0, most 1")
+        at = lines.index("   level 0: 12 of 32 wells go up, a leaf: least 0, most 1 (0 in 4 leaves, 1 in 12 leaves)")
         self.assertEqual(lines[at + 1], "      4 leaves send none; above this level nobody hears their 8 wells:")
         self.assertEqual(lines[at + 2:at + 6], ["      leaf 12: W25, W31", "      leaf 13: W11, W24", "      leaf 14: W20, W32",
                                                 "      leaf 15: W14, W22"])
@@ -157,6 +157,7 @@ class Lines(Viewing):
         for line in ("in no leaf: D", "in leaves 0 and 1: B", "in leaf 1, but not active: E"):
             self.assertIn(line, text)
         self.assertNotIn(": C\n", text)
+        self.assertIn("wells a leaf: least 2, most 3 (2 in 1 leaf, 3 in 1 leaf)", text)
 
     def test_long_lists_are_cut_on_the_screen_only(self):
         levels = [Level(list(range(60)), [Leaf([i], [], ([0.0], [1.0])) for i in range(60)]), Level([0], [Leaf([0], [], None)])]
