@@ -54,7 +54,7 @@ unfolding rowsText ascii
 rows-dash [] e = refl
 rows-dash (x ∷ xs) e = absurd (omega arith)
 
-pub rows-some : (xs : List ℕ) → (length xs ≡ 0 → ⊥) → rowsText xs ≡ joined (map rowText xs)
+pub rows-listed : (xs : List ℕ) → (length xs ≡ 0 → ⊥) → rowsText xs ≡ joined (map rowText xs)
 unfolding rowsText
-rows-some [] h = absurd (h refl)
-rows-some (x ∷ xs) h = refl
+rows-listed [] h = absurd (h refl)
+rows-listed (x ∷ xs) h = refl

@@ -45,9 +45,9 @@ pub finish : {text : List ℕ} (ts : List (List ℕ)) {l : List ℕ} {at r : ℕ
 finish ts e w = spelt (ap joined (take-length ts) ∙ sym e) (w .done)
 
 -- ---- a line of two parts, and a refusal's
-pub two : (a b : List ℕ) → a ++ b ≡ joined (a ∷ b ∷ [])
+pub two-texts : (a b : List ℕ) → a ++ b ≡ joined (a ∷ b ∷ [])
 unfolding joined
-two a b = rw (append-nil b)
+two-texts a b = rw (append-nil b)
 
 abbrev pub refusalTexts : ℕ → ℕ → List (List ℕ)
 refusalTexts k p = (ascii "refused " ++ decimal k) ∷ (ascii " at " ++ decimal p) ∷ ascii "\n" ∷ []

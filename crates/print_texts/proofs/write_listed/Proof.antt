@@ -1,7 +1,7 @@
 -- `print_texts::write_listed` meets its contract. Assumes nothing.
 use mathlib.Core.List.{[], _∷_}
 use Rattle.formats.specs.Printout.{rowsText}
-use Rattle.print_texts.proofs.Writing.{begin, next, written, finish, two}
+use Rattle.print_texts.proofs.Writing.{begin, next, written, finish, two-texts}
 use borrow.Author.Needs.{needs}
 use Rattle.print_texts.proofs.write_listed.Statement.{statement}
 use Rattle.print_texts.proofs.write_listed.Tie as tie
@@ -9,14 +9,14 @@ use Rattle.print_texts.proofs.write_listed.Tie as tie
 write-text-requires : tie.Need-write-text-requires
 write-text-requires c κs =
     let start = c .before .before .before .before in
-    let e = two (start .args .label .now) (rowsText (start .args .rows .now)) in
+    let e = two-texts (start .args .label .now) (rowsText (start .args .rows .now)) in
     let w0 = begin (start .args .label .now ∷ rowsText (start .args .rows .now) ∷ []) e (start .pre) in
     next w0 tt
 
 write-rows-requires : tie.Need-write-rows-requires
 write-rows-requires c κs =
     let start = c .before .before .before .before .before .before .before .before in
-    let e = two (start .args .label .now) (rowsText (start .args .rows .now)) in
+    let e = two-texts (start .args .label .now) (rowsText (start .args .rows .now)) in
     let w0 = begin (start .args .label .now ∷ rowsText (start .args .rows .now) ∷ []) e (start .pre) in
     let w1 = written w0 tt (c .before .before .before .write-text .ensures) in
     next w1 tt
@@ -27,7 +27,7 @@ same-length c = search needs
 returns : tie.Need-returns
 returns c =
     let start = c .before .before .before .before .before .before .before .before .before .before .before in
-    let e = two (start .args .label .now) (rowsText (start .args .rows .now)) in
+    let e = two-texts (start .args .label .now) (rowsText (start .args .rows .now)) in
     let w0 = begin (start .args .label .now ∷ rowsText (start .args .rows .now) ∷ []) e (start .pre) in
     let w1 = written w0 tt (c .before .before .before .before .before .before .write-text .ensures) in
     let w2 = written w1 tt (c .before .before .write-rows .ensures) in
