@@ -2,12 +2,12 @@
 // the answer is the next position.
 ghost use Prim.Native.Nat.{ℕ, _+_, _<_};
 ghost use Rattle.formats.specs.Printout.{domainLine, fineLines, levelsText, treeText};
-ghost use Rattle.print_texts.specs.Wrote.{Wrote, Room};
+ghost use Rattle.print_texts.specs.Wrote.{Wrote, TextRoom};
 ghost use Rattle.print_tree.specs.Unpack.{leafOf, boxPart, pointsLine, packed, Holds, leafLine, leavesAt, fineLevelText, coarseLevelText, Stands, levelsAt};
 
 // The bounds of a box; a dash for the coarse domain's.
 fn write_box(fine: bool, bounds: &[f64], out: &mut [u8], at: usize) -> usize
-    requires { ⌜ Room (now out) at (boxPart fine (now bounds)) ⌝ }
+    requires { ⌜ TextRoom (now out) at (boxPart fine (now bounds)) ⌝ }
     ensures { λ r. ⌜ Wrote (now (out .entry)) at (boxPart fine (now (bounds .entry))) r (now (out .exit)) ⌝ }
 {
     if fine {
@@ -26,7 +26,7 @@ fn write_domain(
     out: &mut [u8],
     at: usize,
 ) -> usize
-    requires { ⌜ Room (now out) at (domainLine i (leafOf (now own) (now borrowed) (now bounds)) (boxPart fine (now bounds))) ⌝ }
+    requires { ⌜ TextRoom (now out) at (domainLine i (leafOf (now own) (now borrowed) (now bounds)) (boxPart fine (now bounds))) ⌝ }
     ensures { λ r. ⌜ Wrote (now (out .entry)) at (domainLine i (leafOf (now (own .entry)) (now (borrowed .entry)) (now (bounds .entry))) (boxPart fine (now (bounds .entry)))) r (now (out .exit)) ⌝ }
 {
     let named = print_texts::write_numbered(b"domain ", i, out, at);
@@ -39,7 +39,7 @@ fn write_domain(
 
 // The line of the level number t.
 fn write_level(t: usize, rows: &[usize], out: &mut [u8], at: usize) -> usize
-    requires { ⌜ Room (now out) at (pointsLine t (now rows)) ⌝ }
+    requires { ⌜ TextRoom (now out) at (pointsLine t (now rows)) ⌝ }
     ensures { λ r. ⌜ Wrote (now (out .entry)) at (pointsLine t (now (rows .entry))) r (now (out .exit)) ⌝ }
 {
     let named = print_texts::write_numbered(b"level ", t, out, at);
@@ -61,7 +61,7 @@ fn write_leaf(
     at: usize,
 ) -> usize
     requires { ⌜ Holds (packed (now own) (now borrowed) (now domains) (now boxes) wide) j ⌝ }
-    requires { ⌜ Room (now out) at (leafLine fine i (packed (now own) (now borrowed) (now domains) (now boxes) wide) j) ⌝ }
+    requires { ⌜ TextRoom (now out) at (leafLine fine i (packed (now own) (now borrowed) (now domains) (now boxes) wide) j) ⌝ }
     ensures { λ r. ⌜ Wrote (now (out .entry)) at (leafLine fine i (packed (now (own .entry)) (now (borrowed .entry)) (now (domains .entry)) (now (boxes .entry)) wide) j) r (now (out .exit)) ⌝ }
 {
     let o = domains[4 * j];
@@ -94,7 +94,7 @@ fn write_leaves(
     at: usize,
 ) -> usize
     requires { ⌜ ((i : ℕ) → i < m → Holds (packed (now own) (now borrowed) (now domains) (now boxes) wide) (j + i)) ⌝ }
-    requires { ⌜ Room (now out) at (fineLines 0 (leavesAt (packed (now own) (now borrowed) (now domains) (now boxes) wide) j m)) ⌝ }
+    requires { ⌜ TextRoom (now out) at (fineLines 0 (leavesAt (packed (now own) (now borrowed) (now domains) (now boxes) wide) j m)) ⌝ }
     ensures { λ r. ⌜ Wrote (now (out .entry)) at (fineLines 0 (leavesAt (packed (now (own .entry)) (now (borrowed .entry)) (now (domains .entry)) (now (boxes .entry)) wide) j m)) r (now (out .exit)) ⌝ }
 {
     let mut next = at;
@@ -132,7 +132,7 @@ fn write_fine(
     at: usize,
 ) -> usize
     requires { ⌜ ((i : ℕ) → i < m → Holds (packed (now own) (now borrowed) (now domains) (now boxes) wide) (j + i)) ⌝ }
-    requires { ⌜ Room (now out) at (fineLevelText t (now rows) (packed (now own) (now borrowed) (now domains) (now boxes) wide) j m) ⌝ }
+    requires { ⌜ TextRoom (now out) at (fineLevelText t (now rows) (packed (now own) (now borrowed) (now domains) (now boxes) wide) j m) ⌝ }
     ensures { λ r. ⌜ Wrote (now (out .entry)) at (fineLevelText t (now (rows .entry)) (packed (now (own .entry)) (now (borrowed .entry)) (now (domains .entry)) (now (boxes .entry)) wide) j m) r (now (out .exit)) ⌝ }
 {
     let next = write_level(t, rows, out, at);
@@ -153,7 +153,7 @@ fn write_coarse(
     at: usize,
 ) -> usize
     requires { ⌜ Holds (packed (now own) (now borrowed) (now domains) (now boxes) wide) j ⌝ }
-    requires { ⌜ Room (now out) at (coarseLevelText t (now rows) (packed (now own) (now borrowed) (now domains) (now boxes) wide) j) ⌝ }
+    requires { ⌜ TextRoom (now out) at (coarseLevelText t (now rows) (packed (now own) (now borrowed) (now domains) (now boxes) wide) j) ⌝ }
     ensures { λ r. ⌜ Wrote (now (out .entry)) at (coarseLevelText t (now (rows .entry)) (packed (now (own .entry)) (now (borrowed .entry)) (now (domains .entry)) (now (boxes .entry)) wide) j) r (now (out .exit)) ⌝ }
 {
     let next = write_level(t, rows, out, at);
@@ -175,7 +175,7 @@ fn write_levels(
     at: usize,
 ) -> usize
     requires { ⌜ Stands (packed (now own) (now borrowed) (now domains) (now boxes) wide) (now points) (now rows) (now counts) levels ⌝ }
-    requires { ⌜ Room (now out) at (levelsText 0 (levelsAt (packed (now own) (now borrowed) (now domains) (now boxes) wide) (now points) (now rows) (now counts) levels)) ⌝ }
+    requires { ⌜ TextRoom (now out) at (levelsText 0 (levelsAt (packed (now own) (now borrowed) (now domains) (now boxes) wide) (now points) (now rows) (now counts) levels)) ⌝ }
     ensures { λ r. ⌜ Wrote (now (out .entry)) at (levelsText 0 (levelsAt (packed (now (own .entry)) (now (borrowed .entry)) (now (domains .entry)) (now (boxes .entry)) wide) (now (points .entry)) (now (rows .entry)) (now (counts .entry)) levels)) r (now (out .exit)) ⌝ }
 {
     let last = levels - 1;
@@ -233,7 +233,7 @@ pub fn write_tree(
     at: usize,
 ) -> usize
     requires { ⌜ Stands (packed (now own) (now borrowed) (now domains) (now boxes) wide) (now points) (now rows) (now counts) levels ⌝ }
-    requires { ⌜ Room (now out) at (treeText (levelsAt (packed (now own) (now borrowed) (now domains) (now boxes) wide) (now points) (now rows) (now counts) levels)) ⌝ }
+    requires { ⌜ TextRoom (now out) at (treeText (levelsAt (packed (now own) (now borrowed) (now domains) (now boxes) wide) (now points) (now rows) (now counts) levels)) ⌝ }
     ensures { λ r. ⌜ Wrote (now (out .entry)) at (treeText (levelsAt (packed (now (own .entry)) (now (borrowed .entry)) (now (domains .entry)) (now (boxes .entry)) wide) (now (points .entry)) (now (rows .entry)) (now (counts .entry)) levels)) r (now (out .exit)) ⌝ }
 {
     let said = print_texts::write_numbered(b"levels ", levels, out, at);

@@ -23,7 +23,7 @@ use Rattle.stream_laws.specs.Sizes.{JobLimits, WithinLimits, mostBytes}
 use Rattle.stream_laws.proofs.Stream.{job-limits}
 use Rattle.stream_laws.proofs.Long.{job-long, refusal-long, printout-long}
 use Rattle.stream_laws.proofs.Shape.{tree-shaped}
-use Rattle.print_texts.specs.Wrote.{Wrote, Room, refusalOf}
+use Rattle.print_texts.specs.Wrote.{Wrote, TextRoom, refusalOf}
 use Rattle.print_tree.specs.Unpack.{packed, Stands, levelsAt}
 use Rattle.print_tree.proofs.Packs.{tree-back, tree-stands}
 use Rattle.stream_reader.specs.declared.Settings.{Settings}
@@ -193,10 +193,10 @@ pub same-lists : (l : TreeLists) {p i d b : List ℕ} {x : List Float} → p ≡
 same-lists l ep ei ed ex eb = rw (ep, ei, ed, ex, eb)
 
 -- ---- room for the texts
-pub room-for : (s : tree.Settings) (cs : List Float) (out : List ℕ) → JobLimits s cs → mostBytes ≤ length out → Room out 0 (jobText (job s cs))
+pub room-for : (s : tree.Settings) (cs : List Float) (out : List ℕ) → JobLimits s cs → mostBytes ≤ length out → TextRoom out 0 (jobText (job s cs))
 room-for s cs out h g = record { fits = omega (arith, job-long (job s cs) h) }
 
-pub refusal-room : (number place : ℕ) (out : List ℕ) → mostBytes ≤ length out → Room out 0 (refusalText (refusalOf number place))
+pub refusal-room : (number place : ℕ) (out : List ℕ) → mostBytes ≤ length out → TextRoom out 0 (refusalText (refusalOf number place))
 refusal-room number place out h = record { fits = omega (arith, refusal-long (refusalOf number place)) }
 
 -- ---- by the reader's answer
