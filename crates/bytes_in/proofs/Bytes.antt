@@ -12,7 +12,7 @@ use lib.Dec.{T, eqb}
 use lib.Ieee.{Float, nan, inf, fin, isNan, nanBits, ofBits, div, binary64}
 use lib.Ieee.Bits.{nanBits-above, nanBits-is}
 use borrow.Author.Tests.{le-ltb, lt-ltb, eq-eqb, ne-eqb}
-use Rattle.formats.specs.Bytes.{little, field, marked, markOf}
+use Rattle.formats.specs.Bytes.{little, field, markedBy, markOf}
 
 -- ---- a number of k bytes
 pub none-read : (k at : ℕ) (bs : List ℕ) → k ≡ 0 → (0 ≡ field k at bs) × (0 < 256 ^ k)
@@ -33,12 +33,12 @@ more-read (suc k) at r bs h g b w =
     (ap (λ (x : ℕ). getD bs at 0 + 256 * x) (w .0 ∙ f) ∙ sym (one-read k at bs g), rw pow-succ' (omega arith))
 
 -- eight bytes at most fit a word
-pub word : (k : ℕ) → k ≤ 8 → 256 ^ k ≤ 2 ^ 64
-word k h = pow-le-pow-right {n = 256} (omega arith) h
+pub eight-bytes : (k : ℕ) → k ≤ 8 → 256 ^ k ≤ 2 ^ 64
+eight-bytes k h = pow-le-pow-right {n = 256} (omega arith) h
 
 -- four bytes at most fit half a word
-pub four : (k : ℕ) → k ≤ 4 → 256 ^ k ≤ 2 ^ 32
-four k h = pow-le-pow-right {n = 256} (omega arith) h
+pub four-bytes : (k : ℕ) → k ≤ 4 → 256 ^ k ≤ 2 ^ 32
+four-bytes k h = pow-le-pow-right {n = 256} (omega arith) h
 
 -- ---- floats
 pub low-is-no-nan : (b : ℕ) → b % 9223372036854775808 ≤ 9218868437227405312 → T (not (nanBits binary64 b))
@@ -59,9 +59,9 @@ high-is-nan b h =
     zero-by-zero ∙ sym (is-nan (ofBits binary64 b) (sym (nanBits-is binary64 b) ∙ nanBits-above binary64 b ∙ lt-ltb 9218868437227405312 (b % 9223372036854775808) h))
 
 -- ---- a record's mark
-pub mark-same : (at a b : ℕ) (bs : List ℕ) → getD bs at 0 ≡ a → eqb (getD bs (at + 1) 0) b ≡ marked (markOf a b) (drop at bs)
+pub mark-same : (at a b : ℕ) (bs : List ℕ) → getD bs at 0 ≡ a → eqb (getD bs (at + 1) 0) b ≡ markedBy (markOf a b) (drop at bs)
 mark-same at a b bs e =
     rw (getD-drop at bs 0 0, getD-drop at bs 1 0, add-zero at, eq-eqb (getD bs at 0) a e)
 
-pub mark-other : (at a b : ℕ) (bs : List ℕ) → (getD bs at 0 ≡ a → ⊥) → false ≡ marked (markOf a b) (drop at bs)
+pub mark-other : (at a b : ℕ) (bs : List ℕ) → (getD bs at 0 ≡ a → ⊥) → false ≡ markedBy (markOf a b) (drop at bs)
 mark-other at a b bs h = rw (getD-drop at bs 0 0, add-zero at, ne-eqb (getD bs at 0) a h)

@@ -3,7 +3,7 @@ ghost use mathlib.Core.Path.{_≡_};
 ghost use Prim.Native.Nat.{_+_, _^_, _≤_, _<_};
 ghost use lib.ListN.{length, drop};
 ghost use lib.Ieee.{ofBits, binary64};
-ghost use Rattle.formats.specs.Bytes.{field, floatAt, floatSize, markOf, markSize, marked};
+ghost use Rattle.formats.specs.Bytes.{field, floatAt, floatSize, markOf, markSize, markedBy};
 
 // The number that k bytes from `at` on stand for, the lowest byte first.
 pub fn little_at(k: usize, input: &[u8], at: usize) -> u64
@@ -47,7 +47,7 @@ pub fn float_at(input: &[u8], at: usize) -> f64
 // Whether the record at `at` begins with these two bytes.
 pub fn marked_at(input: &[u8], at: usize, a: u8, b: u8) -> bool
     requires { ⌜ at + markSize ≤ length (now input) ⌝ }
-    ensures { λ r. ⌜ r ≡ marked (markOf a b) (drop at (now (input .entry))) ⌝ }
+    ensures { λ r. ⌜ r ≡ markedBy (markOf a b) (drop at (now (input .entry))) ⌝ }
 {
     if input[at] == a {
         return input[at + 1] == b;

@@ -4,7 +4,7 @@ use Prim.Native.Nat.{ℕ, zero, suc, _+_, _*_, _/_, _%_, _^_, _≤_, _<_}
 use native.Mathlib.Nat.{pow-zero, pow-succ'}
 use native.Mathlib.Omega.{arith}
 use mathlib.Core.List.{List, _++_}
-use lib.ListN.{length, drop}
+use lib.ListN.{length}
 use lib.Dec.{T}
 use lib.Ieee.{Float, binary64, toBits, ofBits, fits}
 use lib.Ieee.Bits.{ofBits-toBits, toBits-lt}

@@ -2,7 +2,6 @@
 use mathlib.Core.Path.{_≡_, refl, sym, ap, _∙_}
 use Prim.Native.Nat.{ℕ, zero, suc, _+_, _/_, _%_, _<_}
 use native.Mathlib.Nat.{zero-add}
-use native.Mathlib.Numerals.{add-one}
 use native.Mathlib.Omega.{arith}
 use mathlib.Core.List.{List, [], _∷_, _++_, append-assoc}
 use lib.ListN.{length, set}
@@ -16,20 +15,20 @@ length-bytes zero n = refl
 length-bytes (suc k) n = ap suc (length-bytes k _)
 
 -- i bytes of n are taken, and `rest` holds the others
-pub record Taken (n i rest : ℕ) : Type 0 where
+pub record BytesTaken (n i rest : ℕ) : Type 0 where
   pub others : (m : ℕ) → bytesOf i n ++ bytesOf m rest ≡ bytesOf (i + m) n
 
-pub taken-none : (n : ℕ) → Taken n 0 n
+pub taken-none : (n : ℕ) → BytesTaken n 0 n
 unfolding bytesOf
 taken-none n = record { others = λ m. ap (λ (i : ℕ). bytesOf i n) (sym (zero-add m)) }
 
-module _ {n i rest : ℕ} (t : Taken n i rest) where
+module _ {n i rest : ℕ} (t : BytesTaken n i rest) where
   -- the next byte
   pub taken-byte : bytesOf (i + 1) n ≡ bytesOf i n ++ rest % 256 ∷ []
   unfolding bytesOf
   taken-byte = sym (t .others 1)
 
-  pub taken-more : Taken n (i + 1) (rest / 256)
+  pub taken-more : BytesTaken n (i + 1) (rest / 256)
   unfolding bytesOf
   taken-more =
       record {

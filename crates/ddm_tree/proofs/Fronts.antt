@@ -17,11 +17,11 @@ use Rattle.stream_laws.proofs.Front.{front-printed}
 use Rattle.printout.specs.Printing.{printAnswer, printOutput}
 use Rattle.printout.proofs.Joins.{call-long}
 use Rattle.ddm_tree.specs.declared.Front.{Front}
-use Rattle.ddm_tree.specs.declared.Front.the-variants.{Open, Ended, Failed}
+use Rattle.ddm_tree.specs.declared.Front.the-variants.{Open, Ended}
 use Rattle.ddm_tree.specs.declared.Reply.{Reply}
 use Rattle.ddm_tree.specs.declared.Reply.the-variants.{Text}
 use Rattle.ddm_tree.proofs.Front.{the-type}
-use Rattle.ddm_tree.specs.Input.{frontAfter, Stopped, MayBe, PrintoutFor, Replies}
+use Rattle.ddm_tree.specs.Input.{frontAfter, Stopped, PrintoutFor, Replies}
 
 -- ---- one read more
 module _ (front : Front) (n most : ℕ) (z : ℤ) (e : front ≡ frontAfter n z) (inside : n ≤ most) where

@@ -4,7 +4,7 @@ use Prim.Native.Nat.{ℕ}
 use mathlib.Core.Path.{_≡_, refl}
 use mathlib.Core.List.{List, [], _∷_, _++_, map}
 use lib.ListN.{replicate, take}
-use lib.Ieee.{Float, nan, binary64, ofBits, toBits}
+use lib.Ieee.{Float, nan, binary64, ofBits}
 use Rattle.lists.specs.Lists.{from, joined}
 use Rattle.definition.specs.Number.{plusZero}
 use Rattle.definition.specs.Levels.{Policy, auto, fixed}
@@ -21,8 +21,8 @@ abbrev settings : ℕ → ℕ → ℕ → ℕ → List ℕ
 settings d neighbours policy c = 0x53 ∷ 0x54 ∷ d ∷ [] ++ bytesOf 4 2 ++ bytesOf 4 neighbours ++ bytesOf 4 2 ++ policy ∷ [] ++ bytesOf 4 c
 
 -- what it says
-abbrev read : ℕ → ℕ → Policy → Settings
-read d neighbours p = record { dimension = d; leaf = 2; neighbours = neighbours; factor = 2; policy = p }
+abbrev settingsRead : ℕ → ℕ → Policy → Settings
+settingsRead d neighbours p = record { dimension = d; leaf = 2; neighbours = neighbours; factor = 2; policy = p }
 
 -- a point record
 unfoldable point : List Float → List ℕ
@@ -50,23 +50,23 @@ pub record Streams : Type 0 where
       ≡ job (record { dimension = 2; leaf = 0x14131211; neighbours = 9; factor = 0x34333231; policy = fixed 0x44434241 }) []
   coordinates :
       jobIn (settings 2 1 1 2 ++ (0x50 ∷ 0x54 ∷ 1 ∷ 2 ∷ 3 ∷ 4 ∷ 5 ∷ 6 ∷ 7 ∷ 8 ∷ []) ++ (17 ∷ 18 ∷ 19 ∷ 20 ∷ 21 ∷ 22 ∷ 23 ∷ 24 ∷ []))
-      ≡ job (read 2 1 (fixed 2)) (map (ofBits binary64) (0x0807060504030201 ∷ 0x1817161514131211 ∷ []))
-  plane : jobIn planePoints ≡ job (read 2 1 (fixed 2)) (line (0 ∷ 1 ∷ 3 ∷ 7 ∷ []))
+      ≡ job (settingsRead 2 1 (fixed 2)) (map (ofBits binary64) (0x0807060504030201 ∷ 0x1817161514131211 ∷ []))
+  plane : jobIn planePoints ≡ job (settingsRead 2 1 (fixed 2)) (line (0 ∷ 1 ∷ 3 ∷ 7 ∷ []))
   -- the settings record: its 20 bytes, its two marks
   none : jobIn [] ≡ brokenAt 0
   byte19 : jobIn (take 19 (settings 1 1 1 2)) ≡ brokenAt 0
-  byte20 : jobIn (settings 1 1 1 2) ≡ job (read 1 1 (fixed 2)) []
+  byte20 : jobIn (settings 1 1 1 2) ≡ job (settingsRead 1 1 (fixed 2)) []
   first-mark : jobIn (0x54 ∷ 0x54 ∷ 1 ∷ bytesOf 4 2 ++ bytesOf 4 1 ++ bytesOf 4 2 ++ 1 ∷ [] ++ bytesOf 4 2) ≡ brokenAt 0
   second-mark : jobIn (0x53 ∷ 0x53 ∷ 1 ∷ bytesOf 4 2 ++ bytesOf 4 1 ++ bytesOf 4 2 ++ 1 ∷ [] ++ bytesOf 4 2) ≡ brokenAt 0
   -- the policy: 1 with any number, 0 with the number 0
-  policy0 : jobIn (settings 1 1 0 0) ≡ job (read 1 1 auto) []
+  policy0 : jobIn (settings 1 1 0 0) ≡ job (settingsRead 1 1 auto) []
   policy0-number : jobIn (settings 1 1 0 1) ≡ brokenAt 0
   policy0-high : jobIn (settings 1 1 0 0x1000000) ≡ brokenAt 0
-  policy1-none : jobIn (settings 1 1 1 0) ≡ job (read 1 1 (fixed 0)) []
+  policy1-none : jobIn (settings 1 1 1 0) ≡ job (settingsRead 1 1 (fixed 0)) []
   policy2 : jobIn (settings 1 1 2 0) ≡ brokenAt 0
   -- the dimension: after the settings record, before the first point
   axes0 : jobIn (settings 0 1 1 2) ≡ wrongAxes
-  axes3 : jobIn (settings 3 1 1 2 ++ point (line (1 ∷ 2 ∷ 3 ∷ []))) ≡ job (read 3 1 (fixed 2)) (line (1 ∷ 2 ∷ 3 ∷ []))
+  axes3 : jobIn (settings 3 1 1 2 ++ point (line (1 ∷ 2 ∷ 3 ∷ []))) ≡ job (settingsRead 3 1 (fixed 2)) (line (1 ∷ 2 ∷ 3 ∷ []))
   axes4 : jobIn (settings 4 17 1 2 ++ 0 ∷ []) ≡ wrongAxes
   axes4-policy : jobIn (settings 4 17 2 0) ≡ brokenAt 0
   axes4-cut : jobIn (take 19 (settings 4 17 1 2)) ≡ brokenAt 0
@@ -77,11 +77,11 @@ pub record Streams : Type 0 where
   point-first : jobIn (settings 1 1 1 2 ++ 0x53 ∷ 0x54 ∷ bytesOf 8 0) ≡ brokenAt 20
   point-second : jobIn (settings 1 1 1 2 ++ 0x50 ∷ 0x50 ∷ bytesOf 8 0) ≡ brokenAt 20
   -- 32 points are read; the 33rd ends the reading where it is whole
-  points32 : jobIn (settings 1 1 1 2 ++ zeroPoints 32) ≡ job (read 1 1 (fixed 2)) (replicate 32 plusZero)
+  points32 : jobIn (settings 1 1 1 2 ++ zeroPoints 32) ≡ job (settingsRead 1 1 (fixed 2)) (replicate 32 plusZero)
   points33 : jobIn (settings 1 1 1 2 ++ zeroPoints 33 ++ 0 ∷ []) ≡ tooLarge
   points33-cut : jobIn (settings 1 17 1 2 ++ zeroPoints 32 ++ 0x50 ∷ 0x54 ∷ bytesOf 7 0) ≡ brokenAt 340
   -- 16 neighbours are taken; 17 are refused after the last record
-  neighbours16 : jobIn (settings 1 16 1 2) ≡ job (read 1 16 (fixed 2)) []
+  neighbours16 : jobIn (settings 1 16 1 2) ≡ job (settingsRead 1 16 (fixed 2)) []
   neighbours17 : jobIn (settings 1 17 1 2) ≡ tooLarge
   neighbours-high : jobIn (settings 1 0x1000000 1 2) ≡ tooLarge
   neighbours17-cut : jobIn (settings 1 17 1 2 ++ 0x50 ∷ []) ≡ brokenAt 20

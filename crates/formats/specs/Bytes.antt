@@ -50,12 +50,12 @@ abbrev pub markSize : ℕ
 markSize = 2
 
 -- the bytes begin with the mark
-abbrev pub marked : Mark → List ℕ → Bool
-marked m bs = eqb (getD bs 0 0) (m .first) && eqb (getD bs 1 0) (m .second)
+abbrev pub markedBy : Mark → List ℕ → Bool
+markedBy m bs = eqb (getD bs 0 0) (m .first) && eqb (getD bs 1 0) (m .second)
 
 -- a record with this mark and this many bytes in all stands whole at the front
 abbrev pub whole : Mark → ℕ → List ℕ → Bool
-whole m size bs = leb size (length bs) && marked m bs
+whole m size bs = leb size (length bs) && markedBy m bs
 
 -- ---- fields
 
@@ -65,8 +65,8 @@ pub record Field : Type 0 where
   pub width : ℕ
 
 -- the offset of what comes next
-abbrev pub past : Field → ℕ
-past f = f .offset + f .width
+abbrev pub fieldEnd : Field → ℕ
+fieldEnd f = f .offset + f .width
 
 -- the number in the field
 abbrev pub valueAt : Field → List ℕ → ℕ

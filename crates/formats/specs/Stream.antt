@@ -9,7 +9,7 @@ use Rattle.lists.specs.Lists.{from}
 use Rattle.definition.specs.Levels.{Policy, auto, fixed}
 use Rattle.definition.specs.Tree.{Settings}
 use Rattle.definition.specs.Refusals.{Refusal, wrongDimension}
-use Rattle.formats.specs.Bytes.{Mark, markOf, markSize, whole, Field, past, valueAt, floatSize, floatAt}
+use Rattle.formats.specs.Bytes.{Mark, markOf, markSize, whole, Field, fieldEnd, valueAt, floatSize, floatAt}
 
 -- ---- the settings record: its mark, and its fields one after the other
 
@@ -20,22 +20,22 @@ abbrev pub dimensionField : Field
 dimensionField = record { offset = markSize; width = 1 }
 
 abbrev pub leafField : Field
-leafField = record { offset = past dimensionField; width = 4 }
+leafField = record { offset = fieldEnd dimensionField; width = 4 }
 
 abbrev pub neighboursField : Field
-neighboursField = record { offset = past leafField; width = 4 }
+neighboursField = record { offset = fieldEnd leafField; width = 4 }
 
 abbrev pub factorField : Field
-factorField = record { offset = past neighboursField; width = 4 }
+factorField = record { offset = fieldEnd neighboursField; width = 4 }
 
 abbrev pub policyField : Field
-policyField = record { offset = past factorField; width = 1 }
+policyField = record { offset = fieldEnd factorField; width = 1 }
 
 abbrev pub thresholdField : Field
-thresholdField = record { offset = past policyField; width = 4 }
+thresholdField = record { offset = fieldEnd policyField; width = 4 }
 
 abbrev pub settingsSize : ℕ
-settingsSize = past thresholdField
+settingsSize = fieldEnd thresholdField
 
 -- policy 1 (Fixed), or policy 0 (Auto) with the number 0
 unfoldable pub policyFits : List ℕ → Bool

@@ -9,7 +9,7 @@ use lib.Ieee.{Float, toBits, binary64}
 use Rattle.lists.specs.Lists.{joined}
 use Rattle.lists.proofs.Joined.{joined-append, joined-map-more}
 use Rattle.formats.specs.Printout.{rowsText, boxText, decimal, hexOnto, ascii}
-use Rattle.print_texts.specs.Wrote.{Wrote, Room}
+use Rattle.print_texts.specs.Wrote.{Wrote, TextRoom}
 use Rattle.print_texts.proofs.Texts.{spelt, room-spelt, room-first, room-next, wrote-then}
 
 module _ {A : Type 0} (f : A → List ℕ) where
@@ -20,19 +20,19 @@ module _ {A : Type 0} (f : A → List ℕ) where
   pub each-all : (xs : List A) (i : ℕ) → length xs ≤ i → joined (map f (take i xs)) ≡ joined (map f xs)
   each-all xs i h = rw (take-all i xs h)
 
-  module _ {l : List ℕ} {at : ℕ} (xs : List A) (h : Room l at (joined (map f xs))) (i : ℕ) where
-    pub each-room : Room l at (joined (map f (take i xs)))
+  module _ {l : List ℕ} {at : ℕ} (xs : List A) (h : TextRoom l at (joined (map f xs))) (i : ℕ) where
+    pub each-room : TextRoom l at (joined (map f (take i xs)))
     each-room =
         let e : joined (map f xs) ≡ joined (map f (take i xs)) ++ joined (map f (drop i xs)) = rw
         (← joined-append (map f (take i xs)) (map f (drop i xs)), ← map-append f (take i xs) (drop i xs), take-append-drop i xs) in
         room-first _ _ (room-spelt e h)
 
-  module _ {l : List ℕ} {at : ℕ} (xs : List A) (h : Room l at (joined (map f xs))) (i : ℕ) (d : A) (g : i < length xs) {r : ℕ} {m : List ℕ}
+  module _ {l : List ℕ} {at : ℕ} (xs : List A) (h : TextRoom l at (joined (map f xs))) (i : ℕ) (d : A) (g : i < length xs) {r : ℕ} {m : List ℕ}
       (w : Wrote l at (joined (map f (take i xs))) r m) where
-    step-room : Room l at (joined (map f (take i xs)) ++ f (getD xs i d))
+    step-room : TextRoom l at (joined (map f (take i xs)) ++ f (getD xs i d))
     step-room = room-spelt (joined-map-more f xs i d g) (each-room xs h (i + 1))
 
-    pub more-room : Room m r (f (getD xs i d))
+    pub more-room : TextRoom m r (f (getD xs i d))
     more-room = room-next _ w step-room
 
     pub each-more : {q : ℕ} {k : List ℕ} → Wrote m r (f (getD xs i d)) q k → Wrote l at (joined (map f (take (i + 1) xs))) q k
@@ -54,7 +54,7 @@ unfolding rowsText ascii
 rows-dash [] e = refl
 rows-dash (x ∷ xs) e = absurd (omega arith)
 
-pub rows-some : (xs : List ℕ) → (length xs ≡ 0 → ⊥) → rowsText xs ≡ joined (map rowText xs)
+pub rows-listed : (xs : List ℕ) → (length xs ≡ 0 → ⊥) → rowsText xs ≡ joined (map rowText xs)
 unfolding rowsText
-rows-some [] h = absurd (h refl)
-rows-some (x ∷ xs) h = refl
+rows-listed [] h = absurd (h refl)
+rows-listed (x ∷ xs) h = refl

@@ -9,15 +9,15 @@ use lib.Seq.{take-suc, take-length}
 use Rattle.lists.proofs.Joined.{joined-append, joined-snoc}
 use Rattle.lists.specs.Lists.{joined}
 use Rattle.formats.specs.Printout.{ascii, decimal, refusalText}
-use Rattle.print_texts.specs.Wrote.{Wrote, Room, refusalOf}
+use Rattle.print_texts.specs.Wrote.{Wrote, TextRoom, refusalOf}
 use Rattle.print_texts.proofs.Texts.{spelt, room-spelt, room-first, room-next, wrote-then, wrote-none}
 
 -- the first k of the texts ts are written, and there is room for all
 pub record Writing (l : List ℕ) (at : ℕ) (ts : List (List ℕ)) (k r : ℕ) (m : List ℕ) : Type 0 where
-  pub room : Room l at (joined ts)
+  pub room : TextRoom l at (joined ts)
   pub done : Wrote l at (joined (take k ts)) r m
 
-pub begin : {text : List ℕ} (ts : List (List ℕ)) {l : List ℕ} {at : ℕ} → text ≡ joined ts → Room l at text → Writing l at ts 0 at l
+pub begin : {text : List ℕ} (ts : List (List ℕ)) {l : List ℕ} {at : ℕ} → text ≡ joined ts → TextRoom l at text → Writing l at ts 0 at l
 unfolding joined
 begin ts {l} {at} e h = record { room = room-spelt e h; done = wrote-none l at }
 
@@ -25,7 +25,7 @@ module _ {l : List ℕ} {at : ℕ} {ts : List (List ℕ)} {k r : ℕ} {m : List 
   step : T (ltb k (length ts)) → joined (take (k + 1) ts) ≡ joined (take k ts) ++ getD ts k []
   step g = rw (add-one, take-suc ts k [] (ltb→lt k (length ts) g)) (joined-snoc (take k ts) (getD ts k []))
 
-  part-room : T (ltb k (length ts)) → Room l at (joined (take k ts) ++ getD ts k [])
+  part-room : T (ltb k (length ts)) → TextRoom l at (joined (take k ts) ++ getD ts k [])
   part-room g =
       room-spelt (step g)
       (room-first (joined (take (k + 1) ts)) (joined (drop (k + 1) ts)) (room-spelt (sym (halves (k + 1))) (w .room)))
@@ -34,20 +34,20 @@ module _ {l : List ℕ} {at : ℕ} {ts : List (List ℕ)} {k r : ℕ} {m : List 
       halves i = sym (joined-append (take i ts) (drop i ts)) ∙ ap joined (take-append-drop i ts)
 
   -- there is room for the next text
-  pub next : T (ltb k (length ts)) → Room m r (getD ts k [])
-  next g = room-next (getD ts k []) (w .done) (part-room g)
+  pub text-room : T (ltb k (length ts)) → TextRoom m r (getD ts k [])
+  text-room g = room-next (getD ts k []) (w .done) (part-room g)
 
   -- and when it is written
-  pub written : T (ltb k (length ts)) → {q : ℕ} {n : List ℕ} → Wrote m r (getD ts k []) q n → Writing l at ts (k + 1) q n
-  written g v = record { room = w .room; done = spelt (sym (step g)) (wrote-then (w .done) (part-room g) v) }
+  pub text-added : T (ltb k (length ts)) → {q : ℕ} {n : List ℕ} → Wrote m r (getD ts k []) q n → Writing l at ts (k + 1) q n
+  text-added g v = record { room = w .room; done = spelt (sym (step g)) (wrote-then (w .done) (part-room g) v) }
 
 pub finish : {text : List ℕ} (ts : List (List ℕ)) {l : List ℕ} {at r : ℕ} {m : List ℕ} → text ≡ joined ts → Writing l at ts (length ts) r m → Wrote l at text r m
 finish ts e w = spelt (ap joined (take-length ts) ∙ sym e) (w .done)
 
 -- ---- a line of two parts, and a refusal's
-pub two : (a b : List ℕ) → a ++ b ≡ joined (a ∷ b ∷ [])
+pub two-texts : (a b : List ℕ) → a ++ b ≡ joined (a ∷ b ∷ [])
 unfolding joined
-two a b = rw (append-nil b)
+two-texts a b = rw (append-nil b)
 
 abbrev pub refusalTexts : ℕ → ℕ → List (List ℕ)
 refusalTexts k p = (ascii "refused " ++ decimal k) ∷ (ascii " at " ++ decimal p) ∷ ascii "\n" ∷ []

@@ -12,7 +12,7 @@ pub record Wrote (out : List ℕ) (at : ℕ) (text : List ℕ) (next : ℕ) (aft
   pub same : after ≡ put out at text
 
 -- there is room for the text from `at` on
-pub record Room (out : List ℕ) (at : ℕ) (text : List ℕ) : Type 0 where
+pub record TextRoom (out : List ℕ) (at : ℕ) (text : List ℕ) : Type 0 where
   pub fits : at + length text ≤ length out
 
 abbrev pub refusalOf : ℕ → ℕ → Refusal

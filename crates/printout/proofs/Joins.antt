@@ -23,8 +23,8 @@ use Rattle.definition_laws.proofs.Accepted.{LentEnough, build-zero}
 use Rattle.stream_laws.specs.Sizes.{JobLimits, WithinLimits, mostBytes}
 use Rattle.stream_laws.proofs.Stream.{job-limits}
 use Rattle.stream_laws.proofs.Long.{job-long, refusal-long, printout-long}
-use Rattle.stream_laws.proofs.Shape.{leafCount, tree-shaped}
-use Rattle.print_texts.specs.Wrote.{Wrote, Room, refusalOf}
+use Rattle.stream_laws.proofs.Shape.{tree-shaped}
+use Rattle.print_texts.specs.Wrote.{Wrote, TextRoom, refusalOf}
 use Rattle.packed.specs.Reading.{Packed, packed, Stands, levelsAt}
 use Rattle.packed.proofs.Counts.{noLevel}
 use Rattle.packed.proofs.Unpacked.{Packs, levels-are, tree-back, tree-stands}
@@ -178,7 +178,7 @@ module _ (s : tree.Settings) (cs : List Float) (old : TreeLists) (floats : List 
             let shaped = tree-shaped s cs in
             let last = length ls - 1 in
             tree-stands ls lists (new .points) (r .value) tree-packed (kept .axes-few) (shaped .some)
-            (sym (getD-map-in leafCount ls last noLevel 0 (omega (arith, shaped .some))) ∙ shaped .last)
+            (sym (getD-map-in (λ (l : tree.Level). length (l .leaves)) ls last noLevel 0 (omega (arith, shaped .some))) ∙ shaped .last)
 
         pub job-tree : jobText (job s cs)
             ≡ treeText (levelsAt (packed (new .internals) (new .borrowed) (new .domains) (new .boxes) (s .dimension)) (new .points) (r .value .rows)
@@ -212,10 +212,10 @@ rooms =
     }
 
 -- ---- room for the texts
-pub room-for : (s : tree.Settings) (cs : List Float) (out : List ℕ) → JobLimits s cs → mostBytes ≤ length out → Room out 0 (jobText (job s cs))
+pub room-for : (s : tree.Settings) (cs : List Float) (out : List ℕ) → JobLimits s cs → mostBytes ≤ length out → TextRoom out 0 (jobText (job s cs))
 room-for s cs out h g = record { fits = omega (arith, job-long (job s cs) h) }
 
-pub refusal-room : (number place : ℕ) (out : List ℕ) → mostBytes ≤ length out → Room out 0 (refusalText (refusalOf number place))
+pub refusal-room : (number place : ℕ) (out : List ℕ) → mostBytes ≤ length out → TextRoom out 0 (refusalText (refusalOf number place))
 refusal-room number place out h = record { fits = omega (arith, refusal-long (refusalOf number place)) }
 
 -- ---- by the reader's answer

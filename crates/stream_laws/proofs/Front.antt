@@ -17,12 +17,12 @@ use Rattle.lists.proofs.From.{map-below-same}
 use Rattle.lists.proofs.Take.{drop-take}
 use Rattle.definition.specs.Tree.{Settings}
 use Rattle.definition.specs.Refusals.{wrongDimension}
-use Rattle.formats.specs.Bytes.{Mark, markSize, Field, past, little, field, valueAt, whole, floatAt, floatSize}
+use Rattle.formats.specs.Bytes.{Mark, markSize, Field, fieldEnd, little, field, valueAt, whole, floatAt, floatSize}
 use Rattle.formats.specs.Stream.{Job, broken, brokenAt, coordinatesAt, pointMark, pointSize, settingsMark, settingsSize, dimensionField, leafField, neighboursField, factorField, policyField, thresholdField, policyFits, settingsIn, streamPoints, readPoints, held, jobIn}
 use Rattle.formats.specs.Printout.{jobText, printout}
 use Rattle.stream_laws.specs.Sizes.{decisive}
 use Rattle.definition_laws.proofs.Accepted.{right-dimension}
-use Rattle.stream_laws.proofs.Stream.{points-cut, points-full, points-more}
+use Rattle.stream_laws.proofs.Stream.{stream-cut, stream-full, stream-more}
 
 -- ---- a number, a record and a point that end within the first n bytes
 little-take : (k n : ℕ) (bs : List ℕ) → k ≤ n → little k (take n bs) ≡ little k bs
@@ -36,7 +36,7 @@ module _ (n : ℕ) (bs : List ℕ) where
   field-take : (k at : ℕ) → at + k ≤ n → field k at (take n bs) ≡ field k at bs
   field-take k at h = rw (drop-take at n bs) (little-take k (n - at) (drop at bs) (omega arith))
 
-  value-take : (f : Field) → past f ≤ n → valueAt f (take n bs) ≡ valueAt f bs
+  value-take : (f : Field) → fieldEnd f ≤ n → valueAt f (take n bs) ≡ valueAt f bs
   value-take f h = field-take (f .width) (f .offset) h
 
   long-take : (size : ℕ) → size ≤ n → leb size (length (take n bs)) ≡ leb size (length bs)
@@ -78,8 +78,8 @@ module _ (s : Settings) where
         (λ (some : length bs ≡ 0 → ⊥). ⊎-elim
         (λ (there : whole pointMark size bs ≡ true). f (above (length bs) some) there)
         (λ (cut : whole pointMark size bs ≡ false).
-        points-cut s (take n bs) cs room at (some-take n bs (omega arith) (above (length bs) some)) (whole-take n bs pointMark size (omega arith) long ∙ cut)
-        ∙ sym (points-cut s bs cs room at (above (length bs) some) cut))
+        stream-cut s (take n bs) cs room at (some-take n bs (omega arith) (above (length bs) some)) (whole-take n bs pointMark size (omega arith) long ∙ cut)
+        ∙ sym (stream-cut s bs cs room at (above (length bs) some) cut))
         (true-or-false (whole pointMark size bs)))
         (same-or (length bs) 0)
       where
@@ -90,17 +90,17 @@ module _ (s : Settings) where
   points-take zero at n bs cs h =
       let long : size ≤ n = omega (arith, suc-mul 0 size) in
       same-point zero at n bs cs long
-      (λ some there. points-full s (take n bs) cs at (some-take n bs (omega arith) some) (whole-take n bs pointMark size (omega arith) long ∙ there)
-      ∙ sym (points-full s bs cs at some there))
+      (λ some there. stream-full s (take n bs) cs at (some-take n bs (omega arith) some) (whole-take n bs pointMark size (omega arith) long ∙ there)
+      ∙ sym (stream-full s bs cs at some there))
   points-take (suc room) at n bs cs h =
       let long : size ≤ n = omega (arith, suc-mul (suc room) size, suc-mul room size) in
       let rest : suc room * size ≤ n - size = omega (arith, suc-mul (suc room) size) in
       let d = s .dimension in
       same-point (suc room) at n bs cs long
-      (λ some there. points-more s (take n bs) cs room at (some-take n bs (omega arith) some) (whole-take n bs pointMark size (omega arith) long ∙ there)
+      (λ some there. stream-more s (take n bs) cs room at (some-take n bs (omega arith) some) (whole-take n bs pointMark size (omega arith) long ∙ there)
       ∙ ap₂ (λ (l : List ℕ) (x : List Float). readPoints s room (at + size) l (cs ++ x)) (drop-take size n bs) (point-take n bs d long)
       ∙ points-take room (at + size) (n - size) (drop size bs) (cs ++ coordinatesAt d markSize bs) rest
-      ∙ sym (points-more s bs cs room at some there))
+      ∙ sym (stream-more s bs cs room at some there))
 
 -- ---- the settings
 settings-take : (n : ℕ) (bs : List ℕ) → settingsSize ≤ n → settingsIn (take n bs) ≡ settingsIn bs

@@ -26,9 +26,9 @@ module _ (s : Settings) (bs : List ℕ) (cs : List Float) where
   abbrev size : ℕ
   size = pointSize (s .dimension)
 
-  pub points-end : (room at : ℕ) → length bs ≡ 0 → readPoints s room at bs cs ≡ job s cs
+  pub stream-end : (room at : ℕ) → length bs ≡ 0 → readPoints s room at bs cs ≡ job s cs
   unfolding readPoints
-  points-end room at e = go room bs e
+  stream-end room at e = go room bs e
     where
       go : (room : ℕ) (bs : List ℕ) → length bs ≡ 0 → readPoints s room at bs cs ≡ job s cs
       go zero [] e = refl
@@ -36,9 +36,9 @@ module _ (s : Settings) (bs : List ℕ) (cs : List Float) where
       go room (b ∷ bs) e = absurd (omega arith)
 
   -- a cut record, or another mark
-  pub points-cut : (room at : ℕ) → 0 < length bs → whole pointMark size bs ≡ false → readPoints s room at bs cs ≡ brokenAt at
+  pub stream-cut : (room at : ℕ) → 0 < length bs → whole pointMark size bs ≡ false → readPoints s room at bs cs ≡ brokenAt at
   unfolding readPoints
-  points-cut room at h e = go room bs h e
+  stream-cut room at h e = go room bs h e
     where
       go : (room : ℕ) (bs : List ℕ) → 0 < length bs → whole pointMark size bs ≡ false → readPoints s room at bs cs ≡ brokenAt at
       go room [] h e = absurd (omega arith)
@@ -46,19 +46,19 @@ module _ (s : Settings) (bs : List ℕ) (cs : List Float) where
       go (suc room) (b ∷ bs) h e = rw e
 
   -- a whole point where no more may come
-  pub points-full : (at : ℕ) → 0 < length bs → whole pointMark size bs ≡ true → readPoints s 0 at bs cs ≡ tooLarge
+  pub stream-full : (at : ℕ) → 0 < length bs → whole pointMark size bs ≡ true → readPoints s 0 at bs cs ≡ tooLarge
   unfolding readPoints
-  points-full at h e = go bs h e
+  stream-full at h e = go bs h e
     where
       go : (bs : List ℕ) → 0 < length bs → whole pointMark size bs ≡ true → readPoints s 0 at bs cs ≡ tooLarge
       go [] h e = absurd (omega arith)
       go (b ∷ bs) h e = rw e
 
   -- a whole point
-  pub points-more : (room at : ℕ) → 0 < length bs → whole pointMark size bs ≡ true
+  pub stream-more : (room at : ℕ) → 0 < length bs → whole pointMark size bs ≡ true
       → readPoints s (suc room) at bs cs ≡ readPoints s room (at + size) (drop size bs) (cs ++ coordinatesAt (s .dimension) markSize bs)
   unfolding readPoints
-  points-more room at h e = go bs h e
+  stream-more room at h e = go bs h e
     where
       go : (bs : List ℕ) → 0 < length bs → whole pointMark size bs ≡ true
           → readPoints s (suc room) at bs cs ≡ readPoints s room (at + size) (drop size bs) (cs ++ coordinatesAt (s .dimension) markSize bs)

@@ -18,9 +18,9 @@ use Rattle.lists.proofs.From.{map-below-suc}
 use Rattle.lists.proofs.Tests.{and-fst}
 use Rattle.definition.specs.Tree as tree
 use Rattle.definition.specs.Levels.{auto, fixed}
-use Rattle.formats.specs.Bytes.{marked, whole, markSize, floatSize, floatAt, valueAt}
+use Rattle.formats.specs.Bytes.{markedBy, whole, markSize, floatSize, floatAt, valueAt}
 use Rattle.formats.specs.Stream.{policyFrom, settingsSize, dimensionField, settingsIn, pointMark, pointSize, coordinatesAt, job, broken, brokenAt, tooLarge, streamPoints, streamNeighbours, readPoints, held, jobIn}
-use Rattle.stream_laws.proofs.Stream.{length-coordinates, points-end, points-cut, points-full, points-more}
+use Rattle.stream_laws.proofs.Stream.{length-coordinates, stream-end, stream-cut, stream-full, stream-more}
 use Rattle.stream_reader.proofs.Whole.{settingsWhole}
 
 -- ---- one point
@@ -53,12 +53,12 @@ module _ (at : ℕ) (bs : List ℕ) where
 pub point-short : (d at : ℕ) (bs : List ℕ) → length bs - at < pointSize d → false ≡ whole pointMark (pointSize d) (drop at bs)
 point-short d at bs h = rw (length-drop at bs, lt-leb (pointSize d) (length bs - at) h)
 
-pub point-there : (d at : ℕ) (bs : List ℕ) (b : Bool) → pointSize d ≤ length bs - at → b ≡ marked pointMark (drop at bs) → b ≡ whole pointMark (pointSize d) (drop at bs)
+pub point-there : (d at : ℕ) (bs : List ℕ) (b : Bool) → pointSize d ≤ length bs - at → b ≡ markedBy pointMark (drop at bs) → b ≡ whole pointMark (pointSize d) (drop at bs)
 point-there d at bs b h e = rw (length-drop at bs, le-leb (pointSize d) (length bs - at) h) e
 
 pub point-room : (d at : ℕ) (bs : List ℕ) → at < length bs → whole pointMark (pointSize d) (drop at bs) ≡ true → at + pointSize d ≤ length bs
 point-room d at bs h e =
-    omega (arith, leb-true (pointSize d) (length (drop at bs)) (and-fst (leb (pointSize d) (length (drop at bs))) (marked pointMark (drop at bs)) e), length-drop at bs)
+    omega (arith, leb-true (pointSize d) (length (drop at bs)) (and-fst (leb (pointSize d) (length (drop at bs))) (markedBy pointMark (drop at bs)) e), length-drop at bs)
 
 -- ---- the settings
 pub whole-long : (bs : List ℕ) → settingsWhole bs ≡ true → settingsSize ≤ length bs
@@ -118,21 +118,21 @@ module _ {s : tree.Settings} {bs : List ℕ} {cs : List Float} {at n : ℕ} (r :
   left : at < length bs → 0 < length (drop at bs)
   left h = omega (arith, length-drop at bs)
 
-  pub cut : at < length bs → whole pointMark (pointSize (s .dimension)) (drop at bs) ≡ false → brokenAt at ≡ jobIn bs
+  pub reading-cut : at < length bs → whole pointMark (pointSize (s .dimension)) (drop at bs) ≡ false → brokenAt at ≡ jobIn bs
   unfolding held
-  cut h e = sym (r .same ∙ ap held (points-cut s (drop at bs) (take (n * s .dimension) cs) (streamPoints - n) at (left h) e))
+  reading-cut h e = sym (r .same ∙ ap held (stream-cut s (drop at bs) (take (n * s .dimension) cs) (streamPoints - n) at (left h) e))
 
-  pub full : at < length bs → whole pointMark (pointSize (s .dimension)) (drop at bs) ≡ true → n ≡ streamPoints → tooLarge ≡ jobIn bs
+  pub reading-full : at < length bs → whole pointMark (pointSize (s .dimension)) (drop at bs) ≡ true → n ≡ streamPoints → tooLarge ≡ jobIn bs
   unfolding held
-  full h e f =
+  reading-full h e f =
       let z : streamPoints - n ≡ 0 = omega arith in
       sym (r .same ∙ ap (λ (k : ℕ). held (readPoints s k at (drop at bs) (take (n * s .dimension) cs))) z ∙ ap held
-      (points-full s (drop at bs) (take (n * s .dimension) cs) at (left h) e))
+      (stream-full s (drop at bs) (take (n * s .dimension) cs) at (left h) e))
 
-  pub more : at < length bs → whole pointMark (pointSize (s .dimension)) (drop at bs) ≡ true → (n ≡ streamPoints → ⊥) → (ds : List Float)
+  pub reading-more : at < length bs → whole pointMark (pointSize (s .dimension)) (drop at bs) ≡ true → (n ≡ streamPoints → ⊥) → (ds : List Float)
       → ds ≡ put cs (n * s .dimension) (coordinatesAt (s .dimension) markSize (drop at bs))
       → length ds ≡ length cs → Reading s bs ds (at + pointSize (s .dimension)) (n + 1)
-  more h e f ds p l =
+  reading-more h e f ds p l =
       let d = s .dimension in
       let size = pointSize d in
       let k = n * d in
@@ -149,7 +149,7 @@ module _ {s : tree.Settings} {bs : List ℕ} {cs : List Float} {at n : ℕ} (r :
         same =
             r .same
             ∙ ap (λ (i : ℕ). held (readPoints s i at (drop at bs) (take k cs))) z
-            ∙ ap held (points-more s (drop at bs) (take k cs) (streamPoints - (n + 1)) at (left h) e)
+            ∙ ap held (stream-more s (drop at bs) (take k cs) (streamPoints - (n + 1)) at (left h) e)
             ∙ ap (λ (q : List ℕ). held (readPoints s (streamPoints - (n + 1)) (at + size) q (take k cs ++ x))) (drop-drop size at bs)
             ∙ ap (λ (q : List Float). held (readPoints s (streamPoints - (n + 1)) (at + size) (drop (at + size) bs) q)) (sym c);
       }
@@ -158,15 +158,15 @@ module _ {s : tree.Settings} {bs : List ℕ} {cs : List Float} {at n : ℕ} (r :
       m′ m = omega arith
 
   ended : length bs ≤ at → jobIn bs ≡ held (job s (take (n * s .dimension) cs))
-  ended h = r .same ∙ ap held (points-end s (drop at bs) (take (n * s .dimension) cs) (streamPoints - n) at (omega (arith, length-drop at bs)))
+  ended h = r .same ∙ ap held (stream-end s (drop at bs) (take (n * s .dimension) cs) (streamPoints - n) at (omega (arith, length-drop at bs)))
 
-  pub neighbours-over : length bs ≤ at → streamNeighbours < s .neighbours → tooLarge ≡ jobIn bs
+  pub reading-over : length bs ≤ at → streamNeighbours < s .neighbours → tooLarge ≡ jobIn bs
   unfolding held
-  neighbours-over h g = sym (ended h ∙ rw (lt-ltb streamNeighbours (s .neighbours) g))
+  reading-over h g = sym (ended h ∙ rw (lt-ltb streamNeighbours (s .neighbours) g))
 
-  pub job-done : length bs ≤ at → s .neighbours ≤ streamNeighbours → job s (take (n * s .dimension) cs) ≡ jobIn bs
+  pub reading-done : length bs ≤ at → s .neighbours ≤ streamNeighbours → job s (take (n * s .dimension) cs) ≡ jobIn bs
   unfolding held
-  job-done h g = sym (ended h ∙ rw (le-ltb streamNeighbours (s .neighbours) g))
+  reading-done h g = sym (ended h ∙ rw (le-ltb streamNeighbours (s .neighbours) g))
 
 -- ---- the policy
 pub policy-auto : (p c : ℕ) → p ≡ 0 → auto ≡ policyFrom p c

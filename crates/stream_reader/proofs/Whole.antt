@@ -6,7 +6,7 @@ use mathlib.Core.List.{List}
 use lib.ListN.{length}
 use lib.Dec.{eqb}
 use borrow.Author.Tests.{le-leb, lt-leb, eq-eqb, ne-eqb}
-use Rattle.formats.specs.Bytes.{marked, whole, valueAt}
+use Rattle.formats.specs.Bytes.{markedBy, whole, valueAt}
 use Rattle.formats.specs.Stream.{settingsMark, settingsSize, policyField, thresholdField, policyFits}
 
 -- it is whole, and its policy is one of the two
@@ -19,11 +19,11 @@ module _ (bs : List ℕ) where
   whole-short h = rw (lt-leb settingsSize (length bs) h)
 
   module _ (h : settingsSize ≤ length bs) where
-    pub whole-mark : marked settingsMark bs ≡ false → false ≡ settingsWhole bs
+    pub whole-mark : markedBy settingsMark bs ≡ false → false ≡ settingsWhole bs
     unfolding policyFits
     whole-mark m = rw (le-leb settingsSize (length bs) h, m)
 
-    module _ (m : marked settingsMark bs ≡ true) (p : ℕ) (e : p ≡ valueAt policyField bs) where
+    module _ (m : markedBy settingsMark bs ≡ true) (p : ℕ) (e : p ≡ valueAt policyField bs) where
       pub whole-fixed : p ≡ 1 → true ≡ settingsWhole bs
       unfolding policyFits
       whole-fixed g = rw (le-leb settingsSize (length bs) h, m, eq-eqb (valueAt policyField bs) 1 (sym e ∙ g))

@@ -1,5 +1,5 @@
 -- The reader's answers as the definition has them. Definitions only.
-use Prim.Native.Nat.{ℕ, _*_, _≤_}
+use Prim.Native.Nat.{_*_, _≤_}
 use mathlib.Core.List.{List}
 use lib.ListN.{take}
 use lib.Ieee.{Float}

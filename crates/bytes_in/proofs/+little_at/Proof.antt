@@ -1,6 +1,6 @@
 -- `bytes_in::little_at` meets its contract. Assumes nothing.
 use lib.ListN.{getD}
-use Rattle.bytes_in.proofs.Bytes.{none-read, more-read, word}
+use Rattle.bytes_in.proofs.Bytes.{none-read, more-read, eight-bytes}
 use native.Mathlib.Omega.{arith}
 use borrow.Author.Needs.{needs}
 use Prim.Native.Nat.{ℕ, _<_}
@@ -70,7 +70,7 @@ little-at-mul-result t c =
     let a = start .args in
     let b : getD (a .input .now) (a .at) 0 < 256 = omega (arith, c .before .shared-slice-known2 .given (a .at)) in
     let w = more-read (a .k) (a .at) (c .little-at .result) (a .input .now) (c .before .before .if1 .left) (omega arith) b (c .little-at .ensures) in
-    omega (arith, w .1, word (a .k) (start .pre .1 .0))
+    omega (arith, w .1, eight-bytes (a .k) (start .pre .1 .0))
 
 little-at-add-result :
     (t : ℕ) →
@@ -83,7 +83,7 @@ little-at-add-result t c =
     let a = start .args in
     let b : getD (a .input .now) (a .at) 0 < 256 = omega (arith, c .before .shared-slice-known2 .given (a .at)) in
     let w = more-read (a .k) (a .at) (c .little-at .result) (a .input .now) (c .before .before .if1 .left) (omega arith) b (c .little-at .ensures) in
-    omega (arith, w .1, word (a .k) (start .pre .1 .0))
+    omega (arith, w .1, eight-bytes (a .k) (start .pre .1 .0))
 
 little-at-returns-2 :
     (t : ℕ) →

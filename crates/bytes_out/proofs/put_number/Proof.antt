@@ -6,12 +6,12 @@ use native.Mathlib.Omega.{arith}
 use lib.ListN.{length, length-set}
 use Rattle.lists.specs.Lists.{put}
 use Rattle.formats.specs.Bytes.{bytesOf}
-use Rattle.bytes_out.proofs.Bytes.{Taken, taken-none, taken-more, none-stored, byte-stored}
+use Rattle.bytes_out.proofs.Bytes.{BytesTaken, taken-none, taken-more, none-stored, byte-stored}
 use Rattle.bytes_out.proofs.put_number.Statement.{statement}
 use Rattle.bytes_out.proofs.put_number.Tie as tie
 
 abbrev Inv-loop : tie.InvT-loop
-Inv-loop k n out₀ at rest₀ i₀ out rest i = (i ≤ k) × (length out ≡ length out₀) × (out ≡ put out₀ at (bytesOf i n)) × Taken n i rest
+Inv-loop k n out₀ at rest₀ i₀ out rest i = (i ≤ k) × (length out ≡ length out₀) × (out ≡ put out₀ at (bytesOf i n)) × BytesTaken n i rest
 
 abbrev μ-loop : tie.MeasureT-loop
 μ-loop k n out₀ at rest₀ i₀ out rest i = k - i

@@ -1,5 +1,4 @@
 -- `ddm_tree::print_bytes` meets its contract. Assumes nothing.
-use mathlib.Core.Path.{_≡_}
 use Rattle.ddm_tree.proofs.Fronts.{text-fits, text-printed}
 use borrow.Author.Needs.{needs}
 use Rattle.ddm_tree.proofs.print_bytes.Statement.{statement}

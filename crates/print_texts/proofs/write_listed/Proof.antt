@@ -1,7 +1,7 @@
 -- `print_texts::write_listed` meets its contract. Assumes nothing.
 use mathlib.Core.List.{[], _∷_}
 use Rattle.formats.specs.Printout.{rowsText}
-use Rattle.print_texts.proofs.Writing.{begin, next, written, finish, two}
+use Rattle.print_texts.proofs.Writing.{begin, text-room, text-added, finish, two-texts}
 use borrow.Author.Needs.{needs}
 use Rattle.print_texts.proofs.write_listed.Statement.{statement}
 use Rattle.print_texts.proofs.write_listed.Tie as tie
@@ -9,17 +9,17 @@ use Rattle.print_texts.proofs.write_listed.Tie as tie
 write-text-requires : tie.Need-write-text-requires
 write-text-requires c κs =
     let start = c .before .before .before .before in
-    let e = two (start .args .label .now) (rowsText (start .args .rows .now)) in
+    let e = two-texts (start .args .label .now) (rowsText (start .args .rows .now)) in
     let w0 = begin (start .args .label .now ∷ rowsText (start .args .rows .now) ∷ []) e (start .pre) in
-    next w0 tt
+    text-room w0 tt
 
 write-rows-requires : tie.Need-write-rows-requires
 write-rows-requires c κs =
     let start = c .before .before .before .before .before .before .before .before in
-    let e = two (start .args .label .now) (rowsText (start .args .rows .now)) in
+    let e = two-texts (start .args .label .now) (rowsText (start .args .rows .now)) in
     let w0 = begin (start .args .label .now ∷ rowsText (start .args .rows .now) ∷ []) e (start .pre) in
-    let w1 = written w0 tt (c .before .before .before .write-text .ensures) in
-    next w1 tt
+    let w1 = text-added w0 tt (c .before .before .before .write-text .ensures) in
+    text-room w1 tt
 
 same-length : tie.Need-same-length
 same-length c = search needs
@@ -27,10 +27,10 @@ same-length c = search needs
 returns : tie.Need-returns
 returns c =
     let start = c .before .before .before .before .before .before .before .before .before .before .before in
-    let e = two (start .args .label .now) (rowsText (start .args .rows .now)) in
+    let e = two-texts (start .args .label .now) (rowsText (start .args .rows .now)) in
     let w0 = begin (start .args .label .now ∷ rowsText (start .args .rows .now) ∷ []) e (start .pre) in
-    let w1 = written w0 tt (c .before .before .before .before .before .before .write-text .ensures) in
-    let w2 = written w1 tt (c .before .before .write-rows .ensures) in
+    let w1 = text-added w0 tt (c .before .before .before .before .before .before .write-text .ensures) in
+    let w2 = text-added w1 tt (c .before .before .write-rows .ensures) in
     finish (start .args .label .now ∷ rowsText (start .args .rows .now) ∷ []) e w2
 
 pub write-listed-spec : {M : Type 1} → statement M

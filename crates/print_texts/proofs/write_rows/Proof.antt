@@ -1,5 +1,5 @@
 -- `print_texts::write_rows` meets its contract. Assumes nothing.
-use Rattle.print_texts.proofs.Each.{rowText, rows-dash, rows-some, each-none, each-all, each-more, more-room}
+use Rattle.print_texts.proofs.Each.{rowText, rows-dash, rows-listed, each-none, each-all, each-more, more-room}
 use Rattle.print_texts.proofs.Texts.{spelt, room-spelt, wrote-none}
 use Rattle.print_texts.specs.Wrote.{Wrote}
 use Rattle.lists.specs.Lists.{joined}
@@ -41,7 +41,7 @@ shared-slice-read-write-row c = search needs
 write-row-requires : tie.Need-write-row-requires Inv-loop μ-loop
 write-row-requires c κs =
     more-room rowText _
-    (room-spelt (rows-some _ (c .before .before .before .before .if1 .left)) (c .before .before .before .before .before .before .before .pre)) _ 0
+    (room-spelt (rows-listed _ (c .before .before .before .before .if1 .left)) (c .before .before .before .before .before .before .before .pre)) _ 0
     (c .before .before .loop-test .taken) (c .before .before .before .loop .inv .0)
 
 add-i : tie.Need-add-i Inv-loop μ-loop
@@ -52,7 +52,7 @@ loop-less c = search needs
 
 loop-again : tie.Need-loop-again Inv-loop μ-loop
 loop-again c = (
-  each-more rowText _ (room-spelt (rows-some _ (c .before .before .before .before .before .before .before .if1 .left))
+  each-more rowText _ (room-spelt (rows-listed _ (c .before .before .before .before .before .before .before .if1 .left))
       (c .before .before .before .before .before .before .before .before .before .before .pre)) _ 0 (c .before .before .before .before .before
       .loop-test .taken) (c .before .before .before .before .before .before .loop .inv .0) (c .before .before .write-row .ensures),
   search needs,
@@ -65,7 +65,7 @@ same-length-2 c = search needs
 
 returns-2 : tie.Need-returns-2 Inv-loop μ-loop
 returns-2 c =
-    spelt (each-all rowText _ _ (c .loop-test .left) ∙ sym (rows-some _ (c .before .before .if1 .left))) (c .before .loop .inv .0)
+    spelt (each-all rowText _ _ (c .loop-test .left) ∙ sym (rows-listed _ (c .before .before .if1 .left))) (c .before .loop .inv .0)
 
 pub write-rows-spec : {M : Type 1} → statement M
 write-rows-spec =

@@ -1,7 +1,7 @@
 -- `print_tree::write_domain` meets its contract. Assumes nothing.
 use Rattle.print_tree.specs.Unpack.{leafOf, boxPart}
 use Rattle.formats.specs.Printout.{ascii}
-use Rattle.print_texts.proofs.Writing.{begin, next, written, finish}
+use Rattle.print_texts.proofs.Writing.{begin, text-room, text-added, finish}
 use Rattle.print_tree.proofs.Lines.{domain-texts, domainTexts}
 use borrow.Author.Needs.{needs}
 use Rattle.print_tree.proofs.write_domain.Statement.{statement}
@@ -18,7 +18,7 @@ write-numbered-requires c κs =
     let f = leafOf (a .own .now) (a .borrowed .now) (a .bounds .now) in
     let box = boxPart (a .fine) (a .bounds .now) in
     let w0 = begin (domainTexts (a .i) f box) (domain-texts (a .i) f box) (start .pre) in
-    next w0 tt
+    text-room w0 tt
 
 slice-aggregate-write-listed : tie.Need-slice-aggregate-write-listed
 slice-aggregate-write-listed c = search needs
@@ -31,8 +31,8 @@ write-listed-requires c κs =
     let f = leafOf (a .own .now) (a .borrowed .now) (a .bounds .now) in
     let box = boxPart (a .fine) (a .bounds .now) in
     let w0 = begin (domainTexts (a .i) f box) (domain-texts (a .i) f box) (start .pre) in
-    let w1 = written w0 tt (c .before .before .before .before .write-numbered .ensures) in
-    next w1 tt
+    let w1 = text-added w0 tt (c .before .before .before .before .write-numbered .ensures) in
+    text-room w1 tt
 
 slice-aggregate-write-listed-2 : tie.Need-slice-aggregate-write-listed-2
 slice-aggregate-write-listed-2 c = search needs
@@ -45,9 +45,9 @@ write-listed-requires-2 c κs =
     let f = leafOf (a .own .now) (a .borrowed .now) (a .bounds .now) in
     let box = boxPart (a .fine) (a .bounds .now) in
     let w0 = begin (domainTexts (a .i) f box) (domain-texts (a .i) f box) (start .pre) in
-    let w1 = written w0 tt (c .before .before .before .before .before .before .before .before .before .write-numbered .ensures) in
-    let w2 = written w1 tt (c .before .before .before .before .write-listed .ensures) in
-    next w2 tt
+    let w1 = text-added w0 tt (c .before .before .before .before .before .before .before .before .before .write-numbered .ensures) in
+    let w2 = text-added w1 tt (c .before .before .before .before .write-listed .ensures) in
+    text-room w2 tt
 
 slice-aggregate-write-text : tie.Need-slice-aggregate-write-text
 slice-aggregate-write-text c = search needs
@@ -60,10 +60,10 @@ write-text-requires c κs =
     let f = leafOf (a .own .now) (a .borrowed .now) (a .bounds .now) in
     let box = boxPart (a .fine) (a .bounds .now) in
     let w0 = begin (domainTexts (a .i) f box) (domain-texts (a .i) f box) (start .pre) in
-    let w1 = written w0 tt (c .before .before .before .before .before .before .before .before .before .before .before .before .before .before .write-numbered .ensures) in
-    let w2 = written w1 tt (c .before .before .before .before .before .before .before .before .before .write-listed .ensures) in
-    let w3 = written w2 tt (c .before .before .before .before .write-listed2 .ensures) in
-    next w3 tt
+    let w1 = text-added w0 tt (c .before .before .before .before .before .before .before .before .before .before .before .before .before .before .write-numbered .ensures) in
+    let w2 = text-added w1 tt (c .before .before .before .before .before .before .before .before .before .write-listed .ensures) in
+    let w3 = text-added w2 tt (c .before .before .before .before .write-listed2 .ensures) in
+    text-room w3 tt
 
 write-box-requires : tie.Need-write-box-requires
 unfolding ascii
@@ -73,12 +73,12 @@ write-box-requires c κs =
     let f = leafOf (a .own .now) (a .borrowed .now) (a .bounds .now) in
     let box = boxPart (a .fine) (a .bounds .now) in
     let w0 = begin (domainTexts (a .i) f box) (domain-texts (a .i) f box) (start .pre) in
-    let w1 = written w0 tt (c .before .before .before .before .before .before .before .before .before .before .before .before .before .before .before
+    let w1 = text-added w0 tt (c .before .before .before .before .before .before .before .before .before .before .before .before .before .before .before
     .before .before .before .write-numbered .ensures) in
-    let w2 = written w1 tt (c .before .before .before .before .before .before .before .before .before .before .before .before .before .write-listed .ensures) in
-    let w3 = written w2 tt (c .before .before .before .before .before .before .before .before .write-listed2 .ensures) in
-    let w4 = written w3 tt (c .before .before .before .write-text .ensures) in
-    next w4 tt
+    let w2 = text-added w1 tt (c .before .before .before .before .before .before .before .before .before .before .before .before .before .write-listed .ensures) in
+    let w3 = text-added w2 tt (c .before .before .before .before .before .before .before .before .write-listed2 .ensures) in
+    let w4 = text-added w3 tt (c .before .before .before .write-text .ensures) in
+    text-room w4 tt
 
 write-byte-requires : tie.Need-write-byte-requires
 unfolding ascii
@@ -88,14 +88,14 @@ write-byte-requires c κs =
     let f = leafOf (a .own .now) (a .borrowed .now) (a .bounds .now) in
     let box = boxPart (a .fine) (a .bounds .now) in
     let w0 = begin (domainTexts (a .i) f box) (domain-texts (a .i) f box) (start .pre) in
-    let w1 = written w0 tt (c .before .before .before .before .before .before .before .before .before .before .before .before .before .before .before
+    let w1 = text-added w0 tt (c .before .before .before .before .before .before .before .before .before .before .before .before .before .before .before
     .before .before .before .before .before .before .before .write-numbered .ensures) in
-    let w2 = written w1 tt (c .before .before .before .before .before .before .before .before .before .before .before .before .before .before .before
+    let w2 = text-added w1 tt (c .before .before .before .before .before .before .before .before .before .before .before .before .before .before .before
     .before .before .write-listed .ensures) in
-    let w3 = written w2 tt (c .before .before .before .before .before .before .before .before .before .before .before .before .write-listed2 .ensures) in
-    let w4 = written w3 tt (c .before .before .before .before .before .before .before .write-text .ensures) in
-    let w5 = written w4 tt (c .before .before .before .write-box .ensures) in
-    next w5 tt
+    let w3 = text-added w2 tt (c .before .before .before .before .before .before .before .before .before .before .before .before .write-listed2 .ensures) in
+    let w4 = text-added w3 tt (c .before .before .before .before .before .before .before .write-text .ensures) in
+    let w5 = text-added w4 tt (c .before .before .before .write-box .ensures) in
+    text-room w5 tt
 
 same-length : tie.Need-same-length
 same-length c = search needs
@@ -108,15 +108,15 @@ returns c =
     let f = leafOf (a .own .now) (a .borrowed .now) (a .bounds .now) in
     let box = boxPart (a .fine) (a .bounds .now) in
     let w0 = begin (domainTexts (a .i) f box) (domain-texts (a .i) f box) (start .pre) in
-    let w1 = written w0 tt (c .before .before .before .before .before .before .before .before .before .before .before .before .before .before .before
+    let w1 = text-added w0 tt (c .before .before .before .before .before .before .before .before .before .before .before .before .before .before .before
     .before .before .before .before .before .before .before .before .before .before .write-numbered .ensures) in
-    let w2 = written w1 tt (c .before .before .before .before .before .before .before .before .before .before .before .before .before .before .before
+    let w2 = text-added w1 tt (c .before .before .before .before .before .before .before .before .before .before .before .before .before .before .before
     .before .before .before .before .before .write-listed .ensures) in
-    let w3 = written w2 tt (c .before .before .before .before .before .before .before .before .before .before .before .before .before .before .before
+    let w3 = text-added w2 tt (c .before .before .before .before .before .before .before .before .before .before .before .before .before .before .before
     .write-listed2 .ensures) in
-    let w4 = written w3 tt (c .before .before .before .before .before .before .before .before .before .before .write-text .ensures) in
-    let w5 = written w4 tt (c .before .before .before .before .before .before .write-box .ensures) in
-    let w6 = written w5 tt (c .before .before .write-byte .ensures) in
+    let w4 = text-added w3 tt (c .before .before .before .before .before .before .before .before .before .before .write-text .ensures) in
+    let w5 = text-added w4 tt (c .before .before .before .before .before .before .write-box .ensures) in
+    let w6 = text-added w5 tt (c .before .before .write-byte .ensures) in
     finish (domainTexts (a .i) f box) (domain-texts (a .i) f box) w6
 
 pub write-domain-spec : {M : Type 1} → statement M

@@ -2,7 +2,7 @@
 use Rattle.packed.specs.Reading.{packed, levelsAt}
 use Rattle.print_tree.proofs.Levels.{how-many}
 use Rattle.formats.specs.Printout.{ascii}
-use Rattle.print_texts.proofs.Writing.{begin, next, written, finish}
+use Rattle.print_texts.proofs.Writing.{begin, text-room, text-added, finish}
 use Rattle.print_tree.proofs.Lines.{tree-texts, treeTexts}
 use borrow.Author.Needs.{needs}
 use Rattle.print_tree.proofs.write_tree.Statement.{statement}
@@ -20,7 +20,7 @@ write-numbered-requires c κs =
     let ls = levelsAt p (a .points .now) (a .rows .now) (a .counts .now) (a .levels) in
     let e = tree-texts (a .levels) ls (how-many p (a .points .now) (a .rows .now) (a .counts .now) (a .levels)) in
     let w0 = begin (treeTexts (a .levels) ls) e (start .pre .1) in
-    next w0 tt
+    text-room w0 tt
 
 write-byte-requires : tie.Need-write-byte-requires
 unfolding ascii
@@ -31,8 +31,8 @@ write-byte-requires c κs =
     let ls = levelsAt p (a .points .now) (a .rows .now) (a .counts .now) (a .levels) in
     let e = tree-texts (a .levels) ls (how-many p (a .points .now) (a .rows .now) (a .counts .now) (a .levels)) in
     let w0 = begin (treeTexts (a .levels) ls) e (start .pre .1) in
-    let w1 = written w0 tt (c .before .before .before .write-numbered .ensures) in
-    next w1 tt
+    let w1 = text-added w0 tt (c .before .before .before .write-numbered .ensures) in
+    text-room w1 tt
 
 write-levels-requires : tie.Need-write-levels-requires
 unfolding ascii
@@ -43,9 +43,9 @@ write-levels-requires c κs =
     let ls = levelsAt p (a .points .now) (a .rows .now) (a .counts .now) (a .levels) in
     let e = tree-texts (a .levels) ls (how-many p (a .points .now) (a .rows .now) (a .counts .now) (a .levels)) in
     let w0 = begin (treeTexts (a .levels) ls) e (start .pre .1) in
-    let w1 = written w0 tt (c .before .before .before .before .before .before .before .write-numbered .ensures) in
-    let w2 = written w1 tt (c .before .before .before .write-byte .ensures) in
-    (start .pre .0, next w2 tt)
+    let w1 = text-added w0 tt (c .before .before .before .before .before .before .before .write-numbered .ensures) in
+    let w2 = text-added w1 tt (c .before .before .before .write-byte .ensures) in
+    (start .pre .0, text-room w2 tt)
 
 same-length : tie.Need-same-length
 same-length c = search needs
@@ -59,9 +59,9 @@ returns c =
     let ls = levelsAt p (a .points .now) (a .rows .now) (a .counts .now) (a .levels) in
     let e = tree-texts (a .levels) ls (how-many p (a .points .now) (a .rows .now) (a .counts .now) (a .levels)) in
     let w0 = begin (treeTexts (a .levels) ls) e (start .pre .1) in
-    let w1 = written w0 tt (c .before .before .before .before .before .before .before .before .before .before .write-numbered .ensures) in
-    let w2 = written w1 tt (c .before .before .before .before .before .before .write-byte .ensures) in
-    let w3 = written w2 tt (c .before .before .write-levels .ensures) in
+    let w1 = text-added w0 tt (c .before .before .before .before .before .before .before .before .before .before .write-numbered .ensures) in
+    let w2 = text-added w1 tt (c .before .before .before .before .before .before .write-byte .ensures) in
+    let w3 = text-added w2 tt (c .before .before .write-levels .ensures) in
     finish (treeTexts (a .levels) ls) e w3
 
 pub write-tree-spec : {M : Type 1} → statement M

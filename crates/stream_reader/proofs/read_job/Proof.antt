@@ -1,5 +1,5 @@
 -- `stream_reader::read_job` meets its contract. Assumes nothing.
-use Rattle.stream_reader.proofs.Records.{Reading, job-broken, whole-long, job-low, job-high, begun, cut, full, spot, point-room, more, neighbours-over, job-done}
+use Rattle.stream_reader.proofs.Records.{Reading, job-broken, whole-long, job-low, job-high, begun, reading-cut, reading-full, spot, point-room, reading-more, reading-over, reading-done}
 use Rattle.stream_reader.specs.Reading.{settingsAre}
 use borrow.Author.Tests.{not-true, not-false}
 use lib.ListN.{length}
@@ -58,7 +58,7 @@ same-length c = search needs
 
 returns-4 : tie.Need-returns-4 Inv-loop μ-loop
 returns-4 c = (
-  cut (c .before .before .before .loop .inv .0) (c .before .before .loop-test .taken)
+  reading-cut (c .before .before .before .loop .inv .0) (c .before .before .loop-test .taken)
       (sym (c .before .point-whole .ensures) ∙ not-true _ (c .if4 .taken)),
   tt,
 )
@@ -68,7 +68,7 @@ same-length-2 c = search needs
 
 returns-5 : tie.Need-returns-5 Inv-loop μ-loop
 returns-5 c = (
-  full (c .before .before .before .before .loop .inv .0) (c .before .before .before .loop-test .taken)
+  reading-full (c .before .before .before .before .loop .inv .0) (c .before .before .before .loop-test .taken)
       (sym (c .before .before .point-whole .ensures) ∙ not-false _ (c .before .if4 .left)) (c .if5 .taken),
   tt,
 )
@@ -120,7 +120,7 @@ loop-less c = omega (arith, c .before .before .before .before .before .before .b
 
 loop-again : tie.Need-loop-again Inv-loop μ-loop
 loop-again c = (
-  more (c .before .before .before .before .before .before .before .before .loop .inv .0) (c .before .before .before .before .before .before .before
+  reading-more (c .before .before .before .before .before .before .before .before .loop .inv .0) (c .before .before .before .before .before .before .before
       .loop-test .taken) (sym (c .before .before .before .before .before .before .point-whole .ensures) ∙ not-false _
       (c .before .before .before .before .before .if4 .left)) (c .before .before .before .before .if5 .left) _ (c .before .before .read-point .ensures)
       (search needs),
@@ -131,13 +131,13 @@ same-length-3 : tie.Need-same-length-3 Inv-loop μ-loop
 same-length-3 c = search needs
 
 returns-6 : tie.Need-returns-6 Inv-loop μ-loop
-returns-6 c = (neighbours-over (c .before .before .loop .inv .0) (c .before .loop-test .left) (c .if6 .taken), tt)
+returns-6 c = (reading-over (c .before .before .loop .inv .0) (c .before .loop-test .left) (c .if6 .taken), tt)
 
 same-length-4 : tie.Need-same-length-4 Inv-loop μ-loop
 same-length-4 c = search needs
 
 returns-7 : tie.Need-returns-7 Inv-loop μ-loop
-returns-7 c = (job-done (c .before .before .loop .inv .0) (c .before .loop-test .left) (c .if6 .left), c .before .before .loop .inv .0 .few)
+returns-7 c = (reading-done (c .before .before .loop .inv .0) (c .before .loop-test .left) (c .if6 .left), c .before .before .loop .inv .0 .few)
 
 pub read-job-spec : {M : Type 1} → statement M
 read-job-spec =

@@ -6,7 +6,6 @@ use Rattle.lists.specs.Lists.{put}
 use lib.ListN.{length, drop, length-set}
 use Prim.Native.Nat.{_-_, _≤_}
 use mathlib.Core.Path.{_≡_}
-use native.Mathlib.Omega.{arith}
 use borrow.Author.Needs.{needs}
 use Rattle.stream_reader.proofs.read_point.Statement.{statement}
 use Rattle.stream_reader.proofs.read_point.Tie as tie
