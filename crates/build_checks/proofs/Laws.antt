@@ -16,7 +16,7 @@ use Rattle.definition.specs.Levels.{threshold, reductions}
 use Rattle.definition.specs.Tree.{Settings, pointCount}
 use Rattle.definition.specs.Packed.{BuildSizes, buildStated}
 use Rattle.definition.specs.Refusals.{Test, Verdict, accepted, refused, on, verdict, mostPoints, mostNeighbours, zeroThreshold, firstBad, notFinite, coordinatesMissing, settingsTests, pointsTests, buildTests, buildVerdict, buildShort}
-use Rattle.build_checks.specs.Verdicts.{numberedVerdict}
+use Rattle.build_checks.specs.Verdicts.{numbered}
 
 -- ---- groups of tests
 
@@ -49,38 +49,38 @@ build-groups s cs lent =
 
 -- ---- the settings
 module _ (s : Settings) where
-  pub settings-low : s .dimension < 1 → numberedVerdict 1 ≡ verdict (settingsTests s)
+  pub settings-low : s .dimension < 1 → numbered 1 ≡ verdict (settingsTests s)
   unfolding verdict
   settings-low h = simp (lt-leb 1 (s .dimension) h)
 
-  pub settings-high : 3 < s .dimension → numberedVerdict 1 ≡ verdict (settingsTests s)
+  pub settings-high : 3 < s .dimension → numbered 1 ≡ verdict (settingsTests s)
   unfolding verdict
   settings-high h = simp (le-leb 1 (s .dimension) (omega arith), lt-leb (s .dimension) 3 h)
 
   module _ (d1 : 1 ≤ s .dimension) (d3 : s .dimension ≤ 3) where
-    pub settings-2 : s .leaf ≡ 0 → numberedVerdict 2 ≡ verdict (settingsTests s)
+    pub settings-2 : s .leaf ≡ 0 → numbered 2 ≡ verdict (settingsTests s)
     unfolding verdict
     settings-2 h = simp (le-leb 1 (s .dimension) d1, le-leb (s .dimension) 3 d3, eq-eqb (s .leaf) 0 h)
 
     module _ (l : s .leaf ≡ 0 → ⊥) where
-      pub settings-3 : s .factor < 2 → numberedVerdict 3 ≡ verdict (settingsTests s)
+      pub settings-3 : s .factor < 2 → numbered 3 ≡ verdict (settingsTests s)
       unfolding verdict
       settings-3 h = simp (le-leb 1 (s .dimension) d1, le-leb (s .dimension) 3 d3, ne-eqb (s .leaf) 0 l, lt-ltb (s .factor) 2 h)
 
       module _ (f : 2 ≤ s .factor) where
-        pub settings-4 : zeroThreshold (s .policy) ≡ true → numberedVerdict 4 ≡ verdict (settingsTests s)
+        pub settings-4 : zeroThreshold (s .policy) ≡ true → numbered 4 ≡ verdict (settingsTests s)
         unfolding verdict
         settings-4 h =
             simp (le-leb 1 (s .dimension) d1, le-leb (s .dimension) 3 d3, ne-eqb (s .leaf) 0 l, le-ltb (s .factor) 2 f, h)
 
         module _ (z : zeroThreshold (s .policy) ≡ false) where
-          pub settings-5 : mostNeighbours < s .neighbours → numberedVerdict 5 ≡ verdict (settingsTests s)
+          pub settings-5 : mostNeighbours < s .neighbours → numbered 5 ≡ verdict (settingsTests s)
           unfolding verdict
           settings-5 h =
               simp
               (le-leb 1 (s .dimension) d1, le-leb (s .dimension) 3 d3, ne-eqb (s .leaf) 0 l, le-ltb (s .factor) 2 f, z, lt-ltb mostNeighbours (s .neighbours) h)
 
-          pub settings-fine : s .neighbours ≤ mostNeighbours → numberedVerdict 0 ≡ verdict (settingsTests s)
+          pub settings-fine : s .neighbours ≤ mostNeighbours → numbered 0 ≡ verdict (settingsTests s)
           unfolding verdict
           settings-fine h =
               simp
@@ -94,12 +94,12 @@ module _ (s : Settings) (count : ℕ) where
   abbrev pub lacks : Bool
   lacks = not (eqb (count % s .dimension) 0)
 
-  pub points-6 : count ≡ 0 → 1 ≤ s .dimension → numberedVerdict 6 ≡ verdict (pointsTests s rowsGiven lacks)
+  pub points-6 : count ≡ 0 → 1 ≤ s .dimension → numbered 6 ≡ verdict (pointsTests s rowsGiven lacks)
   unfolding verdict
   points-6 h d = simp (h, zero-div, zero-mod)
 
   module _ (some : count ≡ 0 → ⊥) (d1 : 1 ≤ s .dimension) where
-    pub points-7 : (count % s .dimension ≡ 0 → ⊥) → numberedVerdict 7 ≡ verdict (pointsTests s rowsGiven lacks)
+    pub points-7 : (count % s .dimension ≡ 0 → ⊥) → numbered 7 ≡ verdict (pointsTests s rowsGiven lacks)
     unfolding verdict
     points-7 h = simp (ne-eqb (count % s .dimension) 0 h, and-false)
 
@@ -107,12 +107,12 @@ module _ (s : Settings) (count : ℕ) where
       rows-some : count / s .dimension ≡ 0 → ⊥
       rows-some e = some (sym (div-add-mod' count (s .dimension)) ∙ rw (e, whole, zero-mul))
 
-      pub points-8 : mostPoints < rowsGiven → numberedVerdict 8 ≡ verdict (pointsTests s rowsGiven lacks)
+      pub points-8 : mostPoints < rowsGiven → numbered 8 ≡ verdict (pointsTests s rowsGiven lacks)
       unfolding verdict
       points-8 h = simp (eq-eqb (count % s .dimension) 0 whole, ne-eqb (count / s .dimension) 0 rows-some, lt-ltb mostPoints (count / s .dimension) h)
 
       module _ (few : rowsGiven ≤ mostPoints) where
-        pub points-9 : threshold (s .policy) rowsGiven * s .factor ^ 3 < rowsGiven → numberedVerdict 9 ≡ verdict (pointsTests s rowsGiven lacks)
+        pub points-9 : threshold (s .policy) rowsGiven * s .factor ^ 3 < rowsGiven → numbered 9 ≡ verdict (pointsTests s rowsGiven lacks)
         unfolding verdict
         points-9 h =
             simp (
@@ -122,7 +122,7 @@ module _ (s : Settings) (count : ℕ) where
               lt-ltb (threshold (s .policy) (count / s .dimension) * s .factor ^ 3) (count / s .dimension) h,
             )
 
-        pub points-fine : rowsGiven ≤ threshold (s .policy) rowsGiven * s .factor ^ 3 → numberedVerdict 0 ≡ verdict (pointsTests s rowsGiven lacks)
+        pub points-fine : rowsGiven ≤ threshold (s .policy) rowsGiven * s .factor ^ 3 → numbered 0 ≡ verdict (pointsTests s rowsGiven lacks)
         unfolding verdict
         points-fine h =
             simp (
@@ -253,15 +253,15 @@ module _ (short : Bool) (cs : List Float) where
   last-fine h g = simp (h, bad-test 0 cs, le-ltb (firstBad 0 cs) (0 + length cs) (omega arith))
 
 -- ---- the whole verdict from what the groups came to
-stops : (k : ℕ) (v w : Verdict) → numberedVerdict k ≡ v → 0 < k → refused (record { number = k; place = 0 }) ≡ andThen v w
+stops : (k : ℕ) (v w : Verdict) → numbered k ≡ v → 0 < k → refused (record { number = k; place = 0 }) ≡ andThen v w
 stops zero v w e h = absurd (omega arith)
 stops (suc k) v w e h = ap (λ (u : Verdict). andThen u w) e
 
-module _ (s : Settings) (cs : List Float) (lent : BuildSizes) (k : ℕ) (e : numberedVerdict k ≡ verdict (settingsTests s)) where
+module _ (s : Settings) (cs : List Float) (lent : BuildSizes) (k : ℕ) (e : numbered k ≡ verdict (settingsTests s)) where
   pub refused-settings : 0 < k → refused (record { number = k; place = 0 }) ≡ buildVerdict s cs lent
   refused-settings h = stops k _ _ e h ∙ sym (build-groups s cs lent)
 
-  module _ (fine : k ≤ 0) (j : ℕ) (f : numberedVerdict j ≡ verdict (pointsTests s (pointCount (s .dimension) cs) (coordinatesMissing (s .dimension) cs))) where
+  module _ (fine : k ≤ 0) (j : ℕ) (f : numbered j ≡ verdict (pointsTests s (pointCount (s .dimension) cs) (coordinatesMissing (s .dimension) cs))) where
     settings-pass : accepted ≡ verdict (settingsTests s)
     settings-pass = let z : k ≡ 0 = omega arith in rw z at e
 

@@ -7,9 +7,9 @@ use Rattle.build_checks.specs.declared.Checked.the-variants.{Accepted, R
 use Rattle.build_checks.specs.declared.Lent.{Lent}
 
 -- a number that stands for a verdict: 0 is accepted, and another is that refusal, with no place
-abbrev pub numberedVerdict : ℕ → Verdict
-numberedVerdict zero = accepted
-numberedVerdict (suc k) = refused (record { number = suc k; place = 0 })
+abbrev pub numbered : ℕ → Verdict
+numbered zero = accepted
+numbered (suc k) = refused (record { number = suc k; place = 0 })
 
 -- the verdict that an answer stands for
 abbrev pub verdictOf : Checked → Verdict
@@ -17,8 +17,8 @@ verdictOf Accepted = accepted
 verdictOf (Refused number place) = refused (record { number = number; place = place })
 
 -- the lengths, as the definition names them
-abbrev pub lentOf : Lent → BuildSizes
-lentOf l =
+abbrev pub sizesOf : Lent → BuildSizes
+sizesOf l =
     record {
       points = l .«level_points»;
       internals = l .internals;

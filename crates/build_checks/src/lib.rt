@@ -5,8 +5,8 @@ ghost use Prim.Native.Nat.{_/_, _%_, _≤_};
 ghost use lib.Dec.{eqb};
 ghost use Rattle.definition.specs.Packed.{buildStated};
 ghost use Rattle.definition.specs.Refusals.{verdict, settingsTests, pointsTests, zeroThreshold, buildShort, buildVerdict};
-ghost use Rattle.config.specs.Params.{thresholdPolicy, settingsOf};
-ghost use Rattle.build_checks.specs.Verdicts.{numberedVerdict, verdictOf, lentOf};
+ghost use Rattle.config.specs.Params.{policyOf, settingsOf};
+ghost use Rattle.build_checks.specs.Verdicts.{numbered, verdictOf, sizesOf};
 use config::DDMParams;
 use config::SizePolicy;
 
@@ -35,7 +35,7 @@ pub struct Lent {
 
 // Whether the coarse threshold is fixed at 0.
 fn zero_threshold(policy: SizePolicy) -> bool
-    ensures { λ r. ⌜ r ≡ zeroThreshold (thresholdPolicy policy) ⌝ }
+    ensures { λ r. ⌜ r ≡ zeroThreshold (policyOf policy) ⌝ }
 {
     match policy {
         SizePolicy::Auto => false,
@@ -45,7 +45,7 @@ fn zero_threshold(policy: SizePolicy) -> bool
 
 // The settings: the number of the first of 1 to 5 whose condition is met, or 0.
 fn settings_fault(dimensions: usize, params: DDMParams) -> usize
-    ensures number { λ r. ⌜ numberedVerdict r ≡ verdict (settingsTests (settingsOf dimensions params)) ⌝ }
+    ensures number { λ r. ⌜ numbered r ≡ verdict (settingsTests (settingsOf dimensions params)) ⌝ }
     ensures fine { λ r. ⌜ (r ≡ 0 → (1 ≤ dimensions) × (dimensions ≤ 3) × (2 ≤ params .«coarse_reduction_factor») × (params .«overlap_knn» ≤ 64)) ⌝ }
 {
     if dimensions < 1 {
@@ -73,7 +73,7 @@ fn settings_fault(dimensions: usize, params: DDMParams) -> usize
 // The points, of `count` coordinates: the number of the first of 6 to 9 whose condition is met, or 0.
 fn points_fault(count: usize, dimensions: usize, params: DDMParams) -> usize
     requires { ⌜ (1 ≤ dimensions) × (2 ≤ params .«coarse_reduction_factor») ⌝ }
-    ensures number { λ r. ⌜ numberedVerdict r ≡ verdict (pointsTests (settingsOf dimensions params) (count / dimensions) (not (eqb (count % dimensions) 0))) ⌝ }
+    ensures number { λ r. ⌜ numbered r ≡ verdict (pointsTests (settingsOf dimensions params) (count / dimensions) (not (eqb (count % dimensions) 0))) ⌝ }
     ensures fine { λ r. ⌜ (r ≡ 0 → count / dimensions ≤ 1048576) ⌝ }
 {
     if count == 0 {
@@ -97,7 +97,7 @@ fn points_fault(count: usize, dimensions: usize, params: DDMParams) -> usize
 // Whether one of the lists is shorter than n points on `dimensions` axes with this neighbour count ask for.
 fn is_short(lent: Lent, dimensions: usize, n: usize, neighbours: usize) -> bool
     requires { ⌜ (dimensions ≤ 3) × (n ≤ 1048576) × (neighbours ≤ 64) ⌝ }
-    ensures { λ r. ⌜ r ≡ buildShort (lentOf lent) (buildStated dimensions n neighbours) ⌝ }
+    ensures { λ r. ⌜ r ≡ buildShort (sizesOf lent) (buildStated dimensions n neighbours) ⌝ }
 {
     let rows = 6 * n + 1;
     let taken = neighbours + 1;
@@ -124,7 +124,7 @@ fn is_short(lent: Lent, dimensions: usize, n: usize, neighbours: usize) -> bool
 
 // The tests of a build over all points, with lists of these lengths.
 pub fn check_build(points: &[f64], dimensions: usize, params: DDMParams, lent: Lent) -> Checked
-    ensures { λ r. ⌜ verdictOf r ≡ buildVerdict (settingsOf dimensions params) (now (points .entry)) (lentOf lent) ⌝ }
+    ensures { λ r. ⌜ verdictOf r ≡ buildVerdict (settingsOf dimensions params) (now (points .entry)) (sizesOf lent) ⌝ }
 {
     let settings = settings_fault(dimensions, params);
     if 0 < settings {

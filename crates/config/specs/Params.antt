@@ -7,9 +7,9 @@ use Rattle.config.specs.declared.SizePolicy.the-variants.{Auto, Fixed}
 use Rattle.config.specs.declared.DDMParams.{DDMParams}
 
 -- the policy of the coarse threshold
-abbrev pub thresholdPolicy : SizePolicy → Policy
-thresholdPolicy Auto = auto
-thresholdPolicy (Fixed c) = fixed c
+abbrev pub policyOf : SizePolicy → Policy
+policyOf Auto = auto
+policyOf (Fixed c) = fixed c
 
 -- the settings of a build on d axes
 abbrev pub settingsOf : ℕ → DDMParams → Settings
@@ -19,5 +19,5 @@ settingsOf d p =
       leaf = p .«leaf_threshold»;
       neighbours = p .«overlap_knn»;
       factor = p .«coarse_reduction_factor»;
-      policy = thresholdPolicy (p .«coarse_threshold»);
+      policy = policyOf (p .«coarse_threshold»);
     }

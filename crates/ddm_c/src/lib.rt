@@ -10,8 +10,8 @@ ghost use Rattle.definition.specs.Outcome.{numberOf, RoomAfter, rootAnswer, siz
 ghost use Rattle.root.specs.Answers as numbers-answers;
 ghost use Rattle.level_sizes.specs.Answers.{sizeReport};
 ghost use Rattle.quotas.specs.Answers.{quotaReport};
-ghost use Rattle.sampling.specs.Answers.{sampleReport};
-ghost use Rattle.config.specs.Params.{thresholdPolicy};
+ghost use Rattle.sampling.specs.Answers.{answerOf};
+ghost use Rattle.config.specs.Params.{policyOf};
 ghost use Rattle.ddm.specs.Build.{treeAnswer, listsOf};
 ghost use Rattle.ddm_c.specs.Settings.{policyFrom, settingsFrom};
 ghost use Rattle.ddm_c.specs.Slots.{unlessShort, numberAfter, slotAfter, slotFirst, valueSlot, quotaSlot, sampleSlot, buildSlot};
@@ -25,7 +25,7 @@ use sampling::SampleAnswer;
 
 // The refusal's number of a root.
 fn root_number(answer: RootAnswer) -> usize
-    ensures { λ r. ⌜ r ≡ numbers-answers.rootReport answer .number ⌝ }
+    ensures { λ r. ⌜ r ≡ numbers-answers.answerOf answer .number ⌝ }
 {
     match answer {
         RootAnswer::Value(_) => 0,
@@ -35,7 +35,7 @@ fn root_number(answer: RootAnswer) -> usize
 
 // The root itself, or 0 for a refusal.
 fn root_value(answer: RootAnswer) -> f64
-    ensures { λ r. ⌜ r ≡ numbers-answers.rootReport answer .value ⌝ }
+    ensures { λ r. ⌜ r ≡ numbers-answers.answerOf answer .value ⌝ }
 {
     match answer {
         RootAnswer::Value(root) => root,
@@ -152,7 +152,7 @@ pub extern "C" fn ddm_quotas(
 
 // Of sampling: place, rows written.
 fn sample_report(answer: SampleAnswer) -> Report
-    ensures { λ r. ⌜ (r .number ≡ sampleReport answer .number) × (r .first ≡ sampleReport answer .place) × (r .second ≡ sampleReport answer .value) ⌝ }
+    ensures { λ r. ⌜ (r .number ≡ answerOf answer .number) × (r .first ≡ answerOf answer .place) × (r .second ≡ answerOf answer .value) ⌝ }
 {
     match answer {
         SampleAnswer::Sampled(count) => Report {
@@ -213,7 +213,7 @@ pub extern "C" fn ddm_row_test(start: usize, count: usize, list_len: usize) -> u
 
 // The policy: 0 is Auto, any other number Fixed.
 fn policy_of(policy: u32, coarse_threshold: u32) -> SizePolicy
-    ensures { λ r. ⌜ thresholdPolicy r ≡ policyFrom policy «coarse_threshold» ⌝ }
+    ensures { λ r. ⌜ policyOf r ≡ policyFrom policy «coarse_threshold» ⌝ }
 {
     if policy == 0 {
         return SizePolicy::Auto;

@@ -9,7 +9,6 @@ pub mod Levels
 pub mod Next
 pub mod Powers
 pub mod Sizes
-pub mod SeatCut
 pub mod Seats
 pub mod Shares
 pub mod Fairness

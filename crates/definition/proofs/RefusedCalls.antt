@@ -10,20 +10,18 @@ use mathlib.Core.Bool.{true, false}
 use Rattle.lists.specs.Lists.{from}
 use Rattle.definition.specs.Number.{plusZero}
 use Rattle.definition.specs.Levels.{Policy, auto, fixed, threshold}
-use Rattle.definition.specs.Packed.{DomainRow, Counts, buildStated}
+use Rattle.definition.specs.Packed.{DomainRow, buildStated}
 use Rattle.definition.specs.Tree.{Settings}
 use Rattle.definition.specs.Refusals.{verdict, buildShort, buildTests, buildVerdict, sampleVerdict}
-use Rattle.definition.specs.Outcome.{Answer, Shared, TreeLists, numberOf, placeOf, valueOf, listAfter, treeListsAfter, zeroCounts, rootAnswer, sizeAnswer, quotaAnswer, quotaOutput, sampleAnswer, sampleOutput, buildAnswer, buildLists, rowTest, rowsAsked, ownRows, borrowedRows}
+use Rattle.definition.specs.Outcome.{Answer, TreeLists, numberOf, placeOf, valueOf, listAfter, treeListsAfter, zeroCounts, rootAnswer, sizeAnswer, quotaAnswer, quotaOutput, sampleAnswer, sampleOutput, buildAnswer, buildLists, rowTest, rowsAsked, ownRows, borrowedRows}
 use Rattle.definition.proofs.WorkedSamples.{opened, line}
+use Rattle.definition.proofs.WorkedExamples.{reports}
 
 -- ---- outcomes
 
--- a refused call, and an accepted one that reports x
+-- a refused call
 abbrev refuses : {A : Type 0} → ℕ → ℕ → A → Answer A
 refuses number place zeros = record { number = number; place = place; value = zeros }
-
-abbrev reports : {A : Type 0} → A → Answer A
-reports x = record { number = 0; place = 0; value = x }
 
 -- a build in these lists is refused: zero counts, and each list as found
 abbrev BuildRefused : Settings → List Float → TreeLists → List Float → List ℕ → ℕ → ℕ → Type 0
@@ -56,8 +54,8 @@ lent points internals domains boxes borrowed =
     }
 
 -- a build in lists of one entry, without working room
-abbrev ShortBuild : Settings → List Float → ℕ → ℕ → Type 0
-ShortBuild s cs number place = BuildRefused s cs (lent 1 1 1 1 1) [] [] number place
+abbrev ShortBuild : Settings → List Float → ℕ → Type 0
+ShortBuild s cs number = BuildRefused s cs (lent 1 1 1 1 1) [] [] number 0
 
 -- Builds over two points of the plane with two neighbours. Stated are 8 level points, 8 internals, 52 numbers of domain rows, 52
 -- bounds, 36 borrowed rows, 64 floats and 112 whole numbers.
@@ -77,7 +75,7 @@ Short lists floats wholes = BuildRefused two twoSpoiled lists (line (replicate f
 abbrev Spoiled : List Float → ℕ → Type 0
 Spoiled cs place = BuildRefused two cs (lent 8 8 52 52 36) (line (replicate 64 9)) (replicate 112 9) 10 place
 
--- sampling on a line into an output of one entry, without working room
+-- sampling into an output of one entry, without working room
 abbrev ShortSample : ℕ → List Float → ℕ → ℕ → ℕ → Type 0
 ShortSample d cs wanted seed number = SampleRefused d cs wanted seed (9 ∷ []) [] [] number 0
 
@@ -92,28 +90,29 @@ asked = record { ownStart = 1; ownCount = 3; borrowedStart = 2; borrowedCount = 
 
 pub record RefusedCalls : Type 0 where
   -- the build: 1 to 9, 11, 10
-  dimension0 : ShortBuild (settings 0 0 65 1 (fixed 0)) [] 1 0
-  dimension4 : ShortBuild (settings 4 0 65 1 (fixed 0)) [] 1 0
-  leaf0 : ShortBuild (settings 3 0 65 1 (fixed 0)) [] 2 0
-  factor0 : ShortBuild (settings 1 1 65 0 (fixed 0)) [] 3 0
-  factor1 : ShortBuild (settings 1 1 65 1 (fixed 0)) [] 3 0
-  threshold0 : ShortBuild (settings 1 1 65 2 (fixed 0)) [] 4 0
-  neighbours65 : ShortBuild (settings 1 1 65 2 (fixed 1)) [] 5 0
-  neighbours65-auto : ShortBuild (settings 1 1 65 2 auto) [] 5 0
-  points0 : ShortBuild (settings 1 1 64 2 (fixed 1)) [] 6 0
+  dimension0 : ShortBuild (settings 0 0 65 1 (fixed 0)) [] 1
+  dimension4 : ShortBuild (settings 4 0 65 1 (fixed 0)) [] 1
+  leaf0 : ShortBuild (settings 3 0 65 1 (fixed 0)) [] 2
+  factor0 : ShortBuild (settings 1 1 65 0 (fixed 0)) [] 3
+  factor1 : ShortBuild (settings 1 1 65 1 (fixed 0)) [] 3
+  threshold0 : ShortBuild (settings 1 1 65 2 (fixed 0)) [] 4
+  neighbours65 : ShortBuild (settings 1 1 65 2 (fixed 1)) [] 5
+  neighbours65-auto : ShortBuild (settings 1 1 65 2 auto) [] 5
+  points0 : ShortBuild (settings 1 1 64 2 (fixed 1)) [] 6
   -- a point that lacks a coordinate is a point, and so is one after 9 whole ones
-  missing : ShortBuild (settings 2 1 64 2 (fixed 1)) (line (0 ∷ [])) 7 0
-  missing9 : ShortBuild (settings 2 1 64 2 (fixed 1)) (line (from 0 19)) 7 0
+  missing : ShortBuild (settings 2 1 64 2 (fixed 1)) (line (0 ∷ [])) 7
+  missing9 : ShortBuild (settings 2 1 64 2 (fixed 1)) (line (from 0 19)) 7
+  missing-many : (cs : List Float) → length cs ≡ 2097155 → ShortBuild (settings 2 1 64 2 (fixed 1)) cs 7
   -- 8 counts points, not coordinates
-  points1048577 : (cs : List Float) → length cs ≡ 2097154 → ShortBuild (settings 2 1 64 2 (fixed 1)) cs 8 0
-  points1048576 : (cs : List Float) → length cs ≡ 2097152 → ShortBuild (settings 2 1 64 2 (fixed 1)) cs 9 0
+  points1048577 : (cs : List Float) → length cs ≡ 2097154 → ShortBuild (settings 2 1 64 2 (fixed 1)) cs 8
+  points1048576 : (cs : List Float) → length cs ≡ 2097152 → ShortBuild (settings 2 1 64 2 (fixed 1)) cs 9
   -- c * f^3 is 8, and 16
-  reach9 : ShortBuild (settings 1 1 64 2 (fixed 1)) (line (from 0 8) ++ nan ∷ []) 9 0
-  reach8 : ShortBuild (settings 1 1 64 2 (fixed 1)) (line (from 0 7) ++ nan ∷ []) 11 0
-  reach16 : ShortBuild (settings 1 1 64 2 (fixed 2)) (line (from 0 15) ++ nan ∷ []) 11 0
+  reach9 : ShortBuild (settings 1 1 64 2 (fixed 1)) (line (from 0 8) ++ nan ∷ []) 9
+  reach8 : ShortBuild (settings 1 1 64 2 (fixed 1)) (line (from 0 7) ++ nan ∷ []) 11
+  reach16 : ShortBuild (settings 1 1 64 2 (fixed 2)) (line (from 0 15) ++ nan ∷ []) 11
   -- by Auto it is 512 * 8
-  reach4097 : (cs : List Float) → length cs ≡ 4097 → ShortBuild (settings 1 1 64 2 auto) cs 9 0
-  reach4096 : (cs : List Float) → length cs ≡ 4096 → ShortBuild (settings 1 1 64 2 auto) cs 11 0
+  reach4097 : (cs : List Float) → length cs ≡ 4097 → ShortBuild (settings 1 1 64 2 auto) cs 9
+  reach4096 : (cs : List Float) → length cs ≡ 4096 → ShortBuild (settings 1 1 64 2 auto) cs 11
   -- each list just too short, and a coordinate that is not a number
   short-points : Short (lent 7 8 52 52 36) 64 112
   short-internals : Short (lent 8 7 52 52 36) 64 112
@@ -135,6 +134,7 @@ pub record RefusedCalls : Type 0 where
   sample-dimension4 : ShortSample 4 [] 0 0 1
   sample-points0 : ShortSample 3 [] 0 0 6
   sample-missing : ShortSample 2 (line (0 ∷ [])) 0 0 7
+  sample-missing-many : (cs : List Float) → length cs ≡ 2097155 → ShortSample 2 cs 0 0 7
   sample-points1048577 : (cs : List Float) → length cs ≡ 2097154 → ShortSample 2 cs 0 0 8
   sample-points1048576 : (cs : List Float) → length cs ≡ 2097152 → ShortSample 2 cs 0 0 13
   sample-wanted0 : ShortSample 2 twoSpoiled 0 1 13
@@ -147,6 +147,7 @@ pub record RefusedCalls : Type 0 where
   sample-stated : sampleAnswer 2 twoPoints 2 1 (9 ∷ 9 ∷ []) (line (replicate 4 9)) (replicate 2 9) ≡ reports 2
   -- level size: 4, 8, 14, 9
   size-threshold0 : sizeAnswer 1048577 0 0 ≡ refuses 4 0 0
+  size-rows0 : sizeAnswer 0 0 1 ≡ refuses 4 0 0
   size-points1048577 : sizeAnswer 1048577 1048577 0 ≡ refuses 8 0 0
   size-points1048576 : sizeAnswer 1048576 1048576 0 ≡ refuses 14 0 0
   size-left0 : sizeAnswer 1048576 1048575 0 ≡ refuses 9 0 0
@@ -178,21 +179,29 @@ opened-build : ℕ
 unfolding buildAnswer buildLists treeListsAfter listAfter numberOf placeOf valueOf buildVerdict buildTests verdict threshold buildShort buildStated
 opened-build = 0
 
-above-most : (cs : List Float) → length cs ≡ 2097154 → ShortBuild (settings 2 1 64 2 (fixed 1)) cs 8 0
+missing-above : (cs : List Float) → length cs ≡ 2097155 → ShortBuild (settings 2 1 64 2 (fixed 1)) cs 7
+unfolding opened-build
+missing-above cs e = (rw e, rw e)
+
+above-most : (cs : List Float) → length cs ≡ 2097154 → ShortBuild (settings 2 1 64 2 (fixed 1)) cs 8
 unfolding opened-build
 above-most cs e = (rw e, rw e)
 
-at-most : (cs : List Float) → length cs ≡ 2097152 → ShortBuild (settings 2 1 64 2 (fixed 1)) cs 9 0
+at-most : (cs : List Float) → length cs ≡ 2097152 → ShortBuild (settings 2 1 64 2 (fixed 1)) cs 9
 unfolding opened-build
 at-most cs e = (rw e, rw e)
 
-above-reach : (cs : List Float) → length cs ≡ 4097 → ShortBuild (settings 1 1 64 2 auto) cs 9 0
+above-reach : (cs : List Float) → length cs ≡ 4097 → ShortBuild (settings 1 1 64 2 auto) cs 9
 unfolding opened-build
 above-reach cs e = (rw e, rw e)
 
-at-reach : (cs : List Float) → length cs ≡ 4096 → ShortBuild (settings 1 1 64 2 auto) cs 11 0
+at-reach : (cs : List Float) → length cs ≡ 4096 → ShortBuild (settings 1 1 64 2 auto) cs 11
 unfolding opened-build
 at-reach cs e = (rw e, rw e)
+
+sample-missing-above : (cs : List Float) → length cs ≡ 2097155 → ShortSample 2 cs 0 0 7
+unfolding sampleAnswer sampleOutput listAfter numberOf placeOf valueOf sampleVerdict verdict
+sample-missing-above cs e = (rw e, rw e)
 
 sample-above-most : (cs : List Float) → length cs ≡ 2097154 → ShortSample 2 cs 0 0 8
 unfolding sampleAnswer sampleOutput listAfter numberOf placeOf valueOf sampleVerdict verdict
@@ -218,6 +227,7 @@ refused-calls =
       points0 = (refl, refl);
       missing = (refl, refl);
       missing9 = (refl, refl);
+      missing-many = missing-above;
       points1048577 = above-most;
       points1048576 = at-most;
       reach9 = (refl, refl);
@@ -240,6 +250,7 @@ refused-calls =
       sample-dimension4 = (refl, refl);
       sample-points0 = (refl, refl);
       sample-missing = (refl, refl);
+      sample-missing-many = sample-missing-above;
       sample-points1048577 = sample-above-most;
       sample-points1048576 = sample-at-most;
       sample-wanted0 = (refl, refl);
@@ -251,6 +262,7 @@ refused-calls =
       sample-spoiled = (refl, refl);
       sample-stated = refl;
       size-threshold0 = refl;
+      size-rows0 = refl;
       size-points1048577 = refl;
       size-points1048576 = refl;
       size-left0 = refl;

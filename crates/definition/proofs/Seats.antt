@@ -14,7 +14,7 @@ use Rattle.lists.proofs.From.{count-below-same, count-below-nil, count-below-sn
 use Rattle.lists.proofs.Sums.{sum-below-nil, sum-below-snoc, count-below-le, count-below-two, count-below-two-le, count-below-le-two}
 use Rattle.lists.proofs.Least.{least-high, least-before, least-holds}
 use Rattle.definition.specs.Quotas.{comesBefore, leavesBefore}
-use Rattle.definition.proofs.SeatCut.{above, ties, extraBy, CutBy}
+use Rattle.definition.specs.SeatCut.{above, ties, extraBy, CutBy}
 
 -- the leftover seat of leaf i, of n leaves with the remainders r: 1 where fewer leaves than there are leftover seats come before it
 abbrev pub extraAt : ℕ → (ℕ → ℕ) → ℕ → ℕ → ℕ

@@ -14,7 +14,7 @@ use Rattle.lists.proofs.Tests.{le-or-lt}
 use Rattle.lists.proofs.Count.{count-none}
 use Rattle.lists.proofs.Sums.{sum-add, sum-mul, sum-below-le, count-sum, total-index}
 use Rattle.definition.specs.Quotas.{sizeAt, wholeAt, remainderAt, leftover, seatsAt}
-use Rattle.definition.proofs.SeatCut.{above, ties, extraBy, CutBy}
+use Rattle.definition.specs.SeatCut.{above, ties, extraBy, CutBy}
 use Rattle.definition.proofs.Seats.{extraAt, extra-is, cut-from, one-lt, sum-extra, extra-none, extra-le}
 
 -- a divisor of 0 where there is nothing to share

@@ -13,7 +13,7 @@ use Rattle.definition.specs.Printout.{ascii, printout}
 use Rattle.definition.proofs.WorkedSamples.{opened, line, onLine, nines, floatRoom, wholeRoom, fourPoints}
 
 -- an accepted call that reports x
-abbrev reports : {A : Type 0} → A → Answer A
+abbrev pub reports : {A : Type 0} → A → Answer A
 reports x = record { number = 0; place = 0; value = x }
 
 -- an accepted build with these counts per level

@@ -14,6 +14,7 @@ use Rattle.definition.specs.Overlaps.{nearest}
 use Rattle.definition.specs.Tree.{Settings, Level, levels, levelsFrom}
 use Rattle.definition.specs.Outcome.{rootAnswer, quotaAnswer, sampleOutput}
 use Rattle.definition.proofs.WorkedSamples.{opened, line, onLine}
+use Rattle.definition.proofs.WorkedExamples.{reports}
 
 -- the rows of each leaf of a level, the box of each, and the rows of each level
 abbrev rowsIn : ℕ → List Float → ℕ → ℕ → List (List ℕ)
@@ -97,7 +98,7 @@ pub record Lookalikes : Type 0 where
   heldToTotal : quotas (2 ∷ 2 ∷ []) 9 ≡ 2 ∷ 2 ∷ []
   heldReported :
       quotaAnswer (2 ∷ 2 ∷ []) 9 (replicate 2 9) (replicate 2 9)
-      ≡ record { number = 0; place = 0; value = record { leaves = 2; seats = 4 } }
+      ≡ reports (record { leaves = 2; seats = 4 })
   -- the least m with m^r at least c a^(r - 1): rounded to the nearest, the root of 30 would give 5
   sizeNotNearest : levelSize 10 3 2 ≡ 6
   -- Auto is held to 4,096: the ceiling would be 4,097
@@ -107,8 +108,8 @@ pub record Lookalikes : Type 0 where
   -- c is resolved once, and each level goes by it: Auto resolved anew would give 512, and no fine level
   resolvedOnce : pointsIn (levelsFrom autoLine (line (from 0 4)) 2 1 3 0 (from 0 4)) ≡ from 0 4 ∷ (0 ∷ 1 ∷ []) ∷ []
   -- -0 is its own root, not +0; +infinity is its own, no refusal
-  rootOfMinusZero : rootAnswer (ofBits binary64 0x8000000000000000) ≡ record { number = 0; place = 0; value = ofBits binary64 0x8000000000000000 }
-  rootOfInfinity : rootAnswer (ofBits binary64 0x7ff0000000000000) ≡ record { number = 0; place = 0; value = ofBits binary64 0x7ff0000000000000 }
+  rootOfMinusZero : rootAnswer (ofBits binary64 0x8000000000000000) ≡ reports (ofBits binary64 0x8000000000000000)
+  rootOfInfinity : rootAnswer (ofBits binary64 0x7ff0000000000000) ≡ reports (ofBits binary64 0x7ff0000000000000)
 
 -- the definitions yield every row
 pub lookalikes : Lookalikes

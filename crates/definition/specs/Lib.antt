@@ -14,5 +14,6 @@ pub mod Outcome
 pub mod Stream
 pub mod Printout
 -- What the laws of level sizes and quotas say.
+pub mod SeatCut
 pub mod Fair
 pub mod LevelLaws

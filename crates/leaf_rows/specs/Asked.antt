@@ -9,8 +9,8 @@ abbrev pub whichOf : Which → outcome.Which
 whichOf Own = outcome.ownRows
 whichOf Borrowed = outcome.borrowedRows
 
-abbrev pub domainRowOf : DomainRow → packed.DomainRow
-domainRowOf r =
+abbrev pub rowOf : DomainRow → packed.DomainRow
+rowOf r =
     record {
       ownStart = r .«internal_start»;
       ownCount = r .«internal_count»;

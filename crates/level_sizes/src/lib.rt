@@ -3,7 +3,7 @@ ghost use mathlib.Core.Path.{_≡_};
 ghost use Prim.Native.Nat.{_≤_, _<_, _^_};
 ghost use Rattle.definition.specs.Levels.{auto, threshold, reductions, exactSize, levelSize};
 ghost use Rattle.definition.specs.Outcome.{sizeAnswer};
-ghost use Rattle.config.specs.Params.{thresholdPolicy};
+ghost use Rattle.config.specs.Params.{policyOf};
 ghost use Rattle.level_sizes.specs.Answers.{sizeReport};
 use config::SizePolicy;
 
@@ -34,7 +34,7 @@ fn auto_threshold(n: usize) -> u32
 
 // The coarse threshold c for n points.
 pub fn resolved_coarse_threshold(policy: SizePolicy, n: usize) -> u32
-    ensures { λ r. ⌜ r ≡ threshold (thresholdPolicy policy) n ⌝ }
+    ensures { λ r. ⌜ r ≡ threshold (policyOf policy) n ⌝ }
 {
     match policy {
         SizePolicy::Auto => auto_threshold(n),

@@ -5,7 +5,7 @@ use mathlib.Core.List.{List}
 use native.Mathlib.Omega.{arith}
 use lib.ListN.{length, length-map}
 use Rattle.definition.specs.Quotas.{sizeAt, wholeAt, remainderAt, leftover}
-use Rattle.definition.proofs.SeatCut.{ties, extraBy}
+use Rattle.definition.specs.SeatCut.{ties, extraBy}
 use Rattle.definition.proofs.Shares.{whole-by, remainder-by, seats-by-cut, share-small, cut-by, none-above}
 use Rattle.definition.proofs.Fairness.{capacity-at}
 use Rattle.quotas.specs.Sharing.{Sharing, capacities, remaindersAbove, RemaindersCut, quotaAt}

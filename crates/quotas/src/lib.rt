@@ -1,5 +1,6 @@
 // The leaves' quotas: how many of its rows each leaf sends up to the next level, by largest remainder.
 ghost use mathlib.Core.Path.{_≡_};
+ghost use mathlib.Core.List.{map};
 ghost use lib.ListN.{length, take};
 ghost use lib.Dec.{eqb};
 ghost use Prim.Native.Nat.{ℕ, _-_, _*_, _≤_, _<_, min, max};
@@ -7,7 +8,7 @@ ghost use Rattle.lists.specs.Lists.{oneIf, total};
 ghost use Rattle.definition.specs.Quotas.{sizeAt, nonempty, leftover, quotasFor};
 ghost use Rattle.definition.specs.Outcome.{written, quotaCall, quotaAnswer, quotaOutput, RoomAfter};
 ghost use Rattle.quotas.specs.Answers.{quotaReport};
-ghost use Rattle.definition.proofs.SeatCut.{extraBy};
+ghost use Rattle.definition.specs.SeatCut.{extraBy};
 ghost use Rattle.quotas.specs.Sharing.{Sharing, capacities, remaindersAbove, RemaindersCut, quotasBy};
 use level_sizes::LIMIT;
 
@@ -179,7 +180,7 @@ fn hand_out(
 
 // Hands out the rest by the capacity that remains once each nonempty leaf has `first` seats.
 fn deal(sizes: &mut [usize], first: usize, rest: usize, capacity: usize)
-    requires { ⌜ ((j : ℕ) → sizeAt (now sizes) j ≤ 1048576) × (first ≤ 1) × (rest ≤ capacity) × (capacity ≤ 1048576) × (total (capacities (now sizes) first) ≡ capacity) ⌝ }
+    requires { ⌜ ((j : ℕ) → sizeAt (now sizes) j ≤ 1048576) × (first ≤ 1) × (rest ≤ capacity) × (capacity ≤ 1048576) × (total (map (λ w. w - first) (now sizes)) ≡ capacity) ⌝ }
     ensures { λ _. ⌜ now (sizes .exit) ≡ quotasBy (now (sizes .entry)) first rest ⌝ }
 {
     let pool = at_least_one(capacity);

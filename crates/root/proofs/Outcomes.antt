@@ -9,7 +9,7 @@ use Rattle.definition.specs.Number.{squareRoot, plusZero}
 use Rattle.definition.specs.Refusals.{on, verdict, rootVerdict}
 use Rattle.definition.specs.Outcome.{answered, numberOf, placeOf, valueOf, rootAnswer}
 use Rattle.root.specs.declared.RootAnswer.the-variants.{Value, Refused}
-use Rattle.root.specs.Answers.{rootReport}
+use Rattle.root.specs.Answers.{answerOf}
 
 -- ---- x differs from itself where it is NaN
 is-nan : (x : Float) → ne x x ≡ true → isNan x ≡ true
@@ -29,7 +29,7 @@ by-test :
 unfolding rootAnswer rootVerdict
 by-test x t h = ap (λ (b : Bool). answered (verdict (on b 15 ∷ [])) (squareRoot x) plusZero) (sym h)
 
-refused-by : (x : Float) → (isNan x || lt x plusZero) ≡ true → rootReport Refused ≡ rootAnswer x
+refused-by : (x : Float) → (isNan x || lt x plusZero) ≡ true → answerOf Refused ≡ rootAnswer x
 unfolding verdict numberOf placeOf valueOf
 refused-by x h = by-test x true h
 
@@ -37,18 +37,18 @@ or-true : (a : Bool) → (a || true) ≡ true
 or-true true = refl
 or-true false = refl
 
-pub nan-refused : (x : Float) → ne x x ≡ true → rootReport Refused ≡ rootAnswer x
+pub nan-refused : (x : Float) → ne x x ≡ true → answerOf Refused ≡ rootAnswer x
 nan-refused x h = refused-by x (ap (λ (t : Bool). t || lt x plusZero) (is-nan x h))
 
-pub negative-refused : (x : Float) → lt x plusZero ≡ true → rootReport Refused ≡ rootAnswer x
+pub negative-refused : (x : Float) → lt x plusZero ≡ true → answerOf Refused ≡ rootAnswer x
 negative-refused x h = refused-by x (ap (λ (t : Bool). isNan x || t) h ∙ or-true (isNan x))
 
-root-given : (x : Float) → (isNan x || lt x plusZero) ≡ false → rootReport (Value (squareRoot x)) ≡ rootAnswer x
+root-given : (x : Float) → (isNan x || lt x plusZero) ≡ false → answerOf (Value (squareRoot x)) ≡ rootAnswer x
 unfolding verdict numberOf placeOf valueOf
 root-given x h = by-test x false h
 
 pub value-given :
-    (x r : Float) → r ≡ squareRoot x → ne x x ≡ false → lt x plusZero ≡ false → rootReport (Value r) ≡ rootAnswer x
+    (x r : Float) → r ≡ squareRoot x → ne x x ≡ false → lt x plusZero ≡ false → answerOf (Value r) ≡ rootAnswer x
 value-given x r e n l =
-    ap (λ (v : Float). rootReport (Value v)) e
+    ap (λ (v : Float). answerOf (Value v)) e
     ∙ root-given x (ap (λ (t : Bool). t || lt x plusZero) (is-no-nan x n) ∙ l)

@@ -6,6 +6,6 @@ use Rattle.root.specs.declared.RootAnswer.{RootAnswer}
 use Rattle.root.specs.declared.RootAnswer.the-variants.{Value, Refused}
 
 -- a refusal names no place, and its value is +0
-abbrev pub rootReport : RootAnswer → Answer Float
-rootReport (Value v) = record { number = 0; place = 0; value = v }
-rootReport Refused = record { number = 15; place = 0; value = plusZero }
+abbrev pub answerOf : RootAnswer → Answer Float
+answerOf (Value v) = record { number = 0; place = 0; value = v }
+answerOf Refused = record { number = 15; place = 0; value = plusZero }

@@ -7,7 +7,7 @@ ghost use Rattle.definition.specs.Number.{squareRoot};
 ghost use Rattle.definition.specs.Refusals.{firstBad};
 ghost use Rattle.definition.specs.Outcome.{rootAnswer};
 ghost use Rattle.root_laws.specs.Steps.{Leading, NearRoot, RootBits};
-ghost use Rattle.root.specs.Answers.{rootReport};
+ghost use Rattle.root.specs.Answers.{answerOf};
 
 // What a call of the root answers: the root, or that it is refused (number 15).
 pub enum RootAnswer {
@@ -170,7 +170,7 @@ pub fn root(x: f64) -> f64
 
 // The root of x, with the refusal: NaN and the numbers below zero have none.
 pub fn square_root(x: f64) -> RootAnswer
-    ensures { λ r. ⌜ rootReport r ≡ rootAnswer x ⌝ }
+    ensures { λ r. ⌜ answerOf r ≡ rootAnswer x ⌝ }
 {
     if x != x || x < 0.0 {
         return RootAnswer::Refused;

@@ -26,7 +26,7 @@ use Rattle.definition.specs.Outcome.{answered, numberOf, placeOf, valueOf, writ
 use Rattle.definition_laws.proofs.Accepted.{passes, right-dimension}
 use Rattle.sampling.specs.declared.SampleAnswer.{SampleAnswer}
 use Rattle.sampling.specs.declared.SampleAnswer.the-variants.{Sampled, Refused}
-use Rattle.sampling.specs.Answers.{sampleLent, shown, sampleReport}
+use Rattle.sampling.specs.Answers.{lentSizes, shown, answerOf}
 
 -- ---- 10: the first coordinate that is not finite stands inside the list where there is one
 abbrev bad : Float → Bool
@@ -80,7 +80,7 @@ pub record Accepted (d : ℕ) (cs : List Float) (wanted seed o f w : ℕ) : Type
   pub wholes : length cs / d ≤ w
   pub finites : All (λ x. finite x ≡ true) cs
 
-call-accepted : (d : ℕ) (cs : List Float) (wanted seed o f w : ℕ) → sampleVerdict d cs wanted seed (sampleLent o f w) ≡ accepted → Accepted d cs wanted seed o f w
+call-accepted : (d : ℕ) (cs : List Float) (wanted seed o f w : ℕ) → sampleVerdict d cs wanted seed (lentSizes o f w) ≡ accepted → Accepted d cs wanted seed o f w
 unfolding sampleVerdict sampleShort sampleStated
 call-accepted d cs wanted seed o f w e =
     let n = length cs / d in
@@ -109,10 +109,10 @@ call-accepted d cs wanted seed o f w e =
 
 -- what holds once the answer is a count
 pub accepted-call : (d : ℕ) (cs : List Float) (wanted seed o f w count : ℕ) (x : SampleAnswer)
-    → x ≡ shown (sampleVerdict d cs wanted seed (sampleLent o f w)) wanted → x ≡ Sampled count
-    → (sampleVerdict d cs wanted seed (sampleLent o f w) ≡ accepted) × (wanted ≡ count) × Accepted d cs wanted seed o f w
+    → x ≡ shown (sampleVerdict d cs wanted seed (lentSizes o f w)) wanted → x ≡ Sampled count
+    → (sampleVerdict d cs wanted seed (lentSizes o f w) ≡ accepted) × (wanted ≡ count) × Accepted d cs wanted seed o f w
 accepted-call d cs wanted seed o f w count x e h =
-    let c = sampled-count (sampleVerdict d cs wanted seed (sampleLent o f w)) wanted count (sym e ∙ h) in
+    let c = sampled-count (sampleVerdict d cs wanted seed (lentSizes o f w)) wanted count (sym e ∙ h) in
     (c .0, c .1, call-accepted d cs wanted seed o f w (c .0))
 
 -- ---- all rows of the point list
@@ -154,8 +154,8 @@ module _ (d : ℕ) (cs : List Float) (wanted seed o f w count : ℕ) (a : Accept
 -- ---- the outcome of a call
 module _ (d : ℕ) (cs : List Float) (wanted seed : ℕ) (out : List ℕ) (floats : List Float) (wholes : List ℕ) where
   refused-with : (v : Verdict) (number place : ℕ) → shown v wanted ≡ Refused number place → (xs : List ℕ)
-      → (sampleReport (Refused number place) ≡ answered v wanted 0) × ((out ≡ listAfter v xs out) × (RoomAfter v floats floats × RoomAfter v wholes wholes))
-  unfolding shown sampleReport numberOf placeOf valueOf listAfter RoomAfter
+      → (answerOf (Refused number place) ≡ answered v wanted 0) × ((out ≡ listAfter v xs out) × (RoomAfter v floats floats × RoomAfter v wholes wholes))
+  unfolding shown answerOf numberOf placeOf valueOf listAfter RoomAfter
   refused-with accepted number place e xs = let z : _≡_ {A = ℕ} 0 1 = cc in zero-one z
   refused-with (refused r) number place e xs =
       let n : r .number ≡ number = cc in
@@ -164,7 +164,7 @@ module _ (d : ℕ) (cs : List Float) (wanted seed : ℕ) (out : List ℕ) (float
 
   -- a refusal leaves each list as it was
   pub call-refused : (number place : ℕ) → shown (sampleCall d cs wanted seed out floats wholes) wanted ≡ Refused number place
-      → (sampleReport (Refused number place) ≡ sampleAnswer d cs wanted seed out floats wholes)
+      → (answerOf (Refused number place) ≡ sampleAnswer d cs wanted seed out floats wholes)
       × ((out ≡ sampleOutput d cs wanted seed out floats wholes)
       × (RoomAfter (sampleCall d cs wanted seed out floats wholes) floats floats × RoomAfter (sampleCall d cs wanted seed out floats wholes) wholes wholes))
   unfolding sampleAnswer sampleOutput
@@ -172,15 +172,15 @@ module _ (d : ℕ) (cs : List Float) (wanted seed : ℕ) (out : List ℕ) (float
 
   accepted-with : (v : Verdict) (count : ℕ) → v ≡ accepted → wanted ≡ count → (xs new : List ℕ) → new ≡ written xs out
       → (floats′ : List Float) → length floats′ ≡ length floats → (wholes′ : List ℕ) → length wholes′ ≡ length wholes
-      → (sampleReport (Sampled count) ≡ answered v wanted 0) × ((new ≡ listAfter v xs out) × (RoomAfter v floats floats′ × RoomAfter v wholes wholes′))
-  unfolding sampleReport numberOf placeOf valueOf listAfter RoomAfter
+      → (answerOf (Sampled count) ≡ answered v wanted 0) × ((new ≡ listAfter v xs out) × (RoomAfter v floats floats′ × RoomAfter v wholes wholes′))
+  unfolding answerOf numberOf placeOf valueOf listAfter RoomAfter
   accepted-with v count e w xs new h floats′ f wholes′ g = rw (e, w) (refl, (h, (f, g)))
 
   -- an accepted call writes the sample, and keeps the lengths of its working room
   pub call-sampled : (count : ℕ) → sampleCall d cs wanted seed out floats wholes ≡ accepted → wanted ≡ count
       → (new : List ℕ) → new ≡ written (sample d cs (from 0 (length cs / d)) wanted seed) out
       → (floats′ : List Float) → length floats′ ≡ length floats → (wholes′ : List ℕ) → length wholes′ ≡ length wholes
-      → (sampleReport (Sampled count) ≡ sampleAnswer d cs wanted seed out floats wholes)
+      → (answerOf (Sampled count) ≡ sampleAnswer d cs wanted seed out floats wholes)
       × ((new ≡ sampleOutput d cs wanted seed out floats wholes)
       × (RoomAfter (sampleCall d cs wanted seed out floats wholes) floats floats′ × RoomAfter (sampleCall d cs wanted seed out floats wholes) wholes wholes′))
   unfolding sampleAnswer sampleOutput

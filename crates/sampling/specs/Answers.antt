@@ -7,9 +7,9 @@ use Rattle.sampling.specs.declared.SampleAnswer.{SampleAnswer}
 use Rattle.sampling.specs.declared.SampleAnswer.the-variants.{Sampled, Refused}
 
 -- the rows written, or a refusal's number and place with the value 0
-unfoldable pub sampleReport : SampleAnswer → Answer ℕ
-sampleReport (Sampled count) = record { number = 0; place = 0; value = count }
-sampleReport (Refused number place) = record { number = number; place = place; value = 0 }
+unfoldable pub answerOf : SampleAnswer → Answer ℕ
+answerOf (Sampled count) = record { number = 0; place = 0; value = count }
+answerOf (Refused number place) = record { number = number; place = place; value = 0 }
 
 -- the answer that shows a verdict
 unfoldable pub shown : Verdict → ℕ → SampleAnswer
@@ -17,5 +17,5 @@ shown accepted wanted = Sampled wanted
 shown (refused r) wanted = Refused (r .number) (r .place)
 
 -- the lengths of the lent lists
-abbrev pub sampleLent : ℕ → ℕ → ℕ → SampleSizes
-sampleLent output floats wholes = record { output = output; floats = floats; wholes = wholes }
+abbrev pub lentSizes : ℕ → ℕ → ℕ → SampleSizes
+lentSizes output floats wholes = record { output = output; floats = floats; wholes = wholes }

@@ -6,7 +6,7 @@ ghost use lib.Dec.{eqb, ltb, leb};
 ghost use Rattle.definition.specs.Packed.{sampleStated};
 ghost use Rattle.definition.specs.Refusals.{wrongDimension, sampleShort, sampleVerdict};
 ghost use Rattle.definition.specs.Outcome.{sampleCall, sampleAnswer, sampleOutput, RoomAfter};
-ghost use Rattle.sampling.specs.Answers.{sampleLent, shown, sampleReport};
+ghost use Rattle.sampling.specs.Answers.{lentSizes, shown, answerOf};
 use distances::LocalIdx;
 
 // What a sampling answers: the count of rows written, or a refusal's number and place.
@@ -44,7 +44,7 @@ fn wrong_choice(rows: usize, wanted: usize, seed: usize) -> bool
 // Whether a lent list is shorter than stated.
 fn lists_short(rows: usize, wanted: usize, output: usize, floats: usize, wholes: usize) -> bool
     requires { ⌜ rows ≤ 1048576 ⌝ }
-    ensures { λ r. ⌜ r ≡ sampleShort (sampleLent output floats wholes) (sampleStated rows wanted) ⌝ }
+    ensures { λ r. ⌜ r ≡ sampleShort (lentSizes output floats wholes) (sampleStated rows wanted) ⌝ }
 {
     if output < wanted {
         return true;
@@ -66,7 +66,7 @@ fn sampling_verdict(
     floats: usize,
     wholes: usize,
 ) -> SampleAnswer
-    ensures { λ r. ⌜ r ≡ shown (sampleVerdict dimensions (now (points .entry)) wanted seed (sampleLent output floats wholes)) wanted ⌝ }
+    ensures { λ r. ⌜ r ≡ shown (sampleVerdict dimensions (now (points .entry)) wanted seed (lentSizes output floats wholes)) wanted ⌝ }
 {
     if wrong_dimension(dimensions) {
         return SampleAnswer::Refused(1, 0);
@@ -106,7 +106,7 @@ pub fn farthest_point_sampling(
     floats: &mut [f64],
     wholes: &mut [usize],
 ) -> SampleAnswer
-    ensures answer { λ r. ⌜ sampleReport r ≡ sampleAnswer dimensions (now (points .entry)) wanted seed (now (out .entry)) (now (floats .entry)) (now (wholes .entry)) ⌝ }
+    ensures answer { λ r. ⌜ answerOf r ≡ sampleAnswer dimensions (now (points .entry)) wanted seed (now (out .entry)) (now (floats .entry)) (now (wholes .entry)) ⌝ }
     ensures output { λ _. ⌜ now (out .exit) ≡ sampleOutput dimensions (now (points .entry)) wanted seed (now (out .entry)) (now (floats .entry)) (now (wholes .entry)) ⌝ }
     ensures floats { λ _. ⌜ RoomAfter (sampleCall dimensions (now (points .entry)) wanted seed (now (out .entry)) (now (floats .entry)) (now (wholes .entry))) (now (floats .entry)) (now (floats .exit)) ⌝ }
     ensures wholes { λ _. ⌜ RoomAfter (sampleCall dimensions (now (points .entry)) wanted seed (now (out .entry)) (now (floats .entry)) (now (wholes .entry))) (now (wholes .entry)) (now (wholes .exit)) ⌝ }

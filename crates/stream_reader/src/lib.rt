@@ -78,7 +78,7 @@ fn settings_whole(input: &[u8]) -> bool
 }
 
 fn policy_of(kind: u64, threshold: u32) -> SizePolicy
-    ensures { λ r. ⌜ params.thresholdPolicy r ≡ policyOf kind threshold ⌝ }
+    ensures { λ r. ⌜ params.policyOf r ≡ policyOf kind threshold ⌝ }
 {
     if kind == 0 {
         return SizePolicy::Auto;

@@ -1,5 +1,5 @@
 -- `ddm_c::sample_report` meets its contract. Assumes nothing.
-use Rattle.sampling.specs.Answers.{sampleReport}
+use Rattle.sampling.specs.Answers.{answerOf}
 use borrow.Author.Needs.{needs}
 use Rattle.ddm_c.proofs.sample_report.Statement.{statement}
 use Rattle.ddm_c.proofs.sample_report.Tie as tie
@@ -14,11 +14,11 @@ cast-t6 : tie.Need-cast-t6
 cast-t6 c = search needs
 
 returns : tie.Need-returns
-unfolding sampleReport
+unfolding answerOf
 returns c = search needs
 
 returns-2 : tie.Need-returns-2
-unfolding sampleReport
+unfolding answerOf
 returns-2 c = search needs
 
 pub sample-report-spec : {M : Type 1} → statement M

@@ -9,7 +9,7 @@ use lib.Dec.{ltb}
 use borrow.Author.Tests.{lt-ltb, le-ltb}
 use Rattle.lists.proofs.From.{count-below-yes, count-below-no, count-below-nil}
 use Rattle.definition.specs.Quotas.{remainderAt}
-use Rattle.definition.proofs.SeatCut.{above}
+use Rattle.definition.specs.SeatCut.{above}
 use Rattle.quotas.specs.Sharing.{capacities}
 use Rattle.quotas.proofs.OneLeaf.{same-leaves, remainder-is}
 use Rattle.quotas.proofs.count_above.Statement.{statement}

@@ -9,7 +9,7 @@ use borrow.Author.Tests.{ltb-true, lt-ltb}
 use Rattle.lists.specs.Lists.{from}
 use Rattle.lists.proofs.Count.{count-le}
 use Rattle.definition.specs.Quotas.{remainderAt}
-use Rattle.definition.proofs.SeatCut.{above}
+use Rattle.definition.specs.SeatCut.{above}
 use Rattle.quotas.specs.Sharing.{capacities, remaindersAbove}
 use Rattle.quotas.proofs.OneLeaf.{top-cut}
 use Rattle.quotas.proofs.cut.Statement.{statement}

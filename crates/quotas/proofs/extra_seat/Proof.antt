@@ -1,7 +1,7 @@
 -- `quotas::extra_seat` meets its contract, by its tests. Assumes nothing.
 use native.Mathlib.Omega.{arith}
 use borrow.Author.Tests.{lt-ltb, le-ltb, eq-eqb, ne-eqb}
-use Rattle.definition.proofs.SeatCut.{extraBy}
+use Rattle.definition.specs.SeatCut.{extraBy}
 use Rattle.quotas.proofs.extra_seat.Statement.{statement}
 use Rattle.quotas.proofs.extra_seat.Tie as tie
 
