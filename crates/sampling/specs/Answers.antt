@@ -17,5 +17,5 @@ shown accepted wanted = Sampled wanted
 shown (refused r) wanted = Refused (r .number) (r .place)
 
 -- the lengths of the lent lists
-abbrev pub lentSizes : ℕ → ℕ → ℕ → SampleSizes
-lentSizes output floats wholes = record { output = output; floats = floats; wholes = wholes }
+abbrev pub lengthsLent : ℕ → ℕ → ℕ → SampleSizes
+lengthsLent output floats wholes = record { output = output; floats = floats; wholes = wholes }

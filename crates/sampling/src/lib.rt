@@ -5,7 +5,7 @@ ghost use Prim.Native.Nat.{_≤_};
 ghost use lib.Dec.{eqb, ltb, leb};
 ghost use Rattle.definition.specs.Packed.{sampleStated};
 ghost use Rattle.definition.specs.Refusals.{wrongDimension, sampleShort, sampleVerdict};
-ghost use Rattle.sampling.specs.Answers.{lentSizes, shown, answerOf};
+ghost use Rattle.sampling.specs.Answers.{lengthsLent, shown, answerOf};
 ghost use Rattle.sampling.specs.Outcome.{RowsSampled};
 use distances::LocalIdx;
 
@@ -44,7 +44,7 @@ fn wrong_choice(rows: usize, wanted: usize, seed: usize) -> bool
 // Whether a lent list is shorter than stated.
 fn lists_short(rows: usize, wanted: usize, output: usize, floats: usize, wholes: usize) -> bool
     requires { ⌜ rows ≤ 1048576 ⌝ }
-    ensures { λ r. ⌜ r ≡ sampleShort (lentSizes output floats wholes) (sampleStated rows wanted) ⌝ }
+    ensures { λ r. ⌜ r ≡ sampleShort (lengthsLent output floats wholes) (sampleStated rows wanted) ⌝ }
 {
     if output < wanted {
         return true;
@@ -66,7 +66,7 @@ fn sampling_verdict(
     floats: usize,
     wholes: usize,
 ) -> SampleAnswer
-    ensures { λ r. ⌜ r ≡ shown (sampleVerdict dimensions (now (points .entry)) wanted seed (lentSizes output floats wholes)) wanted ⌝ }
+    ensures { λ r. ⌜ r ≡ shown (sampleVerdict dimensions (now (points .entry)) wanted seed (lengthsLent output floats wholes)) wanted ⌝ }
 {
     if wrong_dimension(dimensions) {
         return SampleAnswer::Refused(1, 0);
