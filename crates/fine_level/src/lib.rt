@@ -2,9 +2,26 @@
 ghost use mathlib.Core.Path.{_≡_};
 ghost use Prim.Native.Nat.{_+_, _*_, _≤_};
 ghost use lib.ListN.{length};
-ghost use Rattle.lists.specs.Lists.{put, part};
+ghost use Rattle.lists.specs.Lists.{put};
 ghost use Rattle.definition.specs.Packed.{stretches, rowNumbers, rowFloats};
-ghost use Rattle.fine_level.specs.Fine.{leavesAt, nextAt, ownIn, borrowedIn, boxesIn, Given, Fits, Room};
+ghost use Rattle.fine_level.specs.Fine.{nextAt, ownIn, borrowedIn, boxesIn, Room};
+ghost use Rattle.fine_level.specs.Planned.{leavesBy, activeAt, GivenBy, FitsAt};
+
+// What every level of a build shares: the axes, the leaf threshold and the neighbour count.
+pub struct Plan {
+    pub dimensions: usize,
+    pub leaf: usize,
+    pub neighbours: usize,
+}
+
+// Where a level stands in the lists: its `a` active rows from `from` on, its leaves' rows likewise, its first domain row, and its
+// first borrowed row.
+pub struct Place {
+    pub from: usize,
+    pub a: usize,
+    pub first: usize,
+    pub bat: usize,
+}
 
 // How many leaves a level has, and how many rows they borrow.
 pub struct Parts {
@@ -15,53 +32,49 @@ pub struct Parts {
 // The leaves of the active rows, and what they borrow.
 fn divide(
     points: &[f64],
-    dimensions: usize,
-    leaf: usize,
-    neighbours: usize,
+    plan: Plan,
+    place: Place,
     active: &[usize],
     internals: &mut [usize],
-    at: usize,
     domains: &mut [usize],
-    first: usize,
     boxes: &mut [f64],
     borrowed: &mut [usize],
-    bat: usize,
     work: &mut [usize],
     held: &mut [f64],
 ) -> Parts
-    requires { ⌜ Given dimensions (now points) leaf neighbours (now active) ⌝ }
-    requires { ⌜ Fits dimensions neighbours (length (now active)) (now internals) (now domains) (now boxes) (now borrowed) at first bat ⌝ }
-    requires { ⌜ Room neighbours (length (now active)) (now work) (now held) ⌝ }
-    ensures counts { λ r. ⌜ (r .leaves ≡ length (leavesAt dimensions (now (points .entry)) leaf neighbours (now (active .entry)))) × (r .borrowed ≡ length (borrowedIn (leavesAt dimensions (now (points .entry)) leaf neighbours (now (active .entry))))) ⌝ }
-    ensures internals { λ _. ⌜ now (internals .exit) ≡ put (now (internals .entry)) at (ownIn (leavesAt dimensions (now (points .entry)) leaf neighbours (now (active .entry)))) ⌝ }
-    ensures domains { λ _. ⌜ now (domains .exit) ≡ put (now (domains .entry)) (rowNumbers * first) (stretches at bat (leavesAt dimensions (now (points .entry)) leaf neighbours (now (active .entry)))) ⌝ }
-    ensures boxes { λ _. ⌜ now (boxes .exit) ≡ put (now (boxes .entry)) (rowFloats dimensions * first) (boxesIn (leavesAt dimensions (now (points .entry)) leaf neighbours (now (active .entry)))) ⌝ }
-    ensures borrowed { λ _. ⌜ now (borrowed .exit) ≡ put (now (borrowed .entry)) bat (borrowedIn (leavesAt dimensions (now (points .entry)) leaf neighbours (now (active .entry)))) ⌝ }
+    requires { ⌜ GivenBy plan (now points) (now active) ⌝ }
+    requires { ⌜ FitsAt plan place (length (now active)) (now internals) (now domains) (now boxes) (now borrowed) ⌝ }
+    requires { ⌜ Room (plan .neighbours) (length (now active)) (now work) (now held) ⌝ }
+    ensures counts { λ r. ⌜ (r .leaves ≡ length (leavesBy plan (now (points .entry)) (now (active .entry)))) × (r .borrowed ≡ length (borrowedIn (leavesBy plan (now (points .entry)) (now (active .entry))))) ⌝ }
+    ensures internals { λ _. ⌜ now (internals .exit) ≡ put (now (internals .entry)) (place .from) (ownIn (leavesBy plan (now (points .entry)) (now (active .entry)))) ⌝ }
+    ensures domains { λ _. ⌜ now (domains .exit) ≡ put (now (domains .entry)) (rowNumbers * place .first) (stretches (place .from) (place .bat) (leavesBy plan (now (points .entry)) (now (active .entry)))) ⌝ }
+    ensures boxes { λ _. ⌜ now (boxes .exit) ≡ put (now (boxes .entry)) (rowFloats (plan .dimensions) * place .first) (boxesIn (leavesBy plan (now (points .entry)) (now (active .entry)))) ⌝ }
+    ensures borrowed { λ _. ⌜ now (borrowed .exit) ≡ put (now (borrowed .entry)) (place .bat) (borrowedIn (leavesBy plan (now (points .entry)) (now (active .entry)))) ⌝ }
 {
     let m = leaves::leaves(
         points,
-        dimensions,
-        leaf,
+        plan.dimensions,
+        plan.leaf,
         active,
         work,
         held,
         internals,
-        at,
+        place.from,
         domains,
-        first,
+        place.first,
         boxes,
     );
     let b = overlaps::overlaps(
         points,
-        dimensions,
-        neighbours,
+        plan.dimensions,
+        plan.neighbours,
         active,
         internals,
         domains,
-        first,
+        place.first,
         m,
         borrowed,
-        bat,
+        place.bat,
         work,
     );
     Parts {
@@ -77,63 +90,56 @@ pub struct Written {
     pub next: usize,
 }
 
-// The fine level over the `a` active rows from `from` on in the level points. Its leaves' rows go to the internals from `from` on
-// too, and the `size` rows that they send up right behind the active rows.
+// The fine level over the active rows of its place in the level points. Its leaves' rows go to the same place in the internals, and
+// the `size` rows that they send up right behind the active rows.
 pub fn fine_level(
     points: &[f64],
-    dimensions: usize,
-    leaf: usize,
-    neighbours: usize,
+    plan: Plan,
     size: usize,
+    place: Place,
     list: &mut [usize],
-    from: usize,
-    a: usize,
     internals: &mut [usize],
     domains: &mut [usize],
-    first: usize,
     boxes: &mut [f64],
     borrowed: &mut [usize],
-    bat: usize,
     work: &mut [usize],
     held: &mut [f64],
 ) -> Written
-    requires { ⌜ (from + 2 * a ≤ length (now list)) × (size ≤ a) × Given dimensions (now points) leaf neighbours (part (now list) from a) ⌝ }
-    requires { ⌜ Fits dimensions neighbours a (now internals) (now domains) (now boxes) (now borrowed) from first bat ⌝ }
-    requires { ⌜ Room neighbours a (now work) (now held) ⌝ }
-    ensures counts { λ r. ⌜ (r .leaves ≡ length (leavesAt dimensions (now (points .entry)) leaf neighbours (part (now (list .entry)) from a)))
-        × (r .borrowed ≡ length (borrowedIn (leavesAt dimensions (now (points .entry)) leaf neighbours (part (now (list .entry)) from a))))
-        × (r .next ≡ length (nextAt dimensions (now (points .entry)) leaf size (part (now (list .entry)) from a))) ⌝ }
-    ensures list { λ _. ⌜ now (list .exit) ≡ put (now (list .entry)) (from + a) (nextAt dimensions (now (points .entry)) leaf size (part (now (list .entry)) from a)) ⌝ }
-    ensures internals { λ _. ⌜ now (internals .exit) ≡ put (now (internals .entry)) from (ownIn (leavesAt dimensions (now (points .entry)) leaf neighbours (part (now (list .entry)) from a))) ⌝ }
-    ensures domains { λ _. ⌜ now (domains .exit) ≡ put (now (domains .entry)) (rowNumbers * first) (stretches from bat (leavesAt dimensions (now (points .entry)) leaf neighbours (part (now (list .entry)) from a))) ⌝ }
-    ensures boxes { λ _. ⌜ now (boxes .exit) ≡ put (now (boxes .entry)) (rowFloats dimensions * first) (boxesIn (leavesAt dimensions (now (points .entry)) leaf neighbours (part (now (list .entry)) from a))) ⌝ }
-    ensures borrowed { λ _. ⌜ now (borrowed .exit) ≡ put (now (borrowed .entry)) bat (borrowedIn (leavesAt dimensions (now (points .entry)) leaf neighbours (part (now (list .entry)) from a))) ⌝ }
+    requires { ⌜ (place .from + 2 * place .a ≤ length (now list)) × (size ≤ place .a) × GivenBy plan (now points) (activeAt place (now list)) ⌝ }
+    requires { ⌜ FitsAt plan place (place .a) (now internals) (now domains) (now boxes) (now borrowed) ⌝ }
+    requires { ⌜ Room (plan .neighbours) (place .a) (now work) (now held) ⌝ }
+    ensures counts { λ r. ⌜ (r .leaves ≡ length (leavesBy plan (now (points .entry)) (activeAt place (now (list .entry)))))
+        × (r .borrowed ≡ length (borrowedIn (leavesBy plan (now (points .entry)) (activeAt place (now (list .entry))))))
+        × (r .next ≡ length (nextAt (plan .dimensions) (now (points .entry)) (plan .leaf) size (activeAt place (now (list .entry))))) ⌝ }
+    ensures list { λ _. ⌜ now (list .exit) ≡ put (now (list .entry)) (place .from + place .a) (nextAt (plan .dimensions) (now (points .entry)) (plan .leaf) size (activeAt place (now (list .entry)))) ⌝ }
+    ensures internals { λ _. ⌜ now (internals .exit) ≡ put (now (internals .entry)) (place .from) (ownIn (leavesBy plan (now (points .entry)) (activeAt place (now (list .entry))))) ⌝ }
+    ensures domains { λ _. ⌜ now (domains .exit) ≡ put (now (domains .entry)) (rowNumbers * place .first) (stretches (place .from) (place .bat) (leavesBy plan (now (points .entry)) (activeAt place (now (list .entry))))) ⌝ }
+    ensures boxes { λ _. ⌜ now (boxes .exit) ≡ put (now (boxes .entry)) (rowFloats (plan .dimensions) * place .first) (boxesIn (leavesBy plan (now (points .entry)) (activeAt place (now (list .entry))))) ⌝ }
+    ensures borrowed { λ _. ⌜ now (borrowed .exit) ≡ put (now (borrowed .entry)) (place .bat) (borrowedIn (leavesBy plan (now (points .entry)) (activeAt place (now (list .entry))))) ⌝ }
 {
+    let from = place.from;
+    let a = place.a;
     let end = from + a;
     let parts = divide(
         points,
-        dimensions,
-        leaf,
-        neighbours,
+        plan,
+        place,
         &list[from..end],
         internals,
-        from,
         domains,
-        first,
         boxes,
         borrowed,
-        bat,
         work,
         held,
     );
     let m = parts.leaves;
     let next = coarse_points::coarse_points(
         points,
-        dimensions,
+        plan.dimensions,
         size,
         internals,
         domains,
-        first,
+        place.first,
         m,
         list,
         from,

@@ -12,6 +12,8 @@ ghost use Rattle.definition.specs.Refusals.{mostPoints};
 ghost use Rattle.definition.specs.Packed.{packedPoints, packedOwn, packedDomains, packedBoxes, packedBorrowed};
 ghost use Rattle.fine_level.specs.Fine.{Given};
 ghost use Rattle.levels_loop.specs.After.{levelsAfter, Space};
+use fine_level::Place;
+use fine_level::Plan;
 
 // The most fine levels.
 const MOST_FINE: usize = 3;
@@ -83,19 +85,23 @@ pub fn all_levels(
         let size = next_size(a, c, k, built);
         let level = fine_level::fine_level(
             points,
-            dimensions,
-            leaf,
-            neighbours,
+            Plan {
+                dimensions: dimensions,
+                leaf: leaf,
+                neighbours: neighbours,
+            },
             size,
+            Place {
+                from: from,
+                a: a,
+                first: first,
+                bat: bat,
+            },
             list,
-            from,
-            a,
             internals,
             domains,
-            first,
             boxes,
             borrowed,
-            bat,
             work,
             held,
         );
@@ -120,8 +126,9 @@ pub fn all_levels(
     );
     rows[built] = a;
     counts[built] = 1;
+    let total = built + 1;
     Counts {
-        levels: built + 1,
+        levels: total,
         rows: rows,
         domains: counts,
     }

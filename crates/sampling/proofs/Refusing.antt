@@ -71,7 +71,7 @@ above-zero : (n : ℕ) → (n ≡ 0 → ⊥) → 0 < n
 above-zero zero h = absurd (h refl)
 above-zero (suc n) h = omega arith
 
-pub record Accepted (d : ℕ) (cs : List Float) (wanted seed o f w : ℕ) : Type 0 where
+pub record SampleAccepted (d : ℕ) (cs : List Float) (wanted seed o f w : ℕ) : Type 0 where
   pub axes : (1 ≤ d) × (d ≤ 3)
   pub few : length cs / d ≤ mostPoints
   pub some-wanted : 0 < wanted
@@ -82,7 +82,7 @@ pub record Accepted (d : ℕ) (cs : List Float) (wanted seed o f w : ℕ) : Type
   pub wholes : length cs / d ≤ w
   pub finites : All (λ x. finite x ≡ true) cs
 
-call-accepted : (d : ℕ) (cs : List Float) (wanted seed o f w : ℕ) → sampleVerdict d cs wanted seed (sampleLent o f w) ≡ accepted → Accepted d cs wanted seed o f w
+call-accepted : (d : ℕ) (cs : List Float) (wanted seed o f w : ℕ) → sampleVerdict d cs wanted seed (sampleLent o f w) ≡ accepted → SampleAccepted d cs wanted seed o f w
 unfolding sampleVerdict sampleShort sampleStated
 call-accepted d cs wanted seed o f w e =
     let n = length cs / d in
@@ -112,7 +112,7 @@ call-accepted d cs wanted seed o f w e =
 -- what holds once the answer is a count
 pub accepted-call : (d : ℕ) (cs : List Float) (wanted seed o f w count : ℕ) (x : SampleAnswer)
     → x ≡ shown (sampleVerdict d cs wanted seed (sampleLent o f w)) wanted → x ≡ Sampled count
-    → (sampleVerdict d cs wanted seed (sampleLent o f w) ≡ accepted) × (wanted ≡ count) × Accepted d cs wanted seed o f w
+    → (sampleVerdict d cs wanted seed (sampleLent o f w) ≡ accepted) × (wanted ≡ count) × SampleAccepted d cs wanted seed o f w
 accepted-call d cs wanted seed o f w count x e h =
     let c = sampled-count (sampleVerdict d cs wanted seed (sampleLent o f w)) wanted count (sym e ∙ h) in
     (c .0, c .1, call-accepted d cs wanted seed o f w (c .0))
@@ -120,10 +120,10 @@ accepted-call d cs wanted seed o f w count x e h =
 -- ---- all rows of the point list
 
 -- their numbers stand at the front of the list that they were written to
-pub numbered : (n : ℕ) (w l : List ℕ) → l ≡ put w 0 (from 0 n) → take n l ≡ from 0 n
-numbered n w l e = ap (take n) (e ∙ put-zero w (from 0 n)) ∙ take-at (from 0 n) (drop (length (from 0 n)) w) n (length-from 0 n)
+pub rows-numbered : (n : ℕ) (w l : List ℕ) → l ≡ put w 0 (from 0 n) → take n l ≡ from 0 n
+rows-numbered n w l e = ap (take n) (e ∙ put-zero w (from 0 n)) ∙ take-at (from 0 n) (drop (length (from 0 n)) w) n (length-from 0 n)
 
-module _ (d : ℕ) (cs : List Float) (wanted seed o f w count : ℕ) (a : Accepted d cs wanted seed o f w) (e : wanted ≡ count) (rows : List ℕ) (r : rows ≡ from 0 (length cs / d)) where
+module _ (d : ℕ) (cs : List Float) (wanted seed o f w count : ℕ) (a : SampleAccepted d cs wanted seed o f w) (e : wanted ≡ count) (rows : List ℕ) (r : rows ≡ from 0 (length cs / d)) where
   -- what the sampling of a list of rows asks
   pub call-ready : GoodRows d cs rows × (((0 < count) × (count ≤ length rows) × (seed < length rows)) × ((0 + count ≤ o) × (length rows ≤ f)))
   call-ready =

@@ -12,23 +12,19 @@ use Rattle.definition.specs.Refusals.{Verdict}
 use Rattle.definition.specs.Outcome.{Answer, written, RoomAfter}
 use Rattle.slots.specs.Slots.{unlessShort, numberAfter, slotAfter, slotFirst}
 
--- a written front is a stretch put at the list's start
-pub put-written : {A : Type 0} (xs old : List A) → put old 0 xs ≡ written xs old
-unfolding written
-put-written xs old = put-zero old xs
-
 module _ {B : Type 0} (n : ℕ) (slot : List B) where
-  pub short : {A : Type 0} (x y : A) → length slot < n → x ≡ unlessShort n slot x y
+  pub slot-short : {A : Type 0} (x y : A) → length slot < n → x ≡ unlessShort n slot x y
   unfolding unlessShort
-  short x y h = rw (lt-ltb (length slot) n h)
+  slot-short x y h = rw (lt-ltb (length slot) n h)
 
-  pub long : {A : Type 0} (x y z : A) → n ≤ length slot → z ≡ y → z ≡ unlessShort n slot x y
+  pub slot-long : {A : Type 0} (x y z : A) → n ≤ length slot → z ≡ y → z ≡ unlessShort n slot x y
   unfolding unlessShort
-  long x y z h e = rw (le-ltb (length slot) n h) e
+  slot-long x y z h e = rw (le-ltb (length slot) n h) e
 
   -- the slot after a call that found it long enough
   pub slot-written : (xs new : List B) → n ≤ length slot → new ≡ put slot 0 xs → new ≡ slotAfter n slot xs
-  slot-written xs new h e = long slot (written xs slot) new h (e ∙ put-written xs slot)
+  unfolding written
+  slot-written xs new h e = slot-long slot (written xs slot) new h (e ∙ put-zero slot xs)
 
   -- working room: as it was where the slot is short
   pub room-short : {A : Type 0} (v : Verdict) (old : List A) → length slot < n → RoomAfter (slotFirst n slot v) old old
@@ -41,7 +37,7 @@ module _ {B : Type 0} (n : ℕ) (slot : List B) where
 
   -- what a call returns that found its slot long enough
   pub number-long : {A : Type 0} (a b : Answer A) (k : ℕ) → n ≤ length slot → k ≡ a .number → a ≡ b → k ≡ numberAfter n slot b
-  number-long a b k h e g = long 11 (b .number) k h (e ∙ ap (λ (x : Answer _). x .number) g)
+  number-long a b k h e g = slot-long 11 (b .number) k h (e ∙ ap (λ (x : Answer _). x .number) g)
 
 -- place and levels, then the rows of each level, then the domains of each level
 pub counts-put : (old first second third : List ℕ) (place levels : ℕ) (rows domains : List ℕ) → length rows ≡ 4 → length domains ≡ 4

@@ -17,12 +17,12 @@ use Rattle.sampling.specs.Outcome.{RowsSampled}
 use Rattle.slots.specs.Slots.{valueSlot, buildSlot}
 use Rattle.slots.specs.Settings.{policyFrom, settingsFrom}
 use Rattle.slots.specs.Told.{Told, QuotasTold, SampleTold, BuildTold}
-use Rattle.slots.proofs.Slots.{short, long, slot-written, room-short, room-long, number-long}
+use Rattle.slots.proofs.Slots.{slot-short, slot-long, slot-written, room-short, room-long, number-long}
 
 -- ---- number and slot
 module _ {A B : Type 0} (n : ℕ) (values : Answer A → List B) (slot : List B) where
   pub told-short : (a : Answer A) → length slot < n → Told n values slot slot 11 a
-  told-short a h = record { number-is = short n slot _ _ h; slot-is = short n slot _ _ h }
+  told-short a h = record { number-is = slot-short n slot _ _ h; slot-is = slot-short n slot _ _ h }
 
   -- a is what the call behind it answers
   pub told-long : (slot′ : List B) (k : ℕ) (a b : Answer A) → n ≤ length slot → k ≡ a .number → slot′ ≡ put slot 0 (values a) → a ≡ b
@@ -43,14 +43,14 @@ told-value slot k x a b h e f g =
 module _ (sizes : List ℕ) (wanted : ℕ) (out room slot : List ℕ) where
   pub quotas-short : length slot < 2 → QuotasTold sizes wanted out out room room slot slot 11
   quotas-short h =
-      record { told = told-short 2 _ slot _ h; output = short 2 slot _ _ h; room-free = room-short 2 slot _ _ h }
+      record { told = told-short 2 _ slot _ h; output = slot-short 2 slot _ _ h; room-free = room-short 2 slot _ _ h }
 
   pub quotas-long : (out′ room′ slot′ : List ℕ) (k x y : ℕ) (a : Answer Shared) → 2 ≤ length slot → SeatsShared sizes wanted out out′ room room′ a
       → k ≡ a .number → x ≡ a .value .leaves → y ≡ a .value .seats → slot′ ≡ put slot 0 (x ∷ y ∷ []) → QuotasTold sizes wanted out out′ room room′ slot slot′ k
   quotas-long out′ room′ slot′ k x y a h o e f g w =
       record {
         told = told-long 2 _ slot slot′ k a _ h e (w ∙ rw (f, g)) (o .answers);
-        output = long 2 slot _ _ _ h (o .output);
+        output = slot-long 2 slot _ _ _ h (o .output);
         room-free = room-long 2 slot _ _ _ h (o .room-free);
       }
 
@@ -60,7 +60,7 @@ module _ (d : ℕ) (cs : List Float) (wanted seed : ℕ) (out : List ℕ) (float
   sample-short h =
       record {
         told = told-short 2 _ slot _ h;
-        output = short 2 slot _ _ h;
+        output = slot-short 2 slot _ _ h;
         floats-free = room-short 2 slot _ _ h;
         wholes-free = room-short 2 slot _ _ h;
       }
@@ -71,7 +71,7 @@ module _ (d : ℕ) (cs : List Float) (wanted seed : ℕ) (out : List ℕ) (float
   sample-long out′ floats′ wholes′ slot′ k x y a h o e f g w =
       record {
         told = told-long 2 _ slot slot′ k a _ h e (w ∙ rw (f, g)) (o .answers);
-        output = long 2 slot _ _ _ h (o .output);
+        output = slot-long 2 slot _ _ _ h (o .output);
         floats-free = room-long 2 slot _ _ _ h (o .floats-free);
         wholes-free = room-long 2 slot _ _ _ h (o .wholes-free);
       }
@@ -89,7 +89,7 @@ module _ (cs : List Float) (old : TreeLists) (floats : List Float) (wholes slot 
   build-short s h =
       record {
         told = told-short 10 _ slot _ h;
-        lists = short 10 slot _ _ h;
+        lists = slot-short 10 slot _ _ h;
         floats-free = room-short 10 slot _ _ h;
         wholes-free = room-short 10 slot _ _ h;
       }
@@ -103,7 +103,7 @@ module _ (cs : List Float) (old : TreeLists) (floats : List Float) (wholes slot 
       subst (λ (u : Settings). BuildTold u cs old new floats floats′ wholes wholes′ slot slot′ (a .number)) e
       record {
         told = told-long 10 buildSlot slot slot′ (a .number) a _ h refl w answers;
-        lists = long 10 slot _ _ _ h lists;
+        lists = slot-long 10 slot _ _ _ h lists;
         floats-free = room-long 10 slot _ _ _ h free-floats;
         wholes-free = room-long 10 slot _ _ _ h free-wholes;
       }

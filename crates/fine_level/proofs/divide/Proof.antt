@@ -21,7 +21,7 @@ leaves-requires c κs =
     let P = c .before .before .before .before .before .before .before .before .before .before .before .before .before .args in (
       (p .0 .axes, p .0 .axes-few, p .0 .leaf-some, p .0 .rows-some, p .0 .good),
       (
-        (omega (arith, p .1 .1 .wholes), omega (arith, boxes-room (P .dimensions) (length (P .active .now)) (p .0 .axes-few), p .1 .1 .floats)),
+        (omega (arith, p .1 .1 .wholes), omega (arith, boxes-room (P .plan .dimensions) (length (P .active .now)) (p .0 .axes-few), p .1 .1 .floats)),
         (p .1 .0 .internals, p .1 .0 .domains, p .1 .0 .boxes),
       ),
     )
@@ -32,7 +32,7 @@ overlaps-requires c κs =
     let P = c .before .before .before .before .before .before .before .before .before .before .before .before .before .before .before .before .before .before .before .before .before .before .before .before .before .before .before .before .args in
     let l = c .before .before .before .before .before .before .before .before .before .before .before .before .before .before .leaves .ensures in
     let ready = overlaps-ready _ _ _ _ _ (p .0) _ _ _ _ (p .1 .0 .internals) (p .1 .0 .domains) _ _ (l .1 .0) (l .1 .1 .0) in
-    (rw (l .0) ready, (omega (arith, codes-room (length (P .active .now)) (P .neighbours), p .1 .1 .wholes), p .1 .0 .borrowed))
+    (rw (l .0) ready, (omega (arith, codes-room (length (P .active .now)) (P .plan .neighbours), p .1 .1 .wholes), p .1 .0 .borrowed))
 
 same-length : tie.Need-same-length
 same-length c = search needs
@@ -59,15 +59,15 @@ returns c =
     let l = c .before .before .before .before .before .before .before .before .before .before .before .before .before .before .before .before .before .before .before .before .before .leaves .ensures in
     let o = c .before .before .before .before .before .before .overlaps .ensures in
     let read = rw (← l .0) at (leaves-read _ _ _ _ _ (p .0) _ _ _ _ (p .1 .0 .internals) (p .1 .0 .domains) _ _ (l .1 .0) (l .1 .1 .0)) in
-    let lent = rw (read, ← level-borrowed (P .dimensions) (P .points .now) (P .leaf) (P .neighbours) (P .active .now)) at o in
-    let rows = overlaps-rows _ _ _ _ _ (p .0) _ _ _ _ (p .1 .0 .internals) (p .1 .0 .domains) _ _ (l .1 .0) (l .1 .1 .0) (P .bat) _ (rw read at (o .1 .1 .0)) in (
-      (l .0 ∙ sym (level-number _ _ _ (P .neighbours) _), lent .0),
+    let lent = rw (read, ← level-borrowed (P .plan .dimensions) (P .points .now) (P .plan .leaf) (P .plan .neighbours) (P .active .now)) at o in
+    let rows = overlaps-rows _ _ _ _ _ (p .0) _ _ _ _ (p .1 .0 .internals) (p .1 .0 .domains) _ _ (l .1 .0) (l .1 .1 .0) (P .place .bat) _ (rw read at (o .1 .1 .0)) in (
+      (l .0 ∙ sym (level-number _ _ _ (P .plan .neighbours) _), lent .0),
       (
-        l .1 .0 ∙ ap (λ (z : List (List ℕ)). put (P .internals .now) (P .at) (joined z)) (sym (level-own _ _ _ (P .neighbours) _)),
+        l .1 .0 ∙ ap (λ (z : List (List ℕ)). put (P .internals .now) (P .place .from) (joined z)) (sym (level-own _ _ _ (P .plan .neighbours) _)),
         (
           rows,
           (
-            l .1 .1 .1 ∙ ap (λ (z : List (List Float)). put (P .boxes .now) (2 * P .dimensions * P .first) (joined z)) (sym (level-box _ _ _ (P .neighbours) _)),
+            l .1 .1 .1 ∙ ap (λ (z : List (List Float)). put (P .boxes .now) (2 * P .plan .dimensions * P .place .first) (joined z)) (sym (level-box _ _ _ (P .plan .neighbours) _)),
             lent .1 .0,
           ),
         ),

@@ -108,8 +108,8 @@ mul-counts-2 c = omega (arith, c .before .before .before .before .before .before
 array-write-counts-2 : tie.Need-array-write-counts-2 Inv-loop μ-loop
 array-write-counts-2 c = omega (arith, c .before .before .before .before .before .before .before .before .before .before .before .before .before .loop .inv .few, c .before .before .before .before .before .before .before .before .before .before .before .before .before .loop .inv .slots-too)
 
-add-t53 : tie.Need-add-t53 Inv-loop μ-loop
-add-t53 c = omega (arith, c .before .before .before .before .before .before .before .before .before .before .before .before .before .loop .inv .few)
+add-total : tie.Need-add-total Inv-loop μ-loop
+add-total c = omega (arith, c .before .before .before .before .before .before .before .before .before .before .before .before .before .loop .inv .few)
 
 same-length : tie.Need-same-length Inv-loop μ-loop
 same-length c = omega (arith, c .before .before .before .before .before .before .before .before .before .before .before .before .before .loop .inv .long .points)
@@ -172,7 +172,7 @@ all-levels-spec =
     array-write-rows-2
     mul-counts-2
     array-write-counts-2
-    add-t53
+    add-total
     same-length
     same-length-2
     same-length-3

@@ -5,7 +5,7 @@ use Prim.Native.Nat.{_/_}
 use native.Mathlib.Omega.{arith}
 use lib.ListN.{length}
 use Rattle.lists.proofs.From.{length-from}
-use Rattle.sampling.proofs.Refusing.{accepted-call, numbered, call-ready, call-written, call-refused, call-sampled}
+use Rattle.sampling.proofs.Refusing.{accepted-call, rows-numbered, call-ready, call-written, call-refused, call-sampled}
 use borrow.Author.Needs.{needs}
 use Rattle.sampling.proofs.farthest_point_sampling.Statement.{statement}
 use Rattle.sampling.proofs.farthest_point_sampling.Tie as tie
@@ -58,7 +58,7 @@ slice-aggregate-sample-rows c = let s = c .before .before .before .before .befor
     (c .before .before .before .before .before .before .answer2 .given .1) in
     let a = v .2 in
     let n = length (s .args .points .now) / s .args .dimensions in
-    sym (ap length (numbered n (s .args .wholes .now) _ (c .before .before .before .number-rows .ensures)) ∙ length-from 0 n)
+    sym (ap length (rows-numbered n (s .args .wholes .now) _ (c .before .before .before .number-rows .ensures)) ∙ length-from 0 n)
 
 sample-rows-requires : tie.Need-sample-rows-requires
 sample-rows-requires c κs = let s = c .before .before .before .before .before .before .before .before .before .before .before .before .before .before .before in
@@ -68,7 +68,7 @@ sample-rows-requires c κs = let s = c .before .before .before .before .before .
     (length (g .wholes .now)) _ _ (c .before .before .before .before .before .before .before .before .before .before .sampling-verdict .ensures)
     (c .before .before .before .before .before .before .before .before .answer2 .given .1) in
     let a = v .2 in
-    call-ready _ _ _ _ _ _ _ _ a (v .1) _ (numbered _ _ _ (c .before .before .before .before .before .number-rows .ensures))
+    call-ready _ _ _ _ _ _ _ _ a (v .1) _ (rows-numbered _ _ _ (c .before .before .before .before .before .number-rows .ensures))
 
 returns : tie.Need-returns
 returns c = call-refused _ _ _ _ _ _ _ _ _ (sym (c .before .before .before .sampling-verdict .ensures) ∙ c .before .answer .given .1)
@@ -93,7 +93,7 @@ returns-2 c = let s = c .before .before .before .before .before .before .before 
     let nr = c .before .before .before .before .before .before .before .before .before .before .number-rows in
     let sr = c .before .before .before .before .sample-rows in
     call-sampled _ _ _ _ _ _ _ _ (v .0) (v .1) _
-    (call-written _ _ _ _ _ _ _ _ a (v .1) _ (numbered _ _ _ (nr .ensures)) _ _ (sr .ensures)) _ (sr .kept .1 .1 .1 .1 .1 .1 .1 .0) _ (nr .kept .0)
+    (call-written _ _ _ _ _ _ _ _ a (v .1) _ (rows-numbered _ _ _ (nr .ensures)) _ _ (sr .ensures)) _ (sr .kept .1 .1 .1 .1 .1 .1 .1 .0) _ (nr .kept .0)
 
 pub farthest-point-sampling-spec : {M : Type 1} → statement M
 farthest-point-sampling-spec =
