@@ -3,7 +3,7 @@ ghost use mathlib.Core.Path.{_≡_};
 ghost use Rattle.lists.specs.Lists.{part};
 ghost use Rattle.definition.specs.Refusals.{stretchVerdict};
 ghost use Rattle.definition.specs.Outcome.{rowsAsked, rowTest, valueOf, numberOf};
-ghost use Rattle.packed.specs.Rows.{rowOf};
+ghost use Rattle.packed.specs.Rows.{domainRowOf};
 ghost use Rattle.leaf_rows.specs.Asked.{whichOf};
 ghost use mathlib.Core.List.{[]};
 ghost use lib.ListN.{length};

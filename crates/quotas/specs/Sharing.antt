@@ -6,6 +6,7 @@ use mathlib.Core.List.{List, map}
 use lib.ListN.{length}
 use Rattle.lists.specs.Lists.{total, from}
 use Rattle.definition.specs.Quotas.{sizeAt, remainderAt, seatsAt}
+use Rattle.definition.specs.Refusals.{mostPoints}
 use Rattle.definition.specs.SeatCut.{above, CutBy}
 
 -- the capacities that remain
@@ -15,9 +16,9 @@ capacities sizes first = map (λ w. w - first) sizes
 -- what a sharing asks of its numbers: products and shares fit the machine's, the rest fits the capacities, and the divisor is their
 -- sum, or 1 where that is 0
 pub record Sharing (sizes : List ℕ) (first rest pool : ℕ) : Type 0 where
-  pub sizes-fit : (j : ℕ) → sizeAt sizes j ≤ 1048576
+  pub sizes-fit : (j : ℕ) → sizeAt sizes j ≤ mostPoints
   pub first-fits : first ≤ 1
-  pub rest-fits : rest ≤ 1048576
+  pub rest-fits : rest ≤ mostPoints
   pub within : rest ≤ total (capacities sizes first)
   pub divisor : pool ≡ max 1 (total (capacities sizes first))
 

@@ -4,7 +4,7 @@ ghost use mathlib.Core.List.{_∷_, _++_};
 ghost use Prim.Native.Nat.{_≤_};
 ghost use lib.ListN.{length};
 ghost use Rattle.lists.specs.Lists.{put};
-ghost use Rattle.root.specs.Answers as numbers-answers;
+ghost use Rattle.root.specs.Answers as root-answers;
 ghost use Rattle.level_sizes.specs.Answers.{sizeReport};
 ghost use Rattle.quotas.specs.Answers.{quotaReport};
 ghost use Rattle.sampling.specs.Answers.{sampleReport};
@@ -28,7 +28,7 @@ pub fn version() -> usize
 
 // The refusal's number of a root.
 pub fn root_number(answer: RootAnswer) -> usize
-    ensures { λ r. ⌜ r ≡ numbers-answers.sampleReport answer .number ⌝ }
+    ensures { λ r. ⌜ r ≡ root-answers.rootReport answer .number ⌝ }
 {
     match answer {
         RootAnswer::Value(_) => 0,
@@ -38,7 +38,7 @@ pub fn root_number(answer: RootAnswer) -> usize
 
 // The root itself, or 0 for a refusal.
 pub fn root_value(answer: RootAnswer) -> f64
-    ensures { λ r. ⌜ r ≡ numbers-answers.sampleReport answer .value ⌝ }
+    ensures { λ r. ⌜ r ≡ root-answers.rootReport answer .value ⌝ }
 {
     match answer {
         RootAnswer::Value(root) => root,

@@ -20,13 +20,13 @@ settings-fault-requires : tie.Need-settings-fault-requires
 settings-fault-requires c κs = search needs
 
 returns : tie.Need-returns
-returns c = let a = c .before .before .before .args in let s = settingsOf (a .dimensions) (a .params) in refused-settings s (a .points .now) (lentOf (a .lent)) (c .before .settings-fault .result) (c .before .settings-fault .ensures .0) (c .if1 .taken)
+returns c = let a = c .before .before .before .args in let s = settingsOf (a .dimensions) (a .params) in refused-settings s (a .points .now) (sizesOf (a .lent)) (c .before .settings-fault .result) (c .before .settings-fault .ensures .0) (c .if1 .taken)
 
 points-fault-requires : tie.Need-points-fault-requires
 points-fault-requires c κs = let f = c .before .settings-fault .ensures .1 (omega (arith, c .if1 .left)) in (f .0, f .2)
 
 returns-2 : tie.Need-returns-2
-returns-2 c = let a = c .before .before .before .before .before .args in let s = settingsOf (a .dimensions) (a .params) in refused-points s (a .points .now) (lentOf (a .lent)) (c .before .before .before .settings-fault .result) (c .before .before .before .settings-fault .ensures .0) (c .before .before .if1 .left) (c .before .points-fault .result) (c .before .points-fault .ensures .0) (c .if2 .taken)
+returns-2 c = let a = c .before .before .before .before .before .args in let s = settingsOf (a .dimensions) (a .params) in refused-points s (a .points .now) (sizesOf (a .lent)) (c .before .before .before .settings-fault .result) (c .before .before .before .settings-fault .ensures .0) (c .before .before .if1 .left) (c .before .points-fault .result) (c .before .points-fault .ensures .0) (c .if2 .taken)
 
 div-n : tie.Need-div-n
 div-n c = let f = c .before .before .before .settings-fault .ensures .1 (omega (arith, c .before .before .if1 .left)) in omega (arith, f .0)
@@ -38,16 +38,16 @@ is-short-requires : tie.Need-is-short-requires
 is-short-requires c κs = let f = c .before .before .before .before .settings-fault .ensures .1 (omega (arith, c .before .before .before .if1 .left)) in (f .1, c .before .before .points-fault .ensures .1 (omega (arith, c .before .if2 .left)), f .3)
 
 returns-3 : tie.Need-returns-3
-returns-3 c = let a = c .before .before .before .before .before .before .before .before .args in let s = settingsOf (a .dimensions) (a .params) in last-11 _ (a .points .now) (sym (c .before .is-short .ensures) ∙ c .if3 .taken) ∙ sym (passed-both s (a .points .now) (lentOf (a .lent)) (c .before .before .before .before .before .before .settings-fault .result) (c .before .before .before .before .before .before .settings-fault .ensures .0) (c .before .before .before .before .before .if1 .left) (c .before .before .before .before .points-fault .result) (c .before .before .before .before .points-fault .ensures .0) (c .before .before .before .if2 .left))
+returns-3 c = let a = c .before .before .before .before .before .before .before .before .args in let s = settingsOf (a .dimensions) (a .params) in last-11 _ (a .points .now) (sym (c .before .is-short .ensures) ∙ c .if3 .taken) ∙ sym (passed-both s (a .points .now) (sizesOf (a .lent)) (c .before .before .before .before .before .before .settings-fault .result) (c .before .before .before .before .before .before .settings-fault .ensures .0) (c .before .before .before .before .before .if1 .left) (c .before .before .before .before .points-fault .result) (c .before .before .before .before .points-fault .ensures .0) (c .before .before .before .if2 .left))
 
 first-not-finite-requires : tie.Need-first-not-finite-requires
 first-not-finite-requires c κs = search needs
 
 returns-4 : tie.Need-returns-4
-returns-4 c = let a = c .before .before .before .before .before .before .before .before .before .before .args in let s = settingsOf (a .dimensions) (a .params) in ap (λ (k : ℕ). refused (record { number = 10; place = k })) (c .before .first-not-finite .ensures) ∙ last-10 _ (a .points .now) (sym (c .before .before .before .is-short .ensures) ∙ c .before .before .if3 .left) (omega (arith, c .before .first-not-finite .ensures, c .if4 .taken)) ∙ sym (passed-both s (a .points .now) (lentOf (a .lent)) (c .before .before .before .before .before .before .before .before .settings-fault .result) (c .before .before .before .before .before .before .before .before .settings-fault .ensures .0) (c .before .before .before .before .before .before .before .if1 .left) (c .before .before .before .before .before .before .points-fault .result) (c .before .before .before .before .before .before .points-fault .ensures .0) (c .before .before .before .before .before .if2 .left))
+returns-4 c = let a = c .before .before .before .before .before .before .before .before .before .before .args in let s = settingsOf (a .dimensions) (a .params) in ap (λ (k : ℕ). refused (record { number = 10; place = k })) (c .before .first-not-finite .ensures) ∙ last-10 _ (a .points .now) (sym (c .before .before .before .is-short .ensures) ∙ c .before .before .if3 .left) (omega (arith, c .before .first-not-finite .ensures, c .if4 .taken)) ∙ sym (passed-both s (a .points .now) (sizesOf (a .lent)) (c .before .before .before .before .before .before .before .before .settings-fault .result) (c .before .before .before .before .before .before .before .before .settings-fault .ensures .0) (c .before .before .before .before .before .before .before .if1 .left) (c .before .before .before .before .before .before .points-fault .result) (c .before .before .before .before .before .before .points-fault .ensures .0) (c .before .before .before .before .before .if2 .left))
 
 returns-5 : tie.Need-returns-5
-returns-5 c = let a = c .before .before .before .before .before .before .before .before .before .before .args in let s = settingsOf (a .dimensions) (a .params) in last-fine _ (a .points .now) (sym (c .before .before .before .is-short .ensures) ∙ c .before .before .if3 .left) (omega (arith, c .before .first-not-finite .ensures, c .if4 .left)) ∙ sym (passed-both s (a .points .now) (lentOf (a .lent)) (c .before .before .before .before .before .before .before .before .settings-fault .result) (c .before .before .before .before .before .before .before .before .settings-fault .ensures .0) (c .before .before .before .before .before .before .before .if1 .left) (c .before .before .before .before .before .before .points-fault .result) (c .before .before .before .before .before .before .points-fault .ensures .0) (c .before .before .before .before .before .if2 .left))
+returns-5 c = let a = c .before .before .before .before .before .before .before .before .before .before .args in let s = settingsOf (a .dimensions) (a .params) in last-fine _ (a .points .now) (sym (c .before .before .before .is-short .ensures) ∙ c .before .before .if3 .left) (omega (arith, c .before .first-not-finite .ensures, c .if4 .left)) ∙ sym (passed-both s (a .points .now) (sizesOf (a .lent)) (c .before .before .before .before .before .before .before .before .settings-fault .result) (c .before .before .before .before .before .before .before .before .settings-fault .ensures .0) (c .before .before .before .before .before .before .before .if1 .left) (c .before .before .before .before .before .before .points-fault .result) (c .before .before .before .before .before .before .points-fault .ensures .0) (c .before .before .before .before .before .if2 .left))
 
 pub check-build-spec : {M : Type 1} → statement M
 check-build-spec =
