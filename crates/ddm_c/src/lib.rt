@@ -130,11 +130,11 @@ pub extern "C" fn ddm_build_sizes(
 pub extern "C" fn ddm_build(
     points: &[f64],
     dimensions: usize,
-    leaf_threshold: u32,
-    overlap_knn: u32,
-    coarse_reduction_factor: u32,
+    leaf: u32,
+    neighbours: u32,
+    factor: u32,
     policy: u32,
-    coarse_threshold: u32,
+    threshold: u32,
     level_points: &mut [usize],
     internals: &mut [usize],
     domains: &mut [usize],
@@ -144,7 +144,7 @@ pub extern "C" fn ddm_build(
     wholes: &mut [usize],
     result: &mut [usize],
 ) -> usize
-    ensures { λ r. ⌜ BuildTold (settingsFrom dimensions «leaf_threshold» «overlap_knn» «coarse_reduction_factor» policy «coarse_threshold») (now (points .entry))
+    ensures { λ r. ⌜ BuildTold (settingsFrom dimensions leaf neighbours factor policy threshold) (now (points .entry))
         (listsOf (now («level_points» .entry)) (now (internals .entry)) (now (domains .entry)) (now (boxes .entry)) (now (borrowed .entry)))
         (listsOf (now («level_points» .exit)) (now (internals .exit)) (now (domains .exit)) (now (boxes .exit)) (now (borrowed .exit)))
         (now (floats .entry)) (now (floats .exit)) (now (wholes .entry)) (now (wholes .exit)) (now (result .entry)) (now (result .exit)) r ⌝ }
@@ -152,11 +152,11 @@ pub extern "C" fn ddm_build(
     if result.len() < 10 {
         return 11;
     }
-    let size = slots::policy_of(policy, coarse_threshold);
+    let size = slots::policy_of(policy, threshold);
     let params = DDMParams {
-        leaf_threshold: leaf_threshold,
-        overlap_knn: overlap_knn,
-        coarse_reduction_factor: coarse_reduction_factor,
+        leaf_threshold: leaf,
+        overlap_knn: neighbours,
+        coarse_reduction_factor: factor,
         coarse_threshold: size,
     };
     let tree = ddm::build(
