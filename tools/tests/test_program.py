@@ -2,6 +2,7 @@
 
 What is proved of the program ends at the kit's read and write. Here it is run: the input comes in single bytes, in lumps of odd sizes
 and at once, is longer than the program's list, ends early, or cannot be read. Each answer is compared with the plain model's.
+DDM_TREE=PATH names the program, which then has to be there.
 """
 import os
 import struct
@@ -14,7 +15,8 @@ ROOT = os.path.dirname(os.path.dirname(HERE))
 sys.path.insert(0, os.path.dirname(HERE))
 import model
 
-PROGRAM = os.path.join(ROOT, "target", "bin", "ddm_tree")
+NAMED = os.environ.get("DDM_TREE")
+PROGRAM = os.path.abspath(NAMED) if NAMED else os.path.join(ROOT, "target", "bin", "ddm_tree")
 DECISIVE = 878
 LIST = 1024
 
@@ -54,7 +56,7 @@ def piped(lumps):
     return written.decode(), said.decode()
 
 
-@unittest.skipUnless(os.access(PROGRAM, os.X_OK), "target/bin/ddm_tree is not built: rt check ddm_tree builds it")
+@unittest.skipUnless(NAMED or os.access(PROGRAM, os.X_OK), "target/bin/ddm_tree is not built: rt check ddm_tree builds it")
 class Program(unittest.TestCase):
     def answers(self, data, lumps):
         out, err = piped(lumps)

@@ -1,4 +1,6 @@
--- From the build's outcome to the text of a job, and from the reader's answer to the printout. Assumes nothing.
+-- From the build's outcome to the text of a job (`job-refused`, `job-tree`, with the lists that the program lends, `rooms`), from the
+-- reader's answer to the printout (`broken-here`, `whole-here`), and the outcome of the whole call (`answer-..`, `output-..`,
+-- `count-fits`). Assumes nothing.
 use mathlib.Core.Path.{_≡_, sym, ap, _∙_}
 use mathlib.Core.Logic.{⊎-elim}
 use mathlib.Core.Bool.{false}

@@ -1,5 +1,5 @@
--- The front of a stream decides what it comes to: its settings, and 33 point records of three axes, are 878 bytes. What lies past
--- them is not looked at. Assumes nothing.
+-- The front of a stream decides what it comes to: its settings, and 33 point records of three axes, are 878 bytes (`decisive-is`).
+-- What lies past them is not looked at: `front-decides` says so of the job, `front-printed` of the printout. Assumes nothing.
 use mathlib.Core.Path.{_≡_, refl, sym, ap, ap₂, _∙_}
 use mathlib.Core.Bool.{Bool, true, false, _&&_, cond}
 use mathlib.Core.Logic.{⊎-elim}

@@ -1,4 +1,5 @@
--- The shape of a tree: one to four levels, of which the last has one leaf, and boxes of two bounds on each axis. Assumes nothing.
+-- The shape of a tree (`Shaped`): one to four levels, of which the last has one leaf, and boxes of two bounds on each axis.
+-- `levels-shaped` has it of the levels from any on, `tree-shaped` of the tree. Assumes nothing.
 use mathlib.Core.Path.{_≡_, refl, ap, _∙_}
 use mathlib.Core.Logic.{⊎-elim}
 use Prim.Native.Nat.{ℕ, zero, suc, _-_, _*_, _≤_, _<_}

@@ -1,5 +1,6 @@
 -- `printout::printout` meets its contract. Assumes nothing.
 use Rattle.printout.proofs.Joins.{answer-short, output-short, answer-long, output-long}
+use native.Mathlib.Omega.{arith}
 use borrow.Author.Needs.{needs}
 use Rattle.printout.proofs.printout.Statement.{statement}
 use Rattle.printout.proofs.printout.Tie as tie
@@ -7,7 +8,7 @@ use Rattle.printout.proofs.printout.Tie as tie
 returns : tie.Need-returns
 returns c =
     let a = c .before .before .before .args in
-    (answer-short (a .input .now) (a .output .now) (c .if1 .taken), output-short (a .input .now) (a .output .now) (c .if1 .taken))
+    (answer-short (a .input .now) (a .output .now) (omega (arith, c .if1 .taken)), output-short (a .input .now) (a .output .now) (omega (arith, c .if1 .taken)))
 
 write-printout-requires : tie.Need-write-printout-requires
 write-printout-requires c κs = search needs

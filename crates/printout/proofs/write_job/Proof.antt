@@ -3,6 +3,7 @@ use mathlib.Core.Path.{sym}
 use Rattle.print_texts.proofs.Texts.{spelt, room-spelt}
 use Rattle.stream_reader.specs.Reading.{settingsAre}
 use Rattle.printout.proofs.Joins.{lentLists, rooms, room-for, job-refused, tree-ready, job-tree}
+use native.Mathlib.Omega.{arith}
 use borrow.Author.Needs.{needs}
 use Rattle.printout.proofs.write_job.Statement.{statement}
 use Rattle.printout.proofs.write_job.Tie as tie
@@ -38,7 +39,7 @@ write-refusal-requires c κs =
     let cs = start .args .cs .now in
     let w = c .before .before .before .before .before .before .before .before .before .build .ensures in
     let t = c .before .if1 .taken in
-    room-spelt (job-refused s cs lentLists _ _ (start .pre .0) rooms _ (w .answers) t) (room-for s cs (start .args .out .now) (start .pre .0) (start .pre .1))
+    room-spelt (job-refused s cs lentLists _ _ (start .pre .0) rooms _ (w .answers) (omega (arith, t))) (room-for s cs (start .args .out .now) (start .pre .0) (start .pre .1))
 
 same-length : tie.Need-same-length
 same-length c = search needs
@@ -50,7 +51,7 @@ returns c =
     let cs = start .args .cs .now in
     let w = c .before .before .before .before .before .before .before .before .before .before .before .before .build .ensures in
     let t = c .before .before .before .before .if1 .taken in
-    spelt (sym (job-refused s cs lentLists _ _ (start .pre .0) rooms _ (w .answers) t)) (c .before .before .write-refusal .ensures)
+    spelt (sym (job-refused s cs lentLists _ _ (start .pre .0) rooms _ (w .answers) (omega (arith, t)))) (c .before .before .write-refusal .ensures)
 
 slice-aggregate-write-tree : tie.Need-slice-aggregate-write-tree
 slice-aggregate-write-tree c = search needs
