@@ -31,7 +31,7 @@ use Rattle.definition_laws.proofs.Shape.{leaves-most}
 use Rattle.queue.specs.Rows.{withOwn}
 use Rattle.rows.proofs.Good.{good-good}
 use Rattle.packed.specs.Reading.{ownAt, readOwn}
-use Rattle.overlap_owners.specs.Own.{Shared, Leaves}
+use Rattle.overlap_owners.specs.Own.{SharedOut, Leaves}
 use Rattle.overlaps.specs.Borrowed.{borrowedLists, withBorrowed, Stage}
 use Rattle.coarse_points.specs.Sent.{sentRows, SendsUp}
 use Rattle.fine_level.specs.Fine.{leavesAt, nextAt, ownIn, Given}
@@ -100,7 +100,7 @@ module _ (d : ℕ) (cs : List Float) (leaf neighbours : ℕ) (active : List ℕ)
       (λ t. times-keep-out p (joined own) r t ∙ sym (times-keep-out p active r t))
       (true-or-false (p r))
 
-  pub own-shared : Shared active (rowsIn (leavesOf d cs leaf active))
+  pub own-shared : SharedOut active (rowsIn (leavesOf d cs leaf active))
   own-shared p =
       sym (length-keep p (joined own)) ∙ once-length (keep p active) (keep p (joined own)) (once-keep p active (good .once)) (own-kept p)
       ∙ length-keep p active

@@ -3,7 +3,7 @@ ghost use mathlib.Core.Path.{_≡_};
 ghost use Rattle.lists.specs.Lists.{part};
 ghost use Rattle.definition.specs.Refusals.{stretchVerdict};
 ghost use Rattle.definition.specs.Outcome.{rowsAsked, rowTest, valueOf, numberOf};
-ghost use Rattle.packed.specs.Rows.{domainRowOf};
+ghost use Rattle.packed.specs.Rows.{plainRow};
 ghost use Rattle.leaf_rows.specs.Asked.{whichOf};
 ghost use mathlib.Core.List.{[]};
 ghost use lib.ListN.{length};
@@ -47,7 +47,7 @@ pub fn rows_of<'a>(
     which: Which,
     row: DomainRow,
 ) -> &'a [usize]
-    ensures { λ r. ⌜ now r ≡ rowsAsked (whichOf which) (domainRowOf row) (now (internals .entry)) (now (borrowed .entry)) ⌝ }
+    ensures { λ r. ⌜ now r ≡ rowsAsked (whichOf which) (plainRow row) (now (internals .entry)) (now (borrowed .entry)) ⌝ }
 {
     match which {
         Which::Own => stretch_of(internals, row.internal_start, row.internal_count),
@@ -57,7 +57,7 @@ pub fn rows_of<'a>(
 
 // The test of the row: 12 where the stretch that is asked for ends past its list, and 0 otherwise.
 pub fn row_test(internals: &[usize], borrowed: &[usize], which: Which, row: DomainRow) -> u32
-    ensures { λ r. ⌜ r ≡ rowTest (whichOf which) (domainRowOf row) (now (internals .entry)) (now (borrowed .entry)) ⌝ }
+    ensures { λ r. ⌜ r ≡ rowTest (whichOf which) (plainRow row) (now (internals .entry)) (now (borrowed .entry)) ⌝ }
 {
     match which {
         Which::Own => stretch_test(internals.len(), row.internal_start, row.internal_count),

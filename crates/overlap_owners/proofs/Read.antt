@@ -13,9 +13,9 @@ use Rattle.lists.specs.Times.{times}
 use Rattle.lists.proofs.Ascends.{ascends-once}
 use Rattle.lists.proofs.Joined.{two-lists}
 use Rattle.lists.proofs.Same.{same-mem}
-use Rattle.overlap_owners.specs.Own.{Shared}
+use Rattle.overlap_owners.specs.Own.{SharedOut}
 
-module _ (active : List ℕ) (own : List (List ℕ)) (s : Shared active own) where
+module _ (active : List ℕ) (own : List (List ℕ)) (s : SharedOut active own) where
   pub shared-active : (l : ℕ) → l < length own → (row : ℕ) → List·Memᴰ row (getD own l []) → List·Memᴰ row active
   shared-active l h row i = same-mem (joined own) active s row (mem-joined own (mem-at own l [] h) i)
 

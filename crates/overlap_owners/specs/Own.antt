@@ -11,15 +11,15 @@ use Rattle.definition.specs.Packed.{rowNumbers}
 use Rattle.packed.specs.Reading.{ownStart, ownCount, readOwn}
 
 -- the leaves hold each active row once
-abbrev pub Shared : List ℕ → List (List ℕ) → Type 0
-Shared active own = (p : ℕ → Bool) → count p (joined own) ≡ count p active
+abbrev pub SharedOut : List ℕ → List (List ℕ) → Type 0
+SharedOut active own = (p : ℕ → Bool) → count p (joined own) ≡ count p active
 
 -- m domain rows whose own rows share out the active rows, which ascend
 pub record Leaves (active I D : List ℕ) (first m : ℕ) : Type 0 where
   pub ascends : Ascends active
   pub rows : rowNumbers * (first + m) ≤ length D
   pub inside : (l : ℕ) → l < m → ownStart D (first + l) + ownCount D (first + l) ≤ length I
-  pub shared : Shared active (readOwn I D first m)
+  pub shared : SharedOut active (readOwn I D first m)
 
 -- the leaf stands at the positions of these rows, and each other position has what it had
 abbrev pub Written : List ℕ → List ℕ → ℕ → List ℕ → List ℕ → Type 0

@@ -21,7 +21,7 @@ use Rattle.definition.specs.Points.{boxWidth}
 use Rattle.definition.specs.Tree.{Leaf, Level, mostFine}
 use Rattle.definition.specs.Packed.{Counts, rowNumbers, rowFloats, rowOf, numbersOf, leavesIn, packedPoints, packedOwn, packedBorrowed, packedDomains, packedBoxes, stretches, perLevel, countsOf}
 use Rattle.definition_laws.proofs.Fit.{length-leaves, length-points, length-domains}
-use Rattle.packed.specs.Reading.{Packed, ownStart, ownCount, borrowedStart, borrowedCount, ownAt, borrowedAt, boxAt, leafAt, leavesAt, upTo, pointsAt, levelAt, levelsAt, RowFits, Stands}
+use Rattle.packed.specs.Reading.{Packed, ownStart, ownCount, borrowedStart, borrowedCount, ownAt, borrowedAt, boxAt, readLeaf, readLeaves, upTo, pointsAt, readLevel, readLevels, RowFits, Stands}
 use Rattle.packed.proofs.Counts.{noLevel, counts-length, counts-before, count-at}
 
 -- what stands past a level's leaves
@@ -199,8 +199,8 @@ module _ (ls : List Level) (p : Packed) (points : List ℕ) (c : Counts) (k : Pa
         ap (λ (x : List Float). part x (rowFloats (p .dimension) * j) (boxWidth (p .dimension))) (k .boxes)
         ∙ stretch-is (λ f. f .box) (rowFloats (p .dimension) * j) (boxWidth (p .dimension)) box-start box-count (k .boxes-rest)
 
-    pub leaf-is : leafAt p j ≡ getD (leavesIn ls) j noLeaf
-    unfolding leafAt
+    pub leaf-is : readLeaf p j ≡ getD (leavesIn ls) j noLeaf
+    unfolding readLeaf
     leaf-is = rw (own-is, borrowed-is, box-is)
 
     pub row-fits : p .dimension ≤ 3 → RowFits p j
@@ -251,18 +251,18 @@ module _ (ls : List Level) (p : Packed) (points : List ℕ) (c : Counts) (k : Pa
     leaf-at = rw before-is (getD-joined blocks l i noLeaf block-there in-block ∙ ap (λ (x : List Leaf). getD x i noLeaf) block-is)
 
   -- ---- the tree
-  level-is : (l : ℕ) → levelAt p points (c .rows) (c .domains) l ≡ getD ls l noLevel
-  unfolding levelAt leavesAt
+  level-is : (l : ℕ) → readLevel p points (c .rows) (c .domains) l ≡ getD ls l noLevel
+  unfolding readLevel readLeaves
   level-is l =
       let m = getD ls l noLevel .leaves in
       let start = upTo (c .domains) l in
-      let leaves : map (leafAt p) (from start (length m)) ≡ m =
-      map-from-at (leafAt p) (λ f. f) noLeaf m start (λ i h. leaf-is (start + i) (leaf-in l i h) ∙ leaf-at l i h) ∙ map-id m in
+      let leaves : map (readLeaf p) (from start (length m)) ≡ m =
+      map-from-at (readLeaf p) (λ f. f) noLeaf m start (λ i h. leaf-is (start + i) (leaf-in l i h) ∙ leaf-at l i h) ∙ map-id m in
       rw (listed-is l, leaves-on l, leaves)
 
-  pub tree-back : levelsAt p points (c .rows) (c .domains) (length ls) ≡ ls
-  unfolding levelsAt
-  tree-back = map-from-at (levelAt p points (c .rows) (c .domains)) (λ x. x) noLevel ls 0 (λ l h. ap (levelAt p points (c .rows) (c .domains)) (zero-add l) ∙ level-is l) ∙ map-id ls
+  pub tree-back : readLevels p points (c .rows) (c .domains) (length ls) ≡ ls
+  unfolding readLevels
+  tree-back = map-from-at (readLevel p points (c .rows) (c .domains)) (λ x. x) noLevel ls 0 (λ l h. ap (readLevel p points (c .rows) (c .domains)) (zero-add l) ∙ level-is l) ∙ map-id ls
 
   -- ---- a reader stays inside the lists, where the last level has one leaf
   counted-points : upTo (c .rows) (length ls) ≤ length points

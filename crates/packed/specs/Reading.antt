@@ -64,8 +64,8 @@ packed internals borrowed domains boxes d =
     record { internals = internals; borrowed = borrowed; domains = domains; boxes = boxes; dimension = d }
 
 -- the leaf of the domain row number j
-unfoldable pub leafAt : Packed → ℕ → Leaf
-leafAt p j =
+unfoldable pub readLeaf : Packed → ℕ → Leaf
+readLeaf p j =
     record {
       own = ownAt (p .internals) (p .domains) j;
       borrowed = borrowedAt (p .borrowed) (p .domains) j;
@@ -73,8 +73,8 @@ leafAt p j =
     }
 
 -- m leaves from the domain row number j on
-unfoldable pub leavesAt : Packed → ℕ → ℕ → List Leaf
-leavesAt p j m = map (leafAt p) (from j m)
+unfoldable pub readLeaves : Packed → ℕ → ℕ → List Leaf
+readLeaves p j m = map (readLeaf p) (from j m)
 
 -- ---- levels, by the row and domain counts per level
 
@@ -86,16 +86,16 @@ upTo counts l = total (take l counts)
 abbrev pub pointsAt : List ℕ → List ℕ → ℕ → List ℕ
 pointsAt points rows l = part points (upTo rows l) (getD rows l 0)
 
-unfoldable pub levelAt : Packed → List ℕ → List ℕ → List ℕ → ℕ → Level
-levelAt p points rows counts l =
+unfoldable pub readLevel : Packed → List ℕ → List ℕ → List ℕ → ℕ → Level
+readLevel p points rows counts l =
     record {
       points = pointsAt points rows l;
-      leaves = leavesAt p (upTo counts l) (getD counts l 0);
+      leaves = readLeaves p (upTo counts l) (getD counts l 0);
     }
 
 -- the first n levels
-unfoldable pub levelsAt : Packed → List ℕ → List ℕ → List ℕ → ℕ → List Level
-levelsAt p points rows counts n = map (levelAt p points rows counts) (from 0 n)
+unfoldable pub readLevels : Packed → List ℕ → List ℕ → List ℕ → ℕ → List Level
+readLevels p points rows counts n = map (readLevel p points rows counts) (from 0 n)
 
 -- ---- what has to stand in the lists before a reader may go by them
 

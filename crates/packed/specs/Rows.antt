@@ -9,8 +9,8 @@ use Rattle.packed.specs.Reading.{ownStart, ownCount, borrowedStart, borr
 use Rattle.packed.specs.declared.DomainRow.{DomainRow}
 
 -- a row by value, as the definition has it
-abbrev pub domainRowOf : DomainRow → definition.DomainRow
-domainRowOf r =
+abbrev pub plainRow : DomainRow → definition.DomainRow
+plainRow r =
     record {
       ownStart = r .«internal_start»;
       ownCount = r .«internal_count»;

@@ -4,7 +4,7 @@ ghost use Prim.Native.Nat.{_+_, _*_, _^_, _≤_, _<_};
 ghost use lib.ListN.{length};
 ghost use Rattle.definition.specs.Points.{boxWidth};
 ghost use Rattle.definition.specs.Packed.{rowNumbers, rowFloats};
-ghost use Rattle.packed.specs.Rows.{domainRowOf, IsRow, putRow, putOwn, putBorrowed};
+ghost use Rattle.packed.specs.Rows.{plainRow, IsRow, putRow, putOwn, putBorrowed};
 
 // How many whole numbers a domain row has.
 pub const ROW_NUMBERS: usize = 4;
@@ -73,7 +73,7 @@ pub fn put_borrowed(domains: &mut [usize], k: usize, start: usize, count: usize)
 // Writes the domain row number k.
 pub fn put_row(domains: &mut [usize], k: usize, row: DomainRow)
     requires { ⌜ rowNumbers * (k + 1) ≤ length (now domains) ⌝ }
-    ensures { λ _. ⌜ now (domains .exit) ≡ putRow (now (domains .entry)) k (domainRowOf row) ⌝ }
+    ensures { λ _. ⌜ now (domains .exit) ≡ putRow (now (domains .entry)) k (plainRow row) ⌝ }
 {
     put_own(domains, k, row.internal_start, row.internal_count);
     put_borrowed(domains, k, row.borrowed_start, row.borrowed_count);

@@ -13,7 +13,7 @@ use Rattle.formats.specs.Printout.{domainLine, boxText, fineLines}
 use Rattle.lists.proofs.From.{from-suc, length-from}
 use Rattle.lists.proofs.Map.{map-snoc}
 use Rattle.print_texts.specs.Wrote.{Wrote, TextRoom}
-use Rattle.packed.specs.Reading.{Packed, leafAt, leavesAt}
+use Rattle.packed.specs.Reading.{Packed, readLeaf, readLeaves}
 use Rattle.print_tree.specs.Unpack.{leafLine, boxPart}
 use Rattle.print_texts.proofs.Texts.{spelt, room-spelt, room-next, wrote-then}
 
@@ -49,17 +49,17 @@ fine-one i (h ∷ fs) f =
 
 module _ (p : Packed) (j : ℕ) where
   abbrev pub fineText : ℕ → List ℕ
-  fineText k = fineLines 0 (leavesAt p j k)
+  fineText k = fineLines 0 (readLeaves p j k)
 
   pub fine-none : fineText 0 ≡ []
-  unfolding leavesAt fineLines from
+  unfolding readLeaves fineLines from
   fine-none = refl
 
   pub fine-grows : (k : ℕ) → fineText (k + 1) ≡ fineText k ++ leafLine true k p (j + k)
-  unfolding leavesAt leafLine boxPart
+  unfolding readLeaves leafLine boxPart
   fine-grows k =
-      ap (λ (l : List ℕ). fineLines 0 (map (leafAt p) l)) (from-suc j k)
-      ∙ ap (fineLines 0) (map-snoc (leafAt p) (from j k) (j + k))
-      ∙ fine-one 0 (map (leafAt p) (from j k)) (leafAt p (j + k))
-      ∙ ap (λ (i : ℕ). fineLines 0 (map (leafAt p) (from j k)) ++ domainLine i (leafAt p (j + k)) (boxText (leafAt p (j + k) .box)))
-      (zero-add _ ∙ length-map (from j k) (leafAt p) ∙ length-from j k)
+      ap (λ (l : List ℕ). fineLines 0 (map (readLeaf p) l)) (from-suc j k)
+      ∙ ap (fineLines 0) (map-snoc (readLeaf p) (from j k) (j + k))
+      ∙ fine-one 0 (map (readLeaf p) (from j k)) (readLeaf p (j + k))
+      ∙ ap (λ (i : ℕ). fineLines 0 (map (readLeaf p) (from j k)) ++ domainLine i (readLeaf p (j + k)) (boxText (readLeaf p (j + k) .box)))
+      (zero-add _ ∙ length-map (from j k) (readLeaf p) ∙ length-from j k)

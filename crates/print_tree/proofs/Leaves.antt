@@ -8,7 +8,7 @@ use Rattle.definition.specs.Points.{boxWidth}
 use Rattle.definition.specs.Packed.{rowFloats}
 use Rattle.formats.specs.Printout.{domainLine}
 use Rattle.packed.specs.declared.DomainRow.{DomainRow}
-use Rattle.packed.specs.Reading.{Packed, ownStart, ownCount, borrowedStart, borrowedCount, leafAt}
+use Rattle.packed.specs.Reading.{Packed, ownStart, ownCount, borrowedStart, borrowedCount, readLeaf}
 use Rattle.packed.specs.Rows.{IsRow}
 use Rattle.print_tree.specs.Unpack.{leafOf, leafLine, boxPart}
 
@@ -22,7 +22,7 @@ module _ (fine : Bool) (i : ℕ) (p : Packed) (j : ℕ) (r : DomainRow) (e : IsR
       leafLine fine i p j
       ≡ domainLine i (leafOf (take (o + r .«internal_count» - o) (drop o (p .internals))) (take (b + r .«borrowed_count» - b) (drop b (p .borrowed))) box)
       (boxPart fine box)
-  unfolding leafLine leafAt
+  unfolding leafLine readLeaf
   leaf-line =
       rw (
         e .own-start,

@@ -4,7 +4,7 @@ use mathlib.Core.Bool.{Bool, false, cond}
 use mathlib.Core.List.{List, [], _++_}
 use lib.Ieee.{Float}
 use Rattle.definition.specs.Tree.{Leaf}
-use Rattle.packed.specs.Reading.{Packed, leafAt, leavesAt}
+use Rattle.packed.specs.Reading.{Packed, readLeaf, readLeaves}
 use Rattle.formats.specs.Printout.{ascii, boxText, levelLine, domainLine, fineLines}
 
 abbrev pub leafOf : List ℕ → List ℕ → List Float → Leaf
@@ -20,11 +20,11 @@ pointsLine t rows = levelLine t (record { points = rows; leaves = [] })
 
 -- a domain's line, from the domain row number j
 unfoldable pub leafLine : Bool → ℕ → Packed → ℕ → List ℕ
-leafLine fine i p j = domainLine i (leafAt p j) (boxPart fine (leafAt p j .box))
+leafLine fine i p j = domainLine i (readLeaf p j) (boxPart fine (readLeaf p j .box))
 
 -- a fine level's text, and the coarse one's, from the domain row number j on
 unfoldable pub fineLevelText : ℕ → List ℕ → Packed → ℕ → ℕ → List ℕ
-fineLevelText t rows p j m = pointsLine t rows ++ fineLines 0 (leavesAt p j m)
+fineLevelText t rows p j m = pointsLine t rows ++ fineLines 0 (readLeaves p j m)
 
 unfoldable pub coarseLevelText : ℕ → List ℕ → Packed → ℕ → List ℕ
 coarseLevelText t rows p j = pointsLine t rows ++ leafLine false 0 p j

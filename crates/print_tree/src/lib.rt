@@ -3,7 +3,7 @@
 ghost use Prim.Native.Nat.{ℕ, _+_, _<_};
 ghost use Rattle.formats.specs.Printout.{domainLine, fineLines, levelsText, treeText};
 ghost use Rattle.print_texts.specs.Wrote.{Wrote, TextRoom};
-ghost use Rattle.packed.specs.Reading.{packed, RowFits, leavesAt, Stands, levelsAt};
+ghost use Rattle.packed.specs.Reading.{packed, RowFits, readLeaves, Stands, readLevels};
 ghost use Rattle.print_tree.specs.Unpack.{leafOf, boxPart, pointsLine, leafLine, fineLevelText, coarseLevelText};
 
 // The bounds of a box; a dash for the coarse domain's.
@@ -96,8 +96,8 @@ fn write_leaves(
     at: usize,
 ) -> usize
     requires { ⌜ ((i : ℕ) → i < m → RowFits (packed (now own) (now borrowed) (now domains) (now boxes) dimensions) (j + i)) ⌝ }
-    requires { ⌜ TextRoom (now out) at (fineLines 0 (leavesAt (packed (now own) (now borrowed) (now domains) (now boxes) dimensions) j m)) ⌝ }
-    ensures { λ r. ⌜ Wrote (now (out .entry)) at (fineLines 0 (leavesAt (packed (now (own .entry)) (now (borrowed .entry)) (now (domains .entry)) (now (boxes .entry)) dimensions) j m)) r (now (out .exit)) ⌝ }
+    requires { ⌜ TextRoom (now out) at (fineLines 0 (readLeaves (packed (now own) (now borrowed) (now domains) (now boxes) dimensions) j m)) ⌝ }
+    ensures { λ r. ⌜ Wrote (now (out .entry)) at (fineLines 0 (readLeaves (packed (now (own .entry)) (now (borrowed .entry)) (now (domains .entry)) (now (boxes .entry)) dimensions) j m)) r (now (out .exit)) ⌝ }
 {
     let mut next = at;
     let mut i = 0;
@@ -188,8 +188,8 @@ fn write_levels(
     at: usize,
 ) -> usize
     requires { ⌜ Stands (packed (now own) (now borrowed) (now domains) (now boxes) dimensions) (now points) (now rows) (now counts) levels ⌝ }
-    requires { ⌜ TextRoom (now out) at (levelsText 0 (levelsAt (packed (now own) (now borrowed) (now domains) (now boxes) dimensions) (now points) (now rows) (now counts) levels)) ⌝ }
-    ensures { λ r. ⌜ Wrote (now (out .entry)) at (levelsText 0 (levelsAt (packed (now (own .entry)) (now (borrowed .entry)) (now (domains .entry)) (now (boxes .entry)) dimensions) (now (points .entry)) (now (rows .entry)) (now (counts .entry)) levels)) r (now (out .exit)) ⌝ }
+    requires { ⌜ TextRoom (now out) at (levelsText 0 (readLevels (packed (now own) (now borrowed) (now domains) (now boxes) dimensions) (now points) (now rows) (now counts) levels)) ⌝ }
+    ensures { λ r. ⌜ Wrote (now (out .entry)) at (levelsText 0 (readLevels (packed (now (own .entry)) (now (borrowed .entry)) (now (domains .entry)) (now (boxes .entry)) dimensions) (now (points .entry)) (now (rows .entry)) (now (counts .entry)) levels)) r (now (out .exit)) ⌝ }
 {
     let last = levels - 1;
     let mut next = at;
@@ -246,8 +246,8 @@ pub fn write_tree(
     at: usize,
 ) -> usize
     requires { ⌜ Stands (packed (now own) (now borrowed) (now domains) (now boxes) dimensions) (now points) (now rows) (now counts) levels ⌝ }
-    requires { ⌜ TextRoom (now out) at (treeText (levelsAt (packed (now own) (now borrowed) (now domains) (now boxes) dimensions) (now points) (now rows) (now counts) levels)) ⌝ }
-    ensures { λ r. ⌜ Wrote (now (out .entry)) at (treeText (levelsAt (packed (now (own .entry)) (now (borrowed .entry)) (now (domains .entry)) (now (boxes .entry)) dimensions) (now (points .entry)) (now (rows .entry)) (now (counts .entry)) levels)) r (now (out .exit)) ⌝ }
+    requires { ⌜ TextRoom (now out) at (treeText (readLevels (packed (now own) (now borrowed) (now domains) (now boxes) dimensions) (now points) (now rows) (now counts) levels)) ⌝ }
+    ensures { λ r. ⌜ Wrote (now (out .entry)) at (treeText (readLevels (packed (now (own .entry)) (now (borrowed .entry)) (now (domains .entry)) (now (boxes .entry)) dimensions) (now (points .entry)) (now (rows .entry)) (now (counts .entry)) levels)) r (now (out .exit)) ⌝ }
 {
     let said = print_texts::write_numbered(b"levels ", levels, out, at);
     let next = print_texts::write_byte(10, out, said);

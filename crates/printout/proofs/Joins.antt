@@ -27,7 +27,7 @@ use Rattle.stream_laws.proofs.Stream.{job-limits}
 use Rattle.stream_laws.proofs.Long.{job-long, refusal-long, printout-long}
 use Rattle.stream_laws.proofs.Shape.{tree-shaped}
 use Rattle.print_texts.specs.Wrote.{Wrote, TextRoom, refusalOf}
-use Rattle.packed.specs.Reading.{Packed, packed, Stands, levelsAt}
+use Rattle.packed.specs.Reading.{Packed, packed, Stands, readLevels}
 use Rattle.packed.proofs.Counts.{noLevel}
 use Rattle.packed.proofs.Unpacked.{Packs, levels-are, tree-back, tree-stands}
 use Rattle.stream_reader.specs.declared.Settings.{Settings}
@@ -183,11 +183,11 @@ module _ (s : tree.Settings) (cs : List Float) (old : TreeLists) (floats : List 
             (sym (getD-map-in (λ (l : tree.Level). length (l .leaves)) ls last noLevel 0 (omega (arith, shaped .some))) ∙ shaped .last)
 
         pub job-tree : jobText (job s cs)
-            ≡ treeText (levelsAt (packed (new .internals) (new .borrowed) (new .domains) (new .boxes) (s .dimension)) (new .points) (r .value .rows)
+            ≡ treeText (readLevels (packed (new .internals) (new .borrowed) (new .domains) (new .boxes) (s .dimension)) (new .points) (r .value .rows)
             (r .value .domains) (r .value .levels))
         job-tree =
             text-accepted h
-            ∙ ap treeText (sym (ap (levelsAt lists (new .points) (r .value .rows) (r .value .domains)) (levels-are ls lists (new .points) (r .value) tree-packed)
+            ∙ ap treeText (sym (ap (readLevels lists (new .points) (r .value .rows) (r .value .domains)) (levels-are ls lists (new .points) (r .value) tree-packed)
             ∙ tree-back ls lists (new .points) (r .value) tree-packed))
 
 -- ---- the program's lists, as they are lent

@@ -1,5 +1,5 @@
 -- `print_tree::write_tree` meets its contract. Assumes nothing.
-use Rattle.packed.specs.Reading.{packed, levelsAt}
+use Rattle.packed.specs.Reading.{packed, readLevels}
 use Rattle.print_tree.proofs.Levels.{how-many}
 use Rattle.formats.specs.Printout.{ascii}
 use Rattle.print_texts.proofs.Writing.{begin, text-room, text-added, finish}
@@ -17,7 +17,7 @@ write-numbered-requires c κs =
     let start = c .before .before .before .before .before .before .before .before .before .before in
     let a = start .args in
     let p = packed (a .own .now) (a .borrowed .now) (a .domains .now) (a .boxes .now) (a .dimensions) in
-    let ls = levelsAt p (a .points .now) (a .rows .now) (a .counts .now) (a .levels) in
+    let ls = readLevels p (a .points .now) (a .rows .now) (a .counts .now) (a .levels) in
     let e = tree-texts (a .levels) ls (how-many p (a .points .now) (a .rows .now) (a .counts .now) (a .levels)) in
     let w0 = begin (treeTexts (a .levels) ls) e (start .pre .1) in
     text-room w0 tt
@@ -28,7 +28,7 @@ write-byte-requires c κs =
     let start = c .before .before .before .before .before .before .before .before .before .before .before .before .before .before in
     let a = start .args in
     let p = packed (a .own .now) (a .borrowed .now) (a .domains .now) (a .boxes .now) (a .dimensions) in
-    let ls = levelsAt p (a .points .now) (a .rows .now) (a .counts .now) (a .levels) in
+    let ls = readLevels p (a .points .now) (a .rows .now) (a .counts .now) (a .levels) in
     let e = tree-texts (a .levels) ls (how-many p (a .points .now) (a .rows .now) (a .counts .now) (a .levels)) in
     let w0 = begin (treeTexts (a .levels) ls) e (start .pre .1) in
     let w1 = text-added w0 tt (c .before .before .before .write-numbered .ensures) in
@@ -40,7 +40,7 @@ write-levels-requires c κs =
     let start = c .before .before .before .before .before .before .before .before .before .before .before .before .before .before .before .before .before .before in
     let a = start .args in
     let p = packed (a .own .now) (a .borrowed .now) (a .domains .now) (a .boxes .now) (a .dimensions) in
-    let ls = levelsAt p (a .points .now) (a .rows .now) (a .counts .now) (a .levels) in
+    let ls = readLevels p (a .points .now) (a .rows .now) (a .counts .now) (a .levels) in
     let e = tree-texts (a .levels) ls (how-many p (a .points .now) (a .rows .now) (a .counts .now) (a .levels)) in
     let w0 = begin (treeTexts (a .levels) ls) e (start .pre .1) in
     let w1 = text-added w0 tt (c .before .before .before .before .before .before .before .write-numbered .ensures) in
@@ -56,7 +56,7 @@ returns c =
     let start = c .before .before .before .before .before .before .before .before .before .before .before .before .before .before .before .before .before .before .before .before .before in
     let a = start .args in
     let p = packed (a .own .now) (a .borrowed .now) (a .domains .now) (a .boxes .now) (a .dimensions) in
-    let ls = levelsAt p (a .points .now) (a .rows .now) (a .counts .now) (a .levels) in
+    let ls = readLevels p (a .points .now) (a .rows .now) (a .counts .now) (a .levels) in
     let e = tree-texts (a .levels) ls (how-many p (a .points .now) (a .rows .now) (a .counts .now) (a .levels)) in
     let w0 = begin (treeTexts (a .levels) ls) e (start .pre .1) in
     let w1 = text-added w0 tt (c .before .before .before .before .before .before .before .before .before .before .write-numbered .ensures) in
