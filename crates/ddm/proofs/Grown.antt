@@ -22,7 +22,7 @@ use Rattle.rows.proofs.AllRows.{all-rows-good}
 use Rattle.fine_level.specs.Fine.{Given}
 use Rattle.levels_loop.specs.After.{levelSettings, levelsAfter, Space}
 use Rattle.levels_loop.proofs.Fine.{first-points, levels-few}
-use Rattle.ddm.proofs.Counts.{per-level}
+use Rattle.packed.proofs.Counts.{counts-put}
 
 -- ---- the levels depend on three of the settings
 module _ (s : Settings) (cs : List Float) (c k : ℕ) where
@@ -109,4 +109,4 @@ unfolding countsOf
 counts-whole d cs leaf q c k active number rows counts e₁ e₂ e₃ =
     let few = levels-few (levelSettings d leaf q) cs c k mostFine 0 active in
     let ls = levelsAfter d cs leaf q c k 0 active in
-    rw (e₁, e₂, e₃, per-level (λ (l : Level). length (l .points)) ls few, per-level (λ (l : Level). length (l .leaves)) ls few)
+    rw (e₁, e₂, e₃, counts-put (λ (l : Level). length (l .points)) ls few, counts-put (λ (l : Level). length (l .leaves)) ls few)

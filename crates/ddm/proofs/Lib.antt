@@ -1,4 +1,3 @@
 -- Laws of the build.
-pub mod Counts
 pub mod Grown
 pub mod Outcomes

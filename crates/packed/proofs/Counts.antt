@@ -1,13 +1,16 @@
 -- The counts per level that a build reports: each level's own count, and 0 beyond the last. Assumes nothing.
 use mathlib.Core.Path.{_≡_, refl, sym, ap, _∙_}
 use mathlib.Core.Logic.{⊎-elim}
-use mathlib.Core.List.{List, [], _++_, map}
+use mathlib.Core.List.{List, [], _∷_, _++_, map}
 use Prim.Native.Nat.{ℕ, zero, suc, _+_, _-_, _≤_, _<_}
 use native.Mathlib.Omega.{arith}
-use lib.ListN.{length, getD, take, replicate, length-map, length-append, length-take, List·getD-append, List·getD-eq-default}
+use lib.ListN.{length, getD, take, drop, replicate, length-map, length-append, length-take, List·getD-append, List·getD-eq-default}
 use lib.Seq.{getD-append-add, getD-take, take-take, take-append-le, length-take-le}
+use Rattle.lists.specs.Lists.{put}
 use Rattle.lists.proofs.Tests.{le-or-lt}
 use Rattle.lists.proofs.Map.{take-map, getD-map-in}
+use Rattle.lists.proofs.Put.{put-zero}
+use Rattle.lists.proofs.Take.{take-replicate}
 use Rattle.definition.specs.Tree.{Level, mostFine}
 use Rattle.definition.specs.Packed.{perLevel}
 
@@ -20,6 +23,12 @@ zero-at : (n i : ℕ) → _≡_ {A = ℕ} (getD (replicate n 0) i 0) 0
 zero-at zero i = refl
 zero-at (suc n) zero = refl
 zero-at (suc n) (suc i) = zero-at n i
+
+-- numbers at the front of n zeros
+front : (n m : ℕ) (xs : List ℕ) → length xs ≤ n → n ≤ m → xs ++ drop (length xs) (replicate n 0) ≡ take n (xs ++ replicate m 0)
+front n m [] h g = sym (take-replicate n m 0 g)
+front zero m (x ∷ xs) h g = absurd (omega arith)
+front (suc n) m (x ∷ xs) h g = ap (λ (l : List ℕ). x ∷ l) (front n m xs (omega arith) (omega arith))
 
 abbrev most : ℕ
 most = suc mostFine
@@ -38,6 +47,11 @@ module _ (f : Level → ℕ) (ls : List Level) where
     counts-before l h =
         let m = length-map ls f in
         take-take l most padded (omega arith) ∙ take-append-le l (map f ls) (replicate most 0) (omega arith) ∙ take-map f l ls
+
+    -- the counts put to the front of as many zeros, as code leaves them that counts level by level
+    pub counts-put : put (replicate (suc mostFine) 0) 0 (map f ls) ≡ perLevel f ls
+    unfolding perLevel
+    counts-put = put-zero (replicate most 0) (map f ls) ∙ front most most (map f ls) (omega (arith, length-map ls f)) (omega arith)
 
     -- the entry of a level, and 0 beyond the last
     module _ (none : f noLevel ≡ 0) where
