@@ -179,7 +179,7 @@ module _ (s : tree.Settings) (cs : List Float) (old : TreeLists) (floats : List 
         tree-ready =
             let shaped = tree-shaped s cs in
             let last = length ls - 1 in
-            tree-stands ls lists (new .points) (r .value) tree-packed (kept .axes-few) (shaped .some)
+            tree-stands ls lists (new .points) (r .value) tree-packed (limits .axes-few) (shaped .some)
             (sym (getD-map-in (λ (l : tree.Level). length (l .leaves)) ls last noLevel 0 (omega (arith, shaped .some))) ∙ shaped .last)
 
         pub job-tree : jobText (job s cs)
