@@ -1,4 +1,5 @@
 -- Boxes by value as lists. Assumes nothing.
+-- Holds: boxOf, three, lower-changed, upper-changed, box-read, box-written, Filled, filled-none, filled-more, filled-all
 use mathlib.Core.Path.{_≡_, refl, sym, ap, ap₂, subst, _∙_}
 use mathlib.Core.List.{List, _++_, map}
 use Prim.Native.Nat.{ℕ, _+_, _*_, _≤_, _<_}

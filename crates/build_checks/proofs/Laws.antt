@@ -1,4 +1,8 @@
 -- The tests of a build, group by group and refusal by refusal. Assumes nothing.
+-- Holds: andThen, verdict-append, build-groups, settings-low, settings-high, settings-2, settings-3, settings-4, settings-5,
+--   settings-fine, rowsGiven, lacks, points-6, points-7, points-8, points-9, points-fine, reductions-many, reductions-few,
+--   short-1, short-2, short-3, short-4, short-5, short-6, short-7, bad-test, last-11, last-10, last-fine, refused-settings,
+--   refused-points, passed-both
 use mathlib.Core.Path.{_≡_, refl, sym, ap, _∙_}
 use mathlib.Core.Bool.{Bool, true, false, not, _||_, cond, and-false}
 use mathlib.Core.List.{List, [], _∷_, _++_}

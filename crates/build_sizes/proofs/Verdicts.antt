@@ -1,4 +1,5 @@
 -- The answer of `build_sizes`, refusal by refusal. Assumes nothing.
+-- Holds: sizes-low, sizes-high, sizes-5, sizes-6, sizes-8, sizes-given
 use mathlib.Core.Path.{_≡_}
 use Prim.Native.Nat.{ℕ, _≤_, _<_}
 use native.Mathlib.Omega.{arith}

@@ -1,4 +1,5 @@
 -- Numbers and floats of bytes. Assumes nothing.
+-- Holds: none-read, more-read, eight-bytes, four-bytes, low-is-no-nan, high-is-nan, mark-same, mark-other
 use mathlib.Core.Path.{_≡_, refl, sym, ap, _∙_, subst}
 use mathlib.Core.Bool.{true, false, not}
 use Prim.Native.Nat.{ℕ, zero, suc, _+_, _-_, _*_, _^_, _%_, _≤_, _<_}

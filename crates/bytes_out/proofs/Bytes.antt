@@ -1,4 +1,5 @@
 -- The bytes of a number, one after the other. Assumes nothing.
+-- Holds: length-bytes, BytesTaken, taken-none, taken-byte, taken-more, byte-stored, none-stored
 use mathlib.Core.Path.{_≡_, refl, sym, ap, _∙_}
 use Prim.Native.Nat.{ℕ, zero, suc, _+_, _/_, _%_, _<_}
 use native.Mathlib.Nat.{zero-add}

@@ -1,5 +1,6 @@
 -- What leaves send up: leaf after leaf, as many as the quotas say, own rows only; and that sorted they are the next active rows.
 -- Assumes nothing.
+-- Holds: sent-none, sent-some, sent-first, sent-next, sent-many, sent-zip, sent-times, sorted-next, up-many
 use mathlib.Core.Path.{_≡_, refl, sym, ap, _∙_}
 use mathlib.Core.List.{List, [], _++_, map, zipWith, map-map, map-id}
 use Prim.Native.Nat.{ℕ, zero, suc, _+_, _≤_, _<_}

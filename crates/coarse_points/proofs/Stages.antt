@@ -1,4 +1,6 @@
 -- How the steps fit together: sizes, quotas, what each leaf sends, and the sorted rows behind the active ones. Assumes nothing.
+-- Holds: counts-all, leaves-fit, sent-size, up-size, sorted-up, written-up, reordered, quotas-front, own-lent, lent-good,
+--   lent-length, leaf-room, leaf-end, leaf-list
 use mathlib.Core.Path.{_≡_, sym, ap, _∙_}
 use mathlib.Core.List.{List, [], map, zipWith, map-map}
 use Prim.Native.Nat.{ℕ, _+_, _*_, _-_, _≤_, _<_}

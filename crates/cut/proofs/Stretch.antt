@@ -1,4 +1,5 @@
 -- The cut of a stretch of the working room, step by step, as the definition has it. Assumes nothing.
+-- Holds: plane-is, lent-some, lent-inside, axis-is, axis-in, halved, value-in, plane-value
 use mathlib.Core.Path.{_≡_, subst}
 use mathlib.Core.List.{List}
 use Prim.Native.Nat.{ℕ, _+_, _-_, _*_, _≤_, _<_}

@@ -1,4 +1,5 @@
 -- What an accepted call has for its levels, and what they come to. Assumes nothing.
+-- Holds: same-levels, tree-is, all-rows, all-space, few-reductions, points-whole, counts-whole
 use mathlib.Core.Path.{_≡_, sym, ap, _∙_}
 use mathlib.Core.Logic.{⊎-elim}
 use mathlib.Core.List.{List, _∷_, map}

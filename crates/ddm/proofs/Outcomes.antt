@@ -1,4 +1,5 @@
 -- The outcome of a build, from the verdict on it. Assumes nothing.
+-- Holds: whole-lists, built, room-refused, room-accepted, answer-refused, lists-refused, answer-accepted, lists-accepted
 use mathlib.Core.Path.{_≡_, refl, ap}
 use mathlib.Core.List.{List}
 use Prim.Native.Nat.{ℕ}

@@ -1,4 +1,5 @@
 -- What a read's answer says. The code tests the answer's bits, which stand for the number where it fits them. Assumes nothing.
+-- Holds: after-failed, after-ended, after-open, count-known, count-most, moved-back, room-from
 use mathlib.Core.Path.{_≡_, refl, subst}
 use mathlib.Core.Bool.{true, false}
 use Prim.Native.Nat.{ℕ, zero, suc, _+_, _-_, _≤_}

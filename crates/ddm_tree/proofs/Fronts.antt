@@ -1,4 +1,5 @@
 -- Where reading stands after each read, and that the printout of the front is the printout of the stream. Assumes nothing.
+-- Holds: goes-on, stops, text-fits, text-printed, open-within, ended-within, open-printed, ended-printed, reply-text
 use mathlib.Core.Path.{_≡_, refl, sym, ap, _∙_}
 use Prim.Native.Nat.{ℕ, zero, suc, _+_, _-_, _≤_, _<_}
 use native.Mathlib.Omega.{arith}

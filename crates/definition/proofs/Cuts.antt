@@ -1,4 +1,7 @@
 -- Rows that a level can be built over; the cut's halves; and the queue: its leaves hold each active row once, and no other. Assumes nothing.
+-- Holds: Good, good-part, finite-known, rowsOf, sizesOf, rows-times, cutsFor, axis-below, length-cutKeys, cut-times, left-good,
+--   right-good, left-ascends, right-ascends, queue-all, leaves-all, leaves-ascend, cut-sortable, left-length, right-length, Full,
+--   full-wait, cuts-wait, cuts-done, queue-sum, queue-enough, leaves-times, leaves-sum
 use mathlib.Core.Path.{_≡_, refl, sym, ap, _∙_}
 use mathlib.Core.Logic.{⊎-elim}
 use mathlib.Core.Bool.{true, false}

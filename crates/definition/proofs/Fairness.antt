@@ -1,4 +1,5 @@
 -- The two sharings that make the quotas, and that the quotas are fair. Assumes nothing.
+-- Holds: capacity-one, capacity-none, capacity-at, for-each, for-none, quotas-held, quotas-length, fair-for, fair
 use Prim.Native.Nat.{ℕ, _+_, _-_, _*_, _≤_, _<_, min}
 use mathlib.Core.Path.{_≡_, refl, sym, ap, _∙_}
 use mathlib.Core.Logic.{inl, inr, ⊎-elim}

@@ -1,4 +1,6 @@
 -- A selection by rank and the rest: how many rows each has, which rows, in which order; and the key in the middle. Assumes nothing.
+-- Holds: Sortable, first-length, other-length, Middle, key-at, keyOf, length-keyed, rows-keyed, rank-keyed, first-rows,
+--   other-rows, parts-times, first-ascends, other-ascends, sortable
 use mathlib.Core.Path.{_≡_, refl, ap, _∙_}
 use mathlib.Core.Logic.{_⊎_}
 use mathlib.Core.Bool.{true, false, not}

@@ -1,4 +1,5 @@
 -- The levels: what is kept from level to level, what holds of each level, and sums over the levels. Assumes nothing.
+-- Holds: next-times, next-short, next-good, levels-all, levels-sum
 use mathlib.Core.Logic.{⊎-elim}
 use mathlib.Core.List.{List, [], map}
 use Prim.Native.Nat.{ℕ, zero, suc, _+_, _*_, _≤_, _<_}

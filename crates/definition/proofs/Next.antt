@@ -1,5 +1,7 @@
 -- What the leaves of a level send up, at quotas that deal the seats out within the leaves' sizes, and the next active rows: as many as
 -- the seats, each sent up. Assumes nothing.
+-- Holds: Dealt, noDomain, rows-cons, rows-at, sents, sents-times, sents-at, sents-length, own-once, next-sent, next-length,
+--   next-at
 use mathlib.Core.Path.{_≡_, refl, ap, _∙_}
 use mathlib.Core.List.{List, [], _∷_, map, zipWith}
 use Prim.Native.Nat.{ℕ, zero, suc, _+_, _≤_, _<_}

@@ -1,4 +1,5 @@
 -- Sampling takes as many rows as wanted, of the rows that it is given, none twice. Assumes nothing.
+-- Holds: nearest-in, farthest-in, more-length, sample-length, sent-length, seed-own, pick-new, more-own, sample-own, sent-own
 use mathlib.Core.Path.{_≡_, refl, ap}
 use mathlib.Core.Bool.{not}
 use mathlib.Core.List.{List, [], _∷_, _++_, map}

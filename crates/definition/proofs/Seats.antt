@@ -1,4 +1,5 @@
 -- The leftover seats: by the leaves before a leaf, and the same by a cut. Assumes nothing.
+-- Holds: extraAt, one-lt, one-ge, cut-from, by-le, extra-is, sum-extra, extra-none, extra-le
 use Prim.Native.Nat.{ℕ, zero, suc, _+_, _-_, _≤_, _<_, min, zero-le}
 use mathlib.Core.Path.{_≡_, refl, sym, ap, _∙_}
 use mathlib.Core.Logic.{⊎-elim}

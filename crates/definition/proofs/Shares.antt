@@ -1,5 +1,7 @@
 -- Laws of one sharing: the shares, rounded down, fit the rest, few seats are left over, and the seats that come of it.
 -- Assumes nothing.
+-- Holds: by-zero, no-share, wholes-fit, left-few, none-above, sum-seats, extra-case, seats-within, cut-by, whole-by,
+--   remainder-by, seats-by-cut, share-small
 use Prim.Native.Nat.{ℕ, _+_, _-_, _*_, _/_, _%_, _≤_, _<_, max}
 use mathlib.Core.Path.{_≡_, sym, ap, _∙_}
 use mathlib.Core.Logic.{_⊎_, inl, inr, ⊎-elim}

@@ -1,4 +1,5 @@
 -- Laws of the reductions and of the level size. Assumes nothing.
+-- Holds: reductions-steps, exact-is, goal-bound, exact-ge, sized, reductions-few, reductions-reach, ends
 use Prim.Native.Nat.{ℕ, zero, suc, _-_, _*_, _^_, _≤_, _<_}
 use mathlib.Core.Path.{_≡_, refl, sym}
 use mathlib.Core.Logic.{⊎-elim}

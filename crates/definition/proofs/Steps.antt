@@ -1,4 +1,5 @@
 -- One step of the queue and of the levels, as a proof of the loops uses them. Assumes nothing.
+-- Holds: queue-empty, queue-wait, queue-done, fineLeaf, fineOf, sentOf, nextOf, levels-last, levels-end, levels-more
 use mathlib.Core.Path.{_≡_, refl}
 use mathlib.Core.List.{List, [], _∷_, _++_}
 use Prim.Native.Nat.{ℕ, zero, suc, _*_, _≤_, _<_}

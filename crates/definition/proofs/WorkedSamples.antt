@@ -1,4 +1,5 @@
 -- Inputs of the tables of examples, and the one name that opens every definition for computing. Assumes nothing.
+-- Holds: line, onLine, nines, floatRoom, wholeRoom, opened
 use Prim.Native.Nat.{ℕ}
 use mathlib.Core.List.{List, map, zipWith}
 use lib.IntN.{pos}

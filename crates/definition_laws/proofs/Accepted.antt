@@ -1,4 +1,6 @@
 -- What an accepted call has: no refusal that it tries has its condition met. Assumes nothing.
+-- Holds: passes, accepted-iff, right-dimension, number-zero, build-zero, Passed, passed, LentEnough, lent-enough, whole-points,
+--   finite-at, all-good, Accepted, build-accepted
 use mathlib.Core.Path.{_≡_, refl, _∙_}
 use mathlib.Core.Logic.{_↔_}
 use mathlib.Core.Bool.{Bool, true, false, not, _&&_, cond}

@@ -1,5 +1,7 @@
 -- From finite coordinates no NaN arises: a squared distance, of rows or from a centroid, and a distance of rows is +0, a positive
 -- number or +infinity, and a centroid's coordinate is a number (an infinity where the sum overflows). Assumes nothing.
+-- Holds: distance-sq-good, finite-sq-good, add-number, over-number, sum-number, rows-sq-good, rows-apart-good, centroid-number,
+--   centroid-sq-good, rows-known
 use mathlib.Core.Path.{_≡_, refl, sym}
 use mathlib.Core.Bool.{true, false, true≢false}
 use mathlib.Core.List.{List, [], _∷_, List·Memᴰ, List·Memᴰ·head, List·Memᴰ·tail}

@@ -1,4 +1,6 @@
 -- The fit law: each packed list of a tree is no longer than stated. Assumes nothing.
+-- Holds: length-leaves, length-points, length-own, length-borrowed, length-stretches, length-domains, boxes-even, PackedFit,
+--   packed-fit, LentFit, lent-fit, levels-fit, accepted-fit
 use mathlib.Core.Path.{_≡_, sym, ap, _∙_, subst}
 use mathlib.Core.List.{List, [], _∷_, map, map-map}
 use Prim.Native.Nat.{ℕ, suc, _+_, _*_, _≤_, _<_}

@@ -1,4 +1,5 @@
 -- Neighbours and borrowed rows: how many rows each row takes, and how many rows the leaves of a level borrow together. Assumes nothing.
+-- Holds: near-sortable, nearest-length, pairs-most, borrowed-most
 use mathlib.Core.Path.{_≡_, ap, _∙_}
 use mathlib.Core.Bool.{Bool, not, _&&_, _||_}
 use mathlib.Core.List.{List, map, map-map}

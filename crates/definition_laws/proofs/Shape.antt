@@ -1,5 +1,6 @@
 -- The shape of a level: the sizes of its leaves depend only on the number of active rows and the leaf threshold. So do the number of
 -- leaves and the cuts that are made. Assumes nothing.
+-- Holds: shape-wait, shape-done, shape-most, queue-shape, leaves-shape, leaves-most, leaves-enough, leaves-boxes
 use mathlib.Core.Path.{_≡_, refl, sym, ap, _∙_}
 use mathlib.Core.Logic.{⊎-elim}
 use mathlib.Core.List.{List, [], _∷_, _++_, map, map-append}
@@ -11,7 +12,7 @@ use lib.Ieee.{Float}
 use Rattle.lists.specs.Lists.{total}
 use Rattle.lists.specs.Ascends.{All}
 use Rattle.lists.proofs.Tests.{le-or-lt}
-use Rattle.lists.proofs.All.{all-append, map-all}
+use Rattle.lists.proofs.All.{all-append}
 use Rattle.lists.proofs.From.{length-from}
 use Rattle.lists.proofs.Sums.{total-nil, total-cons, total-append, sum-nil, sum-cons, sum-two}
 use Rattle.definition.specs.Points.{boxWidth, extents}
@@ -22,12 +23,6 @@ use Rattle.definition.proofs.Cuts.{Good, sizesOf, left-good, right-good, left-l
 
 -- ---- the queue of sizes
 module _ (leaf : ℕ) where
-  -- one step
-  pub shape-empty : (fuel : ℕ) → shapeQueue leaf fuel [] ≡ []
-  unfolding shapeQueue
-  shape-empty zero = refl
-  shape-empty (suc fuel) = refl
-
   pub shape-wait : (fuel z : ℕ) (zs : List ℕ) → 2 * leaf ≤ z → shapeQueue leaf (suc fuel) (z ∷ zs) ≡ shapeQueue leaf fuel (zs ++ z / 2 ∷ (z - z / 2) ∷ [])
   unfolding shapeQueue
   shape-wait fuel z zs h = rw (le-leb (2 * leaf) z h)
@@ -35,17 +30,6 @@ module _ (leaf : ℕ) where
   pub shape-done : (fuel z : ℕ) (zs : List ℕ) → z < 2 * leaf → shapeQueue leaf (suc fuel) (z ∷ zs) ≡ z / 2 ∷ (z - z / 2) ∷ shapeQueue leaf fuel zs
   unfolding shapeQueue
   shape-done fuel z zs h = rw (lt-leb (2 * leaf) z h)
-
-  -- no leaf has more rows than the leaf threshold
-  pub shape-small : (fuel : ℕ) (zs : List ℕ) → All (λ z. z ≤ leaf) (shapeQueue leaf fuel zs)
-  unfolding shapeQueue All
-  shape-small zero zs = tt
-  shape-small (suc fuel) [] = tt
-  shape-small (suc fuel) (z ∷ zs) =
-      ⊎-elim
-      (λ (big : 2 * leaf ≤ z). rw (shape-wait fuel z zs big) (shape-small fuel (zs ++ z / 2 ∷ (z - z / 2) ∷ [])))
-      (λ (small : z < 2 * leaf). rw (shape-done fuel z zs small) (omega arith, (omega arith, shape-small fuel zs)))
-      (le-or-lt (2 * leaf) z)
 
   -- ---- sizes that are not 0
   abbrev Some : List ℕ → Type 0
@@ -82,23 +66,6 @@ module _ (leaf : ℕ) where
         (λ (small : z < 2 * leaf). rw (shape-done fuel z zs small) (omega (arith, shape-most fuel zs (u .1), total-cons z zs, u .0)))
         (le-or-lt (2 * leaf) z)
 
-    -- with fuel for the cuts that are still to be made, it has at least two leaves to each size
-    pub shape-least : (fuel : ℕ) (zs : List ℕ) → All (λ z. 1 ≤ z) zs → total (map (λ z. 2 * z - 1) zs) ≤ fuel → 2 * length zs ≤ length (shapeQueue leaf fuel zs)
-    unfolding All shapeQueue
-    shape-least zero [] u w = omega arith
-    shape-least zero (z ∷ zs) u w = absurd (omega (arith, cuts-done z zs u))
-    shape-least (suc fuel) [] u w = omega arith
-    shape-least (suc fuel) (z ∷ zs) u w =
-        ⊎-elim
-        (λ (big : 2 * leaf ≤ z). rw (shape-wait fuel z zs big)
-        (omega (
-          arith,
-          shape-least fuel (zs ++ z / 2 ∷ (z - z / 2) ∷ []) (some-wait z zs big u) (omega (arith, cuts-wait z zs big)),
-          length-append zs (z / 2 ∷ (z - z / 2) ∷ []),
-        )))
-        (λ (small : z < 2 * leaf). rw (shape-done fuel z zs small) (omega (arith, shape-least fuel zs (u .1) (omega (arith, cuts-done z zs u)))))
-        (le-or-lt (2 * leaf) z)
-
 -- ---- the domains
 module _ (d : ℕ) (cs : List Float) (pos : 0 < d) (leaf : ℕ) where
   pub queue-shape : (fuel : ℕ) (qs : List Domain) → All (λ q. Good d cs (q .rows)) qs → sizesOf (queueLeaves d cs leaf fuel qs) ≡ shapeQueue leaf fuel (sizesOf qs)
@@ -124,12 +91,6 @@ module _ (d : ℕ) (cs : List Float) (pos : 0 < d) (leaf : ℕ) where
   unfolding leavesOf shape rootDomain All
   leaves-shape active g = queue-shape (2 * length active) (rootDomain d cs active ∷ []) (g, tt)
 
-  -- each leaf has at most as many rows as the leaf threshold
-  pub leaves-small : (active : List ℕ) → Good d cs active → All (λ q. length (q .rows) ≤ leaf) (leavesOf d cs leaf active)
-  unfolding shape
-  leaves-small active g =
-      map-all (λ z. z ≤ leaf) (λ (q : Domain). length (q .rows)) (leavesOf d cs leaf active) (rw (leaves-shape active g) (shape-small leaf (2 * length active) (length active ∷ [])))
-
   module _ (lp : 1 ≤ leaf) (active : List ℕ) (g : Good d cs active) (some : 1 ≤ length active) where
     one : All (λ z. 1 ≤ z) (length active ∷ [])
     unfolding All
@@ -140,11 +101,6 @@ module _ (d : ℕ) (cs : List Float) (pos : 0 < d) (leaf : ℕ) where
 
     count-is : length (leavesOf d cs leaf active) ≡ length (shape leaf (length active))
     count-is = sym (length-map (leavesOf d cs leaf active) (λ q. length (q .rows))) ∙ ap length (leaves-shape active g)
-
-    -- a level has at least two leaves, and at most twice as many as active rows
-    pub leaves-least : 2 ≤ length (leavesOf d cs leaf active)
-    unfolding shape
-    leaves-least = omega (arith, count-is, shape-least leaf lp (2 * length active) (length active ∷ []) one enough)
 
     pub leaves-most : length (leavesOf d cs leaf active) ≤ 2 * length active
     unfolding shape

@@ -1,4 +1,5 @@
 -- DEMAND 3: what an accepted build hands back has it. Assumes nothing.
+-- Holds: all-levels, demand-3, demand-3-of, demand-3-seen
 use mathlib.Core.Path.{_≡_, sym, ap, ap₂, _∙_, subst}
 use mathlib.Core.Logic.{⊎-elim}
 use mathlib.Core.List.{List, [], map}

@@ -1,5 +1,6 @@
 -- The levels of an accepted call: each level whose active rows outnumber c is a fine level over them, and the next one lists what it
 -- sends up. They end: with the reductions made, c rows or fewer are left. Assumes nothing.
+-- Holds: Levelled, levelled, IsFine, first-active, some-levels, fine-at, coarse-at
 use mathlib.Core.Path.{_≡_, refl, subst}
 use mathlib.Core.Logic.{⊎-elim}
 use mathlib.Core.List.{List, [], _∷_}

@@ -1,4 +1,6 @@
 -- The tree in what a build hands back: the reading's laws in the demand's words. Assumes nothing.
+-- Holds: leafLists, PackedIn, levels-are, rows-on, leaves-on, listed-is, own-count-is, borrowed-count-is, own-is, borrowed-is,
+--   box-is
 use mathlib.Core.Path.{_≡_, ap, _∙_}
 use Prim.Native.Nat.{ℕ, _<_}
 use lib.ListN.{length, getD}

@@ -2,6 +2,11 @@
 -- it: those of document 01's example (points 0, 1, 3, 7 on a line; leaf 2, one neighbour, factor 2, Fixed 2), and those of a tree with
 -- two fine levels. Each is computed. No lists can break `sends-within` and `empty-sends-none`: what a leaf sends up is the definition's
 -- sampling of the rows that the lists name, whatever these are. Assumes nothing.
+-- Holds: right-has-it, not-empty, not-unwritten, not-many, not-after-coarse, not-coarse, not-ended, not-repeated, not-dropped,
+--   not-unsent, not-elsewhere, not-one-more, not-all-again, not-counted, not-own-counted, not-borrowed-counted,
+--   not-leaves-beyond, not-beyond, not-shared, not-left-out, not-foreign, not-renumbered, not-two-coarse, not-coarse-borrowing,
+--   not-coarse-boxed, not-below, not-own, not-twice, not-far, not-measured, six-has-it, not-out-of-order, not-uneven,
+--   not-sent-by-none, not-shared-out, not-one-too-few, not-two-more, not-more-than-whole, shares
 use Prim.Native.Nat.{ℕ, _+_, _*_, _≤_, _<_}
 use mathlib.Core.Path.{_≡_, refl, ap, subst}
 use mathlib.Core.List.{List, [], _∷_, _++_}

@@ -1,4 +1,5 @@
 -- The place of the best value, found from the front on. Assumes nothing.
+-- Holds: Place, place-first, place-yes, place-no, place-end
 use mathlib.Core.Path.{_≡_, refl, sym, ap, _∙_}
 use mathlib.Core.Bool.{Bool, true, false, cond}
 use mathlib.Core.List.{[], _∷_, map}

@@ -1,4 +1,5 @@
 -- The best value of some rows, found from the front on. Assumes nothing.
+-- Holds: bestIn, bound-yes, bound-no, bound-first, bound-end
 use mathlib.Core.Path.{_≡_, refl, sym, ap, _∙_}
 use mathlib.Core.Bool.{Bool, true, false, cond}
 use mathlib.Core.List.{List, [], _∷_, map}

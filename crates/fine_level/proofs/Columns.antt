@@ -1,5 +1,6 @@
 -- The two writers of the domain rows, own columns and borrowed columns: what is written is read back, and both together write the
 -- definition's domain rows. Assumes nothing.
+-- Holds: own-length, own-names, own-read, keeps-start, keeps-count, both-columns
 use mathlib.Core.Path.{_≡_, refl, sym, ap, _∙_}
 use mathlib.Core.List.{List, [], _∷_, _++_, map}
 use Prim.Native.Nat.{ℕ, zero, suc, _+_, _*_, _≤_, _<_}

@@ -1,5 +1,8 @@
 -- How the stages of a level fit together: what one has written, the next one reads; and what all have written is the definition's
 -- level. Assumes nothing.
+-- Holds: rowsIn, level-own, level-borrowed, level-box, level-number, level-next, number-most, own-whole, own-shared, leaves-read,
+--   leaves-named, overlaps-ready, overlaps-read, overlaps-named, overlaps-rows, packed-read, packed-named, packed-sends,
+--   boxes-room, codes-room
 use mathlib.Core.Path.{_≡_, refl, sym, _∙_}
 use mathlib.Core.Logic.{⊎-elim}
 use mathlib.Core.Bool.{Bool}

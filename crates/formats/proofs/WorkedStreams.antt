@@ -1,5 +1,6 @@
 -- Streams and what they come to, and printouts, each as document 01 has it: every rule of the stream just met and just not, and of two
 -- refusals the one that comes first. Each row is computed. Assumes nothing.
+-- Holds: Streams, Printouts, streams, printouts
 use Prim.Native.Nat.{ℕ}
 use mathlib.Core.Path.{_≡_, refl}
 use mathlib.Core.List.{List, [], _∷_, _++_, map}

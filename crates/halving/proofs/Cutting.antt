@@ -1,4 +1,7 @@
 -- A round of the search for the middle row, its end, and the cut of a stretch, step by step. Assumes nothing.
+-- Holds: round-front, round-finite, round-inside, round-found, round-low, round-high, search-first, search-more, end-asks,
+--   end-front, end-inside, end-middle, spare-good, spare-some, spare-back, spent-finite, spent-room, middle-inside, low-most,
+--   parted-length, cut-halved
 use mathlib.Core.Path.{_≡_, refl, sym, ap, ap₂, _∙_, subst}
 use mathlib.Core.Logic.{⊎-elim}
 use mathlib.Core.Bool.{Bool, true, false, not}

@@ -1,5 +1,7 @@
 -- How many rows come before a row: among those on one side of another row, among sorted rows; and the halves by the middle row.
 -- Assumes nothing.
+-- Holds: aheadOf, ranked-low, count-three, sides, ranked-high, sorted-ahead, ranked-sorted, by-rank, lefts-are, rights-are,
+--   alone, ranked-middle, middle-ranked
 use mathlib.Core.Path.{_≡_, refl, sym, ap, _∙_, subst}
 use mathlib.Core.Logic.{⊎-elim}
 use mathlib.Core.Bool.{Bool, true, false, not, _&&_, _||_}

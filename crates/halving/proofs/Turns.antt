@@ -1,4 +1,7 @@
 -- The turns of the loops that count, that keep the rows on one side, and that part a stretch in two, for any test. Assumes nothing.
+-- Holds: CountedTo, counted-first, counted-in, counted-out, counted-end, both-sizes, left-in, right-same, left-same, right-in,
+--   KeptFront, kept-first, kept-end, kept-row, kept-in, kept-out, Parted, parted-first, parted-end, parted-row, parted-left,
+--   parted-right, back-most, back-end
 use mathlib.Core.Path.{_≡_, refl, sym, ap, _∙_, subst}
 use Prim.Native.Nat.{ℕ, _+_, _-_, _≤_, _<_}
 use native.Mathlib.Numerals.{add-one}

@@ -1,4 +1,5 @@
 -- The verdict on a stretch of a list, by whether it ends past the list. Assumes nothing.
+-- Holds: past, none-past, within, all-within, ends-past, ends-within, stretch-is
 use mathlib.Core.Path.{_≡_}
 use Prim.Native.Nat.{ℕ, _+_, _-_, _≤_, _<_}
 use native.Mathlib.Nat.{add-sub-cancel-left}

@@ -1,4 +1,5 @@
 -- The definition's domains as a kind of domain for the queue, and the definition's leaves as the queue's. Assumes nothing.
+-- Holds: leavesFrom, Waiting, from-wait, from-done, from-none, kind, leaves-are
 use mathlib.Core.Path.{_≡_, sym, ap, _∙_}
 use mathlib.Core.List.{List, [], _∷_, _++_}
 use Prim.Native.Nat.{ℕ, suc, _*_, _≤_, _<_}

@@ -1,5 +1,7 @@
 -- The loop over the queue of the definition's domains: rows, queue and spare room in one list, the boxes of what waits in another.
 -- Where it begins, its two turns, and where it ends. Assumes nothing.
+-- Holds: domainBox, Run, Known, headStart, headCount, Front, front, known, axis-fit, wait, wait-less, next-leaves,
+--   next-leaves-less, run-end, length-extents, width-most, run-first, KeptLengths, kept-next
 use mathlib.Core.Path.{_≡_, refl, sym, ap, _∙_}
 use Prim.Native.Nat.{ℕ, _+_, _*_, _/_, _^_, _≤_, _<_}
 use native.Mathlib.Nat.{mul-add, mul-one, mul-le-mul-left}

@@ -1,4 +1,5 @@
 -- The outcome of a level size asked alone, refusal by refusal. Assumes nothing.
+-- Holds: size-4, size-8, size-14, size-9-none, size-9-many, size-given
 use Prim.Native.Nat.{ℕ, _≤_, _<_}
 use mathlib.Core.Path.{_≡_}
 use mathlib.Core.Bool.{false}

@@ -1,4 +1,6 @@
 -- One fine level, and the levels after it. Assumes nothing.
+-- Holds: leaves-few, own-all, borrowed-few, boxes-all, next-many, next-given, size-small, after-coarse, after-fine, first-points,
+--   levels-few, counts-more, fine-rows
 use mathlib.Core.Path.{_≡_, refl, sym, ap, _∙_}
 use mathlib.Core.Bool.{Bool, true, false, _&&_}
 use mathlib.Core.Logic.{⊎-elim}

@@ -1,4 +1,6 @@
 -- A packed list is the first level's part, and then the others'; and what each is written over. Assumes nothing.
+-- Holds: leaves-cons, points-cons, own-cons, borrowed-cons, boxes-cons, stretches-append, points-more, own-more, borrowed-more,
+--   boxes-more, rows-more
 use mathlib.Core.Path.{_≡_, sym, ap, _∙_}
 use mathlib.Core.List.{List, [], _∷_, _++_, map}
 use Prim.Native.Nat.{ℕ, _+_, _*_, _≤_}

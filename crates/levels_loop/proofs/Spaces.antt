@@ -1,4 +1,5 @@
 -- The room for the levels that are left: a level fits in it, and what is left of it is enough for the others. Assumes nothing.
+-- Holds: coarse-fits, fine-fits, fine-points, fine-room, space-next
 use mathlib.Core.Path.{_≡_}
 use mathlib.Core.List.{List}
 use Prim.Native.Nat.{ℕ, suc, _+_, _*_, _≤_}

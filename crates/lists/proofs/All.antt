@@ -1,4 +1,6 @@
 -- What holds of each element of a list: of two lists together, by index, by membership, of what is kept. Assumes nothing.
+-- Holds: all-append, all-left, all-right, all-keep, all-take, all-drop, all-at, all-by-index, all-mem, all-of, mem-by-index,
+--   all-joined, joined-all, all-imp, all-map
 use mathlib.Core.Path.{refl, sym, subst}
 use Prim.Native.Nat.{ℕ, zero, suc, _<_}
 use native.Mathlib.Nat.{not-suc-le-zero, le-of-suc-le-suc}
@@ -47,10 +49,6 @@ module _ {A : Type 0} (P : A → Type 0) where
   all-drop zero l h = h
   all-drop (suc n) [] h = tt
   all-drop (suc n) (x ∷ l) h = all-drop n l (h .1)
-
-  pub all-part : (l : List A) (at n : ℕ) → All P l → All P (part l at n)
-  unfolding part
-  all-part l at n h = all-take n (drop at l) (all-drop at l h)
 
   -- ---- by index
   pub all-at : (l : List A) (i : ℕ) (d : A) → All P l → i < length l → P (getD l i d)
@@ -101,8 +99,3 @@ pub all-map : {A B : Type 0} (P : B → Type 0) (f : A → B) (l : List A) → A
 unfolding All
 all-map P f [] h = tt
 all-map P f (x ∷ l) h = (h .0, all-map P f l (h .1))
-
-pub map-all : {A B : Type 0} (P : B → Type 0) (f : A → B) (l : List A) → All P (map f l) → All (λ x. P (f x)) l
-unfolding All
-map-all P f [] h = tt
-map-all P f (x ∷ l) h = (h .0, map-all P f l (h .1))

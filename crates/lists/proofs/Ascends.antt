@@ -1,4 +1,6 @@
 -- Strictly ascending lists: of what is kept, of stretches, by index, and that its members make such a list. Assumes nothing.
+-- Holds: ascends-keep, ascends-from, ascends-append, ascends-map, ascends-at, ascends-by-index, ascends-same, ascends-unique,
+--   ascends-unique-count, ascends-once, once-ascends, ascends-differ
 use mathlib.Core.Path.{_≡_, refl, sym, _∙_}
 use mathlib.Core.Logic.{_⊎_, inl, inr, ⊎-elim}
 use Prim.Native.Nat.{ℕ, zero, suc, _≤_, _<_}
@@ -29,22 +31,6 @@ ascends-keep p (x ∷ l) h = go (p x) (ascends-keep p l (h .1))
     go : (b : Bool) → Ascends (keep p l) → Ascends (consIf b x (keep p l))
     go true k = (all-keep (λ y. x < y) p l (h .0), k)
     go false k = k
-
-pub ascends-take : (n : ℕ) (l : List ℕ) → Ascends l → Ascends (take n l)
-unfolding Ascends
-ascends-take zero l h = tt
-ascends-take (suc n) [] h = tt
-ascends-take (suc n) (x ∷ l) h = (all-take (λ y. x < y) n l (h .0), ascends-take n l (h .1))
-
-pub ascends-drop : (n : ℕ) (l : List ℕ) → Ascends l → Ascends (drop n l)
-unfolding Ascends
-ascends-drop zero l h = h
-ascends-drop (suc n) [] h = tt
-ascends-drop (suc n) (x ∷ l) h = ascends-drop n l (h .1)
-
-pub ascends-part : (l : List ℕ) (at n : ℕ) → Ascends l → Ascends (part l at n)
-unfolding part
-ascends-part l at n h = ascends-take n (drop at l) (ascends-drop at l h)
 
 pub ascends-from : (a n : ℕ) → Ascends (from a n)
 unfolding from Ascends
@@ -133,14 +119,6 @@ ascends-once (x ∷ l) h z = elim (ℕ-discrete x z) [
 ]
 
 -- ---- a strictly ascending list is no longer than one with all its members
-pub ascends-short : (xs ys : List ℕ) → Ascends xs → ((z : ℕ) → List·Memᴰ z xs → List·Memᴰ z ys) → length xs ≤ length ys
-unfolding Ascends
-ascends-short [] ys h f = omega arith
-ascends-short (x ∷ xs) ys h f =
-    let p : ℕ → Bool = λ y. ltb x y in
-    let k = ascends-short xs (keep p ys) (h .1) (λ z m. mem-keep p ys (f z (List·Memᴰ·tail m)) (lt-ltb x z (all-mem (λ y. x < y) xs (h .0) z m))) in
-    omega (arith, k, length-keep p ys, count-lt p (λ y. true) ys (λ y m e. refl) x (f x (List·Memᴰ·head refl)) (le-ltb x x (omega arith)) refl, count-len (λ y. true) ys)
-
 -- a list without repeats whose numbers do not descend
 pub once-ascends : (l : List ℕ) → Once l → ((i j : ℕ) → i < j → j < length l → getD l i 0 ≤ getD l j 0) → Ascends l
 once-ascends l o s = ascends-by-index l (λ i j h g. less (s i j h g) (once-differ l o i j h g))

@@ -1,4 +1,6 @@
 -- The best of some elements: it is one of them, none of them is better, and one more element. Assumes nothing.
+-- Holds: best-append, best-snoc, best-more, best-yes, best-no, best-in, best-stays, best-is, best-map, best-from-suc,
+--   best-from-yes, best-from-no, best-below-first, best-below-yes, best-below-no
 use mathlib.Core.Path.{_≡_, refl, ap, _∙_, sym}
 use mathlib.Core.Bool.{Bool, true, false, cond}
 use mathlib.Core.List.{List, [], _∷_, _++_, map, List·Memᴰ, List·Memᴰ·head, List·Memᴰ·tail}
@@ -64,24 +66,6 @@ module _ {A : Type 0} (better : A → A → Bool) where
         go : (t : Bool) → better a a ≡ t → t ≡ false
         go true e = clash e (asym a a e)
         go false e = refl
-
-    pub best-start : (x : A) (ys : List A) → better x (best better x ys) ≡ false
-    unfolding best
-    best-start x [] = irr x
-    best-start x (y ∷ ys) = go (better y x) refl (λ z. best-start z ys)
-      where
-        go : (t : Bool) → better y x ≡ t → ((z : A) → better z (best better z ys) ≡ false) → better x (best better (cond t y x) ys) ≡ false
-        go true e f = weak x y (best better y ys) (asym y x e) (f y)
-        go false e f = f x
-
-    pub best-none : (x : A) (ys : List A) (z : A) → List·Memᴰ z ys → better z (best better x ys) ≡ false
-    unfolding best
-    best-none x (y ∷ ys) z (List·Memᴰ·head e) = rw e (go (better y x) refl)
-      where
-        go : (t : Bool) → better y x ≡ t → better y (best better (cond t y x) ys) ≡ false
-        go true h = best-start y ys
-        go false h = weak y x (best better x ys) h (best-start x ys)
-    best-none x (y ∷ ys) z (List·Memᴰ·tail m) = best-none (cond (better y x) y x) ys z m
 
 -- ---- by values
 pub best-map : {A B : Type 0} (f : A → B) (better : B → B → Bool) (x : A) (ys : List A) → best better (f x) (map f ys) ≡ f (best (λ a b. better (f a) (f b)) x ys)

@@ -1,4 +1,5 @@
 -- Columns of w entries each, one after the other in a list. Assumes nothing.
+-- Holds: columns-append, columns-next, columns-put, columns-join
 use mathlib.Core.Path.{_≡_, refl, sym, ap, ap₂, _∙_}
 use Prim.Native.Nat.{ℕ, zero, suc, _+_, _-_, _*_, _≤_, _<_}
 use native.Mathlib.Nat.{add-zero, add-suc, suc-add, zero-add, mul-suc, mul-le-mul-left}

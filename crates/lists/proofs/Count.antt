@@ -1,4 +1,8 @@
 -- How many elements pass a test, and which are kept by it. Assumes nothing.
+-- Holds: one-le, one-mono, count-nil, count-cons, count-append, count-halves, count-snoc, count-more, count-yes, count-no,
+--   count-set, count-len, count-not, count-none, count-all, count-same, keep-same, count-le, count-lt, count-or, count-some,
+--   keep-append, keep-in, keep-out, keep-yes, keep-no, keep-none, length-keep, length-both, count-sides, count-keep, count-map,
+--   keep-map, count-next, one-or-le, count-or-le
 use mathlib.Core.Path.{_≡_, refl, sym, ap, ap₂, _∙_}
 use Prim.Native.Nat.{ℕ, zero, suc, _+_, _≤_, _<_, zero-le}
 use native.Mathlib.Nat.{not-suc-le-zero, le-of-suc-le-suc, zero-add, add-zero, add-assoc, le-refl}
@@ -40,10 +44,6 @@ module _ {A : Type 0} where
   unfolding count
   count-append p [] ys = sym (zero-add (count p ys))
   count-append p (x ∷ xs) ys = rw (count-append p xs ys) (sym (add-assoc (oneIf (p x)) (count p xs) (count p ys)))
-
-  -- the order of two lists does not count
-  pub count-swap : (p : A → Bool) (xs ys : List A) → count p (xs ++ ys) ≡ count p (ys ++ xs)
-  count-swap p xs ys = omega (arith, count-append p xs ys, count-append p ys xs)
 
   pub count-halves : (p : A → Bool) (n : ℕ) (l : List A) → count p (take n l) + count p (drop n l) ≡ count p l
   count-halves p n l = sym (count-append p (take n l) (drop n l)) ∙ ap (count p) (take-append-drop n l)
@@ -134,25 +134,6 @@ module _ {A : Type 0} where
   count-some p (y ∷ l) x (List·Memᴰ·tail m) h = omega (arith, count-some p l x m h)
 
   -- ---- a count that is not 0, and one that is the length, by index
-  pub some-pass : (p : A → Bool) (l : List A) (d : A) → 0 < count p l → (k : ℕ) × (k < length l) × (p (getD l k d) ≡ true)
-  unfolding count
-  some-pass p [] d h = absurd (not-suc-le-zero h)
-  some-pass p (x ∷ l) d h = go (p x) refl (some-pass p l d)
-    where
-      go : (b : Bool) → p x ≡ b → (0 < count p l → (k : ℕ) × (k < length l) × (p (getD l k d) ≡ true)) → (k : ℕ) × (k < suc (length l)) × (p (getD (x ∷ l) k d) ≡ true)
-      go true q f = (zero, omega arith, q)
-      go false q f = let z : 0 < oneIf false + count p l = rw q at h in let r = f (omega arith) in (suc (r .0), omega (arith, r .1), r .2)
-
-  pub all-pass : (p : A → Bool) (l : List A) (d : A) → count p l ≡ length l → (k : ℕ) → k < length l → p (getD l k d) ≡ true
-  unfolding count
-  all-pass p [] d e k h = absurd (not-suc-le-zero h)
-  all-pass p (x ∷ l) d e k h = go (p x) refl k h (all-pass p l d)
-    where
-      go : (b : Bool) → p x ≡ b → (k : ℕ) → k < suc (length l) → (count p l ≡ length l → (k : ℕ) → k < length l → p (getD l k d) ≡ true) → p (getD (x ∷ l) k d) ≡ true
-      go true q zero h f = q
-      go true q (suc k) h f = f (let z : oneIf true + count p l ≡ suc (length l) = rw q at e in omega arith) k (le-of-suc-le-suc h)
-      go false q k h f = let z : oneIf false + count p l ≡ suc (length l) = rw q at e in absurd (omega (arith, count-len p l))
-
   -- ---- what is kept of two lists
   consIf-append : (b : Bool) (x : A) (xs ys : List A) → consIf b x (xs ++ ys) ≡ consIf b x xs ++ ys
   consIf-append true x xs ys = refl
@@ -180,11 +161,6 @@ module _ {A : Type 0} where
   keep-no p l t d h e = rw (add-one t, take-suc l t d h) (keep-out p (take t l) (getD l t d) e)
 
   -- ---- all of a list is kept, or none
-  pub keep-all : (p : A → Bool) (l : List A) → ((x : A) → List·Memᴰ x l → p x ≡ true) → keep p l ≡ l
-  unfolding keep
-  keep-all p [] h = refl
-  keep-all p (x ∷ l) h = rw (h x (List·Memᴰ·head refl), keep-all p l (λ y m. h y (List·Memᴰ·tail m)))
-
   pub keep-none : (p : A → Bool) (l : List A) → ((x : A) → List·Memᴰ x l → p x ≡ false) → keep p l ≡ []
   unfolding keep
   keep-none p [] h = refl
@@ -216,9 +192,6 @@ module _ {A : Type 0} where
   count-sides q p (x ∷ l) =
       count-consIf q (p x) x (keep p l) (keep (λ y. not (p y)) l) ∙ rw (count-sides q p l)
 
-  pub count-partition : (q p : A → Bool) (l : List A) → count q (keep p l ++ keep (λ x. not (p x)) l) ≡ count q l
-  count-partition q p l = count-append q (keep p l) (keep (λ x. not (p x)) l) ∙ count-sides q p l
-
   -- ---- a test on what another test kept
   pub count-keep : (q p : A → Bool) (l : List A) → count q (keep p l) ≡ count (λ x. p x && q x) l
   unfolding keep count
@@ -228,15 +201,6 @@ module _ {A : Type 0} where
       go : (b : Bool) → count q (keep p l) ≡ count (λ x. p x && q x) l → count q (consIf b x (keep p l)) ≡ oneIf (b && q x) + count (λ x. p x && q x) l
       go true e = omega arith
       go false e = omega arith
-
-  pub keep-keep : (q p : A → Bool) (l : List A) → keep q (keep p l) ≡ keep (λ x. p x && q x) l
-  unfolding keep
-  keep-keep q p [] = refl
-  keep-keep q p (x ∷ l) = go (p x) (keep-keep q p l)
-    where
-      go : (b : Bool) → keep q (keep p l) ≡ keep (λ x. p x && q x) l → keep q (consIf b x (keep p l)) ≡ consIf (b && q x) x (keep (λ x. p x && q x) l)
-      go true e = rw e
-      go false e = e
 
 -- ---- the image of a list
 module _ {A B : Type 0} (f : A → B) where

@@ -1,4 +1,9 @@
 -- The n numbers from a on: their members, how many they are, one more at the end; lists written by index. Assumes nothing.
+-- Holds: from-mem, mem-from, all-from, length-from, getD-from, from-append, from-snoc, from-suc, below-snoc, below-suc,
+--   count-below-nil, count-below-snoc, count-below-suc, count-below-yes, count-below-no, count-below-same, map-from-nil,
+--   map-below-snoc, map-below-suc, length-map-from, getD-map-from, getD-map-below, map-from-shift, front-below-suc, noted-more,
+--   list-below, map-below-same, list-at, map-at, map-from-at, count-at, zip-from-at, fill-more, numbered-more, front-read,
+--   front-whole
 use mathlib.Core.Path.{_≡_, refl, sym, ap, ap₂, _∙_}
 use mathlib.Core.Logic.{⊎-elim}
 use Prim.Native.Nat.{ℕ, zero, suc, _+_, _≤_, _<_}

@@ -1,4 +1,6 @@
 -- Lists one after the other: their length and counts, one more list, and each list found again as a stretch. Assumes nothing.
+-- Holds: joined-nil, joined-cons, joined-one, joined-append, joined-snoc, length-joined, count-joined, joined-at, joined-fits,
+--   getD-joined, even-lengths, joined-even, joined-map-append, joined-map-snoc, joined-map-more, two-lists, sum-joined
 use mathlib.Core.Path.{_≡_, refl, sym, ap, _∙_}
 use Prim.Native.Nat.{ℕ, zero, suc, _+_, _*_, _≤_, _<_}
 use native.Mathlib.Nat.{zero-add, add-assoc, mul-suc, not-suc-le-zero, mul-zero}
@@ -51,11 +53,6 @@ module _ {A : Type 0} where
   unfolding joined total count
   count-joined p [] = refl
   count-joined p (l ∷ ls) = omega (arith, count-append p l (joined ls), count-joined p ls)
-
-  pub keep-joined : (p : A → Bool) (ls : List (List A)) → keep p (joined ls) ≡ joined (map (keep p) ls)
-  unfolding joined keep
-  keep-joined p [] = refl
-  keep-joined p (l ∷ ls) = keep-append p l (joined ls) ∙ ap (λ (r : List A). keep p l ++ r) (keep-joined p ls)
 
   -- ---- the list at k starts where the lists before it end
   pub joined-at : (ls : List (List A)) (rest : List A) (k : ℕ) → k < length ls
@@ -122,9 +119,6 @@ member-one i l = elim (decLt 0 (times i l)) [
   | yes h ↦ omega (arith, one-le (member i l))
   | no h ↦ let z : times i l ≡ 0 = omega arith in let e : oneIf (member i l) ≡ 0 = rw (member-none i l z) in omega arith
 ]
-
-pub holders-few : (i : ℕ) (ls : List (List ℕ)) → total (map (λ l. oneIf (member i l)) ls) ≤ times i (joined ls)
-holders-few i ls = omega (arith, sum-le (λ l. oneIf (member i l)) (times i) ls (λ l m. member-one i l), count-joined (λ x. eqb x i) ls)
 
 -- a sum over lists together
 pub sum-joined : {A : Type 0} (f : A → ℕ) (ls : List (List A)) → total (map f (joined ls)) ≡ total (map (λ l. total (map f l)) ls)

@@ -1,4 +1,6 @@
 -- The least number that passes a test, below a bound. Assumes nothing.
+-- Holds: leastFrom-here, leastFrom-next, leastFrom-is, leastFrom-high, leastFrom-before, leastFrom-le, leastFrom-above,
+--   leastFrom-holds, least-is, least-high, least-before, least-le, least-above, least-holds
 use mathlib.Core.Path.{_≡_, sym, ap, _∙_}
 use mathlib.Core.Logic.{⊎-elim}
 use mathlib.Core.Bool.{Bool, true, false}
@@ -30,15 +32,6 @@ module _ (p : ℕ → Bool) where
       (eq-or-lt-of-le lo)
 
   -- ---- it is between the first number and the bound
-  pub leastFrom-low : (k d : ℕ) → k ≤ leastFrom p k d
-  unfolding leastFrom
-  leastFrom-low k zero = omega arith
-  leastFrom-low k (suc d) =
-      ⊎-elim
-      (λ (t : p k ≡ true). omega (arith, leastFrom-here k d t))
-      (λ (f : p k ≡ false). omega (arith, leastFrom-next k d f, leastFrom-low (suc k) d))
-      (true-or-false (p k))
-
   pub leastFrom-high : (k d : ℕ) → leastFrom p k d ≤ k + d
   unfolding leastFrom
   leastFrom-high k zero = omega arith

@@ -1,4 +1,5 @@
 -- The image of a list, element by element. Assumes nothing.
+-- Holds: map-snoc, take-map, getD-map-in, map-set, map-joined, map-same, zip-map
 use mathlib.Core.Path.{_≡_, refl, ap, _∙_}
 use Prim.Native.Nat.{ℕ, zero, suc, _<_}
 use native.Mathlib.Nat.{not-suc-le-zero, le-of-suc-le-suc}
@@ -17,11 +18,6 @@ module _ {A B : Type 0} (f : A → B) where
   take-map (suc n) [] = refl
   take-map (suc n) (x ∷ l) = ap (λ (t : List B). f x ∷ t) (take-map n l)
 
-  pub drop-map : (n : ℕ) (l : List A) → drop n (map f l) ≡ map f (drop n l)
-  drop-map zero l = refl
-  drop-map (suc n) [] = refl
-  drop-map (suc n) (x ∷ l) = drop-map n l
-
   -- ---- by index
   pub getD-map-in : (l : List A) (i : ℕ) (d : A) (e : B) → i < length l → getD (map f l) i e ≡ f (getD l i d)
   getD-map-in [] i d e h = absurd (not-suc-le-zero h)
@@ -34,11 +30,6 @@ module _ {A B : Type 0} (f : A → B) where
   map-set (y ∷ l) (suc i) x = ap (λ (t : List B). f y ∷ t) (map-set l i x)
 
   -- ---- some element of the image passes a test
-  pub any-map : (p : B → Bool) (l : List A) → anyOf p (map f l) ≡ anyOf (λ x. p (f x)) l
-  unfolding anyOf
-  any-map p [] = refl
-  any-map p (x ∷ l) = ap (λ (b : Bool). p (f x) || b) (any-map p l)
-
   -- ---- lists of lists
   pub map-joined : (ls : List (List A)) → map f (joined ls) ≡ joined (map (map f) ls)
   unfolding joined

@@ -1,4 +1,7 @@
 -- Membership as a test and as a fact; members of two lists together, of `keep`, `map`, `joined` and stretches. Assumes nothing.
+-- Holds: mem-left, mem-right, mem-at, mem-index, any-mem, mem-any, none-any, any-append, keep-mem, mem-keep, keep-at, joined-mem,
+--   mem-joined, mem-map, map-mem, member-mem, mem-member, member-cons, not-member, member-not, split-at, each-before,
+--   each-behind, member-snoc, member-last, member-other
 use mathlib.Core.Path.{_≡_, refl, sym, ap, subst, _∙_}
 use mathlib.Core.Logic.{⊎-elim}
 use Prim.Native.Nat.{ℕ, zero, suc, _+_, _<_}
@@ -46,11 +49,6 @@ module _ {A : Type 0} where
 
   pub none-any : (p : A → Bool) (l : List A) {x : A} → anyOf p l ≡ false → List·Memᴰ x l → p x ≡ false
   none-any p l {x} h m = fails (p x) (λ e. clash (mem-any p l m e) h)
-
-  pub any-same : (p q : A → Bool) (l : List A) → ((x : A) → List·Memᴰ x l → p x ≡ q x) → anyOf p l ≡ anyOf q l
-  unfolding anyOf
-  any-same p q [] h = refl
-  any-same p q (x ∷ l) h = rw (h x (List·Memᴰ·head refl), any-same p q l (λ y m. h y (List·Memᴰ·tail m)))
 
   pub any-append : (p : A → Bool) (xs ys : List A) → anyOf p (xs ++ ys) ≡ anyOf p xs || anyOf p ys
   unfolding anyOf

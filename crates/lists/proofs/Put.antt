@@ -1,4 +1,11 @@
 -- Laws of `put` and `part`. Assumes nothing.
+-- Holds: put-zero, put-nil, length-put, length-part, take-put, length-head, take-put-end, drop-put-end, drop-put, drop-put-past,
+--   set-put, put-def, put-next, put-next-at, put-over, put-snoc, getD-put-in, getD-put-before, getD-put-after, part-put-in,
+--   part-whole, part-put-same, part-put-after, part-take, part-put-before, part-part, part-append, part-nil, part-snoc,
+--   part-cons, part-drop, getD-part, part-around, put-part, put-left, put-right, put-tail, put-within, put-inside, put-comm,
+--   part-first, part-second, take-put-front, view-put, part-lent, copy-none, copy-more, copy-on, copy-back, set-two, put-before,
+--   put-set, getD-put-at, front-put, part-grown, mid-back, part-back, read-more, write-more, put-same-more, put-again, spliced,
+--   put-spliced, map-spliced
 use mathlib.Core.Path.{_≡_, refl, sym, ap, _∙_, ap₂}
 use Prim.Native.Nat.{ℕ, zero, suc, _+_, _-_, _≤_, _<_}
 use native.Mathlib.Nat.{not-suc-le-zero, suc-add, zero-add, add-zero, add-assoc}
@@ -325,12 +332,6 @@ module _ {A : Type 0} where
 
   -- ---- what stands from an index on, and past it
   module _ (l : List A) (at : ℕ) (xs ys : List A) (e : drop at l ≡ xs ++ ys) where
-    pub part-there : part l at (length xs) ≡ xs
-    unfolding part
-    part-there = ap (take (length xs)) e ∙ take-append-seam xs ys
-
-    pub drop-past : drop (at + length xs) l ≡ ys
-    drop-past = sym (drop-drop (length xs) at l) ∙ ap (drop (length xs)) e ∙ drop-append-seam xs ys
 
   -- ---- an element put in at an index
   unfoldable pub spliced : List A → ℕ → A → List A

@@ -1,6 +1,7 @@
 -- How many elements of a list have fewer than m elements before them: m, or all where there are fewer.
 -- Over any strict order by which each two of the list's elements compare. The cut's halves, the neighbours and the leftover seats
 -- are such selections. Assumes nothing.
+-- Holds: Compared, ahead, first-count, first-length, other-length, ahead-lt
 use mathlib.Core.Path.{_≡_, refl, sym, ap, _∙_}
 use mathlib.Core.Logic.{_⊎_, inl, inr}
 use mathlib.Core.Bool.{Bool, true, false, not}
@@ -115,30 +116,4 @@ next-same a t n = elim (decLe t a) [
 
 -- ---- elements by a number w: the order of the ranks is that of the numbers
 module _ {A : Type 0} (w : A → ℕ) where
-  -- ---- a count that jumps from t to t + 1
-  pub jump : (t : ℕ) (l : List A) (d : A) → count (λ z. ltb (w z) t) l < count (λ z. ltb (w z) (suc t)) l → (k : ℕ) × (k < length l) × (w (getD l k d) ≡ t)
-  unfolding count
-  jump t [] d h = absurd (omega arith)
-  jump t (x ∷ l) d h = go (eqb (w x) t) refl (jump t l d)
-    where
-      go : (b : Bool) → eqb (w x) t ≡ b → (count (λ z. ltb (w z) t) l < count (λ z. ltb (w z) (suc t)) l → (k : ℕ) × (k < length l) × (w (getD l k d) ≡ t))
-          → (k : ℕ) × (k < suc (length l)) × (w (getD (x ∷ l) k d) ≡ t)
-      go true e f = (zero, omega arith, eqb-true (w x) t e)
-      go false e f =
-          let g : oneIf (ltb (w x) t) + count (λ z. ltb (w z) t) l < oneIf (ltb (w x) t) + count (λ z. ltb (w z) (suc t)) l = rw (next-same (w x) t (eqb-false (w x) t e)) at h in
-          let r = f (omega arith) in (suc (r .0), omega (arith, r .1), r .2)
-
-  pub jump-one : (t : ℕ) (l : List A) (d : A) → ((a b : ℕ) → a < b → b < length l → w (getD l a d) ≡ w (getD l b d) → ⊥)
-      → count (λ z. ltb (w z) (suc t)) l ≤ suc (count (λ z. ltb (w z) t) l)
-  unfolding count
-  jump-one t [] d f = omega arith
-  jump-one t (x ∷ l) d f = go (eqb (w x) t) refl (jump-one t l d (λ a b g h. f (suc a) (suc b) (omega arith) (omega arith)))
-    where
-      go : (b : Bool) → eqb (w x) t ≡ b → count (λ z. ltb (w z) (suc t)) l ≤ suc (count (λ z. ltb (w z) t) l)
-          → oneIf (ltb (w x) (suc t)) + count (λ z. ltb (w z) (suc t)) l ≤ suc (oneIf (ltb (w x) t) + count (λ z. ltb (w z) t) l)
-      go true e g =
-          let z = eqb-true (w x) t e in
-          let s = count-same (λ y. ltb (w y) (suc t)) (λ y. ltb (w y) t) l
-          (mem-by-index (λ y. ltb (w y) (suc t) ≡ ltb (w y) t) l d (λ k h. next-same (w (getD l k d)) t (λ q. f zero (suc k) (omega arith) (omega arith) (z ∙ sym q)))) in
-          rw (lt-ltb (w x) (suc t) (omega arith), le-ltb (w x) t (omega arith)) (omega arith)
-      go false e g = rw (next-same (w x) t (eqb-false (w x) t e)) (omega arith)
+    -- ---- a count that jumps from t to t + 1

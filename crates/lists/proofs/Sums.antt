@@ -1,4 +1,8 @@
 -- Sums of lists of numbers, and of values over a list or over the numbers below n. Assumes nothing.
+-- Holds: total-nil, total-cons, total-append, total-halves, total-snoc, total-more, total-step, total-front, total-longer,
+--   total-below, total-at, sum-same, sum-le, sum-add, sum-mul, sum-const, sum-none, count-sum, sum-below-nil, sum-below-snoc,
+--   sum-below-suc, sum-below-same, sum-below-le, sum-below-part, sum-below-at, total-index, sum-nil, sum-cons, sum-append,
+--   sum-two, sum-swap, sum-most, count-any, count-below-le, count-below-two, count-below-two-le, count-below-le-two
 use mathlib.Core.Path.{_≡_, refl, sym, ap, _∙_}
 use Prim.Native.Nat.{ℕ, zero, suc, _+_, _-_, _*_, _≤_, _<_, zero-le}
 use native.Mathlib.Nat.{zero-add, mul-zero, mul-add, suc-mul, not-suc-le-zero, le-of-suc-le-suc}
@@ -60,12 +64,6 @@ total-below xs t n h = omega (arith, total-more xs t, total-longer xs (suc t) n 
 pub total-at : (xs : List ℕ) (i : ℕ) → getD xs i 0 ≤ total xs
 total-at xs i = omega (arith, total-more xs i, total-front (suc i) xs)
 
-pub total-set : (xs : List ℕ) (k v : ℕ) → k < length xs → total (set xs k v) + getD xs k 0 ≡ total xs + v
-unfolding total
-total-set [] k v h = absurd (not-suc-le-zero h)
-total-set (x ∷ xs) zero v h = omega arith
-total-set (x ∷ xs) (suc k) v h = omega (arith, total-set xs k v (le-of-suc-le-suc h))
-
 -- ---- sums of values over a list
 module _ {A : Type 0} where
   pub sum-same : (f g : A → ℕ) (l : List A) → ((x : A) → List·Memᴰ x l → f x ≡ g x) → total (map f l) ≡ total (map g l)
@@ -97,11 +95,6 @@ module _ {A : Type 0} where
   unfolding total
   sum-none f [] h = refl
   sum-none f (x ∷ l) h = omega (arith, h x (List·Memᴰ·head refl), sum-none f l (λ y m. h y (List·Memᴰ·tail m)))
-
-  pub sum-mem : (f : A → ℕ) (l : List A) (x : A) → List·Memᴰ x l → f x ≤ total (map f l)
-  unfolding total
-  sum-mem f (y ∷ l) x (List·Memᴰ·head e) = omega (arith, ap f e)
-  sum-mem f (y ∷ l) x (List·Memᴰ·tail m) = omega (arith, sum-mem f l x m)
 
   -- a count is a sum of ones
   pub count-sum : (p : A → Bool) (l : List A) → count p l ≡ total (map (λ x. oneIf (p x)) l)
@@ -175,11 +168,6 @@ pub count-any : {A B : Type 0} (p : B → A → Bool) (es : List B) (l : List A)
 unfolding anyOf total
 count-any p [] l = omega (arith, count-none (λ x. false) l (λ x m. refl))
 count-any p (e ∷ es) l = omega (arith, count-or-le (p e) (λ x. anyOf (λ e. p e x) es) l, count-any p es l)
-
-pub any-sum : {A : Type 0} (p : A → Bool) (l : List A) → oneIf (anyOf p l) ≤ total (map (λ x. oneIf (p x)) l)
-unfolding anyOf total
-any-sum p [] = omega arith
-any-sum p (x ∷ l) = omega (arith, one-or-le (p x) (anyOf p l), any-sum p l)
 
 -- ---- counts over the numbers below n, compared test by test
 module _ (n : ℕ) (p q : ℕ → Bool) where

@@ -1,4 +1,5 @@
 -- Laws of `take`, `drop`, `set` and `replicate`. Assumes nothing.
+-- Holds: single, drop-take, set-right, set-front, set-second, take-replicate
 use mathlib.Core.Path.{_≡_, refl, sym, ap, _∙_}
 use Prim.Native.Nat.{ℕ, zero, suc, _+_, _-_, _≤_, _<_}
 use native.Mathlib.Nat.{suc-add, zero-add, sub-zero, suc-sub-suc, not-suc-le-zero}

@@ -1,4 +1,6 @@
 -- Tests that pass or fail, and what follows from two of them. Assumes nothing.
+-- Holds: clash, true-or-false, and-of, and-fst, and-snd, and-true, or-cases, or-none, or-left, or-right, or-assoc, or-false,
+--   or-true, same-test, fails, cond-true, cond-false, eqb-comm, same-or, le-or-lt
 use mathlib.Core.Path.{_≡_, refl, sym, _∙_}
 use mathlib.Core.Logic.{_⊎_, inl, inr, ⊎-elim}
 use mathlib.Core.Bool.{Bool, true, false, _&&_, _||_, cond, true≢false}
@@ -14,11 +16,6 @@ clash p q = absurd (true≢false (sym p ∙ q))
 pub true-or-false : (b : Bool) → (b ≡ true) ⊎ (b ≡ false)
 true-or-false true = inl refl
 true-or-false false = inr refl
-
--- a test that holds passes
-pub of-T : (b : Bool) → T b → b ≡ true
-of-T true h = refl
-of-T false h = absurd h
 
 -- ---- both, and one of two
 pub and-of : {b c : Bool} → b ≡ true → c ≡ true → b && c ≡ true

@@ -1,4 +1,7 @@
 -- How often a number stands in a list, and lists without repeats. Assumes nothing.
+-- Holds: times-nil, times-one, times-other, times-cons, times-append, mem-times, times-mem, member-some, member-none, from-times,
+--   to-times, times-keep-in, times-keep-out, times-keep-le, once-tail, once-head, once-keep, members-count, others-count,
+--   members-length, members-times, once-short, once-length, members-few, member-zero, times-more, once-differ
 use mathlib.Core.Path.{_≡_, refl, sym, ap, _∙_, subst}
 use mathlib.Core.Bool.{Bool, true, false, not, _||_}
 use mathlib.Core.List.{List, [], _∷_, _++_, List·Memᴰ, List·Memᴰ·head, List·Memᴰ·tail}

@@ -1,4 +1,6 @@
 -- What the scan finds is what the definition takes. Assumes nothing.
+-- Holds: sooner-irr, sooner-trans, sooner-or, sooner-late, near-none, near-more, near-full, nearest-positions, found,
+--   found-taken, taken-found
 use mathlib.Core.Path.{_≡_, refl, sym, ap, _∙_, subst}
 use mathlib.Core.Logic.{_⊎_}
 use mathlib.Core.Bool.{Bool, true, false, _&&_, _||_}

@@ -1,4 +1,5 @@
 -- The turns of the bisection. Assumes nothing.
+-- Holds: Between, between-all, between-low, between-high, between-one
 use mathlib.Core.Path.{_≡_, ap, _∙_}
 use mathlib.Core.List.{List, List·Memᴰ}
 use Prim.Native.Nat.{ℕ, _+_, _≤_, _<_}

@@ -1,4 +1,5 @@
 -- The turns of the loops that mark positions with leaves. Assumes nothing.
+-- Holds: stretch-none, stretch-more, MarkedUpTo, leaf-inside, leaf-more, marked-owned
 use mathlib.Core.Path.{_≡_, refl, sym, ap, _∙_, subst}
 use mathlib.Core.Logic.{⊎-elim}
 use mathlib.Core.Bool.{Bool, true, false, cond, _||_}

@@ -1,4 +1,5 @@
 -- The turns of the loop over the active rows. Assumes nothing.
+-- Holds: collect-none, collect-room, collect-owners, collect-long, collect-more, row-room
 use mathlib.Core.Path.{_≡_, refl, sym, ap, _∙_, subst}
 use mathlib.Core.Logic.{inl, inr, ⊎-elim}
 use mathlib.Core.List.{List, [], _++_, List·Memᴰ, List·Memᴰ·not-nil, List·Memᴰ·append-cases}

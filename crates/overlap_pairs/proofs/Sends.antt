@@ -1,4 +1,5 @@
 -- The turns of the loop that sends pairs, and who sends a number. Assumes nothing.
+-- Holds: pairs-length, pairs-mem, mem-pairs, Sent, send-none, send-stay, send-owner, send-small, send-skip, send-pair, send-end
 use mathlib.Core.Path.{_≡_, refl, sym, ap, _∙_, subst}
 use mathlib.Core.Logic.{_⊎_, inl, inr, ⊎-elim}
 use mathlib.Core.Bool.{Bool, true, false, cond}

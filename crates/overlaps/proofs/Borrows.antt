@@ -1,4 +1,5 @@
 -- What is collected is what the leaves borrow by the definition. Assumes nothing.
+-- Holds: positionsOf, positions-rows, positions-are, collected-encoded
 use mathlib.Core.Path.{_≡_, refl, sym, ap, _∙_, subst}
 use mathlib.Core.Logic.{inl, inr, ⊎-elim}
 use mathlib.Core.Bool.{Bool, true, false, not, _&&_}

@@ -1,4 +1,5 @@
 -- Lists of numbers, one block for each leaf: they ascend, their members, their rows, and where each block starts. Assumes nothing.
+-- Holds: block-range, codes-above, codes-ascend, codes-mem, mem-codes, rows-codes, length-codes, drop-codes
 use mathlib.Core.Path.{_≡_, refl, sym, ap, ap₂, _∙_, subst}
 use mathlib.Core.Logic.{⊎-elim}
 use mathlib.Core.List.{List, [], _∷_, _++_, map, map-map, List·Memᴰ, List·Memᴰ·not-nil, List·Memᴰ·append-cases, map-append}

@@ -1,4 +1,5 @@
 -- The borrowed columns of the domain rows, and the turns of the loop that writes them. Assumes nothing.
+-- Holds: columns-length, columns-snoc, columns-map, columns-own, Columned, column-none, column-end, column-more, column-all
 use mathlib.Core.Path.{_≡_, refl, sym, ap, ap₂, _∙_}
 use mathlib.Core.List.{List, [], _∷_, _++_, map}
 use Prim.Native.Nat.{ℕ, suc, _+_, _-_, _*_, _≤_, _<_}

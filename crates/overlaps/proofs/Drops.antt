@@ -1,4 +1,5 @@
 -- The turns of the loop that drops repeats. Assumes nothing.
+-- Holds: Dropped, drop-first, drop-same, drop-new, drop-end, drop-none
 use mathlib.Core.Path.{_≡_, refl, sym, ap, _∙_, subst}
 use mathlib.Core.Logic.{_⊎_, ⊎-elim}
 use Prim.Native.Nat.{ℕ, _+_, _-_, _≤_, _<_}

@@ -1,4 +1,5 @@
 -- From a list of numbers, in order and without repeats, to what the leaves borrow. Assumes nothing.
+-- Holds: same-distinct, small-lists, distinct-codes, distinct-rows, distinct-length, distinct-inside
 use mathlib.Core.Path.{_≡_, sym, ap, _∙_}
 use mathlib.Core.List.{List, map, List·Memᴰ}
 use Prim.Native.Nat.{ℕ, _%_, _≤_, _<_}

@@ -1,4 +1,5 @@
 -- The turns of the loop that writes rows. Assumes nothing.
+-- Holds: length-coded, coded-none, coded-more, coded-end
 use mathlib.Core.Path.{_≡_, sym, ap, _∙_}
 use mathlib.Core.List.{List, [], _∷_, _++_}
 use Prim.Native.Nat.{ℕ, suc, _+_, _%_, _≤_, _<_}

@@ -1,4 +1,5 @@
 -- The stages one after the other: owners, numbers, and what the leaves borrow. Assumes nothing.
+-- Holds: twice, stage-owners, stage-end, stage-length, stage-inside, stage-encoded, stage-number, stage-borrowed, stage-domains
 use mathlib.Core.Path.{_≡_, sym, ap, _∙_, subst}
 use mathlib.Core.Logic.{⊎-elim}
 use mathlib.Core.List.{List, map, List·Memᴰ}

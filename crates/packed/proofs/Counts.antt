@@ -1,4 +1,5 @@
 -- The counts per level that a build reports: each level's own count, and 0 beyond the last. Assumes nothing.
+-- Holds: noLevel, counts-length, counts-before, counts-put, count-at
 use mathlib.Core.Path.{_≡_, refl, sym, ap, _∙_}
 use mathlib.Core.Logic.{⊎-elim}
 use mathlib.Core.List.{List, [], _∷_, _++_, map}

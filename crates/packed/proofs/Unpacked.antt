@@ -1,5 +1,7 @@
 -- A packed tree is read back: the rows of each level, each leaf by its domain row, and so the whole tree; and a reader who goes by the
 -- domain rows stays inside the lists. Assumes nothing.
+-- Holds: noLeaf, Packs, levels-are, rows-on, leaves-on, listed-is, own-count-is, borrowed-count-is, own-is, borrowed-is, box-is,
+--   leaf-is, row-fits, leaf-in, leaf-at, tree-back, tree-stands
 use mathlib.Core.Path.{_≡_, refl, sym, ap, ap₂, _∙_}
 use mathlib.Core.Logic.{⊎-elim}
 use mathlib.Core.List.{List, [], _∷_, _++_, map, map-map, map-id, append-assoc}

@@ -1,4 +1,6 @@
 -- The digits of a number: each text is that of the number without its last digitOf, and the last digitOf. Assumes nothing.
+-- Holds: digit-low, digit-high, hex-onto, hex-none, hex-step, one-digit, more-digits, same-fuel, decimal-onto, decimal-one,
+--   decimal-step, bitsText, bits-text
 use mathlib.Core.Path.{_≡_, refl, sym, ap, ap₂, _∙_}
 use Prim.Native.Nat.{ℕ, zero, suc, _+_, _/_, _%_, _^_, _-_, _≤_, _<_}
 use native.Mathlib.Nat.{mod-eq-of-lt, pow-succ'}

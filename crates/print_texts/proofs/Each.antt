@@ -1,4 +1,5 @@
 -- The texts of a list's elements, one after the other. Assumes nothing.
+-- Holds: each-none, each-all, each-room, more-room, each-more, rowText, boundText, bounds-text, rows-dash, rows-listed
 use mathlib.Core.Path.{_≡_, refl, sym}
 use Prim.Native.Nat.{ℕ, _+_, _≤_, _<_}
 use native.Mathlib.Omega.{arith}

@@ -1,4 +1,5 @@
 -- Texts written one after the other. Assumes nothing.
+-- Holds: wrote-none, wrote-byte, spelt, room-spelt, room-first, wrote-long, room-next, wrote-then, room-part, copied
 use mathlib.Core.Path.{_≡_, refl, sym, ap, _∙_}
 use Prim.Native.Nat.{ℕ, _+_, _<_}
 use native.Mathlib.Nat.{add-zero, add-assoc}

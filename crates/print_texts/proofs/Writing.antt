@@ -1,4 +1,5 @@
 -- A text of several parts that the code writes one after the other. Assumes nothing.
+-- Holds: Writing, begin, text-room, text-added, finish, two-texts, refusalTexts, refusal-texts
 use mathlib.Core.Path.{_≡_, sym, ap, _∙_}
 use Prim.Native.Nat.{ℕ, _+_}
 use mathlib.Core.List.{List, [], _∷_, _++_, append-assoc, append-nil}

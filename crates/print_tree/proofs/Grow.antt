@@ -1,4 +1,5 @@
 -- A text that grows: with the first k + 1 parts it is the text with the first k, and one part more. Assumes nothing.
+-- Holds: grown-room, grown, fineText, fine-none, fine-grows
 use mathlib.Core.Path.{_≡_, refl, sym, ap, _∙_}
 use mathlib.Core.Bool.{true}
 use Prim.Native.Nat.{ℕ, zero, suc, _+_, _-_, _≤_, _<_}

@@ -1,4 +1,6 @@
 -- The levels' texts one after the other, from the packed lists and the counts. Assumes nothing.
+-- Holds: total-none, frontText, fineAt, how-many, front-none, front-grows, coarseText, texts-end, fine-here, coarse-here,
+--   rows-here, fits-here, domains-here, levels-whole
 use mathlib.Core.Path.{_≡_, refl, sym, ap, ap₂, _∙_}
 use mathlib.Core.Bool.{false}
 use Prim.Native.Nat.{ℕ, zero, suc, _+_, _-_, _≤_, _<_}

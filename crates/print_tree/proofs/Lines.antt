@@ -1,4 +1,5 @@
 -- The lines of the printout as the texts that the code writes one after the other. Assumes nothing.
+-- Holds: domainTexts, domain-texts, levelTexts, level-texts, box-fine, box-coarse, treeTexts, tree-texts
 use mathlib.Core.Path.{_≡_}
 use Prim.Native.Nat.{ℕ}
 use mathlib.Core.Bool.{Bool, true, false}

@@ -1,6 +1,8 @@
 -- From the build's outcome to the text of a job (`job-refused`, `job-tree`, with the lists that the program lends, `rooms`), from the
 -- reader's answer to the printout (`broken-here`, `whole-here`), and the outcome of the whole call (`answer-..`, `output-..`,
 -- `count-fits`). Assumes nothing.
+-- Holds: Roomy, as-printed, job-refused, tree-ready, job-tree, lentLists, rooms, room-for, refusal-room, broken-here, whole-here,
+--   limits-here, floats-here, call-short, call-long, answer-short, output-short, answer-long, output-long, count-fits
 use mathlib.Core.Path.{_≡_, sym, ap, _∙_}
 use mathlib.Core.Logic.{⊎-elim}
 use mathlib.Core.Bool.{false}

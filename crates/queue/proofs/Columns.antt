@@ -1,5 +1,6 @@
 -- What is kept of a domain beside its rows, as a box: a column of w entries a domain, in a list that runs along with the queue, and
 -- in a list that runs along with the leaves. Assumes nothing.
+-- Holds: Boxes, boxes-first, boxes-now, boxes-wait, boxes-done, boxes-end
 use mathlib.Core.Path.{_≡_, refl, sym, ap, _∙_}
 use Prim.Native.Nat.{ℕ, _+_, _-_, _*_, _≤_, _<_}
 use native.Mathlib.Nat.{mul-zero, mul-add}

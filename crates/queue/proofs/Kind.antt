@@ -1,4 +1,5 @@
 -- A kind of domain that the queue cuts, and the leaves of the domains that wait. Assumes nothing.
+-- Holds: MayWait, Kind, sizeOf, halvesOf, leafRows
 use mathlib.Core.Path.{_≡_}
 use Prim.Native.Nat.{ℕ, _-_, _*_, _/_, _≤_, _<_}
 use mathlib.Core.List.{List, [], _∷_, _++_, map}

@@ -1,5 +1,7 @@
 -- The invariant of the loop over the queue, in the code's terms, and its turns, for any kind of domain. The queue stands in a list
 -- `room`, two numbers a stretch, from its `head`-th up to its `tail`-th; `ds` are the domains that wait. Assumes nothing.
+-- Holds: queued, cutsLeft, StateOf, Inv, inv-first, inv-end, inv-next, turn-inside, turn-good, turn-same, turn-left, turn-right,
+--   turn-rows, turn-full, turn-end, turn-leaves, turn-wait, turn-done, turn-room, inv-wait, less-wait, inv-done, less-done
 use mathlib.Core.Path.{_≡_}
 use Prim.Native.Nat.{ℕ, _+_, _-_, _*_, _/_, _≤_, _<_}
 use native.Mathlib.Omega.{arith}

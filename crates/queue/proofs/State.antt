@@ -1,5 +1,7 @@
 -- The state of the loop over the queue, for any kind of domain: what waits is in order, what is still to be written fits, and
 -- what is written, with the leaves of what waits, is what is due. The loop's two turns keep it. Assumes nothing.
+-- Holds: sizes, cutsFor, Waits, Holds, State, length-two, now-inside, now-full, now-rows, now-leaves, now-same, now-good,
+--   now-left, now-right, now-wait, now-done, state-wait, state-done, state-first, state-end, cuts-length
 use mathlib.Core.Path.{_≡_, refl, sym, ap, _∙_}
 use Prim.Native.Nat.{ℕ, _+_, _-_, _*_, _/_, _≤_, _<_}
 use native.Mathlib.Omega.{arith}

@@ -1,5 +1,8 @@
 -- Domains as stretches of a list of rows: those that wait are apart, so a cut of one leaves the rows of the others alone. The
 -- queue in its room, two numbers a stretch. Assumes nothing.
+-- Holds: Stretch, rowsAt, leftAt, rightAt, halvesAt, StretchIn, Clear, Apart, apart-halves, both-length, after-length,
+--   after-both, after-left, after-right, after-other, waiting, waiting-next, waiting-join, waiting-length, waiting-none,
+--   waiting-first
 use mathlib.Core.Path.{_≡_, refl, sym, ap, _∙_}
 use mathlib.Core.Logic.{_⊎_, inl, inr}
 use Prim.Native.Nat.{ℕ, zero, suc, _+_, _-_, _*_, _/_, _≤_, _<_}

@@ -1,5 +1,7 @@
 -- One list that holds the n rows, behind them the queue's room of 4 numbers a row, and spare room further on: what the code writes
 -- to the one list, as the loop's laws have it of rows and room. Assumes nothing.
+-- Holds: rowsIn, roomIn, rows-part, rows-length, room-length, start-at, count-at, room-put, rows-kept, rows-put, room-kept,
+--   first-rows, first-room, spare-length, spare-rows, spare-room
 use mathlib.Core.Path.{_≡_, sym, ap, _∙_}
 use Prim.Native.Nat.{ℕ, _+_, _*_, _≤_, _<_}
 use native.Mathlib.Nat.{zero-add, add-zero, add-assoc}

@@ -1,4 +1,5 @@
 -- One leaf's product, share and remainder as the code forms them, and its quota. Assumes nothing.
+-- Holds: same-leaves, top-cut, cut-is, whole-is, remainder-is, whole-small, quota-is
 use Prim.Native.Nat.{ℕ, _+_, _-_, _*_, _/_, _%_, _≤_, _<_, min}
 use mathlib.Core.Path.{_≡_, sym, ap, _∙_}
 use mathlib.Core.List.{List}

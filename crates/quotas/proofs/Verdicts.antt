@@ -1,4 +1,5 @@
 -- The outcome of a call of `get_domain_coarse_quotas`, refusal by refusal: answer, output and working room. Assumes nothing.
+-- Holds: Outcome, refused-8, refused-11-out, refused-11-room, seated
 use Prim.Native.Nat.{ℕ, _≤_, _<_}
 use mathlib.Core.Path.{_≡_, refl, ap, _∙_}
 use mathlib.Core.List.{List}

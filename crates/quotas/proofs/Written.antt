@@ -1,4 +1,5 @@
 -- A lent list whose front was written. Assumes nothing.
+-- Holds: length-written, take-written, written-over, put-written
 use Prim.Native.Nat.{ℕ, _≤_}
 use mathlib.Core.Path.{_≡_, sym, ap}
 use mathlib.Core.List.{List, _++_, map}

@@ -1,5 +1,6 @@
 -- The cases of `root`, by its tests: NaN, a number below zero, a zero, the infinity, and a finite number above zero.
 -- Assumes nothing.
+-- Holds: nan-nan, negative-nan, zero-itself, Finite, finite-left, infinite-itself
 use mathlib.Core.Path.{_≡_, refl, sym, ap, _∙_, subst}
 use mathlib.Core.Bool.{Bool, true, false, _&&_, _||_, Bool·beq, true≢false, false≢true}
 use Prim.Native.Nat.{ℕ, zero, suc, _+_, _*_, _<_}

@@ -1,5 +1,6 @@
 -- The significand and the exponent of a pattern: the two fields of a pattern, and the shift that brings a short
 -- significand's leading digit to bit 52. Assumes nothing.
+-- Holds: Short, short, small-field, lead-small, lead-large, lead-any
 use mathlib.Core.Path.{_≡_, refl, sym, ap, _∙_, subst}
 use mathlib.Core.Logic.{inl, inr}
 use Prim.Native.Nat.{ℕ, zero, suc, _+_, _-_, _*_, _/_, _%_, _^_, _≤_, _<_}

@@ -154,14 +154,3 @@ root-nearest (fin false zero e) y f p g i n = absurd p
 root-nearest (fin false (suc m) e) y f p g i n =
     subst (λ (r : Float). Nearer (unitsOf (fin false (suc m) e) * 2 ^ 1074) (unitsOf r) (unitsOf y)) (sym (value-is m e))
     (nearer (unitsOf (fin false (suc m) e)) y (rooted m e f) g i n)
-
--- the units are exact: y is unitsOf y / 2 ^ 1074
-pub units-exact :
-    (y : Float) → T (fits binary64 y) → T (finite y) → T (notNegative y) → HasValue y false (unitsOf y) (2 ^ 1074)
-units-exact nan f i p = absurd p
-units-exact (inf s) f i p = absurd i
-units-exact (fin true m e) f i p = absurd p
-units-exact (fin false zero e) f i p =
-    (refl, ap (λ (x : ℕ). x * 2 ^ 1074) (zero-mul (up e)) ∙ zero-mul (2 ^ 1074) ∙ sym (ap (λ (x : ℕ). x * down e) (ap (λ (x : ℕ). x * 2 ^ 1074 / down e) (zero-mul (up e)) ∙ ap (λ (x : ℕ). x / down e) (zero-mul (2 ^ 1074)) ∙ zero-div (down e)) ∙ zero-mul (down e)))
-units-exact (fin false (suc m) e) f i p =
-    let r = read m e f in (refl, r .exact ∙ ap (λ (x : ℕ). x * down e) (sym (r .size)))

@@ -1,4 +1,5 @@
 -- Which operations give numbers, and which give values that are not negative. Assumes nothing.
+-- Holds: round-number, round-nn, square-good, add-good, zero-good, inf-good, sub-number, finite-number
 use mathlib.Core.Path.{_≡_, refl, sym}
 use mathlib.Core.Bool.{Bool, true, false, not, _&&_, Bool·beq, cond, true≢false}
 use Prim.Native.Nat.{ℕ, zero, suc, _+_, _-_, _*_, _^_}

@@ -1,5 +1,6 @@
 -- The order of values that are not negative: +0, the positive numbers and +infinity. On them `lt` is a strict order of
 -- numbers, and `lt y x ≡ false` says that x is at most y. Assumes nothing.
+-- Holds: Good, both, fits-of, view, not-lt→le, le→not-lt, lt-irrefl, lt-asym, le-le, le-lt, lt-le
 use mathlib.Core.Path.{_≡_, refl, sym, _∙_}
 use mathlib.Core.Bool.{Bool, true, false, _&&_, _||_, true≢false}
 use mathlib.Core.Logic.{_⊎_, ⊎-elim}

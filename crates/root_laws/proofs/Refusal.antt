@@ -1,4 +1,5 @@
 -- The refusal of a root: the values that it leaves are those that have a root. Assumes nothing.
+-- Holds: zero-size, above-zero, negative-below, refused-test, root-refused, root-accepted, accepted-has-root, good-accepted
 use mathlib.Core.Path.{_≡_, refl, sym, ap, _∙_, subst}
 use mathlib.Core.Bool.{Bool, true, false, not, _||_, cond}
 use Prim.Native.Nat.{ℕ, zero, suc, _+_, _*_, _≤_, _<_}

@@ -1,5 +1,6 @@
 -- How `round` rounds a root: with a whole number q at most a half away from the root of A, the root of A * 4 ^ j
 -- rounds to q * 2 ^ j units. Assumes nothing.
+-- Holds: closest-is, size-is, sq-scaled, sq-odd, root-rounds, bits-of-value, root-value, root-of-pattern
 use mathlib.Core.Path.{_≡_, sym, ap, _∙_, subst}
 use mathlib.Core.Logic.{inl, inr}
 use mathlib.Core.Bool.{true, false, not, true≢false}

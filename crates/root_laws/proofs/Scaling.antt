@@ -1,5 +1,6 @@
 -- A value's size m * 2 ^ e, in units of 2 ^ -2148, as a whole number n * 2 ^ 52 times a power of four: what the root is
 -- taken of. Assumes nothing.
+-- Holds: even-split, odd-split, root-is, near-any
 use mathlib.Core.Path.{_≡_, refl, sym, ap, _∙_}
 use mathlib.Core.Bool.{false}
 use mathlib.Core.Logic.{_⊎_, inl, inr}

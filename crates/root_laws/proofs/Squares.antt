@@ -1,4 +1,6 @@
 -- Whole-number squares and roots: what `wholeRoot` and `halves` are. Assumes nothing.
+-- Holds: sq-one, sq-two, sq-back, sq-lt, sq-back-le, IsWhole, whole-root, the-root, Kind, half-root, halves-above, halves-below,
+--   halves-square, halves-mono
 use mathlib.Core.Path.{_≡_, refl, sym, ap, _∙_, subst}
 use mathlib.Core.Logic.{_⊎_, inl, inr}
 use mathlib.Core.Bool.{Bool, true, false, cond, not}

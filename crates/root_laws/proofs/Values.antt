@@ -1,4 +1,5 @@
 -- Which values roots are, and their order, for values that are not negative. Assumes nothing.
+-- Holds: root-fits, root-positive, root-monotone, root-good, root-order, root-inf
 use mathlib.Core.Path.{_≡_, refl, sym, subst}
 use mathlib.Core.Bool.{true, false, not, true≢false}
 use Prim.Native.Nat.{zero, suc, _*_, _^_, _<_}
@@ -92,7 +93,3 @@ no-nan (inf false) f h = no-nan-of (squareRoot (inf false)) (root-nn top f)
 no-nan (fin s zero e) f h = unfold squareRoot isNan in tt
 no-nan (fin true (suc m) e) f h = absurd h
 no-nan (fin false (suc m) e) f h = no-nan-of (squareRoot (fin false (suc m) e)) (root-nn (num (suc m) e) f)
-
--- a root that is not refused is no NaN
-pub root-no-nan : (x : Float) → T (fits binary64 x) → rootVerdict x ≡ accepted → T (not (isNan (squareRoot x)))
-root-no-nan x f a = no-nan x f (accepted-has-root x a)

@@ -1,4 +1,6 @@
 -- What good rows have, and that parts of them are good rows. Assumes nothing.
+-- Holds: row-fits, good-at, good-mem, good-inside, good-finite, good-place, good-small, good-once, good-good, good-keep,
+--   good-first, good-other
 use mathlib.Core.Bool.{Bool}
 use mathlib.Core.List.{List, List·Memᴰ}
 use Prim.Native.Nat.{ℕ, _+_, _*_, _≤_, _<_}

@@ -1,4 +1,6 @@
 -- The refusals of a sampling, and what holds where it is accepted. Assumes nothing.
+-- Holds: bad-found, bad-nowhere, SampleAccepted, accepted-call, rows-numbered, call-ready, call-written, call-refused,
+--   call-sampled
 use mathlib.Core.Path.{_≡_, refl, sym, ap, _∙_}
 use mathlib.Core.Bool.{Bool, true, false, not, cond, _||_}
 use mathlib.Core.List.{List, [], _∷_}

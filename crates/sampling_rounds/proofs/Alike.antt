@@ -1,4 +1,5 @@
 -- Squares in place of distances: a least square whose root counts as the least distance. Assumes nothing.
+-- Holds: Alike, alike-inf, alike-lt, alike-lesser
 use mathlib.Core.Path.{_≡_, refl, sym}
 use mathlib.Core.Bool.{Bool, true, false, cond}
 use lib.Ieee.{Float, inf, lt}

@@ -1,4 +1,5 @@
 -- The rounds of sampling: from the seed on, one chosen row more in each. Assumes nothing.
+-- Holds: reach, Entry, entry-kept, Choosing, choosing-start, choosing-kept, choosing-open, choosing-more, choosing-end
 use mathlib.Core.Path.{_≡_, refl, sym, ap, _∙_, subst}
 use mathlib.Core.Logic.{inl, inr}
 use mathlib.Core.Bool.{Bool, true, false, not}

@@ -1,4 +1,6 @@
 -- The order of the values that are kept for the rows. Assumes nothing.
+-- Holds: one-below, none-below, one-not-good, kept-above, kept-irr, kept-le, kept-asym, kept-least, kept-good, lesser-kept,
+--   lesser-one, lesser-inf, nearOne, near-good
 use mathlib.Core.Path.{_≡_, refl}
 use mathlib.Core.Logic.{inl, inr}
 use mathlib.Core.Bool.{Bool, true, false, cond}

@@ -1,5 +1,7 @@
 -- One pass over the rows: the values are lessened, and the greatest of them is found with a bound of those before it.
 -- Assumes nothing.
+-- Holds: PassedTo, passed-none, passed-more, lessened-at, pair-good, lessened-kept, lessened-good, Seen, seen-none, seen-greater,
+--   seen-other, seen-all, peaked-in
 use mathlib.Core.Path.{_≡_, refl, sym, ap₂, _∙_}
 use mathlib.Core.Logic.{_⊎_, inl, inr, ⊎-elim}
 use mathlib.Core.Bool.{Bool, true, false, cond}

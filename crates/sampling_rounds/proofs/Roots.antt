@@ -1,4 +1,6 @@
 -- The first place with the greatest root, found by few roots: roots keep the order of their squares. Assumes nothing.
+-- Holds: root-below, Looked, looked-none, looked-near, looked-low, looked-less, looked-here, looked-all, none-before,
+--   less-before, greatest-good, first-chosen
 use mathlib.Core.Path.{_≡_, refl, _∙_, subst}
 use mathlib.Core.Logic.{⊎-elim, inl, inr}
 use mathlib.Core.Bool.{true, false}

@@ -1,4 +1,6 @@
 -- The seed: the centroid of the rows, and the first row nearest to it, found by few roots. Assumes nothing.
+-- Holds: Summed, summed-none, summed-more, summed-all, fromCenter, center-square, center-good, Nearest, nearest-start,
+--   nearest-far, nearest-tie, nearest-less, nearest-end
 use mathlib.Core.Path.{_≡_, refl, sym, ap, _∙_}
 use mathlib.Core.Bool.{true, false}
 use mathlib.Core.List.{List}

@@ -1,5 +1,6 @@
 -- A call by the length of its slot: a short one is refused before anything else, and any other gets what the call answers.
 -- Assumes nothing.
+-- Holds: slot-short, slot-long, slot-written, room-short, room-long, number-long, counts-put
 use mathlib.Core.Path.{_≡_, refl, ap, _∙_}
 use mathlib.Core.List.{List, [], _∷_, _++_}
 use Prim.Native.Nat.{ℕ, _≤_, _<_}

@@ -1,5 +1,7 @@
 -- The whole outcome of each exported call: of one with a short slot, and of one that found its slot long enough, from the outcome of
 -- the call behind it. Assumes nothing.
+-- Holds: told-short, told-long, told-value, quotas-short, quotas-long, sample-short, sample-long, settings-from, build-short,
+--   build-long
 use mathlib.Core.Path.{_≡_, refl, subst, ap, _∙_}
 use mathlib.Core.List.{List, [], _∷_}
 use Prim.Native.Nat.{ℕ, _≤_, _<_}

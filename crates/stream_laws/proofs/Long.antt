@@ -1,6 +1,7 @@
 -- How long a printout can be. A stream has at most 32 points, so each row has at most two digits; a level has at most four leaves for
 -- each row, and three levels at most are fine. `decimal-long` and `refusal-long` bound a number and a refusal, `job-long` the text of a
 -- job, `printout-long` every printout. Assumes nothing.
+-- Holds: decimal-long, FewRows, refusal-long, job-long, printout-long
 use mathlib.Core.Path.{_≡_, refl, ap, _∙_}
 use mathlib.Core.Bool.{Bool, true, false, cond}
 use mathlib.Core.Logic.{⊎-elim}

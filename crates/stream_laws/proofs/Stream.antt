@@ -1,5 +1,6 @@
 -- The job stream, one record after the other: `stream-end`, `stream-cut`, `stream-full` and `stream-more` say what the next bytes come
 -- to, `job-limits` what holds of every job that is read, `length-coordinates` how many a point has. Assumes nothing.
+-- Holds: length-coordinates, stream-end, stream-cut, stream-full, stream-more, job-limits
 use mathlib.Core.Path.{_≡_, refl}
 use mathlib.Core.Bool.{Bool, true, false, _&&_, cond}
 use Prim.Native.Nat.{ℕ, zero, suc, _+_, _*_, _≤_, _<_}

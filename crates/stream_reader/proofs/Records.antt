@@ -1,6 +1,8 @@
 -- The records one after the other: what the definition says at each step of the reading. `point-none` and `point-step` store a point's
 -- axes, `point-short`, `point-there` and `point-room` are its record's bytes, `job-broken`, `job-low` and `job-high` the settings, `Reading`
 -- is the state between two records with its start (`begun`) and its steps (`reading-..`), `policy-..` the policy. Assumes nothing.
+-- Holds: axis, point-none, point-step, point-short, point-there, point-room, whole-long, job-broken, job-low, job-high, Reading,
+--   begun, spot, reading-cut, reading-full, reading-more, reading-over, reading-done, policy-auto, policy-fixed
 use mathlib.Core.Path.{_≡_, refl, sym, ap, _∙_}
 use mathlib.Core.Bool.{Bool, true, false}
 use Prim.Native.Nat.{ℕ, zero, suc, _+_, _-_, _*_, _≤_, _<_}

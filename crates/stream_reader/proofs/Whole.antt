@@ -1,4 +1,5 @@
 -- When a settings record stands whole. Assumes nothing.
+-- Holds: settingsWhole, whole-short, whole-mark, whole-fixed, whole-auto, whole-other
 use mathlib.Core.Path.{_≡_, sym, _∙_}
 use mathlib.Core.Bool.{Bool, true, false, _&&_}
 use Prim.Native.Nat.{ℕ, _≤_, _<_}
