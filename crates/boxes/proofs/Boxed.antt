@@ -1,5 +1,5 @@
 -- Boxes by value as lists. Assumes nothing.
--- Holds: boxOf, three, lower-changed, upper-changed, box-read, box-written, Filled, filled-none, filled-more, filled-all
+-- Holds: boxWith, three, lower-changed, upper-changed, box-read, box-written, Filled, filled-none, filled-more, filled-all
 use mathlib.Core.Path.{_≡_, refl, sym, ap, ap₂, subst, _∙_}
 use mathlib.Core.List.{List, _++_, map}
 use Prim.Native.Nat.{ℕ, _+_, _*_, _≤_, _<_}
@@ -16,8 +16,8 @@ use Rattle.boxes.specs.Boxes.{floatsOf}
 use Rattle.boxes.specs.declared.Extents.{Extents}
 
 -- a box of these bounds
-abbrev pub boxOf : List Float → List Float → ℕ → Extents
-boxOf l u d = record { lower = l; upper = u; dimensions = d }
+abbrev pub boxWith : List Float → List Float → ℕ → Extents
+boxWith l u d = record { lower = l; upper = u; dimensions = d }
 
 -- what the check knows of an array that a struct holds
 pub three : (l : List Float) → length (map (λ v. v) l) ≡ 3 → length l ≡ 3
@@ -25,11 +25,11 @@ three l h = sym (length-map l (λ v. v)) ∙ h
 
 -- a bound changed
 module _ (l u : List Float) (d axis : ℕ) (v : Float) (e : length l ≡ 3) (h : axis < d) (k : d ≤ 3) where
-  pub lower-changed : floatsOf (boxOf (set l axis v) u d) ≡ set (floatsOf (boxOf l u d)) axis v
+  pub lower-changed : floatsOf (boxWith (set l axis v) u d) ≡ set (floatsOf (boxWith l u d)) axis v
   unfolding floatsOf
   lower-changed = set-front l (take d u) d axis v (omega arith) h
 
-  pub upper-changed : floatsOf (boxOf l (set u axis v) d) ≡ set (floatsOf (boxOf l u d)) (d + axis) v
+  pub upper-changed : floatsOf (boxWith l (set u axis v) d) ≡ set (floatsOf (boxWith l u d)) (d + axis) v
   unfolding floatsOf
   upper-changed = set-second l u d axis v (omega arith) h
 
@@ -37,7 +37,7 @@ double : (d : ℕ) → d + d ≡ boxWidth d
 double d = omega arith
 
 -- a box read, and one written
-pub box-read : (s l u : List Float) (at d : ℕ) → take d l ≡ part s at d → take d u ≡ part s (at + d) d → floatsOf (boxOf l u d) ≡ part s at (boxWidth d)
+pub box-read : (s l u : List Float) (at d : ℕ) → take d l ≡ part s at d → take d u ≡ part s (at + d) d → floatsOf (boxWith l u d) ≡ part s at (boxWidth d)
 unfolding floatsOf
 box-read s l u at d e f = rw (e, f) (part-append s at d d ∙ ap (part s at) (double d))
 
@@ -73,7 +73,7 @@ module _ {cs : List Float} {d : ℕ} {rows : List ℕ} {l u : List Float} {a : �
         upper-is = fill-more (upperBound d cs rows) u a w (omega (arith, f .upper-length)) q (f .upper-is);
       }
 
-  pub filled-all : d ≤ a → floatsOf (boxOf l u d) ≡ extents d cs rows
+  pub filled-all : d ≤ a → floatsOf (boxWith l u d) ≡ extents d cs rows
   unfolding floatsOf extents
   filled-all h =
       let e : a ≡ d = omega (arith, f .most) in

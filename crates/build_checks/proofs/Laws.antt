@@ -1,6 +1,6 @@
 -- The tests of a build, group by group and refusal by refusal. Assumes nothing.
 -- Holds: andThen, verdict-append, build-groups, settings-low, settings-high, settings-2, settings-3, settings-4, settings-5,
---   settings-fine, rowsGiven, lacks, points-6, points-7, points-8, points-9, points-fine, reductions-many, reductions-few,
+--   settings-fine, rowsGiven, lacks, points-6, points-7, points-8, points-9, points-fine, reductions-many, checked-reductions,
 --   short-1, short-2, short-3, short-4, short-5, short-6, short-7, bad-test, last-11, last-10, last-fine, refused-settings,
 --   refused-points, passed-both
 use mathlib.Core.Path.{_≡_, refl, sym, ap, _∙_}
@@ -141,9 +141,9 @@ pub reductions-many : (n c f : ℕ) → 3 < reductions n c f → c * f ^ 3 < n
 unfolding reductions
 reductions-many n c f h = leb-false n (c * f ^ 3) (least-before (λ k. leb n (c * f ^ k)) 4 3 h)
 
-pub reductions-few : (n c f : ℕ) → 1 ≤ f → reductions n c f ≤ 3 → n ≤ c * f ^ 3
+pub checked-reductions : (n c f : ℕ) → 1 ≤ f → reductions n c f ≤ 3 → n ≤ c * f ^ 3
 unfolding reductions
-reductions-few n c f p h =
+checked-reductions n c f p h =
     let k = least (λ k. leb n (c * f ^ k)) 4 in
     le-trans (leb-true n (c * f ^ k) (least-holds (λ k. leb n (c * f ^ k)) 4 (omega arith)))
     (mul-le-mul-left c (pow-le-pow-right p h))

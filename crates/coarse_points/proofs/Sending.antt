@@ -20,7 +20,7 @@ use Rattle.lists.proofs.Same.{same-times, same-once}
 use Rattle.lists.proofs.Map.{zip-map}
 use Rattle.definition.specs.Sampling.{seedOf, sample, sentBy}
 use Rattle.definition.specs.Cut.{Domain}
-use Rattle.definition.proofs.Cuts.{rowsOf, sizesOf}
+use Rattle.definition.proofs.Cuts.{rowsOf, domainSizes}
 use Rattle.definition.proofs.Sampling.{sent-length}
 use Rattle.definition.proofs.Next.{sents, sents-times}
 use Rattle.sort.specs.Heap.{Sorted}
@@ -85,7 +85,7 @@ module _ (d : ℕ) (cs : List Float) where
     pub sent-times : Once (joined own) → (r : ℕ) → times r (joined (zipWith (sentBy d cs) own ws)) ≤ times r (joined own)
     sent-times o r =
         let e : rowsOf (map wrap own) ≡ joined own = ap joined (wrapped own) in
-        let s : sizesOf (map wrap own) ≡ map length own = map-map (λ (q : Domain). length (q .rows)) wrap own in
+        let s : domainSizes (map wrap own) ≡ map length own = map-map (λ (q : Domain). length (q .rows)) wrap own in
         let k = sents-times d cs (map wrap own) ws (λ z. rw e (o z)) (λ i l. rw s (within i (omega (arith, length-map own wrap)))) r in
         rw (as-sents own ws) (omega (arith, ap (times r) e))
 

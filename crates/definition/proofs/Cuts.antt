@@ -1,7 +1,7 @@
 -- Rows that a level can be built over; the cut's halves; and the queue: its leaves hold each active row once, and no other. Assumes nothing.
--- Holds: Good, good-part, finite-known, rowsOf, sizesOf, rows-times, cutsFor, axis-below, length-cutKeys, cut-times, left-good,
---   right-good, left-ascends, right-ascends, queue-all, leaves-all, leaves-ascend, cut-sortable, left-length, right-length, Full,
---   full-wait, cuts-wait, cuts-done, queue-sum, queue-enough, leaves-times, leaves-sum
+-- Holds: Good, good-part, finite-known, rowsOf, domainSizes, rows-times, cutsFor, axis-below, length-cutKeys, cut-times,
+--   left-good, right-good, left-ascends, right-ascends, queue-all, leaves-all, leaves-ascend, cut-sortable, left-length,
+--   right-length, Full, full-wait, cuts-wait, cuts-done, queue-sum, queue-enough, leaves-times, leaves-sum
 use mathlib.Core.Path.{_≡_, refl, sym, ap, _∙_}
 use mathlib.Core.Logic.{⊎-elim}
 use mathlib.Core.Bool.{true, false}
@@ -23,7 +23,7 @@ use Rattle.lists.proofs.Joined.{count-joined}
 use Rattle.lists.proofs.Sums.{sum-nil, sum-cons, sum-two}
 use Rattle.definition.specs.Points.{coordinate}
 use Rattle.definition.specs.Cut.{Domain, rootDomain, longestAxis, cutKeys, leftOf, rightOf, queueLeaves, leavesOf}
-use Rattle.definition.proofs.Halves.{Sortable, first-length, other-length, length-keyed, parts-times, first-ascends, other-ascends, sortable}
+use Rattle.definition.proofs.Halves.{Sortable, first-half-length, other-half-length, length-keyed, parts-times, first-ascends, other-ascends, sortable}
 use Rattle.definition.proofs.Steps.{queue-empty, queue-wait, queue-done}
 
 -- ---- rows that a level can be built over: none twice, and each coordinate is finite
@@ -46,8 +46,8 @@ finite-known (fin s m e) h = refl
 abbrev pub rowsOf : List Domain → List ℕ
 rowsOf qs = joined (map (λ q. q .rows) qs)
 
-abbrev pub sizesOf : List Domain → List ℕ
-sizesOf qs = map (λ q. length (q .rows)) qs
+abbrev pub domainSizes : List Domain → List ℕ
+domainSizes qs = map (λ q. length (q .rows)) qs
 
 pub rows-times : (r : ℕ) (qs : List Domain) → times r (rowsOf qs) ≡ total (map (λ q. times r (q .rows)) qs)
 rows-times r qs = count-joined (λ x. eqb x r) (map (λ q. q .rows) qs) ∙ ap total (map-map (times r) (λ (q : Domain). q .rows) qs)
@@ -122,12 +122,12 @@ module _ (d : ℕ) (cs : List Float) where
     pub left-length : (q : Domain) → Good d cs (q .rows) → length (leftOf d cs q .rows) ≡ length (q .rows) / 2
     unfolding leftOf
     left-length q g =
-        omega (arith, first-length (length (q .rows) / 2) (cutKeys d cs (q .rows)) (cut-sortable (q .rows) g), length-cutKeys (q .rows))
+        omega (arith, first-half-length (length (q .rows) / 2) (cutKeys d cs (q .rows)) (cut-sortable (q .rows) g), length-cutKeys (q .rows))
 
     pub right-length : (q : Domain) → Good d cs (q .rows) → length (rightOf d cs q .rows) ≡ length (q .rows) - length (q .rows) / 2
     unfolding rightOf
     right-length q g =
-        omega (arith, other-length (length (q .rows) / 2) (cutKeys d cs (q .rows)) (cut-sortable (q .rows) g), length-cutKeys (q .rows))
+        omega (arith, other-half-length (length (q .rows) / 2) (cutKeys d cs (q .rows)) (cut-sortable (q .rows) g), length-cutKeys (q .rows))
 
     -- ---- the queue of domains that are not empty
     abbrev pub Full : List Domain → Type 0
@@ -222,7 +222,7 @@ module _ (d : ℕ) (cs : List Float) where
           ))
 
       -- and their sizes add up to the active rows
-      pub leaves-sum : (active : List ℕ) → Good d cs active → 0 < length active → total (sizesOf (leavesOf d cs leaf active)) ≡ length active
+      pub leaves-sum : (active : List ℕ) → Good d cs active → 0 < length active → total (domainSizes (leavesOf d cs leaf active)) ≡ length active
       unfolding leavesOf rootDomain All
       leaves-sum active g l =
           let root = rootDomain d cs active in

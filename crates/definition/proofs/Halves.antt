@@ -1,5 +1,5 @@
 -- A selection by rank and the rest: how many rows each has, which rows, in which order; and the key in the middle. Assumes nothing.
--- Holds: Sortable, first-length, other-length, Middle, key-at, keyOf, length-keyed, rows-keyed, rank-keyed, first-rows,
+-- Holds: Sortable, first-half-length, other-half-length, Middle, key-at, keyOf, length-keyed, rows-keyed, rank-keyed, first-rows,
 --   other-rows, parts-times, first-ascends, other-ascends, sortable
 use mathlib.Core.Path.{_≡_, refl, ap, _∙_}
 use mathlib.Core.Logic.{_⊎_}
@@ -30,14 +30,14 @@ abbrev pub Sortable : List Key → Type 0
 Sortable keys = Compared before keys
 
 -- the selection has m rows, or all where there are fewer; the rest has the others
-pub first-length : (m : ℕ) (keys : List Key) → Sortable keys → length (firstRows m keys) ≡ min m (length keys)
+pub first-half-length : (m : ℕ) (keys : List Key) → Sortable keys → length (firstRows m keys) ≡ min m (length keys)
 unfolding firstRows rank
-first-length m keys s =
+first-half-length m keys s =
     length-map (keep (λ p. ltb (rank keys p) m) keys) (λ p. p .row) ∙ Rattle.lists.proofs.Rank.first-length before before-irr before-trans keys s m
 
-pub other-length : (m : ℕ) (keys : List Key) → Sortable keys → length (otherRows m keys) ≡ length keys - m
+pub other-half-length : (m : ℕ) (keys : List Key) → Sortable keys → length (otherRows m keys) ≡ length keys - m
 unfolding otherRows rank
-other-length m keys s =
+other-half-length m keys s =
     length-map (keep (λ p. not (ltb (rank keys p) m)) keys) (λ p. p .row) ∙ Rattle.lists.proofs.Rank.other-length before before-irr before-trans keys s m
 
 -- the key with exactly m others before it: there is one, and no other

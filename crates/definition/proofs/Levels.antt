@@ -15,7 +15,7 @@ use Rattle.lists.specs.Times.{times}
 use Rattle.lists.proofs.Times.{times-keep-le}
 use Rattle.lists.proofs.Sums.{sum-cons, sum-nil}
 use Rattle.definition.specs.Tree.{Settings, Level, coarseLevel, nextActive, levelsFrom}
-use Rattle.definition.proofs.Steps.{fineOf, nextOf, sentOf, levels-last, levels-end, levels-more}
+use Rattle.definition.proofs.Steps.{fineOf, nextOf, sentFrom, levels-last, levels-end, levels-more}
 use Rattle.definition.proofs.Cuts.{Good, good-part}
 
 -- ---- the next active rows are a part of the active rows, in their order
@@ -43,7 +43,7 @@ module _ (s : Settings) (cs : List Float) (c k : ℕ) (Q : List ℕ → Type 0) 
       ⊎-elim
       (λ (few : length active ≤ c). rw (levels-end s cs c k fuel built active few) (coarse active q, tt))
       (λ (many : c < length active). rw (levels-more s cs c k fuel built active many)
-      (fine active q many, levels-all P fine coarse fuel (suc built) (nextOf s cs c k built active) (stays active (sentOf s cs c k built active) q)))
+      (fine active q many, levels-all P fine coarse fuel (suc built) (nextOf s cs c k built active) (stays active (sentFrom s cs c k built active) q)))
       (le-or-lt (length active) c)
 
   -- a sum over the levels, of at most a for each fine level and b for the coarse one
@@ -61,7 +61,7 @@ module _ (s : Settings) (cs : List Float) (c k : ℕ) (Q : List ℕ → Type 0) 
         arith,
         sum-cons f (fineOf s cs active) (levelsFrom s cs c k fuel (suc built) (nextOf s cs c k built active)),
         fine active q many,
-        levels-sum f a b fine coarse fuel (suc built) (nextOf s cs c k built active) (stays active (sentOf s cs c k built active) q),
+        levels-sum f a b fine coarse fuel (suc built) (nextOf s cs c k built active) (stays active (sentFrom s cs c k built active) q),
         suc-mul fuel a,
       )))
       (le-or-lt (length active) c)

@@ -16,7 +16,7 @@ use Rattle.definition.specs.Quotas.{quotas}
 use Rattle.definition.specs.Sampling.{sentBy}
 use Rattle.definition.specs.Cut.{Domain, leavesOf}
 use Rattle.definition.specs.Tree.{sentLists, nextActive}
-use Rattle.definition.proofs.Cuts.{Good, rowsOf, sizesOf, leaves-times}
+use Rattle.definition.proofs.Cuts.{Good, rowsOf, domainSizes, leaves-times}
 use Rattle.definition.proofs.Sampling.{sent-length, sent-own}
 
 -- quotas for the leaves: as many as leaves, each within its leaf's size, and adding up to the seats
@@ -52,7 +52,7 @@ module _ (d : ℕ) (cs : List Float) where
       ap (times r) (joined-cons (sentBy d cs (q .rows) w) (sents qs ws)) ∙ times-append r (sentBy d cs (q .rows) w) (joined (sents qs ws))
 
   -- own rows, none twice
-  pub sents-times : (qs : List Domain) (ws : List ℕ) → Once (rowsOf qs) → ((i : ℕ) → i < length qs → getD ws i 0 ≤ getD (sizesOf qs) i 0)
+  pub sents-times : (qs : List Domain) (ws : List ℕ) → Once (rowsOf qs) → ((i : ℕ) → i < length qs → getD ws i 0 ≤ getD (domainSizes qs) i 0)
       → (r : ℕ) → times r (joined (sents qs ws)) ≤ times r (rowsOf qs)
   unfolding zipWith
   sents-times [] [] o h r = omega arith
@@ -65,7 +65,7 @@ module _ (d : ℕ) (cs : List Float) where
       omega (arith, sents-cons q qs w ws r, rows-cons q qs r)
 
   -- of a row that the domain at i owns, only that domain sends any up
-  pub sents-at : (qs : List Domain) (ws : List ℕ) → Once (rowsOf qs) → ((i : ℕ) → i < length qs → getD ws i 0 ≤ getD (sizesOf qs) i 0) → length ws ≡ length qs
+  pub sents-at : (qs : List Domain) (ws : List ℕ) → Once (rowsOf qs) → ((i : ℕ) → i < length qs → getD ws i 0 ≤ getD (domainSizes qs) i 0) → length ws ≡ length qs
       → (i r : ℕ) → i < length qs → 0 < times r (getD qs i noDomain .rows)
       → times r (joined (sents qs ws)) ≡ times r (sentBy d cs (getD qs i noDomain .rows) (getD ws i 0))
   unfolding zipWith
@@ -92,14 +92,14 @@ module _ (d : ℕ) (cs : List Float) where
 
   -- ---- a level over good active rows, of which `size` are sent up
   module _ (pos : 0 < d) (leaf : ℕ) (lp : 1 ≤ leaf) (active : List ℕ) (good : Good d cs active) (some : 1 ≤ length active) (size : ℕ)
-      (dealt : Dealt (sizesOf (leavesOf d cs leaf active)) size (quotas (sizesOf (leavesOf d cs leaf active)) size)) where
+      (dealt : Dealt (domainSizes (leavesOf d cs leaf active)) size (quotas (domainSizes (leavesOf d cs leaf active)) size)) where
     abbrev qs : List Domain
     qs = leavesOf d cs leaf active
 
     abbrev ws : List ℕ
-    ws = quotas (sizesOf qs) size
+    ws = quotas (domainSizes qs) size
 
-    many : length (sizesOf qs) ≡ length qs
+    many : length (domainSizes qs) ≡ length qs
     many = length-map qs (λ q. length (q .rows))
 
     -- the leaves share the active rows out
@@ -121,6 +121,6 @@ module _ (d : ℕ) (cs : List Float) where
     -- a row that the leaf at i owns goes up where that leaf samples it, and only there
     pub next-at : (i r : ℕ) → i < length (leavesOf d cs leaf active) → 0 < times r (getD (leavesOf d cs leaf active) i noDomain .rows)
         → times r (nextActive active (sentLists d cs (leavesOf d cs leaf active) size))
-        ≡ times r (sentBy d cs (getD (leavesOf d cs leaf active) i noDomain .rows) (getD (quotas (sizesOf (leavesOf d cs leaf active)) size) i 0))
+        ≡ times r (sentBy d cs (getD (leavesOf d cs leaf active) i noDomain .rows) (getD (quotas (domainSizes (leavesOf d cs leaf active)) size) i 0))
     unfolding sentLists
     next-at i r l m = next-sent r ∙ sents-at qs ws own-once (λ i l. dealt .within i (omega (arith, many))) (dealt .as-many ∙ many) i r l m

@@ -16,10 +16,10 @@ use Rattle.definition.specs.Cut.{Domain, leavesOf}
 use Rattle.definition.specs.Overlaps.{borrowedBy}
 use Rattle.definition.specs.Sampling.{sentBy}
 use Rattle.definition.specs.Tree.{Settings, reductionsLeft}
-use Rattle.definition.proofs.Cuts.{Good, rowsOf, sizesOf, leaves-times, leaves-sum}
+use Rattle.definition.proofs.Cuts.{Good, rowsOf, domainSizes, leaves-times, leaves-sum}
 use Rattle.definition.proofs.Borrowed
 use Rattle.definition.proofs.Sampling.{sent-length, sent-own}
-use Rattle.definition.proofs.Steps.{sentOf, nextOf}
+use Rattle.definition.proofs.Steps.{sentFrom, nextOf}
 use Rattle.definition.proofs.Sizes.{sized}
 use Rattle.definition.proofs.Fairness.{fair}
 use Rattle.definition.proofs.Levels.{next-times}
@@ -34,7 +34,7 @@ module _ (s : Settings) (cs : List Float) (c k built : ℕ) (active : List ℕ) 
   size = levelSize (length active) c (reductionsLeft k built)
 
   abbrev shares : List ℕ
-  shares = quotas (sizesOf (leavesOf (s .dimension) cs (s .leaf) active)) (levelSize (length active) c (reductionsLeft k built))
+  shares = quotas (domainSizes (leavesOf (s .dimension) cs (s .leaf) active)) (levelSize (length active) c (reductionsLeft k built))
 
   -- the own rows of leaf i, the rows that it borrows, and those that it sends up
   abbrev own : ℕ → List ℕ
@@ -54,7 +54,7 @@ module _ (s : Settings) (cs : List Float) (c k built : ℕ) (active : List ℕ) 
     pub borrows-not-own : (i r : ℕ) → 0 < times r (own i) → times r (borrowed i) ≡ 0
     pub borrows-once : (i : ℕ) → Once (borrowed i)
     -- the next level lists exactly the rows sent up, each once, S of them and fewer than before
-    pub next-lists-sent : (r : ℕ) → times r (nextOf s cs c k built active) ≡ times r (joined (sentOf s cs c k built active))
+    pub next-lists-sent : (r : ℕ) → times r (nextOf s cs c k built active) ≡ times r (joined (sentFrom s cs c k built active))
     pub next-once : (r : ℕ) → times r (nextOf s cs c k built active) ≤ times r active
     pub next-size : length (nextOf s cs c k built active) ≡ size
     pub size-fewer : size < length active
@@ -63,8 +63,8 @@ module _ (s : Settings) (cs : List Float) (c k built : ℕ) (active : List ℕ) 
     pub sends-own : (i r : ℕ) → i < length leaves → times r (sent i) ≤ times r (own i)
     pub sends-alone : (i r : ℕ) → i < length leaves → 0 < times r (own i) → times r (nextOf s cs c k built active) ≡ times r (sent i)
     -- the quotas are fair: S in all, within the leaves' sizes, and each the whole part of its leaf's share or the next number
-    pub sizes-sum : total (sizesOf leaves) ≡ length active
-    pub fair-shares : Fair (sizesOf leaves) size shares
+    pub sizes-sum : total (domainSizes leaves) ≡ length active
+    pub fair-shares : Fair (domainSizes leaves) size shares
 
   -- THE LAW: so it is on every level whose active rows outnumber c
   module _ (pos : 0 < s .dimension) (lp : 1 ≤ s .leaf) (cp : 1 ≤ c) (good : Good (s .dimension) cs active) (many : c < length active) where
@@ -74,15 +74,15 @@ module _ (s : Settings) (cs : List Float) (c k built : ℕ) (active : List ℕ) 
     fewer : levelSize (length active) c (reductionsLeft k built) < length active
     fewer = sized (length active) c (reductionsLeft k built) cp many (omega arith) .fewer
 
-    sum : total (sizesOf leaves) ≡ length active
+    sum : total (domainSizes leaves) ≡ length active
     sum = leaves-sum (s .dimension) cs pos (s .leaf) lp active good some
 
-    fair-to-all : Fair (sizesOf leaves) size shares
+    fair-to-all : Fair (domainSizes leaves) size shares
     fair-to-all =
-        let e : min size (total (sizesOf leaves)) ≡ size = omega (arith, fewer, sum) in
-        subst (λ (m : ℕ). Fair (sizesOf leaves) m shares) e (fair (sizesOf leaves) size)
+        let e : min size (total (domainSizes leaves)) ≡ size = omega (arith, fewer, sum) in
+        subst (λ (m : ℕ). Fair (domainSizes leaves) m shares) e (fair (domainSizes leaves) size)
 
-    dealt : Dealt (sizesOf leaves) size shares
+    dealt : Dealt (domainSizes leaves) size shares
     dealt = record { as-many = fair-to-all .entries; adds-up = fair-to-all .sum; within = λ i l. fair-to-all .within i }
 
     internal : (r : ℕ) → times r (rowsOf leaves) ≡ times r active
@@ -90,7 +90,7 @@ module _ (s : Settings) (cs : List Float) (c k built : ℕ) (active : List ℕ) 
 
     sends : (i r : ℕ) → i < length leaves → times r (sent i) ≤ times r (own i)
     sends i r l =
-        let w : getD (sizesOf leaves) i 0 ≡ length (own i) = getD-map-in (λ q. length (q .rows)) leaves i noDomain 0 l in
+        let w : getD (domainSizes leaves) i 0 ≡ length (own i) = getD-map-in (λ q. length (q .rows)) leaves i noDomain 0 l in
         sent-own (s .dimension) cs (own i) (λ j. omega (arith, rows-at leaves i j l, internal j, good .once j)) (getD shares i 0) (omega (arith, w, fair-to-all .within i)) r
 
     pub one-level : OneLevel
@@ -100,7 +100,7 @@ module _ (s : Settings) (cs : List Float) (c k built : ℕ) (active : List ℕ) 
       borrows-not-own = λ i. Borrowed.borrows-not-own (s .dimension) cs (s .neighbours) active (own i);
       borrows-once = λ i. Borrowed.borrows-once (s .dimension) cs (s .neighbours) active (own i) (good .once);
       next-lists-sent = next-sent (s .dimension) cs pos (s .leaf) lp active good some size dealt;
-      next-once = next-times active (sentOf s cs c k built active);
+      next-once = next-times active (sentFrom s cs c k built active);
       next-size = next-length (s .dimension) cs pos (s .leaf) lp active good some size dealt;
       size-fewer = fewer;
       sends-quota = λ i. sent-length (s .dimension) cs (own i) (getD shares i 0);

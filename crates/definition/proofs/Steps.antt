@@ -1,5 +1,5 @@
 -- One step of the queue and of the levels, as a proof of the loops uses them. Assumes nothing.
--- Holds: queue-empty, queue-wait, queue-done, fineLeaf, fineOf, sentOf, nextOf, levels-last, levels-end, levels-more
+-- Holds: queue-empty, queue-wait, queue-done, fineLeaf, fineOf, sentFrom, nextOf, levels-last, levels-end, levels-more
 use mathlib.Core.Path.{_≡_, refl}
 use mathlib.Core.List.{List, [], _∷_, _++_}
 use Prim.Native.Nat.{ℕ, zero, suc, _*_, _≤_, _<_}
@@ -41,13 +41,13 @@ abbrev pub fineOf : Settings → List Float → List ℕ → Level
 fineOf s cs active = fineLevel (s .dimension) cs (s .neighbours) active (leavesOf (s .dimension) cs (s .leaf) active)
 
 -- what the leaves of a fine level, with this many before it, send up: a list to each leaf
-abbrev pub sentOf : Settings → List Float → ℕ → ℕ → ℕ → List ℕ → List (List ℕ)
-sentOf s cs c k built active =
+abbrev pub sentFrom : Settings → List Float → ℕ → ℕ → ℕ → List ℕ → List (List ℕ)
+sentFrom s cs c k built active =
     sentLists (s .dimension) cs (leavesOf (s .dimension) cs (s .leaf) active) (levelSize (length active) c (reductionsLeft k built))
 
 -- the active rows of the level after it
 abbrev pub nextOf : Settings → List Float → ℕ → ℕ → ℕ → List ℕ → List ℕ
-nextOf s cs c k built active = nextActive active (sentOf s cs c k built active)
+nextOf s cs c k built active = nextActive active (sentFrom s cs c k built active)
 
 module _ (s : Settings) (cs : List Float) (c k : ℕ) where
   -- the fine levels are all made: the coarse level ends the tree

@@ -1,6 +1,6 @@
 -- The coarse threshold (module 3), the number of reductions and the size of the next level (module 4): whole numbers only.
 -- Definitions only.
-use Prim.Native.Nat.{ℕ, _+_, _-_, _*_, _/_, _^_, min, max}
+use Prim.Native.Nat.{ℕ, zero, suc, _+_, _-_, _*_, _/_, _^_, min, max}
 use lib.Dec.{leb}
 use Rattle.lists.specs.Lists.{least}
 
@@ -8,6 +8,11 @@ use Rattle.lists.specs.Lists.{least}
 pub data Policy : Type 0 where
   auto : Policy
   fixed : ℕ → Policy
+
+-- the policy that stands for a number, with its threshold: 0 is auto, any other number a fixed threshold of c
+abbrev pub policyFrom : ℕ → ℕ → Policy
+policyFrom zero c = auto
+policyFrom (suc p) c = fixed c
 
 -- c: as it is set, or the ceiling of n / 32, held between 512 and 4,096
 unfoldable pub threshold : Policy → ℕ → ℕ

@@ -17,8 +17,8 @@ plus x y = add binary64 x y
 abbrev pub minus : Float → Float → Float
 minus x y = sub binary64 x y
 
-abbrev pub times : Float → Float → Float
-times x y = mul binary64 x y
+abbrev pub product : Float → Float → Float
+product x y = mul binary64 x y
 
 -- x divided by the count n
 abbrev pub over : Float → ℕ → Float

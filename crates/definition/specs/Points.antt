@@ -5,7 +5,7 @@ use mathlib.Core.List.{List, [], _∷_, _++_, map}
 use lib.ListN.{getD}
 use lib.Ieee.{Float, nan, lt}
 use Rattle.lists.specs.Lists.{best, from}
-use Rattle.definition.specs.Number.{plusZero, plus, minus, times, squareRoot}
+use Rattle.definition.specs.Number.{plusZero, plus, minus, product, squareRoot}
 
 -- the point whose coordinates start at p: its coordinate on the axis a. (Past the list's end stands NaN.)
 abbrev pub pointAt : List Float → ℕ → ℕ → Float
@@ -23,7 +23,7 @@ unfoldable pub distanceSq : ℕ → (ℕ → Float) → (ℕ → Float) → Floa
 distanceSq zero p q = plusZero
 distanceSq (suc a) p q =
     let t = minus (p a) (q a) in
-    plus (distanceSq a p q) (times t t)
+    plus (distanceSq a p q) (product t t)
 
 -- distance is its root
 unfoldable pub distance : ℕ → (ℕ → Float) → (ℕ → Float) → Float

@@ -17,7 +17,7 @@ use lib.Ieee.Positive.{positive, positive-of-value}
 use lib.Ieee.Back.{round-whole}
 use Rattle.lists.proofs.Tests.{clash}
 use Rattle.lists.proofs.Members.{map-mem}
-use Rattle.definition.specs.Number.{plusZero, plus, minus, times, over}
+use Rattle.definition.specs.Number.{plusZero, plus, minus, product, over}
 use Rattle.definition.specs.Points.{coordinate, column, distanceSq, distance, rowsSq, rowsApart}
 use Rattle.definition.specs.Sampling.{sumFrom, centroid}
 use Rattle.root_laws.specs.Sorts.{isNumber, good}
@@ -33,7 +33,7 @@ unfolding distanceSq
 distance-sq-good zero p q f g = zero-good
 distance-sq-good (suc d) p q f g =
     let t = minus (p d) (q d) in
-    add-good (distanceSq d p q) (times t t)
+    add-good (distanceSq d p q) (product t t)
     (distance-sq-good d p q (λ a h. f a (omega arith)) (λ a h. g a (omega arith)))
     (square-good t (sub-number (p d) (q d) (f d (omega arith)) (g d (omega arith))))
 

@@ -22,7 +22,7 @@ use Rattle.definition.specs.Overlaps.{nearest, paired, borrowedBy}
 use Rattle.definition.specs.Cut.{Domain, leavesOf}
 use Rattle.definition.specs.Tree.{Leaf, fineLevel}
 use Rattle.definition_laws.proofs.Finite.{rows-known}
-use Rattle.definition.proofs.Halves.{Sortable, first-length, length-keyed, sortable}
+use Rattle.definition.proofs.Halves.{Sortable, first-half-length, length-keyed, sortable}
 use Rattle.definition.proofs.Cuts.{Good, leaves-times}
 use Rattle.definition.proofs.Steps.{fineLeaf}
 
@@ -36,7 +36,7 @@ module _ (d : ℕ) (cs : List Float) (active : List ℕ) (g : Good d cs active) 
   pub nearest-length : (neighbours i : ℕ) → 0 < times i active → length (nearest d cs neighbours active i) ≡ min (suc neighbours) (length active)
   unfolding nearest
   nearest-length neighbours i h =
-      first-length (suc neighbours) (keyed (rowsSq d cs i) active) (near-sortable i h) ∙ ap (min (suc neighbours)) (length-keyed (rowsSq d cs i) active)
+      first-half-length (suc neighbours) (keyed (rowsSq d cs i) active) (near-sortable i h) ∙ ap (min (suc neighbours)) (length-keyed (rowsSq d cs i) active)
 
 -- ---- pairs: of active rows that each take at most k rows, by any rule
 module _ (active : List ℕ) (once : Once active) (near : ℕ → List ℕ) (k : ℕ) (few : (i : ℕ) → 0 < times i active → length (near i) ≤ k) where

@@ -19,7 +19,7 @@ use Rattle.definition.specs.Points.{boxWidth, extents}
 use Rattle.definition.specs.Cut.{Domain, rootDomain, longestAxis, plane, leftOf, rightOf, queueLeaves, leavesOf}
 use Rattle.definition_laws.specs.Shape.{shapeQueue, shape}
 use Rattle.definition.proofs.Steps.{queue-wait, queue-done}
-use Rattle.definition.proofs.Cuts.{Good, sizesOf, left-good, right-good, left-length, right-length, leaves-all, queue-enough}
+use Rattle.definition.proofs.Cuts.{Good, domainSizes, left-good, right-good, left-length, right-length, leaves-all, queue-enough}
 
 -- ---- the queue of sizes
 module _ (leaf : ℕ) where
@@ -68,7 +68,7 @@ module _ (leaf : ℕ) where
 
 -- ---- the domains
 module _ (d : ℕ) (cs : List Float) (pos : 0 < d) (leaf : ℕ) where
-  pub queue-shape : (fuel : ℕ) (qs : List Domain) → All (λ q. Good d cs (q .rows)) qs → sizesOf (queueLeaves d cs leaf fuel qs) ≡ shapeQueue leaf fuel (sizesOf qs)
+  pub queue-shape : (fuel : ℕ) (qs : List Domain) → All (λ q. Good d cs (q .rows)) qs → domainSizes (queueLeaves d cs leaf fuel qs) ≡ shapeQueue leaf fuel (domainSizes qs)
   unfolding All queueLeaves shapeQueue
   queue-shape zero qs h = refl
   queue-shape (suc fuel) [] h = refl
@@ -79,15 +79,15 @@ module _ (d : ℕ) (cs : List Float) (pos : 0 < d) (leaf : ℕ) where
       let a = left-length d cs pos q (h .0) in
       let b = right-length d cs pos q (h .0) in
       ⊎-elim
-      (λ (big : 2 * leaf ≤ length (q .rows)). rw (queue-wait d cs leaf fuel q qs big, shape-wait leaf fuel z (sizesOf qs) big)
+      (λ (big : 2 * leaf ≤ length (q .rows)). rw (queue-wait d cs leaf fuel q qs big, shape-wait leaf fuel z (domainSizes qs) big)
       (queue-shape fuel (qs ++ l ∷ r ∷ [])
       (all-append (λ q. Good d cs (q .rows)) qs (l ∷ r ∷ []) (h .1) (left-good d cs q (h .0), (right-good d cs q (h .0), tt)))
       ∙ ap (shapeQueue leaf fuel) (map-append (λ (q : Domain). length (q .rows)) qs (l ∷ r ∷ []) ∙ rw (a, b))))
-      (λ (small : length (q .rows) < 2 * leaf). rw (queue-done d cs leaf fuel q qs small, shape-done leaf fuel z (sizesOf qs) small, a, b, queue-shape fuel qs (h .1)))
+      (λ (small : length (q .rows) < 2 * leaf). rw (queue-done d cs leaf fuel q qs small, shape-done leaf fuel z (domainSizes qs) small, a, b, queue-shape fuel qs (h .1)))
       (le-or-lt (2 * leaf) (length (q .rows)))
 
   -- THE SHAPE LAW
-  pub leaves-shape : (active : List ℕ) → Good d cs active → sizesOf (leavesOf d cs leaf active) ≡ shape leaf (length active)
+  pub leaves-shape : (active : List ℕ) → Good d cs active → domainSizes (leavesOf d cs leaf active) ≡ shape leaf (length active)
   unfolding leavesOf shape rootDomain All
   leaves-shape active g = queue-shape (2 * length active) (rootDomain d cs active ∷ []) (g, tt)
 

@@ -30,7 +30,7 @@ use Rattle.demand3.specs.Handed.{Handed, handed, levelCount, rowsOn, lea
 use Rattle.demand3.specs.Demand3.{Counted, coarseAt, reductionCount, CoarseLevel, Demand3Over, Demand3, handedBack}
 use Rattle.packed.proofs.Counts.{noLevel}
 use Rattle.packed.proofs.Unpacked.{noLeaf}
-use Rattle.demand3.proofs.Unpack.{PackedIn, levels-are, rows-on, leaves-on, listed-is, own-count-is, borrowed-count-is, own-is, borrowed-is, box-is}
+use Rattle.demand3.proofs.Unpack.{PackedIn, handed-levels, handed-rows, handed-leaves, handed-listed, handed-own-count, handed-borrowed-count, handed-own, handed-borrowed, handed-box}
 use Rattle.demand3.proofs.Levels.{Levelled, levelled, IsFine, first-active, some-levels, fine-at, coarse-at}
 use Rattle.demand3.proofs.Answered.{answered-zero}
 use Rattle.demand3.proofs.Fine.{IsLevel, fine-level}
@@ -67,25 +67,25 @@ module _ (s : Settings) (cs : List Float) (first : List ℕ) (pos : 0 < s .dimen
   levelAt l = getD ls l noLevel
 
   listed-at : (l : ℕ) → listed h l ≡ levelAt l .points
-  listed-at l = listed-is (s .dimension) ls h packs l
+  listed-at l = handed-listed (s .dimension) ls h packs l
 
   rows-at : (l : ℕ) → rowsOn h l ≡ length (levelAt l .points)
-  rows-at l = rows-on (s .dimension) ls h packs l
+  rows-at l = handed-rows (s .dimension) ls h packs l
 
   leaves-at : (l : ℕ) → leavesOn h l ≡ length (levelAt l .leaves)
-  leaves-at l = leaves-on (s .dimension) ls h packs l
+  leaves-at l = handed-leaves (s .dimension) ls h packs l
 
   is-counted : (l : ℕ) → Counted h l
   is-counted l = record {
     of-level = ap length (listed-at l) ∙ sym (rows-at l);
-    of-own = λ i m. let z : i < length (levelAt l .leaves) = omega (arith, leaves-at l) in ap length (own-is (s .dimension) ls h packs l i z) ∙ sym (own-count-is (s .dimension) ls h packs l i z);
-    of-borrowed = λ i m. let z : i < length (levelAt l .leaves) = omega (arith, leaves-at l) in ap length (borrowed-is (s .dimension) ls h packs l i z) ∙ sym (borrowed-count-is (s .dimension) ls h packs l i z);
+    of-own = λ i m. let z : i < length (levelAt l .leaves) = omega (arith, leaves-at l) in ap length (handed-own (s .dimension) ls h packs l i z) ∙ sym (handed-own-count (s .dimension) ls h packs l i z);
+    of-borrowed = λ i m. let z : i < length (levelAt l .leaves) = omega (arith, leaves-at l) in ap length (handed-borrowed (s .dimension) ls h packs l i z) ∙ sym (handed-borrowed-count (s .dimension) ls h packs l i z);
   }
 
   -- ---- a level that has a next one
   module _ (l : ℕ) (m : HasNext h l) where
     fine : IsFine s cs c k (0 + l) (levelAt l) (levelAt (suc l))
-    fine = fine-at s cs c k the-levels l (omega (arith, m, levels-are (s .dimension) ls h packs))
+    fine = fine-at s cs c k the-levels l (omega (arith, m, handed-levels (s .dimension) ls h packs))
 
     abbrev qs : List Domain
     qs = leavesOf (s .dimension) cs (s .leaf) (listed h l)
@@ -109,21 +109,21 @@ module _ (s : Settings) (cs : List Float) (first : List ℕ) (pos : 0 < s .dimen
       good = subst (λ (x : List ℕ). Good (s .dimension) cs x) (sym (listed-at l)) (fine .good);
       outnumbers = subst (λ (x : List ℕ). c < length x) (sym (listed-at l)) (fine .outnumbers);
       leaf-count = count-is;
-      own = λ i z. own-is (s .dimension) ls h packs l i (omega (arith, leaves-at l)) ∙ ap (λ (f : Leaf). f .own) (leaf-is i z);
-      borrowed = λ i z. borrowed-is (s .dimension) ls h packs l i (omega (arith, leaves-at l)) ∙ ap (λ (f : Leaf). f .borrowed) (leaf-is i z);
-      box = λ i z. box-is (s .dimension) ls h packs l i (omega (arith, leaves-at l)) ∙ ap (λ (f : Leaf). f .box) (leaf-is i z);
+      own = λ i z. handed-own (s .dimension) ls h packs l i (omega (arith, leaves-at l)) ∙ ap (λ (f : Leaf). f .own) (leaf-is i z);
+      borrowed = λ i z. handed-borrowed (s .dimension) ls h packs l i (omega (arith, leaves-at l)) ∙ ap (λ (f : Leaf). f .borrowed) (leaf-is i z);
+      box = λ i z. handed-box (s .dimension) ls h packs l i (omega (arith, leaves-at l)) ∙ ap (λ (f : Leaf). f .box) (leaf-is i z);
       next = listed-at (suc l) ∙ fine .sent ∙ ap₂ (λ (j : ℕ) (x : List ℕ). nextOf s cs c k j x) (zero-add l) (sym (listed-at l));
     }
 
   -- ---- the last level
   count-some : 1 ≤ levelCount h
-  count-some = omega (arith, levels-are (s .dimension) ls h packs, some-levels s cs c k the-levels)
+  count-some = omega (arith, handed-levels (s .dimension) ls h packs, some-levels s cs c k the-levels)
 
   is-coarse : CoarseLevel s cs n h (levelCount h - 1)
   unfolding coarseLevel
   is-coarse =
       let l = levelCount h - 1 in
-      let last = coarse-at s cs c k the-levels l (omega (arith, count-some, levels-are (s .dimension) ls h packs)) in
+      let last = coarse-at s cs c k the-levels l (omega (arith, count-some, handed-levels (s .dimension) ls h packs)) in
       let one : leavesOn h l ≡ 1 = leaves-at l ∙ ap (λ (x : Level). length (x .leaves)) (last .0) in
       let z : 0 < length (levelAt l .leaves) = omega (arith, leaves-at l) in
       let leaf : getD (levelAt l .leaves) 0 noLeaf ≡ record { own = levelAt l .points; borrowed = []; box = replicate (boxWidth (s .dimension)) plusZero } =
@@ -131,13 +131,13 @@ module _ (s : Settings) (cs : List Float) (first : List ℕ) (pos : 0 < s .dimen
       record {
         few = omega (arith, ap length (listed-at l), last .1);
         one-domain = one;
-        holds-all = own-is (s .dimension) ls h packs l 0 z ∙ ap (λ (f : Leaf). f .own) leaf ∙ sym (listed-at l);
-        borrows-none = borrowed-is (s .dimension) ls h packs l 0 z ∙ ap (λ (f : Leaf). f .borrowed) leaf;
-        no-box = box-is (s .dimension) ls h packs l 0 z ∙ ap (λ (f : Leaf). f .box) leaf;
+        holds-all = handed-own (s .dimension) ls h packs l 0 z ∙ ap (λ (f : Leaf). f .own) leaf ∙ sym (listed-at l);
+        borrows-none = handed-borrowed (s .dimension) ls h packs l 0 z ∙ ap (λ (f : Leaf). f .borrowed) leaf;
+        no-box = handed-box (s .dimension) ls h packs l 0 z ∙ ap (λ (f : Leaf). f .box) leaf;
       }
 
   beyond : (l : ℕ) → levelCount h ≤ l → levelAt l ≡ noLevel
-  beyond l m = List·getD-eq-default ls noLevel (omega (arith, levels-are (s .dimension) ls h packs))
+  beyond l m = List·getD-eq-default ls noLevel (omega (arith, handed-levels (s .dimension) ls h packs))
 
   outnumbering : (l : ℕ) → c < rowsOn h l → HasNext h l
   outnumbering l m =
@@ -146,7 +146,7 @@ module _ (s : Settings) (cs : List Float) (first : List ℕ) (pos : 0 < s .dimen
       ⊎-elim
       (λ (gone : levelCount h ≤ l). let e = rows-at l ∙ ap (λ (x : Level). length (x .points)) (beyond l gone) in absurd (omega arith))
       (λ (at : l < levelCount h).
-      absurd (omega (arith, rows-at l, coarse-at s cs c k the-levels l (omega (arith, levels-are (s .dimension) ls h packs)) .1)))
+      absurd (omega (arith, rows-at l, coarse-at s cs c k the-levels l (omega (arith, handed-levels (s .dimension) ls h packs)) .1)))
       (le-or-lt (levelCount h) l))
       (λ p. p)
       (le-or-lt (levelCount h) (suc l))
@@ -158,7 +158,7 @@ module _ (s : Settings) (cs : List Float) (first : List ℕ) (pos : 0 < s .dimen
     next-outnumbers = λ l m. omega (arith, rows-at l, fine l m .outnumbers);
     outnumbers-next = outnumbering;
     some-level = count-some;
-    few-levels = omega (arith, levels-are (s .dimension) ls h packs, packs .few);
+    few-levels = omega (arith, handed-levels (s .dimension) ls h packs, packs .few);
     last-coarse = is-coarse;
     counted = is-counted;
     none-beyond = λ l m. (rows-at l ∙ ap (λ (x : Level). length (x .points)) (beyond l m), leaves-at l ∙ ap (λ (x : Level). length (x .leaves)) (beyond l m));

@@ -16,7 +16,7 @@ use Rattle.definition.specs.Cut.{Domain, leavesOf}
 use Rattle.definition.specs.Overlaps.{borrowedBy}
 use Rattle.definition.specs.Sampling.{sentBy}
 use Rattle.definition.specs.Tree.{Settings, sentLists, nextActive}
-use Rattle.definition.proofs.Cuts.{Good, sizesOf}
+use Rattle.definition.proofs.Cuts.{Good, domainSizes}
 use Rattle.definition.proofs.Steps.{nextOf}
 use Rattle.definition.proofs.Next.{noDomain}
 use Rattle.definition.proofs.OneLevel.{OneLevel, one-level}
@@ -53,7 +53,7 @@ module _ (s : Settings) (cs : List Float) (n : ℕ) (pos : 0 < s .dimension) (lp
     S = size s cs n h l
 
     abbrev ws : List ℕ
-    ws = quotas (sizesOf qs) S
+    ws = quotas (domainSizes qs) S
 
     -- the definition's level has the demand's lines
     level : OneLevel s cs (coarseAt s n) (reductionCount s n) l (listed h l)
@@ -72,7 +72,7 @@ module _ (s : Settings) (cs : List Float) (n : ℕ) (pos : 0 < s .dimension) (lp
         ap (λ (m : ℕ). map (boxOf d h l) (from 0 m)) (holds .leaf-count)
         ∙ map-from-at (boxOf d h l) (λ q. q .box) noDomain qs 0 (λ i k. ap (boxOf d h l) (zero-add i) ∙ holds .box i (omega (arith, holds .leaf-count)))
 
-    sizes : leafSizes h l ≡ sizesOf qs
+    sizes : leafSizes h l ≡ domainSizes qs
     unfolding leafSizes
     sizes = ap (map length) owns ∙ map-map length (λ (q : Domain). q .rows) qs
 
@@ -84,7 +84,7 @@ module _ (s : Settings) (cs : List Float) (n : ℕ) (pos : 0 < s .dimension) (lp
       in-qs : i < length qs
       in-qs = omega (arith, k, holds .leaf-count)
 
-      size-is : getD (sizesOf qs) i 0 ≡ length (ownOf h l i)
+      size-is : getD (domainSizes qs) i 0 ≡ length (ownOf h l i)
       size-is = getD-map-in (λ q. length (q .rows)) qs i noDomain 0 in-qs ∙ ap length (sym (holds .own i k))
 
       quota-is : getD (quotas (leafSizes h l) S) i 0 ≡ getD ws i 0
@@ -107,7 +107,7 @@ module _ (s : Settings) (cs : List Float) (n : ℕ) (pos : 0 < s .dimension) (lp
           → WholePart (length (sentOf s cs n h l i)) (shareOf S (filled s cs n h l) (active s cs n h l) (length (ownOf h l i)))
           ⊎ OneMore (length (sentOf s cs n h l i)) (shareOf S (filled s cs n h l) (active s cs n h l) (length (ownOf h l i)))
       share p =
-          let w = shared (sizesOf qs) S ws (omega (arith, level .size-fewer, level .sizes-sum)) (level .fair-shares) i (omega (arith, size-is)) in
+          let w = shared (domainSizes qs) S ws (omega (arith, level .size-fewer, level .sizes-sum)) (level .fair-shares) i (omega (arith, size-is)) in
           rw (sent-many, quota-is, ← size-is, sizes) (rw (level .sizes-sum) at w)
 
     -- ---- what is sent up

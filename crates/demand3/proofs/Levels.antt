@@ -11,7 +11,7 @@ use lib.Ieee.{Float}
 use Rattle.lists.proofs.Tests.{le-or-lt}
 use Rattle.definition.specs.Tree.{Settings, Level, coarseLevel, fineLevel, reductionsLeft, levelsFrom}
 use Rattle.definition.proofs.Cuts.{Good}
-use Rattle.definition.proofs.Steps.{fineOf, nextOf, sentOf, levels-last, levels-end, levels-more}
+use Rattle.definition.proofs.Steps.{fineOf, nextOf, sentFrom, levels-last, levels-end, levels-more}
 use Rattle.definition.proofs.Levels.{next-good}
 use Rattle.definition.proofs.OneLevel.{one-level}
 use Rattle.definition.proofs.Sizes.{sized}
@@ -48,7 +48,7 @@ module _ (s : Settings) (cs : List Float) (c k : ℕ) (pos : 0 < s .dimension) (
       ⊎-elim
       (λ (e : length active ≤ c). rw (levels-end s cs c k fuel built active e) (last e))
       (λ (e : c < length active). rw (levels-more s cs c k fuel built active e)
-      (more g e (levelled fuel (suc built) (nextOf s cs c k built active) (next-good active (sentOf s cs c k built active) (s .dimension) cs g) (next-few built active g e (h e)) (omega arith))))
+      (more g e (levelled fuel (suc built) (nextOf s cs c k built active) (next-good active (sentFrom s cs c k built active) (s .dimension) cs g) (next-few built active g e (h e)) (omega arith))))
       (le-or-lt (length active) c)
 
 -- ---- reading the levels

@@ -1,6 +1,6 @@
 -- The tree in what a build hands back: the reading's laws in the demand's words. Assumes nothing.
--- Holds: leafLists, PackedIn, levels-are, rows-on, leaves-on, listed-is, own-count-is, borrowed-count-is, own-is, borrowed-is,
---   box-is
+-- Holds: leafLists, PackedIn, handed-levels, handed-rows, handed-leaves, handed-listed, handed-own-count, handed-borrowed-count,
+--   handed-own, handed-borrowed, handed-box
 use mathlib.Core.Path.{_≡_, ap, _∙_}
 use Prim.Native.Nat.{ℕ, _<_}
 use lib.ListN.{length, getD}
@@ -21,18 +21,18 @@ abbrev pub PackedIn : ℕ → List Level → Handed → Type 0
 PackedIn d ls h = Packs ls (leafLists d h) (h .lists .points) (h .counts)
 
 module _ (d : ℕ) (ls : List Level) (h : Handed) (k : PackedIn d ls h) where
-  pub levels-are : levelCount h ≡ length ls
-  levels-are = tree.levels-are ls (leafLists d h) (h .lists .points) (h .counts) k
+  pub handed-levels : levelCount h ≡ length ls
+  handed-levels = tree.levels-are ls (leafLists d h) (h .lists .points) (h .counts) k
 
-  pub rows-on : (l : ℕ) → rowsOn h l ≡ length (getD ls l noLevel .points)
-  rows-on = tree.rows-on ls (leafLists d h) (h .lists .points) (h .counts) k
+  pub handed-rows : (l : ℕ) → rowsOn h l ≡ length (getD ls l noLevel .points)
+  handed-rows = tree.rows-on ls (leafLists d h) (h .lists .points) (h .counts) k
 
-  pub leaves-on : (l : ℕ) → leavesOn h l ≡ length (getD ls l noLevel .leaves)
-  leaves-on = tree.leaves-on ls (leafLists d h) (h .lists .points) (h .counts) k
+  pub handed-leaves : (l : ℕ) → leavesOn h l ≡ length (getD ls l noLevel .leaves)
+  handed-leaves = tree.leaves-on ls (leafLists d h) (h .lists .points) (h .counts) k
 
-  pub listed-is : (l : ℕ) → listed h l ≡ getD ls l noLevel .points
+  pub handed-listed : (l : ℕ) → listed h l ≡ getD ls l noLevel .points
   unfolding listed
-  listed-is = tree.listed-is ls (leafLists d h) (h .lists .points) (h .counts) k
+  handed-listed = tree.listed-is ls (leafLists d h) (h .lists .points) (h .counts) k
 
   -- ---- a leaf
   module _ (l i : ℕ) (in-level : i < length (getD ls l noLevel .leaves)) where
@@ -44,22 +44,22 @@ module _ (d : ℕ) (ls : List Level) (h : Handed) (k : PackedIn d ls h) where
     unfolding rowNumber
     is = tree.leaf-at ls (leafLists d h) (h .lists .points) (h .counts) k l i in-level
 
-    pub own-count-is : domainRow h l i .ownCount ≡ length (getD (getD ls l noLevel .leaves) i noLeaf .own)
+    pub handed-own-count : domainRow h l i .ownCount ≡ length (getD (getD ls l noLevel .leaves) i noLeaf .own)
     unfolding domainRow
-    own-count-is = tree.own-count-is ls (leafLists d h) (h .lists .points) (h .counts) k (rowNumber h l i) there ∙ ap (λ (f : Leaf). length (f .own)) is
+    handed-own-count = tree.own-count-is ls (leafLists d h) (h .lists .points) (h .counts) k (rowNumber h l i) there ∙ ap (λ (f : Leaf). length (f .own)) is
 
-    pub borrowed-count-is : domainRow h l i .borrowedCount ≡ length (getD (getD ls l noLevel .leaves) i noLeaf .borrowed)
+    pub handed-borrowed-count : domainRow h l i .borrowedCount ≡ length (getD (getD ls l noLevel .leaves) i noLeaf .borrowed)
     unfolding domainRow
-    borrowed-count-is = tree.borrowed-count-is ls (leafLists d h) (h .lists .points) (h .counts) k (rowNumber h l i) there ∙ ap (λ (f : Leaf). length (f .borrowed)) is
+    handed-borrowed-count = tree.borrowed-count-is ls (leafLists d h) (h .lists .points) (h .counts) k (rowNumber h l i) there ∙ ap (λ (f : Leaf). length (f .borrowed)) is
 
-    pub own-is : ownOf h l i ≡ getD (getD ls l noLevel .leaves) i noLeaf .own
+    pub handed-own : ownOf h l i ≡ getD (getD ls l noLevel .leaves) i noLeaf .own
     unfolding ownOf
-    own-is = tree.own-is ls (leafLists d h) (h .lists .points) (h .counts) k (rowNumber h l i) there ∙ ap (λ (f : Leaf). f .own) is
+    handed-own = tree.own-is ls (leafLists d h) (h .lists .points) (h .counts) k (rowNumber h l i) there ∙ ap (λ (f : Leaf). f .own) is
 
-    pub borrowed-is : borrowedOf h l i ≡ getD (getD ls l noLevel .leaves) i noLeaf .borrowed
+    pub handed-borrowed : borrowedOf h l i ≡ getD (getD ls l noLevel .leaves) i noLeaf .borrowed
     unfolding borrowedOf
-    borrowed-is = tree.borrowed-is ls (leafLists d h) (h .lists .points) (h .counts) k (rowNumber h l i) there ∙ ap (λ (f : Leaf). f .borrowed) is
+    handed-borrowed = tree.borrowed-is ls (leafLists d h) (h .lists .points) (h .counts) k (rowNumber h l i) there ∙ ap (λ (f : Leaf). f .borrowed) is
 
-    pub box-is : boxOf d h l i ≡ getD (getD ls l noLevel .leaves) i noLeaf .box
+    pub handed-box : boxOf d h l i ≡ getD (getD ls l noLevel .leaves) i noLeaf .box
     unfolding boxOf
-    box-is = tree.box-is ls (leafLists d h) (h .lists .points) (h .counts) k (rowNumber h l i) there ∙ ap (λ (f : Leaf). f .box) is
+    handed-box = tree.box-is ls (leafLists d h) (h .lists .points) (h .counts) k (rowNumber h l i) there ∙ ap (λ (f : Leaf). f .box) is

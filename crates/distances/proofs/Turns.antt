@@ -4,11 +4,11 @@ use Prim.Native.Nat.{ℕ, _+_, _≤_}
 use native.Mathlib.Nat.{le-antisymm}
 use native.Mathlib.Numerals.{add-one}
 use lib.Ieee.{Float}
-use Rattle.definition.specs.Number.{plus, minus, times}
+use Rattle.definition.specs.Number.{plus, minus, product}
 use Rattle.definition.specs.Points.{distanceSq}
 
 -- one axis more of a squared distance
-pub distance-more : (p q : ℕ → Float) (k : ℕ) (s : Float) → s ≡ distanceSq k p q → plus s (times (minus (p k) (q k)) (minus (p k) (q k))) ≡ distanceSq (k + 1) p q
+pub distance-more : (p q : ℕ → Float) (k : ℕ) (s : Float) → s ≡ distanceSq k p q → plus s (product (minus (p k) (q k)) (minus (p k) (q k))) ≡ distanceSq (k + 1) p q
 unfolding distanceSq
 distance-more p q k s e = rw (add-one, e)
 

@@ -1,8 +1,8 @@
 -- How the stages of a level fit together: what one has written, the next one reads; and what all have written is the definition's
 -- level. Assumes nothing.
--- Holds: rowsIn, level-own, level-borrowed, level-box, level-number, level-next, number-most, own-whole, own-shared, leaves-read,
---   leaves-named, overlaps-ready, overlaps-read, overlaps-named, overlaps-rows, packed-read, packed-named, packed-sends,
---   boxes-room, codes-room
+-- Holds: levelRows, level-own, level-borrowed, level-box, level-number, level-next, number-most, own-whole, own-shared,
+--   leaves-read, leaves-named, overlaps-ready, overlaps-read, overlaps-named, overlaps-rows, packed-read, packed-named,
+--   packed-sends, boxes-room, codes-room
 use mathlib.Core.Path.{_≡_, refl, sym, _∙_}
 use mathlib.Core.Logic.{⊎-elim}
 use mathlib.Core.Bool.{Bool}
@@ -43,8 +43,8 @@ use Rattle.overlaps.proofs.Columns.{columns-length}
 
 -- ---- the definition's level, by its parts
 -- the own rows of each domain
-abbrev pub rowsIn : List Domain → List (List ℕ)
-rowsIn qs = map (λ q. q .rows) qs
+abbrev pub levelRows : List Domain → List (List ℕ)
+levelRows qs = map (λ q. q .rows) qs
 
 module _ (d : ℕ) (cs : List Float) (leaf neighbours : ℕ) (active : List ℕ) where
   abbrev qs : List Domain
@@ -53,11 +53,11 @@ module _ (d : ℕ) (cs : List Float) (leaf neighbours : ℕ) (active : List ℕ)
   abbrev toLeaf : Domain → Leaf
   toLeaf = fineLeaf d cs neighbours active
 
-  pub level-own : map (λ (f : Leaf). f .own) (leavesAt d cs leaf neighbours active) ≡ rowsIn (leavesOf d cs leaf active)
+  pub level-own : map (λ (f : Leaf). f .own) (leavesAt d cs leaf neighbours active) ≡ levelRows (leavesOf d cs leaf active)
   unfolding fineLevel
   level-own = map-map (λ (f : Leaf). f .own) toLeaf qs
 
-  pub level-borrowed : map (λ (f : Leaf). f .borrowed) (leavesAt d cs leaf neighbours active) ≡ borrowedLists d cs neighbours active (rowsIn (leavesOf d cs leaf active))
+  pub level-borrowed : map (λ (f : Leaf). f .borrowed) (leavesAt d cs leaf neighbours active) ≡ borrowedLists d cs neighbours active (levelRows (leavesOf d cs leaf active))
   unfolding fineLevel borrowedLists
   level-borrowed =
       map-map (λ (f : Leaf). f .borrowed) toLeaf qs
@@ -71,7 +71,7 @@ module _ (d : ℕ) (cs : List Float) (leaf neighbours : ℕ) (active : List ℕ)
   unfolding fineLevel
   level-number = length-map qs toLeaf
 
-  pub level-next : (size : ℕ) → sentRows d cs active (rowsIn (leavesOf d cs leaf active)) size ≡ nextAt d cs leaf size active
+  pub level-next : (size : ℕ) → sentRows d cs active (levelRows (leavesOf d cs leaf active)) size ≡ nextAt d cs leaf size active
   unfolding sentRows sentLists
   level-next size =
       rw (map-map length (λ (q : Domain). q .rows) qs, ← zip-map (sentBy d cs) (λ (q : Domain). q .rows) qs (quotas (map (λ (q : Domain). length (q .rows)) qs) size))
@@ -79,7 +79,7 @@ module _ (d : ℕ) (cs : List Float) (leaf neighbours : ℕ) (active : List ℕ)
 -- ---- the leaves share the active rows out
 module _ (d : ℕ) (cs : List Float) (leaf neighbours : ℕ) (active : List ℕ) (g : Given d cs leaf neighbours active) where
   abbrev own : List (List ℕ)
-  own = rowsIn (leavesOf d cs leaf active)
+  own = levelRows (leavesOf d cs leaf active)
 
   good : Good d cs active
   good = good-good active (g .good)
@@ -90,7 +90,7 @@ module _ (d : ℕ) (cs : List Float) (leaf neighbours : ℕ) (active : List ℕ)
   own-number : length own ≡ length (leavesOf d cs leaf active)
   own-number = length-map (leavesOf d cs leaf active) (λ q. q .rows)
 
-  pub own-whole : length (joined (rowsIn (leavesOf d cs leaf active))) ≡ length active
+  pub own-whole : length (joined (levelRows (leavesOf d cs leaf active))) ≡ length active
   own-whole =
       length-joined own ∙ rw (map-map length (λ (q : Domain). q .rows) (leavesOf d cs leaf active))
       (leaves-sum d cs (g .axes) leaf (g .leaf-some) active good (g .rows-some))
@@ -103,14 +103,14 @@ module _ (d : ℕ) (cs : List Float) (leaf neighbours : ℕ) (active : List ℕ)
       (λ t. times-keep-out p (joined own) r t ∙ sym (times-keep-out p active r t))
       (true-or-false (p r))
 
-  pub own-shared : SharedOut active (rowsIn (leavesOf d cs leaf active))
+  pub own-shared : SharedOut active (levelRows (leavesOf d cs leaf active))
   own-shared p =
       sym (length-keep p (joined own)) ∙ once-length (keep p active) (keep p (joined own)) (once-keep p active (good .once)) (own-kept p)
       ∙ length-keep p active
 
   -- ---- after the leaves: I₁ and D₁
   module _ (I D : List ℕ) (at k : ℕ) (fI : at + length active ≤ length I) (fD : rowNumbers * (k + 2 * length active) ≤ length D)
-      (I₁ D₁ : List ℕ) (eI : I₁ ≡ put I at (joined (rowsIn (leavesOf d cs leaf active)))) (eD : D₁ ≡ withOwn at (rowsIn (leavesOf d cs leaf active)) k D) where
+      (I₁ D₁ : List ℕ) (eI : I₁ ≡ put I at (joined (levelRows (leavesOf d cs leaf active)))) (eD : D₁ ≡ withOwn at (levelRows (leavesOf d cs leaf active)) k D) where
     fit : rowNumbers * (k + length own) ≤ length D
     fit = omega (arith, number-most, own-number)
 
@@ -120,7 +120,7 @@ module _ (d : ℕ) (cs : List Float) (leaf neighbours : ℕ) (active : List ℕ)
     packed : part I₁ at (length (joined own)) ≡ joined own
     packed = rw eI (part-put-same I at (joined own) (length (joined own)) (omega arith) refl)
 
-    pub leaves-read : readOwn I₁ D₁ k (length (leavesOf d cs leaf active)) ≡ rowsIn (leavesOf d cs leaf active)
+    pub leaves-read : readOwn I₁ D₁ k (length (leavesOf d cs leaf active)) ≡ levelRows (leavesOf d cs leaf active)
     leaves-read = rw (eD, ← own-number) (own-read I₁ at own k D fit inside packed)
 
     pub leaves-named : Leaves active I₁ D₁ k (length (leavesOf d cs leaf active))
@@ -141,7 +141,7 @@ module _ (d : ℕ) (cs : List Float) (leaf neighbours : ℕ) (active : List ℕ)
     }
 
     -- ---- after the overlaps: D₂
-    module _ (bat : ℕ) (D₂ : List ℕ) (eD₂ : D₂ ≡ withBorrowed bat (borrowedLists d cs neighbours active (rowsIn (leavesOf d cs leaf active))) k D₁) where
+    module _ (bat : ℕ) (D₂ : List ℕ) (eD₂ : D₂ ≡ withBorrowed bat (borrowedLists d cs neighbours active (levelRows (leavesOf d cs leaf active))) k D₁) where
       abbrev bs : List (List ℕ)
       bs = borrowedLists d cs neighbours active own
 
@@ -155,7 +155,7 @@ module _ (d : ℕ) (cs : List Float) (leaf neighbours : ℕ) (active : List ℕ)
       same-own : (j : ℕ) → ownAt I₁ D₂ j ≡ ownAt I₁ D₁ j
       same-own j = rw (eD₂, keeps-start bat bs k D₁ fit-b j, keeps-count bat bs k D₁ fit-b j)
 
-      pub overlaps-read : readOwn I₁ D₂ k (length (leavesOf d cs leaf active)) ≡ rowsIn (leavesOf d cs leaf active)
+      pub overlaps-read : readOwn I₁ D₂ k (length (leavesOf d cs leaf active)) ≡ levelRows (leavesOf d cs leaf active)
       unfolding readOwn
       overlaps-read =
           map-below-same (λ l. ownAt I₁ D₂ (k + l)) (λ l. ownAt I₁ D₁ (k + l)) (length (leavesOf d cs leaf active)) (λ i l. same-own (k + i)) ∙ leaves-read
@@ -184,7 +184,7 @@ module _ (d : ℕ) (cs : List Float) (leaf neighbours : ℕ) (active : List ℕ)
         eD ∙ sym (both-columns at bat k (leavesAt d cs leaf neighbours active) D (omega (arith, level-number d cs leaf neighbours active, number-most)))
         ∙ rw (level-borrowed d cs leaf neighbours active, level-own d cs leaf neighbours active)
 
-    pub packed-read : readOwn I₁ D₂ k (length (leavesOf d cs leaf active)) ≡ rowsIn (leavesOf d cs leaf active)
+    pub packed-read : readOwn I₁ D₂ k (length (leavesOf d cs leaf active)) ≡ levelRows (leavesOf d cs leaf active)
     packed-read = overlaps-read I D at k fI fD I₁ (withOwn at own k D) own-due refl bat D₂ rows-due
 
     pub packed-named : Leaves active I₁ D₂ k (length (leavesOf d cs leaf active))

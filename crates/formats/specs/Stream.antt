@@ -6,7 +6,7 @@ use lib.ListN.{drop}
 use lib.Dec.{ltb, eqb}
 use lib.Ieee.{Float}
 use Rattle.lists.specs.Lists.{from}
-use Rattle.definition.specs.Levels.{Policy, auto, fixed}
+use Rattle.definition.specs.Levels.{policyFrom}
 use Rattle.definition.specs.Tree.{Settings}
 use Rattle.definition.specs.Refusals.{Refusal, wrongDimension}
 use Rattle.formats.specs.Bytes.{Mark, markOf, markSize, whole, Field, fieldEnd, valueAt, floatSize, floatAt}
@@ -40,10 +40,6 @@ settingsSize = fieldEnd thresholdField
 -- policy 1 (Fixed), or policy 0 (Auto) with the number 0
 unfoldable pub policyFits : List ℕ → Bool
 policyFits bs = eqb (valueAt policyField bs) 1 || (eqb (valueAt policyField bs) 0 && eqb (valueAt thresholdField bs) 0)
-
-abbrev pub policyFrom : ℕ → ℕ → Policy
-policyFrom zero c = auto
-policyFrom (suc p) c = fixed c
 
 -- the settings in a whole record
 unfoldable pub settingsIn : List ℕ → Settings

@@ -19,7 +19,7 @@ use Rattle.definition.proofs.Cuts.{axis-below}
 use Rattle.queue.specs.Rows.{twoHalves, twoOwn, withOwn}
 use Rattle.queue.proofs.Loop.{Inv, cutsLeft, inv-first, inv-next, inv-end, inv-wait, inv-done, less-wait, less-done}
 use Rattle.queue.proofs.Loop.{turn-inside, turn-good, turn-same, turn-left, turn-right, turn-full, turn-rows, turn-leaves, turn-room, turn-end, turn-wait, turn-done}
-use Rattle.queue.proofs.View.{rowsIn, roomIn, rows-part, rows-length, room-length, start-at, count-at, rows-kept, room-put, first-rows, first-room, spare-length, spare-rows, spare-room}
+use Rattle.queue.proofs.View.{rowsIn, roomIn, rows-part, rows-length, room-length, start-at, view-count, rows-kept, room-put, view-first-rows, first-room, spare-length, spare-rows, spare-room}
 use Rattle.queue.proofs.Columns.{Boxes, boxes-first, boxes-now, boxes-wait, boxes-done, boxes-end}
 use Rattle.rows.specs.Rows.{GoodRows}
 use Rattle.halving.specs.Cuts.{Halved}
@@ -125,7 +125,7 @@ module _ {d : ℕ} {cs : List Float} {leaf : ℕ} {active I₀ O₀ : List ℕ} 
     e-s = start-at n w five head (omega (arith, x .more, x .inv .fits))
 
     e-c : getD (roomIn n w) (2 * head + 1) 0 ≡ c
-    e-c = count-at n w five head (omega (arith, x .more, x .inv .fits))
+    e-c = view-count n w five head (omega (arith, x .more, x .inv .fits))
 
     inside : s + c ≤ n
     inside = omega (arith, turn-inside (x .inv) (x .more) e-s e-c, rows-length n w five)
@@ -308,7 +308,7 @@ module _ (d : ℕ) (cs : List Float) (pos : 0 < d) (few : d ≤ 3) (leaf : ℕ) 
   fit-a = omega (arith, length-a)
 
   rows-first : rowsIn m w₁ ≡ active
-  rows-first = first-rows m wₐ w₁ fit-a some ew ∙ rows-a
+  rows-first = view-first-rows m wₐ w₁ fit-a some ew ∙ rows-a
 
   length-w : length w₁ ≡ length w
   length-w = ap length ew ∙ length-put wₐ m (0 ∷ m ∷ []) (omega (arith, length-a)) ∙ length-a

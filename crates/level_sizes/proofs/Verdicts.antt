@@ -9,7 +9,7 @@ use borrow.Author.Tests.{le-leb, lt-leb, lt-ltb, le-ltb, eq-eqb, ne-eqb}
 use Rattle.definition.specs.Levels.{levelSize}
 use Rattle.definition.specs.Refusals.{verdict, sizeVerdict, mostPoints}
 use Rattle.definition.specs.Outcome.{numberOf, placeOf, valueOf, sizeAnswer}
-use Rattle.level_sizes.specs.Answers.{reports, refuses}
+use Rattle.level_sizes.specs.Answers.{sizeReports, refuses}
 
 module _ (a c r : ℕ) where
   pub size-4 : c ≡ 0 → refuses 4 0 ≡ sizeAnswer a c r
@@ -42,6 +42,6 @@ module _ (a c r : ℕ) where
           unfolding sizeAnswer sizeVerdict verdict numberOf placeOf valueOf
           size-9-many h = simp (zero-no, le-ltb mostPoints a h8, lt-leb a c h14, some, lt-ltb 3 r h)
 
-          pub size-given : r ≤ 3 → reports (levelSize a c r) ≡ sizeAnswer a c r
+          pub size-given : r ≤ 3 → sizeReports (levelSize a c r) ≡ sizeAnswer a c r
           unfolding sizeAnswer sizeVerdict verdict numberOf placeOf valueOf
           size-given h = simp (zero-no, le-ltb mostPoints a h8, lt-leb a c h14, some, le-ltb 3 r h)

@@ -24,7 +24,7 @@ use Rattle.definition.specs.Tree.{Settings, Leaf, Level, coarseLevel, fineLevel
 use Rattle.definition.specs.Points.{boxWidth}
 use Rattle.definition.specs.Packed.{rowFloats, packedPoints}
 use Rattle.definition.proofs.Steps.{fineOf, nextOf, levels-last, levels-end, levels-more}
-use Rattle.definition.proofs.Cuts.{Good, sizesOf, leaves-sum}
+use Rattle.definition.proofs.Cuts.{Good, domainSizes, leaves-sum}
 use Rattle.definition_laws.proofs.Shape.{leaves-boxes}
 use Rattle.definition_laws.proofs.Overlaps.{borrowed-most}
 use Rattle.definition.proofs.Next.{Dealt, next-length}
@@ -68,9 +68,9 @@ module _ (d : ℕ) (cs : List Float) (leaf neighbours : ℕ) (active : List ℕ)
       ∙ ap (λ (z : ℕ). rowFloats d * z) (length-map (leavesOf d cs leaf active) (λ (q : Domain). q .box)))
 
   module _ (size : ℕ) (small : size ≤ length active) where
-    dealt : Dealt (sizesOf (leavesOf d cs leaf active)) size (quotas (sizesOf (leavesOf d cs leaf active)) size)
+    dealt : Dealt (domainSizes (leavesOf d cs leaf active)) size (quotas (domainSizes (leavesOf d cs leaf active)) size)
     dealt =
-        let zs = sizesOf (leavesOf d cs leaf active) in
+        let zs = domainSizes (leavesOf d cs leaf active) in
         let f = fair zs size in
         let all = leaves-sum d cs (g .axes) leaf (g .leaf-some) active good (g .rows-some) in
         record { as-many = f .entries; adds-up = omega (arith, f .sum, all); within = λ i l. f .within i }

@@ -1,7 +1,7 @@
 -- The loop over the levels. What is written, with what the levels that are left will write, is what is due. Assumes nothing.
--- Holds: rowCount, leafCount, Outs, Long, Inv, inv-first, rows-few, end-points, end-internals, end-domains, end-boxes,
---   end-borrowed, end-rows, end-counts, end-number, built-below, above, level-points, level-fits, level-room, first-fits,
---   bat-fits, size-few, inv-next
+-- Holds: rowCount, leafCount, Outs, Long, Inv, levels-first, rows-few, end-points, end-internals, end-domains, end-boxes,
+--   end-borrowed, end-rows, end-counts, end-number, built-below, level-above, level-points, level-fits, level-room, first-fits,
+--   bat-fits, size-few, levels-next
 use mathlib.Core.Path.{_≡_, refl, sym, ap, _∙_}
 use mathlib.Core.Bool.{true, false, _&&_}
 use mathlib.Core.List.{List, [], _∷_, _++_, map}
@@ -73,10 +73,10 @@ pub record Inv (d : ℕ) (cs : List Float) (leaf q c k n : ℕ) (P I D : List �
 
 module _ {d : ℕ} {cs : List Float} {leaf q n : ℕ} {P I D : List ℕ} {B : List Float} {L W : List ℕ} {F : List Float} (c k : ℕ) where
   -- ---- before the first level
-  pub inv-first : Given d cs leaf q (part P 0 n) → Space d q n mostFine P I D B L W F 0 0 0
+  pub levels-first : Given d cs leaf q (part P 0 n) → Space d q n mostFine P I D B L W F 0 0 0
       → Inv d cs leaf q c k n P I D B L W F P I D B L W F 0 0 n 0 0 (replicate 4 0) (replicate 4 0)
   unfolding packedDomains
-  inv-first g s = record {
+  levels-first g s = record {
     few = omega arith;
     slots = refl;
     slots-too = refl;
@@ -145,8 +145,8 @@ module _ {d : ℕ} {cs : List Float} {leaf q n : ℕ} {P I D : List ℕ} {B : Li
       pub built-below : built < mostFine
       built-below = ltb-true built mostFine (and-fst (ltb built mostFine) (ltb c a) yes)
 
-      pub above : c < a
-      above = ltb-true c a (and-snd (ltb built mostFine) (ltb c a) yes)
+      pub level-above : c < a
+      level-above = ltb-true c a (and-snd (ltb built mostFine) (ltb c a) yes)
 
       left : mostFine - built ≡ suc (mostFine - (built + 1))
       left = omega (arith, built-below)
@@ -177,7 +177,7 @@ module _ {d : ℕ} {cs : List Float} {leaf q n : ℕ} {P I D : List ℕ} {B : Li
 
       module _ {size : ℕ} (e : size ≡ levelSize a c (reductionsLeft k built)) where
         sizes : (1 ≤ size) × (size ≤ a)
-        sizes = rw e (size-small a c (reductionsLeft k built) some above (omega arith))
+        sizes = rw e (size-small a c (reductionsLeft k built) some level-above (omega arith))
 
         pub size-few : size ≤ a
         size-few = sizes .1
@@ -264,9 +264,9 @@ module _ {d : ℕ} {cs : List Float} {leaf q n : ℕ} {P I D : List ℕ} {B : Li
               few-rows : first + length (leavesAt d cs leaf q active) ≤ first + 2 * a
               few-rows = omega (arith, em, few-leaves)
 
-          pub inv-next : (W₂ : List ℕ) (F₂ : List Float) → length W₂ ≡ length W₁ → length F₂ ≡ length F₁
+          pub levels-next : (W₂ : List ℕ) (F₂ : List Float) → length W₂ ≡ length W₁ → length F₂ ≡ length F₁
               → Inv d cs leaf q c k n P I D B L W F P₂ I₂ D₂ B₂ L₂ W₂ F₂ (built + 1) (at + a) b (first + m) (bat + z) (set rows built a) (set counts built m)
-          inv-next W₂ F₂ eW eF =
+          levels-next W₂ F₂ eW eF =
               let l = next-long W₂ F₂ eW eF in
               let w = v .long in
               record {

@@ -330,9 +330,6 @@ module _ {A : Type 0} where
       sym (put-next (put l at xs) at xs ys (omega (arith, length-put l at xs h)))
       ∙ ap (λ (z : List A). put z (at + length xs) ys) (put-over l at xs xs (omega arith) refl) ∙ put-next l at xs ys (omega arith)
 
-  -- ---- what stands from an index on, and past it
-  module _ (l : List A) (at : ℕ) (xs ys : List A) (e : drop at l ≡ xs ++ ys) where
-
   -- ---- an element put in at an index
   unfoldable pub spliced : List A → ℕ → A → List A
   spliced l r x = take r l ++ x ∷ drop r l

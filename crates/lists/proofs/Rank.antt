@@ -104,16 +104,3 @@ module _ {A : Type 0} (before : A → A → Bool) (irr : (a : A) → before a a 
   -- ---- the order of two elements is that of how many come before them
   pub ahead-lt : (xs : List A) (p q : A) → List·Memᴰ p xs → before p q ≡ true → ahead before xs p < ahead before xs q
   ahead-lt xs p q m h = under xs q p m h
-
-next-same : (a t : ℕ) → (a ≡ t → ⊥) → ltb a (suc t) ≡ ltb a t
-next-same a t n = elim (decLe t a) [
-  | yes h ↦ le-ltb a (suc t) (above-of h) ∙ sym (le-ltb a t h)
-  | no h ↦ lt-ltb a (suc t) (omega arith) ∙ sym (lt-ltb a t (omega arith))
-]
-  where
-    above-of : t ≤ a → suc t ≤ a
-    above-of h = omega arith
-
--- ---- elements by a number w: the order of the ranks is that of the numbers
-module _ {A : Type 0} (w : A → ℕ) where
-    -- ---- a count that jumps from t to t + 1

@@ -1,5 +1,5 @@
 -- The counts per level that a build reports: each level's own count, and 0 beyond the last. Assumes nothing.
--- Holds: noLevel, counts-length, counts-before, counts-put, count-at
+-- Holds: noLevel, counts-length, counts-before, counts-put, level-count
 use mathlib.Core.Path.{_≡_, refl, sym, ap, _∙_}
 use mathlib.Core.Logic.{⊎-elim}
 use mathlib.Core.List.{List, [], _∷_, _++_, map}
@@ -59,9 +59,9 @@ module _ (f : Level → ℕ) (ls : List Level) where
       past : (l : ℕ) → length ls ≤ l → f (getD ls l noLevel) ≡ 0
       past l h = ap f (List·getD-eq-default ls noLevel h) ∙ none
 
-      pub count-at : (l : ℕ) → getD (perLevel f ls) l 0 ≡ f (getD ls l noLevel)
+      pub level-count : (l : ℕ) → getD (perLevel f ls) l 0 ≡ f (getD ls l noLevel)
       unfolding perLevel
-      count-at l =
+      level-count l =
           let m = length-map ls f in
           ⊎-elim
           (λ (h : length ls ≤ l).

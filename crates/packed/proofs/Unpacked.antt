@@ -1,7 +1,7 @@
 -- A packed tree is read back: the rows of each level, each leaf by its domain row, and so the whole tree; and a reader who goes by the
 -- domain rows stays inside the lists. Assumes nothing.
 -- Holds: noLeaf, Packs, levels-are, rows-on, leaves-on, listed-is, own-count-is, borrowed-count-is, own-is, borrowed-is, box-is,
---   leaf-is, row-fits, leaf-in, leaf-at, tree-back, tree-stands
+--   leaf-is, tree-row-fits, leaf-in, leaf-at, tree-back, tree-stands
 use mathlib.Core.Path.{_≡_, refl, sym, ap, ap₂, _∙_}
 use mathlib.Core.Logic.{⊎-elim}
 use mathlib.Core.List.{List, [], _∷_, _++_, map, map-map, map-id, append-assoc}
@@ -24,7 +24,7 @@ use Rattle.definition.specs.Tree.{Leaf, Level, mostFine}
 use Rattle.definition.specs.Packed.{Counts, rowNumbers, rowFloats, rowOf, numbersOf, leavesIn, packedPoints, packedOwn, packedBorrowed, packedDomains, packedBoxes, stretches, perLevel, countsOf}
 use Rattle.definition_laws.proofs.Fit.{length-leaves, length-points, length-domains}
 use Rattle.packed.specs.Reading.{Packed, ownStart, ownCount, borrowedStart, borrowedCount, ownAt, borrowedAt, boxAt, readLeaf, readLeaves, upTo, pointsAt, readLevel, readLevels, RowFits, Stands}
-use Rattle.packed.proofs.Counts.{noLevel, counts-length, counts-before, count-at}
+use Rattle.packed.proofs.Counts.{noLevel, counts-length, counts-before, level-count}
 
 -- what stands past a level's leaves
 abbrev pub noLeaf : Leaf
@@ -93,10 +93,10 @@ module _ (ls : List Level) (p : Packed) (points : List ℕ) (c : Counts) (k : Pa
   domains-are = ap (λ (x : Counts). x .domains) (k .counts)
 
   pub rows-on : (l : ℕ) → getD (c .rows) l 0 ≡ length (getD ls l noLevel .points)
-  rows-on l = ap (λ (x : List ℕ). getD x l 0) rows-are ∙ count-at (λ l. length (l .points)) ls (k .few) refl l
+  rows-on l = ap (λ (x : List ℕ). getD x l 0) rows-are ∙ level-count (λ l. length (l .points)) ls (k .few) refl l
 
   pub leaves-on : (l : ℕ) → getD (c .domains) l 0 ≡ length (getD ls l noLevel .leaves)
-  leaves-on l = ap (λ (x : List ℕ). getD x l 0) domains-are ∙ count-at (λ l. length (l .leaves)) ls (k .few) refl l
+  leaves-on l = ap (λ (x : List ℕ). getD x l 0) domains-are ∙ level-count (λ l. length (l .leaves)) ls (k .few) refl l
 
   -- the rows, and the leaves, of the levels before level l
   rows-before : (l : ℕ) → l ≤ length ls → take l (c .rows) ≡ map length (take l (map (λ l. l .points) ls))
@@ -205,9 +205,9 @@ module _ (ls : List Level) (p : Packed) (points : List ℕ) (c : Counts) (k : Pa
     unfolding readLeaf
     leaf-is = rw (own-is, borrowed-is, box-is)
 
-    pub row-fits : p .dimension ≤ 3 → RowFits p j
+    pub tree-row-fits : p .dimension ≤ 3 → RowFits p j
     unfolding packedOwn packedBorrowed packedBoxes
-    row-fits axes =
+    tree-row-fits axes =
         record {
           axes = axes;
           row = omega (arith, ap length (k .domains), length-append (packedDomains ls) (k .domains-rest), length-domains ls, h);
@@ -287,6 +287,6 @@ module _ (ls : List Level) (p : Packed) (points : List ℕ) (c : Counts) (k : Pa
         rowed = omega (arith, levels-are, k .few, ap length rows-are, counts-length (λ l. length (l .points)) ls);
         counted = omega (arith, levels-are, k .few, ap length domains-are, counts-length (λ l. length (l .leaves)) ls);
         within = rw levels-are counted-points;
-        fits = λ j h. row-fits j (omega (arith, counted-leaves, ap (upTo (c .domains)) levels-are)) axes;
+        fits = λ j h. tree-row-fits j (omega (arith, counted-leaves, ap (upTo (c .domains)) levels-are)) axes;
         coarse = ap (λ (l : ℕ). getD (c .domains) (l - 1) 0) levels-are ∙ leaves-on (length ls - 1) ∙ one;
       }

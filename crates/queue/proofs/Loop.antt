@@ -14,7 +14,7 @@ use Rattle.definition.specs.Packed.{rowNumbers}
 use Rattle.queue.specs.Rows.{twoHalves, twoOwn, withOwn}
 use Rattle.queue.proofs.Kind.{Kind, halvesOf, leafRows}
 use Rattle.queue.proofs.Stretches.{Stretch, halvesAt, waiting, waiting-next, waiting-join, waiting-length, waiting-none, waiting-first}
-use Rattle.queue.proofs.State.{Holds, State, cutsFor, cuts-length, state-first, state-end, state-wait, state-done}
+use Rattle.queue.proofs.State.{Holds, State, queueCuts, cuts-length, state-first, state-end, state-wait, state-done}
 use Rattle.queue.proofs.State.{now-inside, now-full, now-rows, now-leaves, now-good, now-same, now-left, now-right, now-wait, now-done}
 
 -- the waiting stretches, and what each turn of the loop brings down
@@ -22,7 +22,7 @@ abbrev pub queued : List ℕ → ℕ → ℕ → List Stretch
 queued room head tail = waiting room head (tail - head)
 
 unfoldable pub cutsLeft : List ℕ → ℕ → ℕ → ℕ
-cutsLeft room head tail = cutsFor (queued room head tail)
+cutsLeft room head tail = queueCuts (queued room head tail)
 
 -- the state, where the loop began with the domain d₀ of n rows, and with the lists I₀ and O₀
 abbrev pub StateOf : {D : Type 0} {leaf : ℕ} → Kind D leaf → ℕ → D → List ℕ → List ℕ → ℕ → ℕ → List ℕ → List ℕ → List ℕ → List Stretch → List D → ℕ → ℕ → ℕ → Type 0
@@ -112,7 +112,7 @@ module _ {D : Type 0} {leaf : ℕ} {K : Kind D leaf} {n : ℕ} {d₀ : D} {I₀ 
     pub turn-done : c / 2 < leaf → K .leaves (d ∷ ds) ≡ K .left d ∷ K .right d ∷ K .leaves ds
     turn-done g = now-done st (omega arith)
 
-    cuts-now : cutsLeft room head tail ≡ 2 * c - 1 + cutsFor rest
+    cuts-now : cutsLeft room head tail ≡ 2 * c - 1 + queueCuts rest
     unfolding cutsLeft total
     cuts-now = rw (waiting-next room head tail h, ec)
 

@@ -1,6 +1,6 @@
 -- The state of the loop over the queue, for any kind of domain: what waits is in order, what is still to be written fits, and
 -- what is written, with the leaves of what waits, is what is due. The loop's two turns keep it. Assumes nothing.
--- Holds: sizes, cutsFor, Waits, Holds, State, length-two, now-inside, now-full, now-rows, now-leaves, now-same, now-good,
+-- Holds: sizes, queueCuts, Waits, Holds, State, length-two, now-inside, now-full, now-rows, now-leaves, now-same, now-good,
 --   now-left, now-right, now-wait, now-done, state-wait, state-done, state-first, state-end, cuts-length
 use mathlib.Core.Path.{_≡_, refl, sym, ap, _∙_}
 use Prim.Native.Nat.{ℕ, _+_, _-_, _*_, _/_, _≤_, _<_}
@@ -22,8 +22,8 @@ use Rattle.queue.proofs.Stretches.{after-length, after-both, after-left
 abbrev pub sizes : List Stretch → ℕ
 sizes qs = total (map (λ q. q .count) qs)
 
-abbrev pub cutsFor : List Stretch → ℕ
-cutsFor qs = total (map (λ q. 2 * q .count - 1) qs)
+abbrev pub queueCuts : List Stretch → ℕ
+queueCuts qs = total (map (λ q. 2 * q .count - 1) qs)
 
 -- the waiting stretches of n rows
 pub record Waits (n : ℕ) (qs : List Stretch) : Type 0 where
@@ -46,7 +46,7 @@ pub record State {D : Type 0} {leaf : ℕ} (K : Kind D leaf) (n endI endK : ℕ)
   pub all : length rows ≡ n
   pub waits : Waits n qs
   pub holds : Holds K rows qs ds
-  pub room-left : head + cutsFor qs < 2 * n
+  pub room-left : head + queueCuts qs < 2 * n
   pub rows-left : at + sizes qs ≤ endI
   pub leaves-left : k + 2 * sizes qs ≤ endK
   pub fit-I : endI ≤ length I
@@ -279,7 +279,7 @@ state-end {K} {I} [] {at} st =
 state-end (d ∷ ds) st = absurd (st .holds)
 
 -- each waiting stretch is to be cut once at least
-pub cuts-length : (qs : List Stretch) → All (λ q. 1 ≤ q .count) qs → length qs ≤ cutsFor qs
+pub cuts-length : (qs : List Stretch) → All (λ q. 1 ≤ q .count) qs → length qs ≤ queueCuts qs
 unfolding total All
 cuts-length [] f = omega arith
 cuts-length (q ∷ qs) f = let a = cuts-length qs (f .1) in omega (arith, f .0)

@@ -1,7 +1,7 @@
 -- One list that holds the n rows, behind them the queue's room of 4 numbers a row, and spare room further on: what the code writes
 -- to the one list, as the loop's laws have it of rows and room. Assumes nothing.
--- Holds: rowsIn, roomIn, rows-part, rows-length, room-length, start-at, count-at, room-put, rows-kept, rows-put, room-kept,
---   first-rows, first-room, spare-length, spare-rows, spare-room
+-- Holds: rowsIn, roomIn, rows-part, rows-length, room-length, start-at, view-count, room-put, rows-kept, rows-put, room-kept,
+--   view-first-rows, first-room, spare-length, spare-rows, spare-room
 use mathlib.Core.Path.{_≡_, sym, ap, _∙_}
 use Prim.Native.Nat.{ℕ, _+_, _*_, _≤_, _<_}
 use native.Mathlib.Nat.{zero-add, add-zero, add-assoc}
@@ -31,8 +31,8 @@ module _ (n : ℕ) (w : List ℕ) (fit : 5 * n ≤ length w) where
   pub start-at : (h : ℕ) → h < 2 * n → getD (roomIn n w) (2 * h) 0 ≡ getD w (n + 2 * h) 0
   start-at h g = getD-part w n (4 * n) (2 * h) 0 (omega arith)
 
-  pub count-at : (h : ℕ) → h < 2 * n → getD (roomIn n w) (2 * h + 1) 0 ≡ getD w (n + 2 * h + 1) 0
-  count-at h g = getD-part w n (4 * n) (2 * h + 1) 0 (omega arith) ∙ ap (λ (i : ℕ). getD w i 0) (sym (add-assoc n (2 * h) 1))
+  pub view-count : (h : ℕ) → h < 2 * n → getD (roomIn n w) (2 * h + 1) 0 ≡ getD w (n + 2 * h + 1) 0
+  view-count h g = getD-part w n (4 * n) (2 * h + 1) 0 (omega arith) ∙ ap (λ (i : ℕ). getD w i 0) (sym (add-assoc n (2 * h) 1))
 
   -- a write to the room
   pub room-put : (i : ℕ) (xs : List ℕ) → i + length xs ≤ 4 * n → roomIn n (put w (n + i) xs) ≡ put (roomIn n w) i xs
@@ -53,8 +53,8 @@ module _ (n : ℕ) (w w₁ : List ℕ) (fit : 5 * n ≤ length w) (some : 1 ≤ 
   at-front : w₁ ≡ put w (n + 0) (0 ∷ n ∷ [])
   at-front = rw (add-zero n) e
 
-  pub first-rows : rowsIn n w₁ ≡ rowsIn n w
-  first-rows = rw at-front (rows-kept n w fit 0 (0 ∷ n ∷ []) (omega arith))
+  pub view-first-rows : rowsIn n w₁ ≡ rowsIn n w
+  view-first-rows = rw at-front (rows-kept n w fit 0 (0 ∷ n ∷ []) (omega arith))
 
   pub first-room : roomIn n w₁ ≡ put (roomIn n w) 0 (0 ∷ n ∷ [])
   first-room = rw at-front (room-put n w fit 0 (0 ∷ n ∷ []) (omega arith))

@@ -1,5 +1,5 @@
 -- One leaf's product, share and remainder as the code forms them, and its quota. Assumes nothing.
--- Holds: same-leaves, top-cut, cut-is, whole-is, remainder-is, whole-small, quota-is
+-- Holds: same-leaves, top-cut, seat-cut-is, whole-is, remainder-is, whole-small, quota-is
 use Prim.Native.Nat.{ℕ, _+_, _-_, _*_, _/_, _%_, _≤_, _<_, min}
 use mathlib.Core.Path.{_≡_, sym, ap, _∙_}
 use mathlib.Core.List.{List}
@@ -20,9 +20,9 @@ module _ (sizes : List ℕ) (first rest pool : ℕ) (k : Sharing sizes first res
   pub top-cut : (left : ℕ) → remaindersAbove (capacities sizes first) rest pool ≤ left
   top-cut left = omega (arith, none-above (capacities sizes first) rest (k .within) pool (omega (arith, k .divisor)))
 
-  pub cut-is : (left t : ℕ) → left ≡ leftover (capacities sizes first) rest → remaindersAbove (capacities sizes first) rest t ≤ left
+  pub seat-cut-is : (left t : ℕ) → left ≡ leftover (capacities sizes first) rest → remaindersAbove (capacities sizes first) rest t ≤ left
       → ((s : ℕ) → s < t → left < remaindersAbove (capacities sizes first) rest s) → RemaindersCut (capacities sizes first) rest left t
-  cut-is = cut-by (capacities sizes first) rest (k .within)
+  seat-cut-is = cut-by (capacities sizes first) rest (k .within)
 
   module _ (i p : ℕ) (ep : p ≡ rest * (sizeAt sizes i - first)) where
     product-is : p ≡ rest * sizeAt (capacities sizes first) i

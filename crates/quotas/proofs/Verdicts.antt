@@ -10,7 +10,7 @@ use Rattle.definition.specs.Quotas.{heldSeats, quotas, quotasFor}
 use Rattle.definition.specs.Packed.{quotaStated}
 use Rattle.definition.specs.Refusals.{accepted, refused, verdict, mostPoints, quotaShort, quotaVerdict}
 use Rattle.definition.specs.Outcome.{Answer, Shared, numberOf, placeOf, valueOf, written, listAfter, RoomAfter, quotaCall, quotaAnswer, quotaOutput}
-use Rattle.level_sizes.specs.Answers.{reports, refuses}
+use Rattle.level_sizes.specs.Answers.{sizeReports, refuses}
 use Rattle.quotas.specs.Answers.{noSeats}
 use Rattle.quotas.specs.Outcome.{SeatsShared}
 
@@ -43,7 +43,7 @@ module _ (sizes : List ℕ) (s : ℕ) (out room : List ℕ) where
   -- an accepted call: the quotas stand at the front of the output
   pub seated : (n t : ℕ) (out′ room′ : List ℕ) → total sizes ≤ mostPoints → length sizes ≤ length out → length sizes ≤ length room
       → n ≡ length sizes → t ≡ heldSeats sizes s → out′ ≡ written (quotasFor sizes t) out → length room′ ≡ length room
-      → Outcome sizes s out room (reports (record { leaves = n; seats = t })) out′ room′
+      → Outcome sizes s out room (sizeReports (record { leaves = n; seats = t })) out′ room′
   unfolding quotaAnswer quotaOutput numberOf placeOf valueOf listAfter RoomAfter quotas
   seated n t out′ room′ h l m en et eo er =
       let e = passed h l m in

@@ -1,6 +1,6 @@
 -- The cases of `root`, by its tests: NaN, a number below zero, a zero, the infinity, and a finite number above zero.
 -- Assumes nothing.
--- Holds: nan-nan, negative-nan, zero-itself, Finite, finite-left, infinite-itself
+-- Holds: nan-nan, negative-nan, zero-itself, FiniteCase, finite-left, infinite-itself
 use mathlib.Core.Path.{_≡_, refl, sym, ap, _∙_, subst}
 use mathlib.Core.Bool.{Bool, true, false, _&&_, _||_, Bool·beq, true≢false, false≢true}
 use Prim.Native.Nat.{ℕ, zero, suc, _+_, _*_, _<_}
@@ -65,13 +65,13 @@ zero-equals s e =
     go false = refl
 
 -- a finite number above zero, with its parts
-pub record Finite (x : Float) : Type 0 where
+pub record FiniteCase (x : Float) : Type 0 where
   pub m : ℕ
   pub e : ℤ
   pub is : x ≡ fin false (suc m) e
 
 -- a number that is not negative, no zero and below the infinity
-pub finite-left : (x : Float) → lt x plusZero ≡ false → eq x plusZero ≡ false → lt x (inf false) ≡ true → Finite x
+pub finite-left : (x : Float) → lt x plusZero ≡ false → eq x plusZero ≡ false → lt x (inf false) ≡ true → FiniteCase x
 unfolding lt eq ofBits
 finite-left nan p q r = absurd (false≢true r)
 finite-left (inf true) p q r = absurd (true≢false p)

@@ -11,13 +11,13 @@ use Rattle.root_laws.proofs.Rounding.{root-of-pattern}
 use Rattle.root_laws.proofs.Scaling.{root-is}
 use Rattle.root_laws.proofs.Rooted.{value-is}
 use Rattle.root_laws.proofs.Patterns.{read}
-use Rattle.root.proofs.Cases.{Finite}
+use Rattle.root.proofs.Cases.{FiniteCase}
 
 -- the pattern, from the nearest whole root of the significand
-pub rooted :
+pub whole-rooted :
     (b m e n q : ℕ) → Leading b m e → m * 2 ^ e ≡ n * 2 ^ 52 * 2 ^ (e / 2 - 26) * 2 ^ (e / 2 - 26) →
     NearRoot (n * 2 ^ 52) q → RootBits b ((e / 2 - 26) * 2 ^ 52 + q)
-rooted b m e n q L s N =
+whole-rooted b m e n q L s N =
     let j = e / 2 - 27 in
     let a = L .least in
     let z = L .most in
@@ -43,13 +43,13 @@ rooted b m e n q L s N =
 
 -- its pattern is one that `root_bits` takes, and the pattern that comes back is the root's
 pub finite-bits :
-    (x : Float) → Finite x → T (fits binary64 x) → (0 < toBits binary64 x) × (toBits binary64 x < 2047 * 2 ^ 52)
+    (x : Float) → FiniteCase x → T (fits binary64 x) → (0 < toBits binary64 x) × (toBits binary64 x < 2047 * 2 ^ 52)
 finite-bits x F h =
     subst (λ (y : Float). (0 < toBits binary64 y) × (toBits binary64 y < 2047 * 2 ^ 52)) (sym (F .is))
     (let r = read (F .m) (F .e) (subst (λ (y : Float). T (fits binary64 y)) (F .is) h) in (r .positive, r .below))
 
 pub finite-root :
-    (x : Float) (r : ℕ) → Finite x → T (fits binary64 x) → RootBits (toBits binary64 x) r → ofBits binary64 r ≡ squareRoot x
+    (x : Float) (r : ℕ) → FiniteCase x → T (fits binary64 x) → RootBits (toBits binary64 x) r → ofBits binary64 r ≡ squareRoot x
 finite-root x r F h b =
     let z = read (F .m) (F .e) (subst (λ (y : Float). T (fits binary64 y)) (F .is) h) in
     b .value

@@ -8,9 +8,9 @@ use lib.IntN.{ℤ}
 use lib.Ieee.{Float, nan, inf, fin, Format, prec, emax, low, unlike, up, down, binary64, odd, units, round, sum, add, sub, neg, mul, ofBits, fits}
 use lib.Ieee.Fits.{round-is, add-fits, mul-fits}
 use lib.Ieee.Scale.{finite}
-use Rattle.definition.specs.Number.{plusZero, plus, minus, times}
+use Rattle.definition.specs.Number.{plusZero, plus, minus, product}
 use Rattle.root_laws.specs.Sorts.{isNumber, notNegative, good}
-use Rattle.root_laws.proofs.Order.{Good, top, num, view, both}
+use Rattle.root_laws.proofs.Order.{GoodFloat, top, num, view, both}
 
 -- ---- a test that passes every value of the sign s passes what is rounded with that sign
 cond-passes : (P : Float → Bool) (b : Bool) (x y : Float) → P x ≡ true → P y ≡ true → P (cond b x y) ≡ true
@@ -52,17 +52,17 @@ unlike-self : (s : Bool) → unlike s s ≡ false
 unlike-self true = refl
 unlike-self false = refl
 
-square-nn : (x : Float) → isNumber x ≡ true → notNegative (times x x) ≡ true
+square-nn : (x : Float) → isNumber x ≡ true → notNegative (product x x) ≡ true
 unfolding mul
 square-nn nan h = absurd (true≢false (sym h))
 square-nn (inf s) h = simp unlike-self
 square-nn (fin s m e) h = simp unlike-self (round-nn binary64 (m * up e * (m * up e)) (down e * down e))
 
 -- a square
-pub square-good : (x : Float) → isNumber x ≡ true → good (times x x) ≡ true
-square-good x h = both (notNegative (times x x)) (fits binary64 (times x x)) (square-nn x h) (mul-fits binary64 x x)
+pub square-good : (x : Float) → isNumber x ≡ true → good (product x x) ≡ true
+square-good x h = both (notNegative (product x x)) (fits binary64 (product x x)) (square-nn x h) (mul-fits binary64 x x)
 
-add-nn : {x y : Float} → Good x → Good y → notNegative (plus x y) ≡ true
+add-nn : {x y : Float} → GoodFloat x → GoodFloat y → notNegative (plus x y) ≡ true
 unfolding add sum
 add-nn top top = refl
 add-nn top (num n d) = refl

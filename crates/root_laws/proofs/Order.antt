@@ -1,6 +1,6 @@
 -- The order of values that are not negative: +0, the positive numbers and +infinity. On them `lt` is a strict order of
 -- numbers, and `lt y x ≡ false` says that x is at most y. Assumes nothing.
--- Holds: Good, both, fits-of, view, not-lt→le, le→not-lt, lt-irrefl, lt-asym, le-le, le-lt, lt-le
+-- Holds: GoodFloat, both, fits-of, view, not-lt→le, le→not-lt, lt-irrefl, lt-asym, le-le, le-lt, lt-le
 use mathlib.Core.Path.{_≡_, refl, sym, _∙_}
 use mathlib.Core.Bool.{Bool, true, false, _&&_, _||_, true≢false}
 use mathlib.Core.Logic.{_⊎_, ⊎-elim}
@@ -17,11 +17,11 @@ use Rattle.lists.proofs.Tests.{true-or-false, and-fst}
 use Rattle.root_laws.specs.Sorts.{notNegative, good}
 
 -- such a value, by its parts
-pub data Good : Float → Type 0 where
-  top : Good (inf false)
-  num : (m : ℕ) (e : ℤ) → Good (fin false m e)
+pub data GoodFloat : Float → Type 0 where
+  top : GoodFloat (inf false)
+  num : (m : ℕ) (e : ℤ) → GoodFloat (fin false m e)
 
-view′ : (x : Float) → notNegative x ≡ true → Good x
+view′ : (x : Float) → notNegative x ≡ true → GoodFloat x
 view′ nan h = absurd (true≢false (sym h))
 view′ (inf true) h = absurd (true≢false (sym h))
 view′ (inf false) h = top
@@ -42,12 +42,12 @@ both false b p t = p
 pub fits-of : (x : Float) → good x ≡ true → T (fits binary64 x)
 fits-of x h = and-right (notNegative x) (fits binary64 x) h
 
-pub view : (x : Float) → good x ≡ true → Good x
+pub view : (x : Float) → good x ≡ true → GoodFloat x
 view x h = view′ x (and-fst (notNegative x) (fits binary64 x) h)
 
 -- ---- `le` and `lt`
 
-pub not-lt→le : {x y : Float} → Good x → Good y → lt y x ≡ false → T (le x y)
+pub not-lt→le : {x y : Float} → GoodFloat x → GoodFloat y → lt y x ≡ false → T (le x y)
 unfolding lt le
 not-lt→le top top h = tt
 not-lt→le top (num n d) h = absurd (true≢false h)
@@ -62,7 +62,7 @@ or-le true q z a b l e h = le-of-lt (l tt)
 or-le false true z a b l e h = le-of-eq (e tt)
 or-le false false z a b l e h = absurd h
 
-pub le→not-lt : {x y : Float} → Good x → Good y → T (le x y) → lt y x ≡ false
+pub le→not-lt : {x y : Float} → GoodFloat x → GoodFloat y → T (le x y) → lt y x ≡ false
 unfolding lt le
 le→not-lt top top h = refl
 le→not-lt top (num n d) h = absurd h
@@ -81,12 +81,12 @@ frac-trans a p b q c r Q h k =
     le-of-mul-le-mul-right (le-trans l (le-trans (mul-le-mul-right p k) (le-of-eq (mul-right-comm c q p)))) Q
 
 -- ---- the laws; `lt y x ≡ false` says that x is at most y
-refl-of : {x : Float} → Good x → lt x x ≡ false
+refl-of : {x : Float} → GoodFloat x → lt x x ≡ false
 unfolding lt
 refl-of top = refl
 refl-of (num m e) = le-ltb (m * up e * down e) (m * up e * down e) (omega arith)
 
-asym-of : {x y : Float} → Good x → Good y → lt x y ≡ true → lt y x ≡ false
+asym-of : {x y : Float} → GoodFloat x → GoodFloat y → lt x y ≡ true → lt y x ≡ false
 unfolding lt
 asym-of top top h = refl
 asym-of top (num n d) h = absurd (true≢false (sym h))
@@ -94,7 +94,7 @@ asym-of (num m e) top h = refl
 asym-of (num m e) (num n d) h =
     le-ltb (n * up d * down e) (m * up e * down d) (le-of-lt (ltb-true (m * up e * down d) (n * up d * down e) h))
 
-trans-of : {x y z : Float} → Good x → Good y → Good z → lt y x ≡ false → lt z y ≡ false → lt z x ≡ false
+trans-of : {x y z : Float} → GoodFloat x → GoodFloat y → GoodFloat z → lt y x ≡ false → lt z y ≡ false → lt z x ≡ false
 unfolding lt
 trans-of top top top h k = refl
 trans-of top top (num l g) h k = absurd (true≢false k)

@@ -13,7 +13,7 @@ use lib.Ieee.Fits.{up-pos}
 use Rattle.definition.specs.Number.{plusZero}
 use Rattle.definition.specs.Refusals.{Verdict, accepted, refused, verdict, rootVerdict}
 use Rattle.root_laws.specs.Sorts.{hasRoot, good}
-use Rattle.root_laws.proofs.Order.{Good, top, num, view}
+use Rattle.root_laws.proofs.Order.{GoodFloat, top, num, view}
 
 -- ---- numbers against +0
 pub zero-size : (e : ℤ) → 0 * up e * 1 ≡ 0
@@ -85,7 +85,7 @@ accepted-has-root x h = go (hasRoot x) (sym (root-verdict x) ∙ h)
         no : _≡_ {A = ℕ} 0 1 → ⊥
         no z = omega arith
 
-good-root : {x : Float} → Good x → hasRoot x ≡ true
+good-root : {x : Float} → GoodFloat x → hasRoot x ≡ true
 good-root top = refl
 good-root (num zero e) = refl
 good-root (num (suc m) e) = refl

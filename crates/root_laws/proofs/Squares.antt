@@ -1,6 +1,6 @@
 -- Whole-number squares and roots: what `wholeRoot` and `halves` are. Assumes nothing.
--- Holds: sq-one, sq-two, sq-back, sq-lt, sq-back-le, IsWhole, whole-root, the-root, Kind, half-root, halves-above, halves-below,
---   halves-square, halves-mono
+-- Holds: sq-one, sq-two, sq-back, sq-lt, sq-back-le, IsWhole, whole-root, the-root, RootKind, half-root, halves-above,
+--   halves-below, halves-square, halves-mono
 use mathlib.Core.Path.{_≡_, refl, sym, ap, _∙_, subst}
 use mathlib.Core.Logic.{_⊎_, inl, inr}
 use mathlib.Core.Bool.{Bool, true, false, cond, not}
@@ -73,13 +73,13 @@ pub the-root : (n : ℕ) → IsWhole (wholeRoot (size n) n) n
 the-root n = whole-root (size n) n (lt-of-lt-of-le (size-lt n) (pow-le-pow-left (lit≤ tt) (size n)))
 
 -- ---- `halves n` compares with an even number 2 * c as n compares with c * c
-abbrev pub Kind : ℕ → ℕ → ℕ → Type 0
-Kind s n h = ((s * s ≡ n) × (h ≡ 2 * s)) ⊎ ((s * s < n) × (h ≡ 2 * s + 1))
+abbrev pub RootKind : ℕ → ℕ → ℕ → Type 0
+RootKind s n h = ((s * s ≡ n) × (h ≡ 2 * s)) ⊎ ((s * s < n) × (h ≡ 2 * s + 1))
 
-the-halves : (s n : ℕ) → IsWhole s n → Kind s n (between s n)
+the-halves : (s n : ℕ) → IsWhole s n → RootKind s n (between s n)
 the-halves s n w = go (eqb (s * s) n) (eqb→eq (s * s) n) (λ (e : s * s ≡ n). eq→eqb e)
   where
-    go : (b : Bool) → (T b → s * s ≡ n) → (s * s ≡ n → T b) → Kind s n (cond b (2 * s) (2 * s + 1))
+    go : (b : Bool) → (T b → s * s ≡ n) → (s * s ≡ n → T b) → RootKind s n (cond b (2 * s) (2 * s + 1))
     go true p q = inl (p tt, refl)
     go false p q = inr (lt-of-le-ne (w .0) q, refl)
 
@@ -88,7 +88,7 @@ unfolding halves
 halves-is n = refl
 
 -- the whole root, with what `halves` is by it
-pub half-root : (n : ℕ) → (s : ℕ) × IsWhole s n × (Kind s n (halves n))
+pub half-root : (n : ℕ) → (s : ℕ) × IsWhole s n × (RootKind s n (halves n))
 half-root n =
     let s = wholeRoot (size n) n in
     (s, the-root n, rw halves-is (the-halves s n (the-root n)))
@@ -100,7 +100,7 @@ halves-above n c h =
     let k : c < s + 1 = sq-back c (s + 1) (lt-of-lt-of-le h (le-of-lt (r .1 .1))) in
     go s k (r .2)
   where
-    go : (s : ℕ) → c < s + 1 → Kind s n (halves n) → 2 * c < halves n
+    go : (s : ℕ) → c < s + 1 → RootKind s n (halves n) → 2 * c < halves n
     go s k (inl e) =
         let l : c < s = sq-back c s (lt-of-lt-of-le h (le-of-eq (sym (e .0)))) in
         omega arith
@@ -111,7 +111,7 @@ halves-below n c h =
     let r = half-root n in
     go (r .0) (sq-back (r .0) c (lt-of-le-of-lt (r .1 .0) h)) (r .2)
   where
-    go : (s : ℕ) → s < c → Kind s n (halves n) → halves n < 2 * c
+    go : (s : ℕ) → s < c → RootKind s n (halves n) → halves n < 2 * c
     go s k (inl e) = omega arith
     go s k (inr e) = omega arith
 
@@ -120,7 +120,7 @@ halves-square n c e =
     let r = half-root n in
     go (r .0) (r .1) (r .2)
   where
-    go : (s : ℕ) → IsWhole s n → Kind s n (halves n) → halves n ≡ 2 * c
+    go : (s : ℕ) → IsWhole s n → RootKind s n (halves n) → halves n ≡ 2 * c
     go s w (inl p) =
         let x : s ≤ c = sq-back-le s c (le-of-eq (p .0 ∙ sym e)) in
         let y : c ≤ s = sq-back-le c s (le-of-eq (e ∙ sym (p .0))) in
@@ -138,7 +138,7 @@ halves-mono m n h =
     let r = half-root m in
     go (r .0) (r .1) (r .2)
   where
-    go : (s : ℕ) → IsWhole s m → Kind s m (halves m) → halves m ≤ halves n
+    go : (s : ℕ) → IsWhole s m → RootKind s m (halves m) → halves m ≤ halves n
     go s w (inl p) = elim (eq-or-lt-of-le h) [
       | inl e ↦ le-of-eq (ap halves e)
       | inr l ↦ let k = halves-above n s (lt-of-le-of-lt (le-of-eq (p .0)) l) in omega arith

@@ -12,7 +12,7 @@ use lib.Ieee.Positive.{positive, positive-of-value}
 use Rattle.definition.specs.Refusals.{accepted, rootVerdict}
 use Rattle.definition.specs.Number.{halves, unitsOf, rootOfUnits, squareRoot}
 use Rattle.root_laws.specs.Sorts.{notNegative, good, hasRoot}
-use Rattle.root_laws.proofs.Order.{Good, top, num, view, fits-of, both, not-lt→le, le→not-lt}
+use Rattle.root_laws.proofs.Order.{GoodFloat, top, num, view, fits-of, both, not-lt→le, le→not-lt}
 use Rattle.root_laws.proofs.Scaling.{root-is}
 use Rattle.root_laws.proofs.Rooted.{rooted, value-is}
 use Rattle.root_laws.proofs.Monotone.{monotone}
@@ -57,7 +57,7 @@ positive-nn (inf s) p = absurd p
 positive-nn (fin true m e) p = absurd p
 positive-nn (fin false m e) p = refl
 
-root-nn : {x : Float} → Good x → T (fits binary64 x) → notNegative (squareRoot x) ≡ true
+root-nn : {x : Float} → GoodFloat x → T (fits binary64 x) → notNegative (squareRoot x) ≡ true
 root-nn top f = unfold squareRoot in refl
 root-nn (num zero e) f = unfold squareRoot in refl
 root-nn (num (suc m) e) f =

@@ -11,13 +11,13 @@ use lib.IntN.{negsuc}
 use lib.Ieee.{Float, inf, binary64, up, down, lt, neg, mul, ofBits, fits}
 use lib.Ieee.Fits.{down-pos, mul-fits}
 use Rattle.lists.proofs.Tests.{clash}
-use Rattle.definition.specs.Number.{times}
+use Rattle.definition.specs.Number.{product}
 use Rattle.root_laws.specs.Sorts.{notNegative, good}
 use Rattle.root_laws.proofs.Operations.{round-nn}
-use Rattle.root_laws.proofs.Order.{Good, top, num, view, both, lt-irrefl, lt-asym, le-le}
+use Rattle.root_laws.proofs.Order.{GoodFloat, top, num, view, both, lt-irrefl, lt-asym, le-le}
 use Rattle.sampling_rounds.specs.Rounds.{lesser, minusOne, KeptSquare}
 
-below-of : {x : Float} → Good x → lt minusOne x ≡ true
+below-of : {x : Float} → GoodFloat x → lt minusOne x ≡ true
 unfolding lt neg ofBits
 below-of top = refl
 below-of (num m e) = lt-ltb 0 (1 * down e + m * up e * 1) (omega (arith, down-pos e))
@@ -26,7 +26,7 @@ below-of (num m e) = lt-ltb 0 (1 * down e + m * up e * 1) (omega (arith, down-po
 pub one-below : (x : Float) → good x ≡ true → lt minusOne x ≡ true
 one-below x g = below-of (view x g)
 
-above-of : {x : Float} → Good x → lt x minusOne ≡ false
+above-of : {x : Float} → GoodFloat x → lt x minusOne ≡ false
 unfolding lt neg ofBits
 above-of top = refl
 above-of (num m e) = refl
@@ -87,7 +87,7 @@ lesser-kept x y g k = go (lt x y)
 pub lesser-one : (x : Float) → good x ≡ true → lesser x minusOne ≡ minusOne
 lesser-one x g = rw (none-below x g)
 
-inf-of : {x : Float} → Good x → lesser x (inf false) ≡ x
+inf-of : {x : Float} → GoodFloat x → lesser x (inf false) ≡ x
 unfolding lt
 inf-of top = refl
 inf-of (num m e) = refl
@@ -102,11 +102,11 @@ lesser-inf x g = inf-of (view x g)
 abbrev pub nearOne : Float
 nearOne = ofBits binary64 0x3fef_ffff_ffff_fff7
 
-near-of : {x : Float} → Good x → notNegative (times x nearOne) ≡ true
+near-of : {x : Float} → GoodFloat x → notNegative (product x nearOne) ≡ true
 unfolding mul ofBits
 near-of top = refl
 near-of (num m e) = round-nn binary64 (m * up e * (0x1f_ffff_ffff_fff7 * up (negsuc 52))) (down e * down (negsuc 52))
 
-pub near-good : (x : Float) → good x ≡ true → good (times x nearOne) ≡ true
+pub near-good : (x : Float) → good x ≡ true → good (product x nearOne) ≡ true
 near-good x g =
-    both (notNegative (times x nearOne)) (fits binary64 (times x nearOne)) (near-of (view x g)) (mul-fits binary64 x nearOne)
+    both (notNegative (product x nearOne)) (fits binary64 (product x nearOne)) (near-of (view x g)) (mul-fits binary64 x nearOne)

@@ -16,7 +16,7 @@ use lib.Ieee.{Float, nan, up, down, lt, ofBits}
 use Rattle.lists.proofs.Tests.{clash}
 use Rattle.definition.specs.Number.{plusZero, squareRoot}
 use Rattle.root_laws.specs.Sorts.{good}
-use Rattle.root_laws.proofs.Order.{lt-irrefl, le-le, le-lt, lt-le, view, Good, top, num}
+use Rattle.root_laws.proofs.Order.{lt-irrefl, le-le, le-lt, lt-le, view, GoodFloat, top, num}
 use Rattle.root_laws.proofs.Values.{root-good, root-order}
 use Rattle.sampling_rounds.specs.Rounds.{minusOne, KeptSquare, Held, Peaked, Earliest, Chosen}
 use Rattle.sampling_rounds.proofs.Orders.{one-below}
@@ -25,7 +25,7 @@ use Rattle.sampling_rounds.proofs.Orders.{one-below}
 pub root-below : (r y : Float) → good r ≡ true → good y ≡ true → lt (squareRoot y) r ≡ true → (x : Float) → good x ≡ true → lt y x ≡ false → lt (squareRoot x) r ≡ true
 root-below r y gr gy h x gx l = le-lt (squareRoot x) (squareRoot y) r (root-good x gx) (root-good y gy) gr (root-order x y gx gy l) h
 
-zero-of : {x : Float} → Good x → lt x plusZero ≡ false
+zero-of : {x : Float} → GoodFloat x → lt x plusZero ≡ false
 unfolding lt ofBits
 zero-of top = refl
 zero-of (num m e) = le-ltb (m * up e * 1) (0 * down e) (omega (arith, zero-mul (down e)))

@@ -1,6 +1,6 @@
 -- A call by the length of its slot: a short one is refused before anything else, and any other gets what the call answers.
 -- Assumes nothing.
--- Holds: slot-short, slot-long, slot-written, room-short, room-long, number-long, counts-put
+-- Holds: slot-short, slot-long, slot-written, room-short, room-long, number-long, slot-counts
 use mathlib.Core.Path.{_≡_, refl, ap, _∙_}
 use mathlib.Core.List.{List, [], _∷_, _++_}
 use Prim.Native.Nat.{ℕ, _≤_, _<_}
@@ -41,10 +41,10 @@ module _ {B : Type 0} (n : ℕ) (slot : List B) where
   number-long a b k h e g = slot-long 11 (b .number) k h (e ∙ ap (λ (x : Answer _). x .number) g)
 
 -- place and levels, then the rows of each level, then the domains of each level
-pub counts-put : (old first second third : List ℕ) (place levels : ℕ) (rows domains : List ℕ) → length rows ≡ 4 → length domains ≡ 4
+pub slot-counts : (old first second third : List ℕ) (place levels : ℕ) (rows domains : List ℕ) → length rows ≡ 4 → length domains ≡ 4
     → first ≡ put old 0 (place ∷ levels ∷ []) → second ≡ put first 2 (part rows 0 4) → third ≡ put second 6 (part domains 0 4)
     → third ≡ put old 0 (place ∷ levels ∷ rows ++ domains)
-counts-put old first second third place levels rows domains m k e f g =
+slot-counts old first second third place levels rows domains m k e f g =
     let two : second ≡ put old 0 (place ∷ levels ∷ rows) =
     f ∙ rw (e, part-whole rows 4 m) (put-next-at old 0 (place ∷ levels ∷ []) rows 2 (omega arith) refl) in
     g ∙ rw (two, part-whole domains 4 k) (put-next-at old 0 (place ∷ levels ∷ rows) domains 6 (omega arith) (omega arith))

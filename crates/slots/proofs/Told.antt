@@ -10,14 +10,14 @@ use lib.ListN.{length, set}
 use lib.Ieee.{Float}
 use Rattle.lists.specs.Lists.{put}
 use Rattle.lists.proofs.Put.{set-put}
-use Rattle.definition.specs.Levels.{Policy}
+use Rattle.definition.specs.Levels.{Policy, policyFrom}
 use Rattle.definition.specs.Tree.{Settings}
 use Rattle.definition.specs.Packed.{Counts}
 use Rattle.definition.specs.Outcome.{Answer, Shared, TreeLists, RoomAfter, buildCall, buildAnswer, buildLists}
 use Rattle.quotas.specs.Outcome.{SeatsShared}
 use Rattle.sampling.specs.Outcome.{RowsSampled}
 use Rattle.slots.specs.Slots.{valueSlot, buildSlot}
-use Rattle.slots.specs.Settings.{policyFrom, settingsFrom}
+use Rattle.slots.specs.Settings.{settingsFrom}
 use Rattle.slots.specs.Told.{Told, QuotasTold, SampleTold, BuildTold}
 use Rattle.slots.proofs.Slots.{slot-short, slot-long, slot-written, room-short, room-long, number-long}
 

@@ -10,7 +10,7 @@ ghost use Rattle.quotas.specs.Answers.{quotaReport};
 ghost use Rattle.sampling.specs.Answers.{sampleReport};
 ghost use Rattle.config.specs.Params.{thresholdPolicy};
 ghost use Rattle.build_sizes.specs.Sizes.{sizesOf};
-ghost use Rattle.slots.specs.Settings.{policyFrom};
+ghost use Rattle.definition.specs.Levels.{policyFrom};
 ghost use Rattle.slots.specs.Slots.{lengthsOf, versionNumber};
 use build_sizes::BuildSizes;
 use config::SizePolicy;

@@ -2,7 +2,7 @@
 -- axes, `point-short`, `point-there` and `point-room` are its record's bytes, `job-broken`, `job-low` and `job-high` the settings, `Reading`
 -- is the state between two records with its start (`begun`) and its steps (`reading-..`), `policy-..` the policy. Assumes nothing.
 -- Holds: axis, point-none, point-step, point-short, point-there, point-room, whole-long, job-broken, job-low, job-high, Reading,
---   begun, spot, reading-cut, reading-full, reading-more, reading-over, reading-done, policy-auto, policy-fixed
+--   begun, spot, reading-cut, reading-full, reading-more, reading-over, reading-done
 use mathlib.Core.Path.{_≡_, refl, sym, ap, _∙_}
 use mathlib.Core.Bool.{Bool, true, false}
 use Prim.Native.Nat.{ℕ, zero, suc, _+_, _-_, _*_, _≤_, _<_}
@@ -23,7 +23,7 @@ use Rattle.lists.proofs.Tests.{and-fst}
 use Rattle.definition.specs.Tree as tree
 use Rattle.definition.specs.Levels.{auto, fixed}
 use Rattle.formats.specs.Bytes.{markedBy, whole, markSize, floatSize, floatAt, valueAt}
-use Rattle.formats.specs.Stream.{policyFrom, settingsSize, dimensionField, settingsIn, pointMark, pointSize, coordinatesAt, job, broken, brokenAt, tooLarge, streamPoints, streamNeighbours, readPoints, held, jobIn}
+use Rattle.formats.specs.Stream.{settingsSize, dimensionField, settingsIn, pointMark, pointSize, coordinatesAt, job, broken, brokenAt, tooLarge, streamPoints, streamNeighbours, readPoints, held, jobIn}
 use Rattle.stream_laws.proofs.Stream.{length-coordinates, stream-end, stream-cut, stream-full, stream-more}
 use Rattle.stream_reader.proofs.Whole.{settingsWhole}
 
@@ -171,11 +171,3 @@ module _ {s : tree.Settings} {bs : List ℕ} {cs : List Float} {at n : ℕ} (r :
   pub reading-done : length bs ≤ at → s .neighbours ≤ streamNeighbours → job s (take (n * s .dimension) cs) ≡ jobIn bs
   unfolding held
   reading-done h g = sym (ended h ∙ rw (le-ltb streamNeighbours (s .neighbours) g))
-
--- ---- the policy
-pub policy-auto : (p c : ℕ) → p ≡ 0 → auto ≡ policyFrom p c
-policy-auto p c e = rw e
-
-pub policy-fixed : (p c : ℕ) → (p ≡ 0 → ⊥) → fixed c ≡ policyFrom p c
-policy-fixed zero c h = absurd (h refl)
-policy-fixed (suc p) c h = refl

@@ -8,7 +8,8 @@ ghost use lib.ListN.{length, drop};
 ghost use Rattle.lists.specs.Lists.{put};
 ghost use Rattle.config.specs.Params.{thresholdPolicy};
 ghost use Rattle.formats.specs.Bytes.{whole, markSize};
-ghost use Rattle.formats.specs.Stream.{settingsMark, settingsSize, policyFits, policyFrom, settingsIn, pointMark, pointSize, coordinatesAt, jobIn};
+ghost use Rattle.definition.specs.Levels.{policyFrom};
+ghost use Rattle.formats.specs.Stream.{settingsMark, settingsSize, policyFits, settingsIn, pointMark, pointSize, coordinatesAt, jobIn};
 ghost use Rattle.stream_reader.specs.Reading.{settingsAre, jobOf, Within};
 
 // A record's mark, and a float.

@@ -4,7 +4,7 @@ use native.Mathlib.Omega.{arith}
 use borrow.Author.Needs.{needs}
 use Rattle.definition.specs.Levels.{threshold, reductions}
 use Rattle.config.specs.Params.{settingsOf}
-use Rattle.build_checks.proofs.Laws.{points-6, points-7, points-8, points-9, points-fine, reductions-many, reductions-few}
+use Rattle.build_checks.proofs.Laws.{points-6, points-7, points-8, points-9, points-fine, reductions-many, checked-reductions}
 use Rattle.build_checks.proofs.points_fault.Statement.{statement}
 use Rattle.build_checks.proofs.points_fault.Tie as tie
 use Rattle.build_checks.proofs.points_fault.Reads as reads
@@ -59,7 +59,7 @@ returns-5 c =
     let e = rw (c .before .before .resolved-coarse-threshold .ensures) at (c .before .get-num-level-reductions .ensures) in
     let h : reductions n (threshold (s .policy) n) (s .factor) ≤ 3 = omega (arith, e, c .if4 .left) in (
       points-fine s (a .count) (c .before .before .before .before .before .if1 .left) (c .before .before .before .before .before .before .pre .0) (c .before .before .before .before .if2 .left) (c .before .before .before .if3 .left)
-          (reductions-few n (threshold (s .policy) n) (s .factor) (omega (arith, c .before .before .before .before .before .before .pre .1)) h),
+          (checked-reductions n (threshold (s .policy) n) (s .factor) (omega (arith, c .before .before .before .before .before .before .pre .1)) h),
       λ e. c .before .before .before .if3 .left,
     )
 

@@ -6,7 +6,7 @@ use native.Mathlib.Omega.{arith}
 use borrow.Author.Needs.{needs}
 use Rattle.definition.specs.Tree.{mostFine}
 use Rattle.levels_loop.proofs.Spaces.{coarse-fits}
-use Rattle.levels_loop.proofs.Loop.{Inv, inv-first, inv-next, rows-few, built-below, above, level-points, level-fits, level-room, size-few, first-fits, bat-fits, end-points, end-internals, end-domains, end-boxes, end-borrowed, end-rows, end-counts, end-number}
+use Rattle.levels_loop.proofs.Loop.{Inv, levels-first, levels-next, rows-few, built-below, level-above, level-points, level-fits, level-room, size-few, first-fits, bat-fits, end-points, end-internals, end-domains, end-boxes, end-borrowed, end-rows, end-counts, end-number}
 use Rattle.levels_loop.proofs.all_levels.Statement.{statement}
 use Rattle.levels_loop.proofs.all_levels.Tie as tie
 use Rattle.levels_loop.proofs.all_levels.Reads as reads
@@ -25,7 +25,7 @@ abbrev μ-loop : tie.MeasureT-loop
     mostFine - built
 
 loop-holds : tie.Need-loop-holds Inv-loop μ-loop
-loop-holds c = inv-first (c .before .before .before .before .before .before .before .before .args .c) (c .before .before .before .before .before .before .before .before .args .k) (c .before .before .before .before .before .before .before .before .pre .0 .2) (c .before .before .before .before .before .before .before .before .pre .1)
+loop-holds c = levels-first (c .before .before .before .before .before .before .before .before .args .c) (c .before .before .before .before .before .before .before .before .args .k) (c .before .before .before .before .before .before .before .before .pre .0 .2) (c .before .before .before .before .before .before .before .before .pre .1)
 
 is-fine-requires : tie.Need-is-fine-requires Inv-loop μ-loop
 is-fine-requires c κs = search needs
@@ -34,7 +34,7 @@ next-size-requires : tie.Need-next-size-requires Inv-loop μ-loop
 next-size-requires c κs =
     let v = c .before .before .loop .inv in
     let yes = sym (c .before .is-fine .ensures) ∙ c .if1 .taken in
-    (rows-few _ _ v, c .before .before .before .before .before .before .before .before .before .before .before .pre .0 .0, above _ _ v yes (c .before .before .before .before .before .before .before .before .before .before .before .pre .0 .0), c .before .before .before .before .before .before .before .before .before .before .before .pre .0 .1)
+    (rows-few _ _ v, c .before .before .before .before .before .before .before .before .before .before .before .pre .0 .0, level-above _ _ v yes (c .before .before .before .before .before .before .before .before .before .before .before .pre .0 .0), c .before .before .before .before .before .before .before .before .before .before .before .pre .0 .1)
 
 fine-level-requires : tie.Need-fine-level-requires Inv-loop μ-loop
 fine-level-requires c κs =
@@ -88,7 +88,7 @@ loop-again c =
     let yes = sym (c .before .before .before .before .before .before .before .before .before .before .before .before .before .before .before .before .before .before .before .before .before .before .before .before .before .before .is-fine .ensures) ∙ c .before .before .before .before .before .before .before .before .before .before .before .before .before .before .before .before .before .before .before .before .before .before .before .before .before .if1 .taken in
     let some = c .before .before .before .before .before .before .before .before .before .before .before .before .before .before .before .before .before .before .before .before .before .before .before .before .before .before .before .before .before .before .before .before .before .before .before .before .pre .0 .0 in
     let w = c .before .before .before .before .before .before .before .before .before .before .before .before .before .before .before .before .fine-level .ensures in
-    inv-next _ _ v yes some (c .before .before .before .before .before .before .before .before .before .before .before .before .before .before .before .before .before .before .before .before .before .before .before .before .next-size .ensures) (w .0 .0) (w .0 .1) (w .0 .2) (w .1 .0) (w .1 .1 .0) (w .1 .1 .1 .0) (w .1 .1 .1 .1 .0) (w .1 .1 .1 .1 .1) _ _ (search needs) (search needs)
+    levels-next _ _ v yes some (c .before .before .before .before .before .before .before .before .before .before .before .before .before .before .before .before .before .before .before .before .before .before .before .before .next-size .ensures) (w .0 .0) (w .0 .1) (w .0 .2) (w .1 .0) (w .1 .1 .0) (w .1 .1 .1 .0) (w .1 .1 .1 .1 .0) (w .1 .1 .1 .1 .1) _ _ (search needs) (search needs)
 
 coarse-level-requires : tie.Need-coarse-level-requires Inv-loop μ-loop
 coarse-level-requires c κs =

@@ -6,7 +6,7 @@ use native.Mathlib.Omega.{arith}
 use Rattle.lists.specs.Lists.{total}
 use Rattle.definition.specs.Quotas.{sizeAt}
 use Rattle.quotas.specs.Sharing.{Sharing, capacities}
-use Rattle.quotas.proofs.OneLeaf.{cut-is}
+use Rattle.quotas.proofs.OneLeaf.{seat-cut-is}
 use borrow.Author.Needs.{needs}
 use Rattle.quotas.proofs.deal.Statement.{statement}
 use Rattle.quotas.proofs.deal.Tie as tie
@@ -41,7 +41,7 @@ hand-out-requires c κs =
     let l = c .before .before .before .before .before .leftover-seats .ensures in
     let k = c .before .before .before .cut .ensures in
     let w = shared (a .sizes .now) (a .first) (a .rest) (a .capacity) _ (s .pre .0) (s .pre .1) (s .pre .2) (s .pre .3) (s .pre .4) e in
-    (w, l, c .before .count-above .ensures, cut-is (a .sizes .now) (a .first) (a .rest) _ w _ _ l (k .0) (k .1))
+    (w, l, c .before .count-above .ensures, seat-cut-is (a .sizes .now) (a .first) (a .rest) _ w _ _ l (k .0) (k .1))
 
 same-length : tie.Need-same-length
 same-length c = search needs

@@ -4,7 +4,7 @@ use lib.Dec.{T}
 use lib.Ieee.{binary64, fits, ofBits, nanBits, div}
 use Rattle.root_laws.proofs.Patterns.{no-nan}
 use Rattle.root.proofs.Steps.{equal-no-nan}
-use Rattle.root.proofs.Cases.{Finite, nan-nan, negative-nan, zero-itself, infinite-itself, finite-left}
+use Rattle.root.proofs.Cases.{FiniteCase, nan-nan, negative-nan, zero-itself, infinite-itself, finite-left}
 use Rattle.root.proofs.Whole.{finite-bits, finite-root}
 use Rattle.root.proofs.root.Statement.{statement}
 use Rattle.root.proofs.root.Tie as tie
@@ -28,7 +28,7 @@ float-from-bits-top c = tt
 held : (c : tie.Then4) → T (fits binary64 (c .before .before .before .before .args .x))
 held c = subst T (sym (c .before .before .before .before .good .0 .1)) tt
 
-left : (c : tie.Then4) → Finite (c .before .before .before .before .args .x)
+left : (c : tie.Then4) → FiniteCase (c .before .before .before .before .args .x)
 unfolding ofBits
 left c =
     finite-left (c .before .before .before .before .args .x) (c .before .before .if2 .left) (c .before .if3 .left)

@@ -1,7 +1,7 @@
 -- `root::root_bits` meets its contract, for an odd and an even exponent. Assumes nothing.
 use Prim.Native.Nat.{_*_}
 use Rattle.root_laws.proofs.Scaling.{odd-split, even-split}
-use Rattle.root.proofs.Whole.{rooted}
+use Rattle.root.proofs.Whole.{whole-rooted}
 use borrow.Author.Needs.{needs}
 use Rattle.root.proofs.root_bits.Statement.{statement}
 use Rattle.root.proofs.root_bits.Tie as tie
@@ -54,7 +54,7 @@ returns c =
     let l = c .before .before .before .leading in
     let m = l .result .m in
     let e = l .result .e in
-    rooted b m e (m * 2) (c .near-root .result) (l .ensures)
+    whole-rooted b m e (m * 2) (c .near-root .result) (l .ensures)
     (odd-split m e (l .ensures .least) (c .before .before .if1 .taken)) (c .near-root .ensures)
 
 returns-2 : tie.Need-returns-2
@@ -63,7 +63,7 @@ returns-2 c =
     let l = c .before .before .before .leading in
     let m = l .result .m in
     let e = l .result .e in
-    rooted b m e m (c .near-root2 .result) (l .ensures) (even-split m e (l .ensures .least) (c .before .before .if1 .left))
+    whole-rooted b m e m (c .near-root2 .result) (l .ensures) (even-split m e (l .ensures .least) (c .before .before .if1 .left))
     (c .near-root2 .ensures)
 
 pub root-bits-spec : {M : Type 1} → statement M

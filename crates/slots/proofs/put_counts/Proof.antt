@@ -1,6 +1,6 @@
 -- `slots::put_counts` meets its contract. Assumes nothing.
 use native.Mathlib.Omega.{arith}
-use Rattle.slots.proofs.Slots.{counts-put}
+use Rattle.slots.proofs.Slots.{slot-counts}
 use borrow.Author.Needs.{needs}
 use Rattle.slots.proofs.put_counts.Statement.{statement}
 use Rattle.slots.proofs.put_counts.Tie as tie
@@ -25,7 +25,7 @@ same-length c = search needs
 
 returns : tie.Need-returns
 returns c =
-    counts-put _ _ _ _ _ _ _ _ (omega (arith, slice-aggregate-copy-rows (c .before .before .before .before .before .before .before .before .before)))
+    slot-counts _ _ _ _ _ _ _ _ (omega (arith, slice-aggregate-copy-rows (c .before .before .before .before .before .before .before .before .before)))
     (omega (arith, slice-aggregate-copy-rows-2 (c .before .before .before .before)))
     (c .before .before .before .before .before .before .before .before .before .before .before .before .put-pair .ensures) (c .before .before .before .before .before .before .before .copy-rows .ensures) (c .before .before .copy-rows2 .ensures)
 

@@ -1,5 +1,5 @@
 -- `stream_reader::policy_of` meets its contract. Assumes nothing.
-use Rattle.stream_reader.proofs.Records.{policy-auto, policy-fixed}
+use Rattle.definition.proofs.Policies.{policy-auto, policy-fixed}
 use Rattle.stream_reader.proofs.policy_of.Statement.{statement}
 use Rattle.stream_reader.proofs.policy_of.Tie as tie
 
