@@ -23,7 +23,7 @@ fn put_zeros(list: &mut [f64], at: usize, count: usize)
 // The coarse level: one domain with all active rows, which borrows nothing and has no box: each bound is +0.
 pub fn coarse_level(
     dimensions: usize,
-    list: &[usize],
+    level_points: &[usize],
     from: usize,
     a: usize,
     internals: &mut [usize],
@@ -32,12 +32,12 @@ pub fn coarse_level(
     bat: usize,
     boxes: &mut [f64],
 )
-    requires { ⌜ (from + a ≤ length (now list)) × (from + a ≤ length (now internals)) × (rowNumbers * (first + 1) ≤ length (now domains)) × (rowFloats dimensions * (first + 1) ≤ length (now boxes)) × (dimensions ≤ 3) ⌝ }
-    ensures internals { λ _. ⌜ now (internals .exit) ≡ put (now (internals .entry)) from (part (now (list .entry)) from a) ⌝ }
+    requires { ⌜ (from + a ≤ length (now «level_points»)) × (from + a ≤ length (now internals)) × (rowNumbers * (first + 1) ≤ length (now domains)) × (rowFloats dimensions * (first + 1) ≤ length (now boxes)) × (dimensions ≤ 3) ⌝ }
+    ensures internals { λ _. ⌜ now (internals .exit) ≡ put (now (internals .entry)) from (part (now («level_points» .entry)) from a) ⌝ }
     ensures domains { λ _. ⌜ now (domains .exit) ≡ put (now (domains .entry)) (rowNumbers * first) (from ∷ a ∷ bat ∷ 0 ∷ []) ⌝ }
     ensures boxes { λ _. ⌜ now (boxes .exit) ≡ put (now (boxes .entry)) (rowFloats dimensions * first) (replicate (boxWidth dimensions) plusZero) ⌝ }
 {
-    stretches::copy_rows(list, from, a, internals, from);
+    stretches::copy_rows(level_points, from, a, internals, from);
     let row = packed::DomainRow {
         internal_start: from,
         internal_count: a,

@@ -43,24 +43,24 @@ pub fn longest_axis(points: &[f64], dimensions: usize, rows: &[usize]) -> usize
     longest
 }
 
-// Cuts the `count` rows of `work` from `start` on in place: the left half comes first, then the right half. What stands in the
+// Cuts the `count` rows of `wholes` from `start` on in place: the left half comes first, then the right half. What stands in the
 // `count` entries from `spare` on is lost.
 pub fn cut_stretch(
     points: &[f64],
     dimensions: usize,
-    work: &mut [usize],
+    wholes: &mut [usize],
     start: usize,
     count: usize,
     spare: usize,
 ) -> Plane
-    requires { ⌜ (0 < dimensions) × (1 ≤ count) × GoodRows dimensions (now points) (part (now work) start count) ⌝ }
-    requires { ⌜ (start + count ≤ spare) × (spare + count ≤ length (now work)) ⌝ }
-    ensures work { λ _. ⌜ Halved dimensions (now (points .entry)) (longestAxis dimensions (now (points .entry)) (part (now (work .entry)) start count)) (now (work .entry)) start count spare (now (work .exit)) ⌝ }
-    ensures plane { λ r. ⌜ (r .axis ≡ longestAxis dimensions (now (points .entry)) (part (now (work .entry)) start count)) × (r .value ≡ plane dimensions (now (points .entry)) (part (now (work .entry)) start count)) ⌝ }
+    requires { ⌜ (0 < dimensions) × (1 ≤ count) × GoodRows dimensions (now points) (part (now wholes) start count) ⌝ }
+    requires { ⌜ (start + count ≤ spare) × (spare + count ≤ length (now wholes)) ⌝ }
+    ensures wholes { λ _. ⌜ Halved dimensions (now (points .entry)) (longestAxis dimensions (now (points .entry)) (part (now (wholes .entry)) start count)) (now (wholes .entry)) start count spare (now (wholes .exit)) ⌝ }
+    ensures plane { λ r. ⌜ (r .axis ≡ longestAxis dimensions (now (points .entry)) (part (now (wholes .entry)) start count)) × (r .value ≡ plane dimensions (now (points .entry)) (part (now (wholes .entry)) start count)) ⌝ }
 {
     let end = start + count;
-    let axis = longest_axis(points, dimensions, &work[start..end]);
-    let row = halving::halves(points, dimensions, axis, work, start, count, spare);
+    let axis = longest_axis(points, dimensions, &wholes[start..end]);
+    let row = halving::halves(points, dimensions, axis, wholes, start, count, spare);
     let value = points[row * dimensions + axis];
     Plane { axis, value }
 }

@@ -70,7 +70,7 @@ module _ (s : Settings) (cs : List Float) (old : TreeLists) (floats : List Float
       → Space (s .dimension) (s .neighbours) (pointCount (s .dimension) cs) mostFine P (old .internals) (old .domains) (old .boxes) (old .borrowed) wholes floats 0 0 0
   unfolding buildStated
   all-space P e = record {
-    points = omega (arith, a .enough .points, e);
+    level-points = omega (arith, a .enough .points, e);
     internals = omega (arith, a .enough .internals);
     domains = omega (arith, a .enough .domains);
     boxes = rows (a .enough .boxes);

@@ -14,7 +14,7 @@ leavesBy p cs active = leavesAt (p .dimensions) cs (p .leaf) (p .neighbours) act
 
 -- the active rows, in the level points
 abbrev pub activeAt : Place → List ℕ → List ℕ
-activeAt w list = part list (w .from) (w .a)
+activeAt w level-points = part level-points (w .from) (w .a)
 
 -- what a level is built from
 abbrev pub GivenBy : Plan → List Float → List ℕ → Type 0

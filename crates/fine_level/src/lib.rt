@@ -39,12 +39,12 @@ fn divide(
     domains: &mut [usize],
     boxes: &mut [f64],
     borrowed: &mut [usize],
-    work: &mut [usize],
-    held: &mut [f64],
+    wholes: &mut [usize],
+    floats: &mut [f64],
 ) -> Parts
     requires { ⌜ GivenBy plan (now points) (now active) ⌝ }
     requires { ⌜ FitsAt plan place (length (now active)) (now internals) (now domains) (now boxes) (now borrowed) ⌝ }
-    requires { ⌜ Room (plan .neighbours) (length (now active)) (now work) (now held) ⌝ }
+    requires { ⌜ Room (plan .neighbours) (length (now active)) (now wholes) (now floats) ⌝ }
     ensures counts { λ r. ⌜ (r .leaves ≡ length (leavesBy plan (now (points .entry)) (now (active .entry)))) × (r .borrowed ≡ length (borrowedIn (leavesBy plan (now (points .entry)) (now (active .entry))))) ⌝ }
     ensures internals { λ _. ⌜ now (internals .exit) ≡ put (now (internals .entry)) (place .from) (ownIn (leavesBy plan (now (points .entry)) (now (active .entry)))) ⌝ }
     ensures domains { λ _. ⌜ now (domains .exit) ≡ put (now (domains .entry)) (rowNumbers * place .first) (stretches (place .from) (place .bat) (leavesBy plan (now (points .entry)) (now (active .entry)))) ⌝ }
@@ -56,8 +56,8 @@ fn divide(
         plan.dimensions,
         plan.leaf,
         active,
-        work,
-        held,
+        wholes,
+        floats,
         internals,
         place.from,
         domains,
@@ -75,7 +75,7 @@ fn divide(
         m,
         borrowed,
         place.bat,
-        work,
+        wholes,
     );
     Parts {
         leaves: m,
@@ -97,25 +97,25 @@ pub fn fine_level(
     plan: Plan,
     size: usize,
     place: Place,
-    list: &mut [usize],
+    level_points: &mut [usize],
     internals: &mut [usize],
     domains: &mut [usize],
     boxes: &mut [f64],
     borrowed: &mut [usize],
-    work: &mut [usize],
-    held: &mut [f64],
+    wholes: &mut [usize],
+    floats: &mut [f64],
 ) -> Written
-    requires { ⌜ (place .from + 2 * place .a ≤ length (now list)) × (size ≤ place .a) × GivenBy plan (now points) (activeAt place (now list)) ⌝ }
+    requires { ⌜ (place .from + 2 * place .a ≤ length (now «level_points»)) × (size ≤ place .a) × GivenBy plan (now points) (activeAt place (now «level_points»)) ⌝ }
     requires { ⌜ FitsAt plan place (place .a) (now internals) (now domains) (now boxes) (now borrowed) ⌝ }
-    requires { ⌜ Room (plan .neighbours) (place .a) (now work) (now held) ⌝ }
-    ensures counts { λ r. ⌜ (r .leaves ≡ length (leavesBy plan (now (points .entry)) (activeAt place (now (list .entry)))))
-        × (r .borrowed ≡ length (borrowedIn (leavesBy plan (now (points .entry)) (activeAt place (now (list .entry))))))
-        × (r .next ≡ length (nextAt (plan .dimensions) (now (points .entry)) (plan .leaf) size (activeAt place (now (list .entry))))) ⌝ }
-    ensures list { λ _. ⌜ now (list .exit) ≡ put (now (list .entry)) (place .from + place .a) (nextAt (plan .dimensions) (now (points .entry)) (plan .leaf) size (activeAt place (now (list .entry)))) ⌝ }
-    ensures internals { λ _. ⌜ now (internals .exit) ≡ put (now (internals .entry)) (place .from) (ownIn (leavesBy plan (now (points .entry)) (activeAt place (now (list .entry))))) ⌝ }
-    ensures domains { λ _. ⌜ now (domains .exit) ≡ put (now (domains .entry)) (rowNumbers * place .first) (stretches (place .from) (place .bat) (leavesBy plan (now (points .entry)) (activeAt place (now (list .entry))))) ⌝ }
-    ensures boxes { λ _. ⌜ now (boxes .exit) ≡ put (now (boxes .entry)) (rowFloats (plan .dimensions) * place .first) (boxesIn (leavesBy plan (now (points .entry)) (activeAt place (now (list .entry))))) ⌝ }
-    ensures borrowed { λ _. ⌜ now (borrowed .exit) ≡ put (now (borrowed .entry)) (place .bat) (borrowedIn (leavesBy plan (now (points .entry)) (activeAt place (now (list .entry))))) ⌝ }
+    requires { ⌜ Room (plan .neighbours) (place .a) (now wholes) (now floats) ⌝ }
+    ensures counts { λ r. ⌜ (r .leaves ≡ length (leavesBy plan (now (points .entry)) (activeAt place (now («level_points» .entry)))))
+        × (r .borrowed ≡ length (borrowedIn (leavesBy plan (now (points .entry)) (activeAt place (now («level_points» .entry))))))
+        × (r .next ≡ length (nextAt (plan .dimensions) (now (points .entry)) (plan .leaf) size (activeAt place (now («level_points» .entry))))) ⌝ }
+    ensures level_points { λ _. ⌜ now («level_points» .exit) ≡ put (now («level_points» .entry)) (place .from + place .a) (nextAt (plan .dimensions) (now (points .entry)) (plan .leaf) size (activeAt place (now («level_points» .entry)))) ⌝ }
+    ensures internals { λ _. ⌜ now (internals .exit) ≡ put (now (internals .entry)) (place .from) (ownIn (leavesBy plan (now (points .entry)) (activeAt place (now («level_points» .entry))))) ⌝ }
+    ensures domains { λ _. ⌜ now (domains .exit) ≡ put (now (domains .entry)) (rowNumbers * place .first) (stretches (place .from) (place .bat) (leavesBy plan (now (points .entry)) (activeAt place (now («level_points» .entry))))) ⌝ }
+    ensures boxes { λ _. ⌜ now (boxes .exit) ≡ put (now (boxes .entry)) (rowFloats (plan .dimensions) * place .first) (boxesIn (leavesBy plan (now (points .entry)) (activeAt place (now («level_points» .entry))))) ⌝ }
+    ensures borrowed { λ _. ⌜ now (borrowed .exit) ≡ put (now (borrowed .entry)) (place .bat) (borrowedIn (leavesBy plan (now (points .entry)) (activeAt place (now («level_points» .entry))))) ⌝ }
 {
     let from = place.from;
     let a = place.a;
@@ -124,13 +124,13 @@ pub fn fine_level(
         points,
         plan,
         place,
-        &list[from..end],
+        &level_points[from..end],
         internals,
         domains,
         boxes,
         borrowed,
-        work,
-        held,
+        wholes,
+        floats,
     );
     let m = parts.leaves;
     let next = coarse_points::coarse_points(
@@ -141,11 +141,11 @@ pub fn fine_level(
         domains,
         place.first,
         m,
-        list,
+        level_points,
         from,
         a,
-        work,
-        held,
+        wholes,
+        floats,
     );
     Written {
         leaves: m,

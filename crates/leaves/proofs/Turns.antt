@@ -30,7 +30,7 @@ abbrev pub domainBox : Domain → List Float
 domainBox q = q .box
 
 -- where the loop is, from the lists as it found them (I₀, O₀, B₀) to the lists as they are
-pub record Run (d : ℕ) (cs : List Float) (leaf : ℕ) (active I₀ O₀ : List ℕ) (B₀ : List Float) (at₀ k₀ : ℕ) (w I O : List ℕ) (held B : List Float) (head tail at k : ℕ) : Type 0 where
+pub record Run (d : ℕ) (cs : List Float) (leaf : ℕ) (active I₀ O₀ : List ℕ) (B₀ : List Float) (at₀ k₀ : ℕ) (w I O : List ℕ) (floats B : List Float) (head tail at k : ℕ) : Type 0 where
   pub pos : 0 < d
   pub few : d ≤ 3
   pub lp : 1 ≤ leaf
@@ -39,13 +39,13 @@ pub record Run (d : ℕ) (cs : List Float) (leaf : ℕ) (active I₀ O₀ : List
   pub qs : List Domain
   pub inv : Inv (kind d cs pos leaf lp) (length active) (rootDomain d cs active) I₀ O₀ at₀ k₀ (rowsIn (length active) w) (roomIn (length active) w) I O qs head tail at k
   pub boxes :
-      Boxes (kind d cs pos leaf lp) domainBox (rowFloats d) (put B₀ (rowFloats d * k₀) (joined (map domainBox (leavesFrom d cs leaf (rootDomain d cs active ∷ []))))) held B qs head tail k
+      Boxes (kind d cs pos leaf lp) domainBox (rowFloats d) (put B₀ (rowFloats d * k₀) (joined (map domainBox (leavesFrom d cs leaf (rootDomain d cs active ∷ []))))) floats B qs head tail k
   pub fit-w : 6 * length active ≤ length w
-  pub fit-held : rowFloats d * (2 * length active) ≤ length held
+  pub fit-floats : rowFloats d * (2 * length active) ≤ length floats
   pub fit-B : rowFloats d * (k₀ + 2 * length active) ≤ length B
 
 -- what is known in a turn: n rows, of which the first stretch has c from s on
-pub record Known (d : ℕ) (cs : List Float) (leaf n : ℕ) (w I O : List ℕ) (held B : List Float) (head tail at k s c : ℕ) : Type 0 where
+pub record Known (d : ℕ) (cs : List Float) (leaf n : ℕ) (w I O : List ℕ) (floats B : List Float) (head tail at k s c : ℕ) : Type 0 where
   pub inside : s + c ≤ n
   pub full : 1 ≤ c
   pub good : GoodRows d cs (part w s c)
@@ -54,8 +54,8 @@ pub record Known (d : ℕ) (cs : List Float) (leaf n : ℕ) (w I O : List ℕ) (
   pub leaves-fit : rowNumbers * (k + 2) ≤ length O
   pub room-fit : leaf ≤ c / 2 → 2 * tail + 4 ≤ 4 * n
   pub read-fit : rowFloats d * head + rowFloats d ≤ rowFloats d * tail
-  pub held-all : rowFloats d * tail ≤ length held
-  pub held-fit : leaf ≤ c / 2 → rowFloats d * tail + 2 * rowFloats d ≤ length held
+  pub floats-all : rowFloats d * tail ≤ length floats
+  pub floats-fit : leaf ≤ c / 2 → rowFloats d * tail + 2 * rowFloats d ≤ length floats
   pub boxes-fit : rowFloats d * k + 2 * rowFloats d ≤ length B
 
 -- the stretch that stands first in the queue
@@ -82,30 +82,30 @@ unfolding rightOf
 box-right d cs q = refl
 
 -- the same where q is the domain that stands first
-pub record Front (d : ℕ) (cs : List Float) (leaf : ℕ) (active I₀ O₀ : List ℕ) (B₀ : List Float) (at₀ k₀ : ℕ) (w I O : List ℕ) (held B : List Float) (head tail at k : ℕ) : Type 0 where
-  pub run : Run d cs leaf active I₀ O₀ B₀ at₀ k₀ w I O held B head tail at k
+pub record Front (d : ℕ) (cs : List Float) (leaf : ℕ) (active I₀ O₀ : List ℕ) (B₀ : List Float) (at₀ k₀ : ℕ) (w I O : List ℕ) (floats B : List Float) (head tail at k : ℕ) : Type 0 where
+  pub run : Run d cs leaf active I₀ O₀ B₀ at₀ k₀ w I O floats B head tail at k
   pub more : head < tail
   pub q : Domain
   pub rest : List Domain
   pub inv :
       Inv (kind d cs (run .pos) leaf (run .lp)) (length active) (rootDomain d cs active) I₀ O₀ at₀ k₀ (rowsIn (length active) w) (roomIn (length active) w) I O (q ∷ rest) head tail at k
   pub boxes :
-      Boxes (kind d cs (run .pos) leaf (run .lp)) domainBox (rowFloats d) (put B₀ (rowFloats d * k₀) (joined (map domainBox (leavesFrom d cs leaf (rootDomain d cs active ∷ []))))) held B (q ∷ rest) head tail k
+      Boxes (kind d cs (run .pos) leaf (run .lp)) domainBox (rowFloats d) (put B₀ (rowFloats d * k₀) (joined (map domainBox (leavesFrom d cs leaf (rootDomain d cs active ∷ []))))) floats B (q ∷ rest) head tail k
 
-module _ {d : ℕ} {cs : List Float} {leaf : ℕ} {active I₀ O₀ : List ℕ} {B₀ : List Float} {at₀ k₀ : ℕ} {w I O : List ℕ} {held B : List Float} {head tail at k : ℕ} where
+module _ {d : ℕ} {cs : List Float} {leaf : ℕ} {active I₀ O₀ : List ℕ} {B₀ : List Float} {at₀ k₀ : ℕ} {w I O : List ℕ} {floats B : List Float} {head tail at k : ℕ} where
   -- as long as the loop goes on, a domain waits
-  pub front : Run d cs leaf active I₀ O₀ B₀ at₀ k₀ w I O held B head tail at k → head < tail → Front d cs leaf active I₀ O₀ B₀ at₀ k₀ w I O held B head tail at k
+  pub front : Run d cs leaf active I₀ O₀ B₀ at₀ k₀ w I O floats B head tail at k → head < tail → Front d cs leaf active I₀ O₀ B₀ at₀ k₀ w I O floats B head tail at k
   front x h = go (x .qs) (x .inv) (x .boxes)
     where
       go : (qs : List Domain)
           → Inv (kind d cs (x .pos) leaf (x .lp)) (length active) (rootDomain d cs active) I₀ O₀ at₀ k₀ (rowsIn (length active) w) (roomIn (length active) w) I O qs head tail at k
-          → Boxes (kind d cs (x .pos) leaf (x .lp)) domainBox (rowFloats d) (put B₀ (rowFloats d * k₀) (joined (map domainBox (leavesFrom d cs leaf (rootDomain d cs active ∷ []))))) held B qs head tail k
-          → Front d cs leaf active I₀ O₀ B₀ at₀ k₀ w I O held B head tail at k
+          → Boxes (kind d cs (x .pos) leaf (x .lp)) domainBox (rowFloats d) (put B₀ (rowFloats d * k₀) (joined (map domainBox (leavesFrom d cs leaf (rootDomain d cs active ∷ []))))) floats B qs head tail k
+          → Front d cs leaf active I₀ O₀ B₀ at₀ k₀ w I O floats B head tail at k
       go [] inv b = absurd (inv-next inv h)
       go (q ∷ qs) inv b = record { run = x; more = h; q = q; rest = qs; inv = inv; boxes = b }
 
   -- ---- a turn
-  module _ (x : Front d cs leaf active I₀ O₀ B₀ at₀ k₀ w I O held B head tail at k) where
+  module _ (x : Front d cs leaf active I₀ O₀ B₀ at₀ k₀ w I O floats B head tail at k) where
     abbrev n : ℕ
     n = length active
 
@@ -133,13 +133,13 @@ module _ {d : ℕ} {cs : List Float} {leaf : ℕ} {active I₀ O₀ : List ℕ} 
     rows-q : part w s c ≡ q .rows
     rows-q = sym (rows-part n w five s c inside) ∙ turn-same (x .inv) (x .more) e-s e-c
 
-    box-q : part held (rowFloats d * head) (rowFloats d) ≡ q .box
+    box-q : part floats (rowFloats d * head) (rowFloats d) ≡ q .box
     box-q = boxes-now (x .more) (x .boxes)
 
-    held-all : rowFloats d * tail ≤ length held
-    held-all = let e : rowFloats d * tail ≤ rowFloats d * (2 * n) = mul-le-mul-left (rowFloats d) (omega (arith, x .inv .fits)) in omega (arith, x .run .fit-held)
+    floats-all : rowFloats d * tail ≤ length floats
+    floats-all = let e : rowFloats d * tail ≤ rowFloats d * (2 * n) = mul-le-mul-left (rowFloats d) (omega (arith, x .inv .fits)) in omega (arith, x .run .fit-floats)
 
-    pub known : Known d cs leaf n w I O held B head tail at k s c
+    pub known : Known d cs leaf n w I O floats B head tail at k s c
     known =
         record {
           inside = inside;
@@ -150,8 +150,8 @@ module _ {d : ℕ} {cs : List Float} {leaf : ℕ} {active I₀ O₀ : List ℕ} 
           leaves-fit = turn-leaves (x .inv) (x .more) e-s e-c;
           room-fit = λ g. omega (arith, turn-room (x .inv) (x .more) e-s e-c g);
           read-fit = wider (rowFloats d) head tail (omega (arith, x .more));
-          held-all = held-all;
-          held-fit = λ g. omega (arith, x .run .fit-held, wider2 (rowFloats d) tail (2 * n) (omega (arith, turn-room (x .inv) (x .more) e-s e-c g)));
+          floats-all = floats-all;
+          floats-fit = λ g. omega (arith, x .run .fit-floats, wider2 (rowFloats d) tail (2 * n) (omega (arith, turn-room (x .inv) (x .more) e-s e-c g)));
           boxes-fit = omega (arith, x .run .fit-B, wider2 (rowFloats d) k (k₀ + 2 * n) (turn-end (x .inv) (x .more) e-s e-c));
         }
 
@@ -168,7 +168,7 @@ module _ {d : ℕ} {cs : List Float} {leaf : ℕ} {active I₀ O₀ : List ℕ} 
     wide : length (q .box) ≡ rowFloats d
     wide =
         let u = known in
-        sym (ap length box-q) ∙ length-part held (rowFloats d * head) (rowFloats d) (omega (arith, u .read-fit, held-all))
+        sym (ap length box-q) ∙ length-part floats (rowFloats d * head) (rowFloats d) (omega (arith, u .read-fit, floats-all))
 
     l-wide : length l-box ≡ rowFloats d
     l-wide = rw (box-left d cs q) (length-set (q .box) (d + longestAxis d cs (q .rows)) (plane d cs (q .rows)) ∙ wide)
@@ -181,7 +181,7 @@ module _ {d : ℕ} {cs : List Float} {leaf : ℕ} {active I₀ O₀ : List ℕ} 
 
     -- what the cut and the loads bring: the room w₁ after the cut; axis and plane; and the floats and the dimension of the domain's box
     module _ (w₁ : List ℕ) (h : Halved d cs (longestAxis d cs (part w s c)) w s c (5 * n) w₁) (y : ℕ) (p : Float) (b : List Float) (bd : ℕ)
-        (ey : y ≡ longestAxis d cs (part w s c)) (ep : p ≡ plane d cs (part w s c)) (eb : b ≡ part held (rowFloats d * head) (rowFloats d)) (ed : bd ≡ d) where
+        (ey : y ≡ longestAxis d cs (part w s c)) (ep : p ≡ plane d cs (part w s c)) (eb : b ≡ part floats (rowFloats d * head) (rowFloats d)) (ed : bd ≡ d) where
       abbrev both : List ℕ
       both = leftOf d cs q .rows ++ rightOf d cs q .rows
 
@@ -209,7 +209,7 @@ module _ {d : ℕ} {cs : List Float} {leaf : ℕ} {active I₀ O₀ : List ℕ} 
       room₁ : roomIn n w₁ ≡ roomIn n w
       room₁ = spare-room n w w₁ five s both (5 * n) (h .rest) both-inside (omega arith) spare-fit e-w
 
-      -- the halves wait: w₂ is the room after they joined the queue, and held₁ the boxes of what waits
+      -- the halves wait: w₂ is the room after they joined the queue, and floats₁ the boxes of what waits
       module _ (g : leaf ≤ c / 2) (w₂ : List ℕ) (f : w₂ ≡ put w₁ (n + 2 * tail) (twoHalves s c)) where
         rows₂ : rowsIn n w₂ ≡ put (rowsIn n w) s both
         rows₂ = rw f (rows-kept n w₁ five₁ (2 * tail) (twoHalves s c) (omega (arith, turn-room (x .inv) (x .more) e-s e-c g)) ∙ rows₁)
@@ -217,11 +217,11 @@ module _ {d : ℕ} {cs : List Float} {leaf : ℕ} {active I₀ O₀ : List ℕ} 
         room₂ : roomIn n w₂ ≡ put (roomIn n w) (2 * tail) (twoHalves s c)
         room₂ = rw f (room-put n w₁ five₁ (2 * tail) (twoHalves s c) (omega (arith, turn-room (x .inv) (x .more) e-s e-c g)) ∙ rw room₁)
 
-        pub wait : (held₁ : List Float) → held₁ ≡ put held (rowFloats d * tail) (set b (bd + y) p ++ set b y p)
-            → Run d cs leaf active I₀ O₀ B₀ at₀ k₀ w₂ I O held₁ B (head + 1) (tail + 2) at k
-        wait held₁ i =
+        pub wait : (floats₁ : List Float) → floats₁ ≡ put floats (rowFloats d * tail) (set b (bd + y) p ++ set b y p)
+            → Run d cs leaf active I₀ O₀ B₀ at₀ k₀ w₂ I O floats₁ B (head + 1) (tail + 2) at k
+        wait floats₁ i =
             let u = known in
-            let j : held₁ ≡ put held (rowFloats d * tail) (l-box ++ r-box) = i ∙ ap (put held (rowFloats d * tail)) both-boxes in
+            let j : floats₁ ≡ put floats (rowFloats d * tail) (l-box ++ r-box) = i ∙ ap (put floats (rowFloats d * tail)) both-boxes in
             record {
               pos = x .run .pos;
               few = x .run .few;
@@ -230,9 +230,9 @@ module _ {d : ℕ} {cs : List Float} {leaf : ℕ} {active I₀ O₀ : List ℕ} 
               good = x .run .good;
               qs = x .rest ++ leftOf d cs q ∷ rightOf d cs q ∷ [];
               inv = inv-wait (x .inv) (x .more) e-s e-c g (rowsIn n w₂) (roomIn n w₂) rows₂ room₂;
-              boxes = boxes-wait (x .more) (x .boxes) l-wide r-wide held₁ (turn-wait (x .inv) (x .more) e-s e-c g) held-all j;
+              boxes = boxes-wait (x .more) (x .boxes) l-wide r-wide floats₁ (turn-wait (x .inv) (x .more) e-s e-c g) floats-all j;
               fit-w = rw (f, length-put w₁ (n + 2 * tail) (twoHalves s c) (omega (arith, u .room-fit g, five₁)), same-w) (x .run .fit-w);
-              fit-held = rw (j, length-put held (rowFloats d * tail) (l-box ++ r-box) (omega (arith, both-wide, u .held-fit g))) (x .run .fit-held);
+              fit-floats = rw (j, length-put floats (rowFloats d * tail) (l-box ++ r-box) (omega (arith, both-wide, u .floats-fit g))) (x .run .fit-floats);
               fit-B = x .run .fit-B;
             }
 
@@ -242,7 +242,7 @@ module _ {d : ℕ} {cs : List Float} {leaf : ℕ} {active I₀ O₀ : List ℕ} 
       -- they are the next two leaves
       pub next-leaves : c / 2 < leaf → (I₁ O₁ : List ℕ) (B₁ : List Float) → I₁ ≡ put I at (part w₁ s c) → O₁ ≡ twoOwn O k at c
           → B₁ ≡ put B (rowFloats d * k) (set b (bd + y) p ++ set b y p)
-          → Run d cs leaf active I₀ O₀ B₀ at₀ k₀ w₁ I₁ O₁ held B₁ (head + 1) tail (at + c) (k + 2)
+          → Run d cs leaf active I₀ O₀ B₀ at₀ k₀ w₁ I₁ O₁ floats B₁ (head + 1) tail (at + c) (k + 2)
       next-leaves g I₁ O₁ B₁ f o i =
           let u = known in
           let j : B₁ ≡ put B (rowFloats d * k) (l-box ++ r-box) = i ∙ ap (put B (rowFloats d * k)) both-boxes in
@@ -257,7 +257,7 @@ module _ {d : ℕ} {cs : List Float} {leaf : ℕ} {active I₀ O₀ : List ℕ} 
                 rw room₁ (inv-done (x .inv) (x .more) e-s e-c g (rowsIn n w₁) I₁ O₁ rows₁ (f ∙ ap (put I at) (sym (rows-part n w₁ five₁ s c inside))) o);
             boxes = boxes-done (x .more) (x .boxes) l-wide r-wide B₁ (turn-done (x .inv) (x .more) e-s e-c g) (omega (arith, u .boxes-fit)) j;
             fit-w = rw same-w (x .run .fit-w);
-            fit-held = x .run .fit-held;
+            fit-floats = x .run .fit-floats;
             fit-B = rw (j, length-put B (rowFloats d * k) (l-box ++ r-box) (omega (arith, both-wide, u .boxes-fit))) (x .run .fit-B);
           }
 
@@ -265,7 +265,7 @@ module _ {d : ℕ} {cs : List Float} {leaf : ℕ} {active I₀ O₀ : List ℕ} 
       next-leaves-less = rw room₁ (less-done (x .inv) (x .more) e-s e-c)
 
   -- ---- the loop ends with what is due
-  pub run-end : Run d cs leaf active I₀ O₀ B₀ at₀ k₀ w I O held B head tail at k → tail ≤ head
+  pub run-end : Run d cs leaf active I₀ O₀ B₀ at₀ k₀ w I O floats B head tail at k → tail ≤ head
       → (k ≡ k₀ + length (leavesOf d cs leaf active)) × (I ≡ put I₀ at₀ (joined (map (λ (q : Domain). q .rows) (leavesOf d cs leaf active))))
       × (O ≡ withOwn at₀ (map (λ (q : Domain). q .rows) (leavesOf d cs leaf active)) k₀ O₀)
       × (B ≡ put B₀ (rowFloats d * k₀) (joined (map domainBox (leavesOf d cs leaf active))))
@@ -290,8 +290,8 @@ pub width-most : (d n : ℕ) → 1 ≤ n → rowFloats d ≤ rowFloats d * (2 * 
 width-most d n h = let a : rowFloats d * 1 ≤ rowFloats d * (2 * n) = mul-le-mul-left (rowFloats d) (omega arith) in omega (arith, mul-one (rowFloats d))
 
 module _ (d : ℕ) (cs : List Float) (pos : 0 < d) (few : d ≤ 3) (leaf : ℕ) (lp : 1 ≤ leaf) (active : List ℕ) (some : 1 ≤ length active) (good : GoodRows d cs active)
-    (w w₁ : List ℕ) (held held₁ : List Float) (fw : 6 * length active ≤ length w) (fh : rowFloats d * (2 * length active) ≤ length held)
-    (ew : w₁ ≡ put (put w 0 active) (length active) (0 ∷ length active ∷ [])) (eh : held₁ ≡ put held 0 (extents d cs active)) where
+    (w w₁ : List ℕ) (floats floats₁ : List Float) (fw : 6 * length active ≤ length w) (fh : rowFloats d * (2 * length active) ≤ length floats)
+    (ew : w₁ ≡ put (put w 0 active) (length active) (0 ∷ length active ∷ [])) (eh : floats₁ ≡ put floats 0 (extents d cs active)) where
   abbrev m : ℕ
   m = length active
 
@@ -313,14 +313,14 @@ module _ (d : ℕ) (cs : List Float) (pos : 0 < d) (few : d ≤ 3) (leaf : ℕ) 
   length-w : length w₁ ≡ length w
   length-w = ap length ew ∙ length-put wₐ m (0 ∷ m ∷ []) (omega (arith, length-a)) ∙ length-a
 
-  length-held : length held₁ ≡ length held
-  length-held = ap length eh ∙ length-put held 0 (extents d cs active) (omega (arith, length-extents d cs active, width-most d m some))
+  length-floats : length floats₁ ≡ length floats
+  length-floats = ap length eh ∙ length-put floats 0 (extents d cs active) (omega (arith, length-extents d cs active, width-most d m some))
 
-  held-box : part held₁ 0 (rowFloats d) ≡ rootDomain d cs active .box
-  held-box = rw (eh, part-put-same held 0 (extents d cs active) (rowFloats d) (omega arith) (length-extents d cs active), root-box d cs active)
+  floats-box : part floats₁ 0 (rowFloats d) ≡ rootDomain d cs active .box
+  floats-box = rw (eh, part-put-same floats 0 (extents d cs active) (rowFloats d) (omega arith) (length-extents d cs active), root-box d cs active)
 
   pub run-first : (I₀ O₀ : List ℕ) (B₀ : List Float) (at₀ k₀ : ℕ) → at₀ + m ≤ length I₀ → rowNumbers * (k₀ + 2 * m) ≤ length O₀ → rowFloats d * (k₀ + 2 * m) ≤ length B₀
-      → Run d cs leaf active I₀ O₀ B₀ at₀ k₀ w₁ I₀ O₀ held₁ B₀ 0 1 at₀ k₀
+      → Run d cs leaf active I₀ O₀ B₀ at₀ k₀ w₁ I₀ O₀ floats₁ B₀ 0 1 at₀ k₀
   run-first I₀ O₀ B₀ at₀ k₀ f o z =
       let K = kind d cs pos leaf lp in
       let root = rootDomain d cs active in
@@ -334,38 +334,38 @@ module _ (d : ℕ) (cs : List Float) (pos : 0 < d) (few : d ≤ 3) (leaf : ℕ) 
         inv =
             inv-first K m root I₀ O₀ at₀ k₀ (rowsIn m w₁) (roomIn m wₐ) (roomIn m w₁) lp (rows-first ∙ sym (root-rows d cs active)) (rw (root-rows d cs active) good)
             (ap length rows-first) some (omega (arith, room-length m wₐ fit-a)) f o (first-room m wₐ w₁ fit-a some ew);
-        boxes = boxes-first K domainBox (rowFloats d) held₁ B₀ root k₀ held-box;
+        boxes = boxes-first K domainBox (rowFloats d) floats₁ B₀ root k₀ floats-box;
         fit-w = rw length-w fw;
-        fit-held = rw length-held fh;
+        fit-floats = rw length-floats fh;
         fit-B = z;
       }
 
 -- ---- the lists keep their lengths, which the loop's sums need
-pub record KeptLengths (w₀ I₀ O₀ : List ℕ) (held₀ B₀ : List Float) (w I O : List ℕ) (held B : List Float) : Type 0 where
+pub record KeptLengths (w₀ I₀ O₀ : List ℕ) (floats₀ B₀ : List Float) (w I O : List ℕ) (floats B : List Float) : Type 0 where
   pub same-w : length w ≡ length w₀
   pub same-I : length I ≡ length I₀
   pub same-O : length O ≡ length O₀
-  pub same-held : length held ≡ length held₀
+  pub same-floats : length floats ≡ length floats₀
   pub same-B : length B ≡ length B₀
   pub cap-w : length w₀ < 2 ^ 64
   pub cap-I : length I₀ < 2 ^ 64
   pub cap-O : length O₀ < 2 ^ 64
-  pub cap-held : length held₀ < 2 ^ 64
+  pub cap-floats : length floats₀ < 2 ^ 64
   pub cap-B : length B₀ < 2 ^ 64
 
-pub kept-next : {w₀ I₀ O₀ : List ℕ} {held₀ B₀ : List Float} {w I O : List ℕ} {held B : List Float} → KeptLengths w₀ I₀ O₀ held₀ B₀ w I O held B
-    → {w₁ I₁ O₁ : List ℕ} {held₁ B₁ : List Float} → length w₁ ≡ length w → length I₁ ≡ length I → length O₁ ≡ length O → length held₁ ≡ length held → length B₁ ≡ length B
-    → KeptLengths w₀ I₀ O₀ held₀ B₀ w₁ I₁ O₁ held₁ B₁
+pub kept-next : {w₀ I₀ O₀ : List ℕ} {floats₀ B₀ : List Float} {w I O : List ℕ} {floats B : List Float} → KeptLengths w₀ I₀ O₀ floats₀ B₀ w I O floats B
+    → {w₁ I₁ O₁ : List ℕ} {floats₁ B₁ : List Float} → length w₁ ≡ length w → length I₁ ≡ length I → length O₁ ≡ length O → length floats₁ ≡ length floats → length B₁ ≡ length B
+    → KeptLengths w₀ I₀ O₀ floats₀ B₀ w₁ I₁ O₁ floats₁ B₁
 kept-next h a b c d e =
     record {
       same-w = a ∙ h .same-w;
       same-I = b ∙ h .same-I;
       same-O = c ∙ h .same-O;
-      same-held = d ∙ h .same-held;
+      same-floats = d ∙ h .same-floats;
       same-B = e ∙ h .same-B;
       cap-w = h .cap-w;
       cap-I = h .cap-I;
       cap-O = h .cap-O;
-      cap-held = h .cap-held;
+      cap-floats = h .cap-floats;
       cap-B = h .cap-B;
     }

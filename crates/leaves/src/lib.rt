@@ -16,34 +16,34 @@ fn put_root(
     points: &[f64],
     dimensions: usize,
     active: &[usize],
-    work: &mut [usize],
-    held: &mut [f64],
+    wholes: &mut [usize],
+    floats: &mut [f64],
 )
     requires { ⌜ (dimensions ≤ 3) × (0 < length (now active)) × All (Inside dimensions (now points)) (now active) ⌝ }
-    requires { ⌜ (length (now active) + 2 ≤ length (now work)) × (rowFloats dimensions ≤ length (now held)) ⌝ }
-    ensures work { λ _. ⌜ now (work .exit) ≡ put (put (now (work .entry)) 0 (now (active .entry))) (length (now (active .entry))) (0 ∷ length (now (active .entry)) ∷ []) ⌝ }
-    ensures held { λ _. ⌜ now (held .exit) ≡ put (now (held .entry)) 0 (extents dimensions (now (points .entry)) (now (active .entry))) ⌝ }
+    requires { ⌜ (length (now active) + 2 ≤ length (now wholes)) × (rowFloats dimensions ≤ length (now floats)) ⌝ }
+    ensures wholes { λ _. ⌜ now (wholes .exit) ≡ put (put (now (wholes .entry)) 0 (now (active .entry))) (length (now (active .entry))) (0 ∷ length (now (active .entry)) ∷ []) ⌝ }
+    ensures floats { λ _. ⌜ now (floats .exit) ≡ put (now (floats .entry)) 0 (extents dimensions (now (points .entry)) (now (active .entry))) ⌝ }
 {
     let n = active.len();
-    stretches::copy_rows(active, 0, n, work, 0);
-    stretches::put_pair(work, n, 0, n);
+    stretches::copy_rows(active, 0, n, wholes, 0);
+    stretches::put_pair(wholes, n, 0, n);
     boxes::write_box(
         extents::get_pointarray_extents(points, dimensions, active),
-        held,
+        floats,
         0,
     );
 }
 
 // The leaves of the active rows. Their rows go to `internals` from `at` on, packed; start and count of each to the domain rows from
-// the `first` on, and their boxes to `boxes` from the `first` on. The answer is their number. The working room: `work` holds the
-// rows, then the queue (four numbers a row), then spare room (one a row); `held` the boxes of the queue (two a row).
+// the `first` on, and their boxes to `boxes` from the `first` on. The answer is their number. The working room: `wholes` holds the
+// rows, then the queue (four numbers a row), then spare room (one a row); `floats` the boxes of the queue (two a row).
 pub fn leaves(
     points: &[f64],
     dimensions: usize,
     leaf: usize,
     active: &[usize],
-    work: &mut [usize],
-    held: &mut [f64],
+    wholes: &mut [usize],
+    floats: &mut [f64],
     internals: &mut [usize],
     at: usize,
     domains: &mut [usize],
@@ -51,7 +51,7 @@ pub fn leaves(
     boxes: &mut [f64],
 ) -> usize
     requires { ⌜ (0 < dimensions) × (dimensions ≤ 3) × (1 ≤ leaf) × (1 ≤ length (now active)) × GoodRows dimensions (now points) (now active) ⌝ }
-    requires { ⌜ (6 * length (now active) ≤ length (now work)) × (rowFloats dimensions * (2 * length (now active)) ≤ length (now held)) ⌝ }
+    requires { ⌜ (6 * length (now active) ≤ length (now wholes)) × (rowFloats dimensions * (2 * length (now active)) ≤ length (now floats)) ⌝ }
     requires { ⌜ (at + length (now active) ≤ length (now internals)) × (rowNumbers * (first + 2 * length (now active)) ≤ length (now domains)) × (rowFloats dimensions * (first + 2 * length (now active)) ≤ length (now boxes)) ⌝ }
     ensures number { λ r. ⌜ r ≡ length (leavesOf dimensions (now (points .entry)) leaf (now (active .entry))) ⌝ }
     ensures internals { λ _. ⌜ now (internals .exit) ≡ put (now (internals .entry)) at (joined (map (λ q. q .rows) (leavesOf dimensions (now (points .entry)) leaf (now (active .entry))))) ⌝ }
@@ -59,25 +59,25 @@ pub fn leaves(
     ensures boxes { λ _. ⌜ now (boxes .exit) ≡ put (now (boxes .entry)) (rowFloats dimensions * first) (joined (map (λ q. q .box) (leavesOf dimensions (now (points .entry)) leaf (now (active .entry))))) ⌝ }
 {
     let n = active.len();
-    let floats = packed::row_floats(dimensions);
-    put_root(points, dimensions, active, work, held);
+    let stride = packed::row_floats(dimensions);
+    put_root(points, dimensions, active, wholes, floats);
     let mut head: usize = 0;
     let mut tail: usize = 1;
     let mut end = at;
     let mut k = first;
     while head < tail {
-        let start = work[n + 2 * head];
-        let count = work[n + 2 * head + 1];
-        let whole = boxes::read_box(held, floats * head, dimensions);
-        let plane = cut::cut_stretch(points, dimensions, work, start, count, 5 * n);
+        let start = wholes[n + 2 * head];
+        let count = wholes[n + 2 * head + 1];
+        let whole = boxes::read_box(floats, stride * head, dimensions);
+        let plane = cut::cut_stretch(points, dimensions, wholes, start, count, 5 * n);
         head += 1;
         if leaf <= count / 2 {
-            queue::put_halves(work, n + 2 * tail, start, count);
-            boxes::write_halves(whole, plane.axis, plane.value, held, floats * tail);
+            queue::put_halves(wholes, n + 2 * tail, start, count);
+            boxes::write_halves(whole, plane.axis, plane.value, floats, stride * tail);
             tail += 2;
         } else {
-            queue::pack_leaves(work, start, count, internals, end, domains, k);
-            boxes::write_halves(whole, plane.axis, plane.value, boxes, floats * k);
+            queue::pack_leaves(wholes, start, count, internals, end, domains, k);
+            boxes::write_halves(whole, plane.axis, plane.value, boxes, stride * k);
             end += count;
             k += 2;
         }

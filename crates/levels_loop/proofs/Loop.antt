@@ -1,6 +1,6 @@
 -- The loop over the levels. What is written, with what the levels that are left will write, is what is due. Assumes nothing.
 -- Holds: rowCount, leafCount, Outs, Long, Inv, levels-first, rows-few, end-points, end-internals, end-domains, end-boxes,
---   end-borrowed, end-rows, end-counts, end-number, built-below, level-above, level-points, level-fits, level-room, first-fits,
+--   end-borrowed, end-rows, end-counts, end-number, built-below, level-above, level-points-fit, level-fits, level-room, first-fits,
 --   bat-fits, size-few, levels-next
 use mathlib.Core.Path.{_≡_, refl, sym, ap, _∙_}
 use mathlib.Core.Bool.{true, false, _&&_}
@@ -25,7 +25,7 @@ use Rattle.definition.proofs.Steps.{fineOf, nextOf}
 use Rattle.definition_laws.proofs.Fit.{length-stretches}
 use Rattle.fine_level.specs.Fine.{leavesAt, nextAt, ownIn, borrowedIn, boxesIn, Given, Fits, Room}
 use Rattle.levels_loop.specs.After.{levelSettings, levelsAfter, Space}
-use Rattle.levels_loop.proofs.Spaces.{coarse-fits, fine-fits, fine-points, fine-room, space-next}
+use Rattle.levels_loop.proofs.Spaces.{coarse-fits, fine-fits, fine-level-points, fine-room, space-next}
 use Rattle.levels_loop.proofs.Packing.{points-more, own-more, borrowed-more, boxes-more, rows-more}
 use Rattle.levels_loop.proofs.Fine.{leaves-few, own-all, borrowed-few, boxes-all, next-many, next-given, size-small, after-coarse, after-fine, first-points, counts-more, fine-rows}
 use Rattle.levels_loop.proofs.Coarse.{coarse-points, coarse-own, coarse-borrowed, coarse-boxes, coarse-rows, coarse-row-count, coarse-domain-count}
@@ -40,7 +40,7 @@ leafCount l = length (l .leaves)
 -- the lists of a tree, as they were when the loop began and as they are now
 pub record Outs (P I D : List ℕ) (B : List Float) (L rows counts : List ℕ) (d : ℕ) (all rest : List Level) (P₁ I₁ D₁ : List ℕ) (B₁ : List Float) (L₁ rows₁ counts₁ : List ℕ)
     (built at first bat : ℕ) : Type 0 where
-  pub points : put P₁ at (packedPoints rest) ≡ put P 0 (packedPoints all)
+  pub level-points : put P₁ at (packedPoints rest) ≡ put P 0 (packedPoints all)
   pub internals : put I₁ at (packedOwn rest) ≡ put I 0 (packedOwn all)
   pub domains : put D₁ (rowNumbers * first) (stretches at bat (leavesIn rest)) ≡ put D 0 (packedDomains all)
   pub boxes : put B₁ (rowFloats d * first) (packedBoxes rest) ≡ put B 0 (packedBoxes all)
@@ -51,7 +51,7 @@ pub record Outs (P I D : List ℕ) (B : List Float) (L rows counts : List ℕ) (
 
 -- the lengths stay
 pub record Long (P I D : List ℕ) (B : List Float) (L W : List ℕ) (F : List Float) (P₁ I₁ D₁ : List ℕ) (B₁ : List Float) (L₁ W₁ : List ℕ) (F₁ : List Float) : Type 0 where
-  pub points : length P₁ ≡ length P
+  pub level-points : length P₁ ≡ length P
   pub internals : length I₁ ≡ length I
   pub domains : length D₁ ≡ length D
   pub boxes : length B₁ ≡ length B
@@ -82,9 +82,9 @@ module _ {d : ℕ} {cs : List Float} {leaf q n : ℕ} {P I D : List ℕ} {B : Li
     slots-too = refl;
     given = g;
     space = s;
-    long = record { points = refl; internals = refl; domains = refl; boxes = refl; borrowed = refl; wholes = refl; floats = refl };
+    long = record { level-points = refl; internals = refl; domains = refl; boxes = refl; borrowed = refl; wholes = refl; floats = refl };
     outs = record {
-      points = refl;
+      level-points = refl;
       internals = refl;
       domains = refl;
       boxes = ap (λ (z : ℕ). put B z (packedBoxes (levelsAfter d cs leaf q c k 0 (part P 0 n)))) (mul-zero (rowFloats d));
@@ -116,7 +116,7 @@ module _ {d : ℕ} {cs : List Float} {leaf q n : ℕ} {P I D : List ℕ} {B : Li
       last = after-coarse (levelSettings d leaf q) cs c k built active a many no
 
       pub end-points : P₁ ≡ put P 0 (packedPoints (levelsAfter d cs leaf q c k 0 (part P 0 n)))
-      end-points = sym (put-part P₁ at a (coarse-fits (v .space) .0)) ∙ rw (last, coarse-points d active) at (v .outs .points)
+      end-points = sym (put-part P₁ at a (coarse-fits (v .space) .0)) ∙ rw (last, coarse-points d active) at (v .outs .level-points)
 
       pub end-internals : I₂ ≡ put I 0 (packedOwn (levelsAfter d cs leaf q c k 0 (part P 0 n)))
       end-internals = eI ∙ rw (last, coarse-own d active) at (v .outs .internals)
@@ -154,8 +154,8 @@ module _ {d : ℕ} {cs : List Float} {leaf q n : ℕ} {P I D : List ℕ} {B : Li
       space : Space d q a (suc (mostFine - (built + 1))) P₁ I₁ D₁ B₁ L₁ W₁ F₁ at first bat
       space = rw left at (v .space)
 
-      pub level-points : at + 2 * a ≤ length P₁
-      level-points = fine-points space
+      pub level-points-fit : at + 2 * a ≤ length P₁
+      level-points-fit = fine-level-points space
 
       pub level-fits : Fits d q a I₁ D₁ B₁ L₁ at first bat
       level-fits = fine-fits space
@@ -209,7 +209,7 @@ module _ {d : ℕ} {cs : List Float} {leaf q n : ℕ} {P I D : List ℕ} {B : Li
 
           next-read : part P₂ (at + a) b ≡ nextOf s cs c k built active
           next-read =
-              rw eP (part-put-same P₁ (at + a) (nextAt d cs leaf size active) b (omega (arith, level-points)) (sym eb)) ∙ next-same
+              rw eP (part-put-same P₁ (at + a) (nextAt d cs leaf size active) b (omega (arith, level-points-fit)) (sym eb)) ∙ next-same
 
           -- the levels after it
           abbrev rest : List Level
@@ -228,10 +228,10 @@ module _ {d : ℕ} {cs : List Float} {leaf q n : ℕ} {P I D : List ℕ} {B : Li
               let h = first-points s cs c k (mostFine - (built + 1)) (built + 1) (nextOf s cs c k built active) in
               let o = rw now-first at (v .outs) in
               record {
-                points =
-                    points-more f rest P₁ at a (nextAt d cs leaf size active) (h .0) (fine-rows s cs active) (omega (arith, level-points, next-is, eb, sizes .1))
+                level-points =
+                    points-more f rest P₁ at a (nextAt d cs leaf size active) (h .0) (fine-rows s cs active) (omega (arith, level-points-fit, next-is, eb, sizes .1))
                     (h .1 ∙ ap (λ (x : List ℕ). x ++ h .0) (sym next-same)) P₂ _ eP refl
-                    ∙ o .points;
+                    ∙ o .level-points;
                 internals = own-more f rest I₁ at a own-is (omega (arith, level-fits .internals)) I₂ _ eI refl ∙ o .internals;
                 domains =
                     rows-more f rest D₁ first m at a bat z (sym em) own-is (sym ez) (omega (arith, level-fits .domains)) D₂ _ eD refl ∙ o .domains;
@@ -250,7 +250,7 @@ module _ {d : ℕ} {cs : List Float} {leaf q n : ℕ} {P I D : List ℕ} {B : Li
               let rows-fit : rowFloats d * first + length (boxesIn (leavesAt d cs leaf q active)) ≤ length B₁ =
               omega (arith, boxes-all d cs leaf q active (v .given), mul-add (rowFloats d) first (length (leavesAt d cs leaf q active)), mul-le-mul-left (rowFloats d) few-rows, level-fits .boxes) in
               record {
-                points = rw eP (length-put P₁ (at + a) (nextAt d cs leaf size active) (omega (arith, level-points, next-is, eb, sizes .1)));
+                level-points = rw eP (length-put P₁ (at + a) (nextAt d cs leaf size active) (omega (arith, level-points-fit, next-is, eb, sizes .1)));
                 internals = rw eI (length-put I₁ at (ownIn (leavesAt d cs leaf q active)) (omega (arith, own-is, level-fits .internals)));
                 domains =
                     rw eD (length-put D₁ (rowNumbers * first) (stretches at bat (leavesAt d cs leaf q active))
@@ -276,9 +276,9 @@ module _ {d : ℕ} {cs : List Float} {leaf q n : ℕ} {P I D : List ℕ} {B : Li
                 given = rw (next-read, ← next-same) (next-given d cs leaf q active (v .given) size small (sizes .0));
                 space =
                     space-next space b m z (omega (arith, next-is, sizes .1)) few-leaves few-borrowed P₂ I₂ D₂ B₂ L₂ W₂ F₂
-                    (l .points) (l .internals) (l .domains) (l .boxes) (l .borrowed) eW eF;
+                    (l .level-points) (l .internals) (l .domains) (l .boxes) (l .borrowed) eW eF;
                 long = record {
-                  points = l .points ∙ w .points;
+                  level-points = l .level-points ∙ w .level-points;
                   internals = l .internals ∙ w .internals;
                   domains = l .domains ∙ w .domains;
                   boxes = l .boxes ∙ w .boxes;

@@ -1,5 +1,5 @@
 -- The room for the levels that are left: a level fits in it, and what is left of it is enough for the others. Assumes nothing.
--- Holds: coarse-fits, fine-fits, fine-points, fine-room, space-next
+-- Holds: coarse-fits, fine-fits, fine-level-points, fine-room, space-next
 use mathlib.Core.Path.{_≡_}
 use mathlib.Core.List.{List}
 use Prim.Native.Nat.{ℕ, suc, _+_, _*_, _≤_}
@@ -21,7 +21,7 @@ module _ {d q a t : ℕ} {P I D : List ℕ} {B : List Float} {L W : List ℕ} {F
       → (at + a ≤ length P) × (at + a ≤ length I) × (rowNumbers * (first + 1) ≤ length D) × (rowFloats d * (first + 1) ≤ length B)
   coarse-fits s =
       let one : first + 1 ≤ first + t * (2 * a) + 1 = omega arith in
-      (omega (arith, s .points, suc-mul t a), omega (arith, s .internals, suc-mul t a), omega (arith, s .domains), omega (arith, s .boxes, mul-le-mul-left (rowFloats d) one))
+      (omega (arith, s .level-points, suc-mul t a), omega (arith, s .internals, suc-mul t a), omega (arith, s .domains), omega (arith, s .boxes, mul-le-mul-left (rowFloats d) one))
 
   -- a fine level
   pub fine-fits : Space d q a (suc t) P I D B L W F at first bat → Fits d q a I D B L at first bat
@@ -34,8 +34,8 @@ module _ {d q a t : ℕ} {P I D : List ℕ} {B : List Float} {L W : List ℕ} {F
         borrowed = omega (arith, s .borrowed, suc-mul t (2 * a * (q + 1)));
       }
 
-  pub fine-points : Space d q a (suc t) P I D B L W F at first bat → at + 2 * a ≤ length P
-  fine-points s = omega (arith, s .points, suc-mul (suc t) a, suc-mul t a)
+  pub fine-level-points : Space d q a (suc t) P I D B L W F at first bat → at + 2 * a ≤ length P
+  fine-level-points s = omega (arith, s .level-points, suc-mul (suc t) a, suc-mul t a)
 
   pub fine-room : Space d q a t P I D B L W F at first bat → Room q a W F
   fine-room s = record { wholes = s .wholes; floats = s .floats }
@@ -51,7 +51,7 @@ module _ {d q a t : ℕ} {P I D : List ℕ} {B : List Float} {L W : List ℕ} {F
       let each : 2 * b * (q + 1) ≤ 2 * a * (q + 1) = mul-le-mul (omega arith) (omega arith) in
       let each8 : 8 * b * (q + 1) ≤ 8 * a * (q + 1) = mul-le-mul (omega arith) (omega arith) in
       record {
-        points = omega (arith, s .points, part-less at a a b (suc t) (omega arith) hb, eP);
+        level-points = omega (arith, s .level-points, part-less at a a b (suc t) (omega arith) hb, eP);
         internals = omega (arith, s .internals, part-less at a a b (suc t) (omega arith) hb, eI);
         domains = omega (arith, s .domains, rows1, eD);
         boxes = omega (arith, s .boxes, mul-le-mul-left (rowFloats d) rows1, eB);

@@ -55,24 +55,24 @@ pub fn all_levels(
     c: usize,
     k: u32,
     n: usize,
-    list: &mut [usize],
+    level_points: &mut [usize],
     internals: &mut [usize],
     domains: &mut [usize],
     boxes: &mut [f64],
     borrowed: &mut [usize],
-    work: &mut [usize],
-    held: &mut [f64],
+    wholes: &mut [usize],
+    floats: &mut [f64],
 ) -> Counts
-    requires { ⌜ (1 ≤ c) × (k ≤ 3) × Given dimensions (now points) leaf neighbours (part (now list) 0 n) ⌝ }
-    requires { ⌜ Space dimensions neighbours n mostFine (now list) (now internals) (now domains) (now boxes) (now borrowed) (now work) (now held) 0 0 0 ⌝ }
-    ensures counts { λ r. ⌜ (r .levels ≡ length (levelsAfter dimensions (now (points .entry)) leaf neighbours c k 0 (part (now (list .entry)) 0 n)))
-        × (r .rows ≡ put (replicate 4 0) 0 (map (λ l. length (l .points)) (levelsAfter dimensions (now (points .entry)) leaf neighbours c k 0 (part (now (list .entry)) 0 n))))
-        × (r .domains ≡ put (replicate 4 0) 0 (map (λ l. length (l .leaves)) (levelsAfter dimensions (now (points .entry)) leaf neighbours c k 0 (part (now (list .entry)) 0 n)))) ⌝ }
-    ensures list { λ _. ⌜ now (list .exit) ≡ put (now (list .entry)) 0 (packedPoints (levelsAfter dimensions (now (points .entry)) leaf neighbours c k 0 (part (now (list .entry)) 0 n))) ⌝ }
-    ensures internals { λ _. ⌜ now (internals .exit) ≡ put (now (internals .entry)) 0 (packedOwn (levelsAfter dimensions (now (points .entry)) leaf neighbours c k 0 (part (now (list .entry)) 0 n))) ⌝ }
-    ensures domains { λ _. ⌜ now (domains .exit) ≡ put (now (domains .entry)) 0 (packedDomains (levelsAfter dimensions (now (points .entry)) leaf neighbours c k 0 (part (now (list .entry)) 0 n))) ⌝ }
-    ensures boxes { λ _. ⌜ now (boxes .exit) ≡ put (now (boxes .entry)) 0 (packedBoxes (levelsAfter dimensions (now (points .entry)) leaf neighbours c k 0 (part (now (list .entry)) 0 n))) ⌝ }
-    ensures borrowed { λ _. ⌜ now (borrowed .exit) ≡ put (now (borrowed .entry)) 0 (packedBorrowed (levelsAfter dimensions (now (points .entry)) leaf neighbours c k 0 (part (now (list .entry)) 0 n))) ⌝ }
+    requires { ⌜ (1 ≤ c) × (k ≤ 3) × Given dimensions (now points) leaf neighbours (part (now «level_points») 0 n) ⌝ }
+    requires { ⌜ Space dimensions neighbours n mostFine (now «level_points») (now internals) (now domains) (now boxes) (now borrowed) (now wholes) (now floats) 0 0 0 ⌝ }
+    ensures counts { λ r. ⌜ (r .levels ≡ length (levelsAfter dimensions (now (points .entry)) leaf neighbours c k 0 (part (now («level_points» .entry)) 0 n)))
+        × (r .rows ≡ put (replicate 4 0) 0 (map (λ l. length (l .points)) (levelsAfter dimensions (now (points .entry)) leaf neighbours c k 0 (part (now («level_points» .entry)) 0 n))))
+        × (r .domains ≡ put (replicate 4 0) 0 (map (λ l. length (l .leaves)) (levelsAfter dimensions (now (points .entry)) leaf neighbours c k 0 (part (now («level_points» .entry)) 0 n)))) ⌝ }
+    ensures level_points { λ _. ⌜ now («level_points» .exit) ≡ put (now («level_points» .entry)) 0 (packedPoints (levelsAfter dimensions (now (points .entry)) leaf neighbours c k 0 (part (now («level_points» .entry)) 0 n))) ⌝ }
+    ensures internals { λ _. ⌜ now (internals .exit) ≡ put (now (internals .entry)) 0 (packedOwn (levelsAfter dimensions (now (points .entry)) leaf neighbours c k 0 (part (now («level_points» .entry)) 0 n))) ⌝ }
+    ensures domains { λ _. ⌜ now (domains .exit) ≡ put (now (domains .entry)) 0 (packedDomains (levelsAfter dimensions (now (points .entry)) leaf neighbours c k 0 (part (now («level_points» .entry)) 0 n))) ⌝ }
+    ensures boxes { λ _. ⌜ now (boxes .exit) ≡ put (now (boxes .entry)) 0 (packedBoxes (levelsAfter dimensions (now (points .entry)) leaf neighbours c k 0 (part (now («level_points» .entry)) 0 n))) ⌝ }
+    ensures borrowed { λ _. ⌜ now (borrowed .exit) ≡ put (now (borrowed .entry)) 0 (packedBorrowed (levelsAfter dimensions (now (points .entry)) leaf neighbours c k 0 (part (now («level_points» .entry)) 0 n))) ⌝ }
 {
     let mut built: usize = 0;
     let mut from: usize = 0;
@@ -97,13 +97,13 @@ pub fn all_levels(
                 first: first,
                 bat: bat,
             },
-            list,
+            level_points,
             internals,
             domains,
             boxes,
             borrowed,
-            work,
-            held,
+            wholes,
+            floats,
         );
         rows[built] = a;
         counts[built] = level.leaves;
@@ -115,7 +115,7 @@ pub fn all_levels(
     }
     coarse_level::coarse_level(
         dimensions,
-        list,
+        level_points,
         from,
         a,
         internals,

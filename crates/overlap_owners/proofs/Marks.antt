@@ -56,8 +56,8 @@ module _ (active : List ℕ) (up : Ascends active) (internals : List ℕ) (start
 
 -- each row of the first leaves has its leaf
 abbrev pub MarkedUpTo : List ℕ → List ℕ → List ℕ → ℕ → ℕ → ℕ → List ℕ → Type 0
-MarkedUpTo active I D first m leaf work =
-    (l p : ℕ) → l < leaf → p < length active → List·Memᴰ (getD active p 0) (getD (readOwn I D first m) l []) → getD work p 0 ≡ l
+MarkedUpTo active I D first m leaf wholes =
+    (l p : ℕ) → l < leaf → p < length active → List·Memᴰ (getD active p 0) (getD (readOwn I D first m) l []) → getD wholes p 0 ≡ l
 
 module _ (active I D : List ℕ) (first m : ℕ) (L : Leaves active I D first m) where
   abbrev own : List (List ℕ)
@@ -87,8 +87,8 @@ module _ (active I D : List ℕ) (first m : ℕ) (L : Leaves active I D first m)
       below : l < leaf + 1 → l ≤ leaf
       below z = omega arith
 
-  pub marked-owned : (work : List ℕ) (leaf : ℕ) → m ≤ leaf → Marked leaf work → Owned active own work
-  marked-owned work leaf h mk =
+  pub marked-owned : (wholes : List ℕ) (leaf : ℕ) → m ≤ leaf → Marked leaf wholes → Owned active own wholes
+  marked-owned wholes leaf h mk =
       let n = read-length I D first m in
       record {
         leaf = λ p g.
@@ -96,9 +96,9 @@ module _ (active I D : List ℕ) (first m : ℕ) (L : Leaves active I D first m)
             let e = mk (t .0) p (omega (arith, t .1)) g (t .2) in omega (arith, t .1);
         mine = λ p l g k.
             let t = shared-held active own (L .shared) (getD active p 0) (mem-at active p 0 g) in
-            let e : getD work p 0 ≡ t .0 = mk (t .0) p (omega (arith, t .1)) g (t .2) in
-            same-test (member (getD active p 0) (getD own l [])) (eqb (getD work p 0) l)
-            (λ q. eq-eqb (getD work p 0) l (e ∙ shared-apart active own (L .shared) (L .ascends) (t .0) l (getD active p 0) (t .1) k (t .2) (member-mem (getD own l []) (getD active p 0) q)))
+            let e : getD wholes p 0 ≡ t .0 = mk (t .0) p (omega (arith, t .1)) g (t .2) in
+            same-test (member (getD active p 0) (getD own l [])) (eqb (getD wholes p 0) l)
+            (λ q. eq-eqb (getD wholes p 0) l (e ∙ shared-apart active own (L .shared) (L .ascends) (t .0) l (getD active p 0) (t .1) k (t .2) (member-mem (getD own l []) (getD active p 0) q)))
             (λ q. mem-member (getD own l []) (getD active p 0)
-            (subst (λ (z : ℕ). List·Memᴰ (getD active p 0) (getD own z [])) (sym e ∙ eqb-true (getD work p 0) l q) (t .2)));
+            (subst (λ (z : ℕ). List·Memᴰ (getD active p 0) (getD own z [])) (sym e ∙ eqb-true (getD wholes p 0) l q) (t .2)));
       }

@@ -33,16 +33,16 @@ fn mark_leaf(
     start: usize,
     count: usize,
     leaf: usize,
-    work: &mut [usize],
+    wholes: &mut [usize],
 )
-    requires { ⌜ Ascends (now active) × (length (now active) ≤ length (now work)) × (start + count ≤ length (now internals))
+    requires { ⌜ Ascends (now active) × (length (now active) ≤ length (now wholes)) × (start + count ≤ length (now internals))
         × ((row : ℕ) → List·Memᴰ row (part (now internals) start count) → List·Memᴰ row (now active)) ⌝ }
-    ensures { λ _. ⌜ Written (now (active .entry)) (part (now (internals .entry)) start count) leaf (now (work .entry)) (now (work .exit)) ⌝ }
+    ensures { λ _. ⌜ Written (now (active .entry)) (part (now (internals .entry)) start count) leaf (now (wholes .entry)) (now (wholes .exit)) ⌝ }
 {
     let mut k: usize = 0;
     while k < count {
         let p = position(active, internals[start + k]);
-        work[p] = leaf;
+        wholes[p] = leaf;
         k += 1;
     }
 }
@@ -55,10 +55,10 @@ pub fn owners(
     domains: &[usize],
     first: usize,
     m: usize,
-    work: &mut [usize],
+    wholes: &mut [usize],
 )
-    requires { ⌜ Leaves (now active) (now internals) (now domains) first m × (length (now active) ≤ length (now work)) ⌝ }
-    ensures { λ _. ⌜ Owned (now (active .entry)) (readOwn (now (internals .entry)) (now (domains .entry)) first m) (now (work .exit)) ⌝ }
+    requires { ⌜ Leaves (now active) (now internals) (now domains) first m × (length (now active) ≤ length (now wholes)) ⌝ }
+    ensures { λ _. ⌜ Owned (now (active .entry)) (readOwn (now (internals .entry)) (now (domains .entry)) first m) (now (wholes .exit)) ⌝ }
 {
     let mut leaf: usize = 0;
     while leaf < m {
@@ -69,7 +69,7 @@ pub fn owners(
             row.internal_start,
             row.internal_count,
             leaf,
-            work,
+            wholes,
         );
         leaf += 1;
     }

@@ -47,40 +47,40 @@ module _ (d : ℕ) (cs : List Float) (neighbours : ℕ) (active : List ℕ) (up 
       let m : (p + 1) * q ≤ a * q = mul-le-mul-right q (omega arith) in
       omega (arith, one-mul q)
 
-  pub collect-owners : (work : List ℕ) (n r : ℕ) → Collected d cs neighbours active old n work r → length work ≡ length old → Owners a old → Owners a work
-  collect-owners work n r c l o = record { few = o .few; room = (let t = o .room in omega arith); small = λ i h. rw (c .stay i h) (o .small i h) }
+  pub collect-owners : (wholes : List ℕ) (n r : ℕ) → Collected d cs neighbours active old n wholes r → length wholes ≡ length old → Owners a old → Owners a wholes
+  collect-owners wholes n r c l o = record { few = o .few; room = (let t = o .room in omega arith); small = λ i h. rw (c .stay i h) (o .small i h) }
 
-  module _ (work : List ℕ) (p n : ℕ) (c : Collected d cs neighbours active old p work n) (here : p < a) (room : n + 2 * (neighbours + 1) ≤ length work)
-      (work' : List ℕ) (r : ℕ) (t : Taken d cs neighbours active p work work' n r) where
+  module _ (wholes : List ℕ) (p n : ℕ) (c : Collected d cs neighbours active old p wholes n) (here : p < a) (room : n + 2 * (neighbours + 1) ≤ length wholes)
+      (wholes' : List ℕ) (r : ℕ) (t : Taken d cs neighbours active p wholes wholes' n r) where
     xs : List ℕ
-    xs = pairsOf (λ i. getD work i 0) p (t .near)
+    xs = pairsOf (λ i. getD wholes i 0) p (t .near)
 
     short : length xs ≤ 2 * (neighbours + 1)
     unfolding xs
-    short = omega (arith, pairs-length (λ i. getD work i 0) p (t .near), t .few)
+    short = omega (arith, pairs-length (λ i. getD wholes i 0) p (t .near), t .few)
 
     end : r ≡ n + length xs
     unfolding xs
     end = t .end
 
-    list : work' ≡ put work n xs
+    list : wholes' ≡ put wholes n xs
     unfolding xs
     list = t .list
 
-    longer : part work' a (r - a) ≡ part work a (n - a) ++ xs
-    longer = let h = short in part-grown work work' xs a n r (c .start) (omega arith) end list
+    longer : part wholes' a (r - a) ≡ part wholes a (n - a) ++ xs
+    longer = let h = short in part-grown wholes wholes' xs a n r (c .start) (omega arith) end list
 
-    own-at : (i : ℕ) → i < a → getD work i 0 ≡ own i
+    own-at : (i : ℕ) → i < a → getD wholes i 0 ≡ own i
     own-at i h = c .stay i h
 
-    pub collect-long : length work' ≡ length work
-    collect-long = let h = short in ap length list ∙ length-put work n xs (omega arith)
+    pub collect-long : length wholes' ≡ length wholes
+    collect-long = let h = short in ap length list ∙ length-put wholes n xs (omega arith)
 
     -- ---- what is new
     new-only : (z : ℕ) → List·Memᴰ z xs → PairCode d cs neighbours active own (p + 1) z
     unfolding xs
     new-only z i =
-        let s = pairs-mem (λ i. getD work i 0) p z (t .near) i in
+        let s = pairs-mem (λ i. getD wholes i 0) p z (t .near) i in
         let f = found-taken d cs active (getD active p 0) neighbours (t .near) (t .far) (t .found) (s .0) (s .1) in
         let ep = own-at p here in
         let eq = own-at (s .0) (f .0) in
@@ -99,12 +99,12 @@ module _ (d : ℕ) (cs : List Float) (neighbours : ℕ) (active : List ℕ) (up 
     new-all z s e =
         let k : List·Memᴰ (s .to) (t .near) = taken-found d cs active (getD active p 0) neighbours (t .near) (t .far) (t .found) up (s .to) (s .within)
         (subst (λ (i : ℕ). List·Memᴰ (getD active (s .to) 0) (nearest d cs neighbours active (getD active i 0))) e (s .takes)) in
-        let ef : own (s .from) ≡ getD work p 0 = ap own e ∙ sym (own-at p here) in
-        let et : own (s .to) ≡ getD work (s .to) 0 = sym (own-at (s .to) (s .within)) in
-        mem-pairs (λ i. getD work i 0) p z (t .near) (s .to) k (λ q. s .apart (ef ∙ q ∙ sym et))
-        (⊎-elim (λ q. inl (q ∙ ap (λ (l : ℕ). code l (s .to)) ef)) (λ q. inr (q ∙ ap (λ (l : ℕ). code l (s .from)) et ∙ ap (λ (j : ℕ). code (getD work (s .to) 0) j) e)) (s .is))
+        let ef : own (s .from) ≡ getD wholes p 0 = ap own e ∙ sym (own-at p here) in
+        let et : own (s .to) ≡ getD wholes (s .to) 0 = sym (own-at (s .to) (s .within)) in
+        mem-pairs (λ i. getD wholes i 0) p z (t .near) (s .to) k (λ q. s .apart (ef ∙ q ∙ sym et))
+        (⊎-elim (λ q. inl (q ∙ ap (λ (l : ℕ). code l (s .to)) ef)) (λ q. inr (q ∙ ap (λ (l : ℕ). code l (s .from)) et ∙ ap (λ (j : ℕ). code (getD wholes (s .to) 0) j) e)) (s .is))
 
-    pub collect-more : Collected d cs neighbours active old (p + 1) work' r
+    pub collect-more : Collected d cs neighbours active old (p + 1) wholes' r
     collect-more =
         let q = 2 * (neighbours + 1) in
         let s = c .start in
@@ -113,13 +113,13 @@ module _ (d : ℕ) (cs : List Float) (neighbours : ℕ) (active : List ℕ) (up 
         record {
           start = omega arith;
           few = (let m : (p + 1) * q ≡ p * q + 1 * q = add-mul p 1 q in let f = c .few in omega (arith, one-mul q));
-          stay = λ i g. ap (λ (l : List ℕ). getD l i 0) list ∙ getD-put-before work n xs i 0 (omega arith) (omega arith) ∙ c .stay i g;
+          stay = λ i g. ap (λ (l : List ℕ). getD l i 0) list ∙ getD-put-before wholes n xs i 0 (omega arith) (omega arith) ∙ c .stay i g;
           only = λ z i. ⊎-elim
               (λ j. let o = c .only z j in record { from = o .from; to = o .to; below = (let b = o .below in omega arith); within = o .within; takes = o .takes; apart = o .apart; is = o .is })
-              (λ j. new-only z j) (List·Memᴰ·append-cases (part work a (n - a)) (subst (λ (l : List ℕ). List·Memᴰ z l) longer i));
+              (λ j. new-only z j) (List·Memᴰ·append-cases (part wholes a (n - a)) (subst (λ (l : List ℕ). List·Memᴰ z l) longer i));
           all = λ z o. subst (λ (l : List ℕ). List·Memᴰ z l) (sym longer) (⊎-elim
-              (λ (g : o .from ≡ p). mem-right (part work a (n - a)) xs (new-all z o g))
-              (λ (g : o .from < p). mem-left (part work a (n - a)) xs
+              (λ (g : o .from ≡ p). mem-right (part wholes a (n - a)) xs (new-all z o g))
+              (λ (g : o .from < p). mem-left (part wholes a (n - a)) xs
               (c .all z (record { from = o .from; to = o .to; below = g; within = o .within; takes = o .takes; apart = o .apart; is = o .is })))
               (eq-or-lt-of-le (below o)));
         }
@@ -128,8 +128,8 @@ module _ (d : ℕ) (cs : List Float) (neighbours : ℕ) (active : List ℕ) (up 
         below o = let b = o .below in omega arith
 
 -- what is found of one row can be sent
-pub row-room : (d : ℕ) (cs : List Float) (neighbours : ℕ) (active : List ℕ) (row p : ℕ) (work : List ℕ) (n : ℕ) (near : List ℕ) (far : List Float)
-    → Owners (length active) work → length active ≤ n → n + 2 * (neighbours + 1) ≤ length work → p < length active → length near ≤ neighbours + 1
-    → Found d cs active row neighbours near far → PairRoom near (length active) p work n
-row-room d cs neighbours active row p work n near far o s r h l f =
+pub row-room : (d : ℕ) (cs : List Float) (neighbours : ℕ) (active : List ℕ) (row p : ℕ) (wholes : List ℕ) (n : ℕ) (near : List ℕ) (far : List Float)
+    → Owners (length active) wholes → length active ≤ n → n + 2 * (neighbours + 1) ≤ length wholes → p < length active → length near ≤ neighbours + 1
+    → Found d cs active row neighbours near far → PairRoom near (length active) p wholes n
+row-room d cs neighbours active row p wholes n near far o s r h l f =
     record { owners = o; start = s; fits = omega arith; here = h; within = λ k g. all-at (λ q. q < length active) near k 0 (f .within) g }

@@ -59,40 +59,40 @@ module _ (own : ℕ → ℕ) (p : ℕ) where
       mem-joined (map (pairOf own p) xs) (mem-map (pairOf own p) xs i) (rw (pair-apart q n) (⊎-elim (λ a. List·Memᴰ·head a) (λ a. List·Memᴰ·tail (List·Memᴰ·head a)) e))
 
 -- ---- the turns: what the first k of the positions send stands from n to w
-pub record Sent (near : List ℕ) (p : ℕ) (work₀ : List ℕ) (n : ℕ) (work : List ℕ) (w k : ℕ) : Type 0 where
+pub record Sent (near : List ℕ) (p : ℕ) (wholes₀ : List ℕ) (n : ℕ) (wholes : List ℕ) (w k : ℕ) : Type 0 where
   pub inside : k ≤ length near
-  pub end : w ≡ n + length (pairsOf (λ i. getD work₀ i 0) p (take k near))
-  pub most : length (pairsOf (λ i. getD work₀ i 0) p (take k near)) ≤ 2 * k
-  pub long : length work ≡ length work₀
-  pub list : work ≡ put work₀ n (pairsOf (λ i. getD work₀ i 0) p (take k near))
+  pub end : w ≡ n + length (pairsOf (λ i. getD wholes₀ i 0) p (take k near))
+  pub most : length (pairsOf (λ i. getD wholes₀ i 0) p (take k near)) ≤ 2 * k
+  pub long : length wholes ≡ length wholes₀
+  pub list : wholes ≡ put wholes₀ n (pairsOf (λ i. getD wholes₀ i 0) p (take k near))
 
-module _ (near : List ℕ) (a p : ℕ) (work₀ : List ℕ) (n : ℕ) (R : PairRoom near a p work₀ n) where
+module _ (near : List ℕ) (a p : ℕ) (wholes₀ : List ℕ) (n : ℕ) (R : PairRoom near a p wholes₀ n) where
   abbrev own : ℕ → ℕ
-  own i = getD work₀ i 0
+  own i = getD wholes₀ i 0
 
   bound : (k : ℕ) → k ≤ length near → length (pairsOf own p (take k near)) ≤ 2 * k
   bound k h = omega (arith, pairs-length own p (take k near), length-take-le k near h)
 
-  pub send-none : Sent near p work₀ n work₀ n 0
+  pub send-none : Sent near p wholes₀ n wholes₀ n 0
   unfolding pairsOf joined
-  send-none = record { inside = omega arith; end = omega arith; most = omega arith; long = refl; list = sym (put-nil work₀ n) }
+  send-none = record { inside = omega arith; end = omega arith; most = omega arith; long = refl; list = sym (put-nil wholes₀ n) }
 
-  module _ (work : List ℕ) (w k : ℕ) (s : Sent near p work₀ n work w k) where
+  module _ (wholes : List ℕ) (w k : ℕ) (s : Sent near p wholes₀ n wholes w k) where
     -- the owners stay
-    pub send-stay : (i : ℕ) → i < a → getD work i 0 ≡ getD work₀ i 0
+    pub send-stay : (i : ℕ) → i < a → getD wholes i 0 ≡ getD wholes₀ i 0
     send-stay i h =
         let b = R .start in let f = R .fits in
-        rw (s .list) (getD-put-before work₀ n (pairsOf own p (take k near)) i 0 (omega arith) (omega arith))
+        rw (s .list) (getD-put-before wholes₀ n (pairsOf own p (take k near)) i 0 (omega arith) (omega arith))
 
     module _ (here : k < length near) where
       abbrev q : ℕ
       q = getD near k 0
 
-      pub send-owner : getD work q 0 ≡ own q
+      pub send-owner : getD wholes q 0 ≡ own q
       send-owner = send-stay q (R .within k here)
 
       -- the numbers fit, and so does the room
-      pub send-small : (own p < 2097152) × (getD work q 0 < 2097152) × (q < a) × (a ≤ 2097152) × (w + 2 ≤ length work)
+      pub send-small : (own p < 2097152) × (getD wholes q 0 < 2097152) × (q < a) × (a ≤ 2097152) × (w + 2 ≤ length wholes)
       send-small =
           let f = R .fits in let e = s .end in let m = s .most in let l = s .long in
           (R .owners .small p (R .here), rw send-owner (R .owners .small q (R .within k here)), R .within k here, R .owners .few, omega arith)
@@ -101,13 +101,13 @@ module _ (near : List ℕ) (a p : ℕ) (work₀ : List ℕ) (n : ℕ) (R : PairR
       unfolding pairsOf
       more = joined-map-more (pairOf own p) near k 0 here
 
-      pub send-skip : own p ≡ getD work q 0 → Sent near p work₀ n work w (k + 1)
+      pub send-skip : own p ≡ getD wholes q 0 → Sent near p wholes₀ n wholes w (k + 1)
       send-skip e =
           let t : pairsOf own p (take (k + 1) near) ≡ pairsOf own p (take k near) = more ∙ rw (pair-same own p q (e ∙ send-owner), append-nil) in
           record { inside = omega arith; end = rw t (s .end); most = bound (k + 1) (omega arith); long = s .long; list = rw t (s .list) }
 
-      pub send-pair : (own p ≡ getD work q 0 → ⊥)
-          → Sent near p work₀ n (set (set work w (code (own p) q)) (w + 1) (code (getD work q 0) p)) (w + 2) (k + 1)
+      pub send-pair : (own p ≡ getD wholes q 0 → ⊥)
+          → Sent near p wholes₀ n (set (set wholes w (code (own p) q)) (w + 1) (code (getD wholes q 0) p)) (w + 2) (k + 1)
       send-pair e =
           let xs = pairsOf own p (take k near) in
           let x = code (own p) q in
@@ -122,13 +122,13 @@ module _ (near : List ℕ) (a p : ℕ) (work₀ : List ℕ) (n : ℕ) (R : PairR
             most = bound (k + 1) (omega arith);
             long = simp length-set (s .long);
             list =
-                rw (send-owner, s .list, t, put-snoc work₀ n xs x w (omega arith) (omega arith))
-                (put-snoc work₀ n (xs ++ x ∷ []) y (w + 1) (simp length-append (omega arith)) (omega arith));
+                rw (send-owner, s .list, t, put-snoc wholes₀ n xs x w (omega arith) (omega arith))
+                (put-snoc wholes₀ n (xs ++ x ∷ []) y (w + 1) (simp length-append (omega arith)) (omega arith));
           }
 
-    pub send-end : length near ≤ k → (w ≡ n + length (pairsOf own p near)) × (work ≡ put work₀ n (pairsOf own p near))
+    pub send-end : length near ≤ k → (w ≡ n + length (pairsOf own p near)) × (wholes ≡ put wholes₀ n (pairsOf own p near))
     send-end h =
         let i = s .inside in
         let e : k ≡ length near = omega arith in
         let t : take k near ≡ near = ap (λ (j : ℕ). take j near) e ∙ take-length near in
-        (s .end ∙ ap (λ (l : List ℕ). n + length (pairsOf own p l)) t, s .list ∙ ap (λ (l : List ℕ). put work₀ n (pairsOf own p l)) t)
+        (s .end ∙ ap (λ (l : List ℕ). n + length (pairsOf own p l)) t, s .list ∙ ap (λ (l : List ℕ). put wholes₀ n (pairsOf own p l)) t)

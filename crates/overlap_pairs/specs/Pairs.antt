@@ -26,16 +26,16 @@ unfoldable pub pairsOf : (ℕ → ℕ) → ℕ → List ℕ → List ℕ
 pairsOf own p qs = joined (map (pairOf own p) qs)
 
 -- the owners of a active rows at the front of the list: each fits a number
-pub record Owners (a : ℕ) (work : List ℕ) : Type 0 where
+pub record Owners (a : ℕ) (wholes : List ℕ) : Type 0 where
   pub few : a ≤ mostLeaves
-  pub room : a ≤ length work
-  pub small : (i : ℕ) → i < a → getD work i 0 < mostLeaves
+  pub room : a ≤ length wholes
+  pub small : (i : ℕ) → i < a → getD wholes i 0 < mostLeaves
 
 -- positions within the active rows, and room from n on for what they send
-pub record PairRoom (near : List ℕ) (a p : ℕ) (work : List ℕ) (n : ℕ) : Type 0 where
-  pub owners : Owners a work
+pub record PairRoom (near : List ℕ) (a p : ℕ) (wholes : List ℕ) (n : ℕ) : Type 0 where
+  pub owners : Owners a wholes
   pub start : a ≤ n
-  pub fits : n + 2 * length near ≤ length work
+  pub fits : n + 2 * length near ≤ length wholes
   pub here : p < a
   pub within : (k : ℕ) → k < length near → getD near k 0 < a
 

@@ -12,21 +12,21 @@ const POSITIONS: usize = rows::MOST_LEAVES;
 
 // The row at position p takes those at the positions `near`. Where two leaves own the two rows, each leaf gets the other's row:
 // their numbers are written from n on. The owners of the a active rows stand at the front of the list.
-fn send(near: &[usize], a: usize, p: usize, work: &mut [usize], n: usize) -> usize
-    requires { ⌜ PairRoom (now near) a p (now work) n ⌝ }
-    ensures { λ r. ⌜ (r ≡ n + length (pairsOf (λ i. getD (now (work .entry)) i 0) p (now (near .entry))))
-        × (now (work .exit) ≡ put (now (work .entry)) n (pairsOf (λ i. getD (now (work .entry)) i 0) p (now (near .entry)))) ⌝ }
+fn send(near: &[usize], a: usize, p: usize, wholes: &mut [usize], n: usize) -> usize
+    requires { ⌜ PairRoom (now near) a p (now wholes) n ⌝ }
+    ensures { λ r. ⌜ (r ≡ n + length (pairsOf (λ i. getD (now (wholes .entry)) i 0) p (now (near .entry))))
+        × (now (wholes .exit) ≡ put (now (wholes .entry)) n (pairsOf (λ i. getD (now (wholes .entry)) i 0) p (now (near .entry)))) ⌝ }
 {
-    let mine = work[p];
+    let mine = wholes[p];
     let mut w = n;
     let mut k: usize = 0;
     while k < near.len() {
         let q = near[k];
         k += 1;
-        let other = work[q];
+        let other = wholes[q];
         if mine != other {
-            work[w] = mine * POSITIONS + q;
-            work[w + 1] = other * POSITIONS + p;
+            wholes[w] = mine * POSITIONS + q;
+            wholes[w + 1] = other * POSITIONS + p;
             w += 2;
         }
     }
@@ -40,12 +40,12 @@ fn send_row(
     neighbours: usize,
     active: &[usize],
     p: usize,
-    work: &mut [usize],
+    wholes: &mut [usize],
     n: usize,
 ) -> usize
-    requires { ⌜ GoodRows dimensions (now points) (now active) × (neighbours ≤ mostNeighbours) × (p < length (now active)) × Owners (length (now active)) (now work)
-        × (length (now active) ≤ n) × (n + 2 * (neighbours + 1) ≤ length (now work)) ⌝ }
-    ensures { λ r. ⌜ Taken dimensions (now (points .entry)) neighbours (now (active .entry)) p (now (work .entry)) (now (work .exit)) n r ⌝ }
+    requires { ⌜ GoodRows dimensions (now points) (now active) × (neighbours ≤ mostNeighbours) × (p < length (now active)) × Owners (length (now active)) (now wholes)
+        × (length (now active) ≤ n) × (n + 2 * (neighbours + 1) ≤ length (now wholes)) ⌝ }
+    ensures { λ r. ⌜ Taken dimensions (now (points .entry)) neighbours (now (active .entry)) p (now (wholes .entry)) (now (wholes .exit)) n r ⌝ }
 {
     let mut near = [0usize; 66];
     let mut far = [0.0f64; 66];
@@ -58,7 +58,7 @@ fn send_row(
         &mut near,
         &mut far,
     );
-    send(&near[..count], active.len(), p, work, n)
+    send(&near[..count], active.len(), p, wholes, n)
 }
 
 // What all active rows send, behind their owners: the answer is where it ends.
@@ -67,16 +67,16 @@ pub fn collect(
     dimensions: usize,
     neighbours: usize,
     active: &[usize],
-    work: &mut [usize],
+    wholes: &mut [usize],
 ) -> usize
-    requires { ⌜ GoodRows dimensions (now points) (now active) × (neighbours ≤ mostNeighbours) × Owners (length (now active)) (now work)
-        × (length (now active) + length (now active) * (2 * (neighbours + 1)) ≤ length (now work)) ⌝ }
-    ensures { λ r. ⌜ Collected dimensions (now (points .entry)) neighbours (now (active .entry)) (now (work .entry)) (length (now (active .entry))) (now (work .exit)) r ⌝ }
+    requires { ⌜ GoodRows dimensions (now points) (now active) × (neighbours ≤ mostNeighbours) × Owners (length (now active)) (now wholes)
+        × (length (now active) + length (now active) * (2 * (neighbours + 1)) ≤ length (now wholes)) ⌝ }
+    ensures { λ r. ⌜ Collected dimensions (now (points .entry)) neighbours (now (active .entry)) (now (wholes .entry)) (length (now (active .entry))) (now (wholes .exit)) r ⌝ }
 {
     let mut n = active.len();
     let mut p: usize = 0;
     while p < active.len() {
-        n = send_row(points, dimensions, neighbours, active, p, work, n);
+        n = send_row(points, dimensions, neighbours, active, p, wholes, n);
         p += 1;
     }
     n

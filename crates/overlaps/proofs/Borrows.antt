@@ -152,9 +152,9 @@ module _ (d : ℕ) (cs : List Float) (neighbours : ℕ) (active : List ℕ) (own
         (or-cases (member (row q) takes) (member (row p) taken) (subst (λ (i : ℕ). paired d cs neighbours active i (row q) ≡ true) (sym (o .2)) (r .2)))
 
     -- THE LAW: the numbers collected are those of the positions borrowed
-    pub collected-encoded : (work : List ℕ) (r : ℕ) → Collected d cs neighbours active owner (length active) work r
-        → Encoded (length own) (length active) (part work (length active) (r - length active)) positionsOf
-    collected-encoded work r c =
+    pub collected-encoded : (wholes : List ℕ) (r : ℕ) → Collected d cs neighbours active owner (length active) wholes r
+        → Encoded (length own) (length active) (part wholes (length active) (r - length active)) positionsOf
+    collected-encoded wholes r c =
         record {
           lists = positions-are;
           more = λ z i. sent-borrowed z (c .only z i);

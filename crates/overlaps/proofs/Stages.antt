@@ -35,11 +35,11 @@ module _ (d : ℕ) (cs : List Float) (neighbours : ℕ) (active I D : List ℕ) 
       let f = S .leaf-few in
       record { few = S .few; room = long; small = λ i h. omega (arith, O .leaf i h, read-length I D first m) }
 
-  module _ (work : List ℕ) (r : ℕ) (c : Collected d cs neighbours active owner (length active) work r) (room : length active + 2 * length active * (neighbours + 1) ≤ length work) where
+  module _ (wholes : List ℕ) (r : ℕ) (c : Collected d cs neighbours active owner (length active) wholes r) (room : length active + 2 * length active * (neighbours + 1) ≤ length wholes) where
     abbrev codes : List ℕ
-    codes = part work (length active) (r - length active)
+    codes = part wholes (length active) (r - length active)
 
-    pub stage-end : (length active ≤ r) × (r ≤ length work)
+    pub stage-end : (length active ≤ r) × (r ≤ length wholes)
     stage-end = (c .start, omega (arith, c .few, twice (length active) neighbours))
 
     pub stage-length : length codes ≤ 2 * length active * (neighbours + 1)
@@ -47,7 +47,7 @@ module _ (d : ℕ) (cs : List Float) (neighbours : ℕ) (active I D : List ℕ) 
         let e = stage-end in
         let s = e .0 in
         let t = e .1 in
-        omega (arith, length-part work (length active) (r - length active) (omega arith), c .few, twice (length active) neighbours)
+        omega (arith, length-part wholes (length active) (r - length active) (omega arith), c .few, twice (length active) neighbours)
 
     pub stage-inside : (z : ℕ) → List·Memᴰ z codes → z % 2097152 < length active
     stage-inside z i =
@@ -63,7 +63,7 @@ module _ (d : ℕ) (cs : List Float) (neighbours : ℕ) (active I D : List ℕ) 
     pub stage-encoded : Encoded m (length active) codes positions
     stage-encoded =
         subst (λ (k : ℕ). Encoded k (length active) codes positions) (read-length I D first m)
-        (collected-encoded d cs neighbours active own (same-mem (joined own) active (S .leaves .shared)) owner O work r c)
+        (collected-encoded d cs neighbours active own (same-mem (joined own) active (S .leaves .shared)) owner O wholes r c)
 
     abbrev lists : List (List ℕ)
     lists = borrowedLists d cs neighbours active own

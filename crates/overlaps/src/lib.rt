@@ -129,18 +129,26 @@ pub fn overlaps(
     m: usize,
     borrowed: &mut [usize],
     bat: usize,
-    work: &mut [usize],
+    wholes: &mut [usize],
 ) -> usize
     requires { ⌜ Stage dimensions (now points) neighbours (now active) (now internals) (now domains) first m ⌝ }
-    requires { ⌜ (length (now active) + 2 * length (now active) * (neighbours + 1) ≤ length (now work))
+    requires { ⌜ (length (now active) + 2 * length (now active) * (neighbours + 1) ≤ length (now wholes))
         × (bat + 2 * length (now active) * (neighbours + 1) ≤ length (now borrowed)) ⌝ }
     ensures number { λ r. ⌜ r ≡ length (joined (borrowedLists dimensions (now (points .entry)) neighbours (now (active .entry)) (readOwn (now (internals .entry)) (now (domains .entry)) first m))) ⌝ }
     ensures borrowed { λ _. ⌜ now (borrowed .exit) ≡ put (now (borrowed .entry)) bat (joined (borrowedLists dimensions (now (points .entry)) neighbours (now (active .entry)) (readOwn (now (internals .entry)) (now (domains .entry)) first m))) ⌝ }
     ensures domains { λ _. ⌜ now (domains .exit) ≡ withBorrowed bat (borrowedLists dimensions (now (points .entry)) neighbours (now (active .entry)) (readOwn (now (internals .entry)) (now (domains .entry)) first m)) first (now (domains .entry)) ⌝ }
     ensures most { λ r. ⌜ r ≤ 2 * length (now (active .entry)) * (neighbours + 1) ⌝ }
 {
-    overlap_owners::owners(active, internals, domains, first, m, work);
+    overlap_owners::owners(active, internals, domains, first, m, wholes);
     let a = active.len();
-    let end = overlap_pairs::collect(points, dimensions, neighbours, active, work);
-    lend(&mut work[a..end], active, domains, first, m, borrowed, bat)
+    let end = overlap_pairs::collect(points, dimensions, neighbours, active, wholes);
+    lend(
+        &mut wholes[a..end],
+        active,
+        domains,
+        first,
+        m,
+        borrowed,
+        bat,
+    )
 }

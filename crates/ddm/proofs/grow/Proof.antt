@@ -51,7 +51,7 @@ number-rows-requires c κs =
     let cs = P .points .now in
     let old = listsOf (P .level-points .now) (P .internals .now) (P .domains .now) (P .boxes .now) (P .borrowed .now) in
     let acc = build-accepted s cs _ (c .before .before .before .before .before .before .before .before .before .before .before .pre) in
-    omega (arith, all-space s cs old (P .floats .now) (P .wholes .now) acc (P .level-points .now) refl .points)
+    omega (arith, all-space s cs old (P .floats .now) (P .wholes .now) acc (P .level-points .now) refl .level-points)
 
 cast-all-levels : tie.Need-cast-all-levels
 cast-all-levels c = search needs
@@ -75,7 +75,7 @@ all-levels-requires c κs =
     let space = all-space s cs old (P .floats .now) (P .wholes .now) acc (P .level-points .now) refl in
     let read : part (put (P .level-points .now) 0 (from 0 n)) 0 n ≡ from 0 n = part-put-same (P .level-points .now) 0 (from 0 n) n (omega arith) (length-from 0 n) in
     let ek = rw ec at (c .before .before .before .before .before .before .before .before .before .before .before .before .before .get-num-level-reductions .ensures) in
-    let long = ap length first ∙ length-put (P .level-points .now) 0 (from 0 n) (omega (arith, length-from 0 n, space .points)) in (
+    let long = ap length first ∙ length-put (P .level-points .now) 0 (from 0 n) (omega (arith, length-from 0 n, space .level-points)) in (
       (
         omega (arith, ec, acc .passes-all .coarse-some),
         omega (arith, ek, few-reductions s cs old (P .floats .now) (P .wholes .now) acc),
@@ -122,7 +122,7 @@ returns c =
     let t = tree-is s cs n _ _ refl ec ek in (
       ap (λ (v : Counts). record { number = 0; place = 0; value = v }) (counts-whole _ _ _ _ _ _ _ _ _ _ (w .0 .0) (w .0 .1) (w .0 .2) ∙ ap countsOf (sym t)),
       (
-        points-whole _ _ _ _ _ _ n (P .level-points .now) _ _ (omega (arith, space .points)) refl (w .1 .0) ∙ ap (λ (ls : List Level). put (P .level-points .now) 0 (packedPoints ls)) (sym t),
+        points-whole _ _ _ _ _ _ n (P .level-points .now) _ _ (omega (arith, space .level-points)) refl (w .1 .0) ∙ ap (λ (ls : List Level). put (P .level-points .now) 0 (packedPoints ls)) (sym t),
         (
           w .1 .1 .0 ∙ ap (λ (ls : List Level). put (P .internals .now) 0 (packedOwn ls)) (sym t),
           (

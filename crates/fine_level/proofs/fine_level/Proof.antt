@@ -32,16 +32,16 @@ divide-requires : tie.Need-divide-requires
 divide-requires c κs =
     let p = c .before .before .before .before .before .before .before .before .before .before .before .before .before .before .before .before .pre in
     let P = c .before .before .before .before .before .before .before .before .before .before .before .before .before .before .before .before .args in
-    let n : length (part (P .list .now) (P .place .from) (P .place .a)) ≡ P .place .a = length-part (P .list .now) (P .place .from) (P .place .a) (omega (arith, p .0 .0)) in
-    rw (part-lent (P .list .now) (P .place .from) (P .place .a), n) (p .0 .2, (p .1 .0, p .1 .1))
+    let n : length (part (P .level-points .now) (P .place .from) (P .place .a)) ≡ P .place .a = length-part (P .level-points .now) (P .place .from) (P .place .a) (omega (arith, p .0 .0)) in
+    rw (part-lent (P .level-points .now) (P .place .from) (P .place .a), n) (p .0 .2, (p .1 .0, p .1 .1))
 
 coarse-points-requires : tie.Need-coarse-points-requires
 coarse-points-requires c κs =
     let p = c .before .before .before .before .before .before .before .before .before .before .before .before .before .before .before .before .before .before .before .before .before .before .before .before .before .before .before .before .before .before .before .before .before .before .pre in
     let P = c .before .before .before .before .before .before .before .before .before .before .before .before .before .before .before .before .before .before .before .before .before .before .before .before .before .before .before .before .before .before .before .before .before .before .args in
     let g = p .0 .2 in
-    let n : length (part (P .list .now) (P .place .from) (P .place .a)) ≡ P .place .a = length-part (P .list .now) (P .place .from) (P .place .a) (omega (arith, p .0 .0)) in
-    let v = rw (part-lent (P .list .now) (P .place .from) (P .place .a)) at (c .before .before .before .before .before .before .before .before .before .before .before .before .before .before .before .before .before .divide .ensures) in
+    let n : length (part (P .level-points .now) (P .place .from) (P .place .a)) ≡ P .place .a = length-part (P .level-points .now) (P .place .from) (P .place .a) (omega (arith, p .0 .0)) in
+    let v = rw (part-lent (P .level-points .now) (P .place .from) (P .place .a)) at (c .before .before .before .before .before .before .before .before .before .before .before .before .before .before .before .before .before .divide .ensures) in
     let many = v .0 .0 ∙ level-number _ _ _ (P .plan .neighbours) _ in
     let sends = packed-sends _ _ _ _ _ g _ _ _ _ _ (rw n (p .1 .0 .internals)) (rw n (p .1 .0 .domains)) _ _ (v .1 .0) (v .1 .1 .0) in (
       rw many sends,
@@ -74,11 +74,11 @@ returns c =
     let p = c .before .before .before .before .before .before .before .before .before .before .before .before .before .before .before .before .before .before .before .before .before .before .before .before .before .before .before .before .before .before .before .before .before .before .before .before .before .before .before .before .before .pre in
     let P = c .before .before .before .before .before .before .before .before .before .before .before .before .before .before .before .before .before .before .before .before .before .before .before .before .before .before .before .before .before .before .before .before .before .before .before .before .before .before .before .before .before .args in
     let g = p .0 .2 in
-    let n : length (part (P .list .now) (P .place .from) (P .place .a)) ≡ P .place .a = length-part (P .list .now) (P .place .from) (P .place .a) (omega (arith, p .0 .0)) in
-    let v = rw (part-lent (P .list .now) (P .place .from) (P .place .a)) at (c .before .before .before .before .before .before .before .before .before .before .before .before .before .before .before .before .before .before .before .before .before .before .before .before .divide .ensures) in
+    let n : length (part (P .level-points .now) (P .place .from) (P .place .a)) ≡ P .place .a = length-part (P .level-points .now) (P .place .from) (P .place .a) (omega (arith, p .0 .0)) in
+    let v = rw (part-lent (P .level-points .now) (P .place .from) (P .place .a)) at (c .before .before .before .before .before .before .before .before .before .before .before .before .before .before .before .before .before .before .before .before .before .before .before .before .divide .ensures) in
     let many = v .0 .0 ∙ level-number _ _ _ (P .plan .neighbours) _ in
     let read = rw (← many) at (packed-read _ _ _ _ _ g _ _ _ _ _ (rw n (p .1 .0 .internals)) (rw n (p .1 .0 .domains)) _ _ (v .1 .0) (v .1 .1 .0)) in
-    let up = rw (read, level-next (P .plan .dimensions) (P .points .now) (P .plan .leaf) (P .plan .neighbours) (part (P .list .now) (P .place .from) (P .place .a)) (P .size)) at (c .before .before .before .before .before .before .coarse-points .ensures) in
+    let up = rw (read, level-next (P .plan .dimensions) (P .points .now) (P .plan .leaf) (P .plan .neighbours) (part (P .level-points .now) (P .place .from) (P .place .a)) (P .size)) at (c .before .before .before .before .before .before .coarse-points .ensures) in
     ((v .0 .0, v .0 .1, up .0 .0), (up .1, v .1))
 
 pub fine-level-spec : {M : Type 1} → statement M

@@ -15,13 +15,13 @@ use Rattle.leaves.proofs.leaves.Statement.{statement}
 use Rattle.leaves.proofs.leaves.Tie as tie
 
 abbrev Inv-loop : tie.InvT-loop
-Inv-loop points dimensions leaf active work₀ held₀ internals₀ at domains₀ first boxes₀ n floats head₀ tail₀ end₀ k₀ work held internals domains boxes head tail end k =
-    Run dimensions points leaf active internals₀ domains₀ boxes₀ at first work internals domains held boxes head tail end k
-    × KeptLengths work₀ internals₀ domains₀ held₀ boxes₀ work internals domains held boxes × (floats ≡ rowFloats dimensions)
+Inv-loop points dimensions leaf active wholes₀ floats₀ internals₀ at domains₀ first boxes₀ n stride head₀ tail₀ end₀ k₀ wholes floats internals domains boxes head tail end k =
+    Run dimensions points leaf active internals₀ domains₀ boxes₀ at first wholes internals domains floats boxes head tail end k
+    × KeptLengths wholes₀ internals₀ domains₀ floats₀ boxes₀ wholes internals domains floats boxes × (stride ≡ rowFloats dimensions)
 
 abbrev μ-loop : tie.MeasureT-loop
-μ-loop points dimensions leaf active work₀ held₀ internals₀ at domains₀ first boxes₀ n floats head₀ tail₀ end₀ k₀ work held internals domains boxes head tail end k =
-    cutsLeft (roomIn (length active) work) head tail
+μ-loop points dimensions leaf active wholes₀ floats₀ internals₀ at domains₀ first boxes₀ n stride head₀ tail₀ end₀ k₀ wholes floats internals domains boxes head tail end k =
+    cutsLeft (roomIn (length active) wholes) head tail
 
 row-floats-requires : tie.Need-row-floats-requires Inv-loop μ-loop
 row-floats-requires c κs = search needs
@@ -37,18 +37,18 @@ loop-holds c =
     let r = c .before .before .before .before in
     let a = r .before .before .before .before .before .before .before .before .before .before .before in
     let p = a .pre in (
-      run-first _ _ (p .0 .0) (p .0 .1) _ (p .0 .2) _ (p .0 .3) (p .0 .4) (a .args .work .now) _ (a .args .held .now) _ (p .1 .0 .0) (p .1 .0 .1)
+      run-first _ _ (p .0 .0) (p .0 .1) _ (p .0 .2) _ (p .0 .3) (p .0 .4) (a .args .wholes .now) _ (a .args .floats .now) _ (p .1 .0 .0) (p .1 .0 .1)
           (r .put-root .ensures .0) (r .put-root .ensures .1) _ _ _ _ _ (p .1 .1 .0) (p .1 .1 .1) (p .1 .1 .2),
       record {
         same-w = refl;
         same-I = refl;
         same-O = refl;
-        same-held = refl;
+        same-floats = refl;
         same-B = refl;
         cap-w = omega (arith, r .put-root .kept .1 .1 .1 .0, a .good .1 .1 .1 .1 .0 .0);
         cap-I = omega (arith, a .good .1 .1 .1 .1 .1 .1 .0 .0);
         cap-O = omega (arith, a .good .1 .1 .1 .1 .1 .1 .1 .1 .0 .0);
-        cap-held = omega (arith, r .put-root .kept .1 .1 .1 .1 .0, a .good .1 .1 .1 .1 .1 .0 .0);
+        cap-floats = omega (arith, r .put-root .kept .1 .1 .1 .1 .0, a .good .1 .1 .1 .1 .1 .0 .0);
         cap-B = omega (arith, a .good .1 .1 .1 .1 .1 .1 .1 .1 .1 .1 .0 .0);
       },
       r .before .before .before .row-floats .ensures,
@@ -87,7 +87,7 @@ mul-read-box c =
     let i = t .before .loop .inv in
     let x = front (i .0) (t .loop-test .taken) in
     let u = known x in
-    omega (arith, u .read-fit, u .held-all, i .1 .same-held, i .1 .cap-held, ap (λ (f : ℕ). f * t .before .loop .head) (i .2))
+    omega (arith, u .read-fit, u .floats-all, i .1 .same-floats, i .1 .cap-floats, ap (λ (f : ℕ). f * t .before .loop .head) (i .2))
 
 read-box-requires : tie.Need-read-box-requires Inv-loop μ-loop
 read-box-requires c κs =
@@ -95,7 +95,7 @@ read-box-requires c κs =
     let i = t .before .loop .inv in
     let x = front (i .0) (t .loop-test .taken) in
     let u = known x in
-    (omega (arith, u .read-fit, u .held-all, ap (λ (f : ℕ). f * t .before .loop .head) (i .2)), i .0 .few)
+    (omega (arith, u .read-fit, u .floats-all, ap (λ (f : ℕ). f * t .before .loop .head) (i .2)), i .0 .few)
 
 mul-cut-stretch : tie.Need-mul-cut-stretch Inv-loop μ-loop
 mul-cut-stretch c = search needs
@@ -135,7 +135,7 @@ mul-write-halves c =
     let i = t .before .loop .inv in
     let x = front (i .0) (t .loop-test .taken) in
     let u = known x in
-    omega (arith, u .held-all, i .1 .same-held, i .1 .cap-held, ap (λ (f : ℕ). f * t .before .loop .tail) (i .2))
+    omega (arith, u .floats-all, i .1 .same-floats, i .1 .cap-floats, ap (λ (f : ℕ). f * t .before .loop .tail) (i .2))
 
 write-halves-requires : tie.Need-write-halves-requires Inv-loop μ-loop
 write-halves-requires c κs =
@@ -146,7 +146,7 @@ write-halves-requires c κs =
     let x = front (i .0) (t .loop-test .taken) in
     let u = known x in
     let e = read .read-box .ensures .0 in
-    (rw e (axis-fit x _ (cut .cut-stretch .ensures .1 .0)), rw e (i .0 .few), rw (i .2, e) (u .held-fit (c .before .before .before .before .before .if1 .taken)))
+    (rw e (axis-fit x _ (cut .cut-stretch .ensures .1 .0)), rw e (i .0 .few), rw (i .2, e) (u .floats-fit (c .before .before .before .before .before .if1 .taken)))
 
 add-tail : tie.Need-add-tail Inv-loop μ-loop
 add-tail c = search needs

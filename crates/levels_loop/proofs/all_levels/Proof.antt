@@ -6,7 +6,7 @@ use native.Mathlib.Omega.{arith}
 use borrow.Author.Needs.{needs}
 use Rattle.definition.specs.Tree.{mostFine}
 use Rattle.levels_loop.proofs.Spaces.{coarse-fits}
-use Rattle.levels_loop.proofs.Loop.{Inv, levels-first, levels-next, rows-few, built-below, level-above, level-points, level-fits, level-room, size-few, first-fits, bat-fits, end-points, end-internals, end-domains, end-boxes, end-borrowed, end-rows, end-counts, end-number}
+use Rattle.levels_loop.proofs.Loop.{Inv, levels-first, levels-next, rows-few, built-below, level-above, level-points-fit, level-fits, level-room, size-few, first-fits, bat-fits, end-points, end-internals, end-domains, end-boxes, end-borrowed, end-rows, end-counts, end-number}
 use Rattle.levels_loop.proofs.all_levels.Statement.{statement}
 use Rattle.levels_loop.proofs.all_levels.Tie as tie
 use Rattle.levels_loop.proofs.all_levels.Reads as reads
@@ -17,11 +17,11 @@ use Rattle.levels_loop.proofs.is_fine.Reads as is-fine-reads
 use Rattle.levels_loop.proofs.next_size.Reads as next-size-reads
 
 abbrev Inv-loop : tie.InvT-loop
-Inv-loop points dimensions leaf neighbours c k n list₀ internals₀ domains₀ boxes₀ borrowed₀ work₀ held₀ built₀ from₀ a₀ first₀ bat₀ rows₀ counts₀ list internals domains boxes borrowed work held built from a first bat rows counts =
-    Inv dimensions points leaf neighbours c k n list₀ internals₀ domains₀ boxes₀ borrowed₀ work₀ held₀ list internals domains boxes borrowed work held built from a first bat rows counts
+Inv-loop points dimensions leaf neighbours c k n level-points₀ internals₀ domains₀ boxes₀ borrowed₀ wholes₀ floats₀ built₀ from₀ a₀ first₀ bat₀ rows₀ counts₀ level-points internals domains boxes borrowed wholes floats built from a first bat rows counts =
+    Inv dimensions points leaf neighbours c k n level-points₀ internals₀ domains₀ boxes₀ borrowed₀ wholes₀ floats₀ level-points internals domains boxes borrowed wholes floats built from a first bat rows counts
 
 abbrev μ-loop : tie.MeasureT-loop
-μ-loop points dimensions leaf neighbours c k n list₀ internals₀ domains₀ boxes₀ borrowed₀ work₀ held₀ built₀ from₀ a₀ first₀ bat₀ rows₀ counts₀ list internals domains boxes borrowed work held built from a first bat rows counts =
+μ-loop points dimensions leaf neighbours c k n level-points₀ internals₀ domains₀ boxes₀ borrowed₀ wholes₀ floats₀ built₀ from₀ a₀ first₀ bat₀ rows₀ counts₀ level-points internals domains boxes borrowed wholes floats built from a first bat rows counts =
     mostFine - built
 
 loop-holds : tie.Need-loop-holds Inv-loop μ-loop
@@ -41,7 +41,7 @@ fine-level-requires c κs =
     let v = c .before .before .before .before .before .before .before .before .before .before .loop .inv in
     let yes = sym (c .before .before .before .before .before .before .before .before .before .is-fine .ensures) ∙ c .before .before .before .before .before .before .before .before .if1 .taken in
     let some = c .before .before .before .before .before .before .before .before .before .before .before .before .before .before .before .before .before .before .before .pre .0 .0 in
-    ((level-points _ _ v yes some, size-few _ _ v yes some (c .before .before .before .before .before .before .before .next-size .ensures), v .given), (level-fits _ _ v yes some, level-room _ _ v yes some))
+    ((level-points-fit _ _ v yes some, size-few _ _ v yes some (c .before .before .before .before .before .before .before .next-size .ensures), v .given), (level-fits _ _ v yes some, level-room _ _ v yes some))
 
 mul-rows : tie.Need-mul-rows Inv-loop μ-loop
 mul-rows c = omega (arith, c .before .before .before .before .before .before .before .before .before .before .before .before .before .before .before .before .before .before .before .before .before .before .before .before .before .loop .inv .few)
@@ -56,7 +56,7 @@ array-write-counts : tie.Need-array-write-counts Inv-loop μ-loop
 array-write-counts c = omega (arith, c .before .before .before .before .before .before .before .before .before .before .before .before .before .before .before .before .before .before .before .before .before .before .before .before .before .loop .inv .few, c .before .before .before .before .before .before .before .before .before .before .before .before .before .before .before .before .before .before .before .before .before .before .before .before .before .loop .inv .slots-too)
 
 add-from : tie.Need-add-from Inv-loop μ-loop
-add-from c = let good = c .before .before .before .before .before .before .before .before .before .before .before .before .before .before .before .before .before .before .before .before .before .before .before .before .before .before .before .before .before .before .before .before .before .before .good in omega (arith, coarse-fits (c .before .before .before .before .before .before .before .before .before .before .before .before .before .before .before .before .before .before .before .before .before .before .before .before .before .loop .inv .space) .0, c .before .before .before .before .before .before .before .before .before .before .before .before .before .before .before .before .before .before .before .before .before .before .before .before .before .loop .inv .long .points)
+add-from c = let good = c .before .before .before .before .before .before .before .before .before .before .before .before .before .before .before .before .before .before .before .before .before .before .before .before .before .before .before .before .before .before .before .before .before .before .good in omega (arith, coarse-fits (c .before .before .before .before .before .before .before .before .before .before .before .before .before .before .before .before .before .before .before .before .before .before .before .before .before .loop .inv .space) .0, c .before .before .before .before .before .before .before .before .before .before .before .before .before .before .before .before .before .before .before .before .before .before .before .before .before .loop .inv .long .level-points)
 
 add-first : tie.Need-add-first Inv-loop μ-loop
 add-first c =
@@ -112,7 +112,7 @@ add-total : tie.Need-add-total Inv-loop μ-loop
 add-total c = omega (arith, c .before .before .before .before .before .before .before .before .before .before .before .before .before .loop .inv .few)
 
 same-length : tie.Need-same-length Inv-loop μ-loop
-same-length c = omega (arith, c .before .before .before .before .before .before .before .before .before .before .before .before .before .loop .inv .long .points)
+same-length c = omega (arith, c .before .before .before .before .before .before .before .before .before .before .before .before .before .loop .inv .long .level-points)
 
 same-length-2 : tie.Need-same-length-2 Inv-loop μ-loop
 same-length-2 c = omega (arith, c .before .before .before .before .before .before .before .before .before .before .before .before .before .loop .inv .long .internals, c .before .before .before .before .before .before .coarse-level .kept .1 .1 .1 .1 .0)

@@ -15,16 +15,16 @@ use Rattle.overlap_owners.proofs.mark_leaf.Statement.{statement}
 use Rattle.overlap_owners.proofs.mark_leaf.Tie as tie
 
 abbrev Inv-loop : tie.InvT-loop
-Inv-loop active internals start count leaf work₀ k₀ work k = (k ≤ count) × (length work ≡ length work₀) × Written active (part internals start k) leaf work₀ work
+Inv-loop active internals start count leaf wholes₀ k₀ wholes k = (k ≤ count) × (length wholes ≡ length wholes₀) × Written active (part internals start k) leaf wholes₀ wholes
 
 abbrev μ-loop : tie.MeasureT-loop
-μ-loop active internals start count leaf work₀ k₀ work k = count - k
+μ-loop active internals start count leaf wholes₀ k₀ wholes k = count - k
 
 loop-holds : tie.Need-loop-holds Inv-loop μ-loop
 loop-holds c =
     let s = c .before .before .before in
     let a = s .args in
-    (omega arith, refl, stretch-none (a .active .now) (s .pre .0) (a .internals .now) (a .start) (a .count) (a .leaf) (a .work .now) (s .pre .2))
+    (omega arith, refl, stretch-none (a .active .now) (s .pre .0) (a .internals .now) (a .start) (a .count) (a .leaf) (a .wholes .now) (s .pre .2))
 
 add-position : tie.Need-add-position Inv-loop μ-loop
 add-position c = search needs
@@ -46,11 +46,11 @@ position-requires c κs =
           (a .count)) (l .k) 0 (omega (arith, length-part (a .internals .now) (a .start) (a .count) (s .pre .2))))),
     )
 
-mul-work : tie.Need-mul-work Inv-loop μ-loop
-mul-work c = search needs
+mul-wholes : tie.Need-mul-wholes Inv-loop μ-loop
+mul-wholes c = search needs
 
-slice-write-work : tie.Need-slice-write-work Inv-loop μ-loop
-slice-write-work c = search needs
+slice-write-wholes : tie.Need-slice-write-wholes Inv-loop μ-loop
+slice-write-wholes c = search needs
 
 add-k : tie.Need-add-k Inv-loop μ-loop
 add-k c = search needs
@@ -65,8 +65,8 @@ loop-again c =
     let l = c .before .before .before .loop in (
       omega arith,
       simp length-set (l .inv .1),
-      stretch-more (a .active .now) (s .pre .0) (a .internals .now) (a .start) (a .count) (a .leaf) (a .work
-          .now) (s .pre .2) (l .work) (l .k) (l .inv .2) (c .before .before .loop-test .taken) (c .position .result) (c .position .ensures .0) (c .position
+      stretch-more (a .active .now) (s .pre .0) (a .internals .now) (a .start) (a .count) (a .leaf) (a .wholes
+          .now) (s .pre .2) (l .wholes) (l .k) (l .inv .2) (c .before .before .loop-test .taken) (c .position .result) (c .position .ensures .0) (c .position
           .ensures .1) (omega arith),
     )
 
@@ -79,7 +79,7 @@ returns c =
     let a = s .args in
     let l = c .before .loop in
     let e : l .k ≡ a .count = omega arith in
-    subst (λ (k : ℕ). Written (a .active .now) (part (a .internals .now) (a .start) k) (a .leaf) (a .work .now) (l .work)) e (l .inv .2)
+    subst (λ (k : ℕ). Written (a .active .now) (part (a .internals .now) (a .start) k) (a .leaf) (a .wholes .now) (l .wholes)) e (l .inv .2)
 
 pub mark-leaf-spec : {M : Type 1} → statement M
 mark-leaf-spec =
@@ -92,8 +92,8 @@ mark-leaf-spec =
     mul-position
     shared-slice-read-position
     position-requires
-    mul-work
-    slice-write-work
+    mul-wholes
+    slice-write-wholes
     add-k
     loop-less
     loop-again

@@ -11,10 +11,10 @@ use Rattle.overlap_owners.proofs.owners.Statement.{statement}
 use Rattle.overlap_owners.proofs.owners.Tie as tie
 
 abbrev Inv-loop : tie.InvT-loop
-Inv-loop active internals domains first m work₀ leaf₀ work leaf = (leaf ≤ m) × (length work ≡ length work₀) × MarkedUpTo active internals domains first m leaf work
+Inv-loop active internals domains first m wholes₀ leaf₀ wholes leaf = (leaf ≤ m) × (length wholes ≡ length wholes₀) × MarkedUpTo active internals domains first m leaf wholes
 
 abbrev μ-loop : tie.MeasureT-loop
-μ-loop active internals domains first m work₀ leaf₀ work leaf = m - leaf
+μ-loop active internals domains first m wholes₀ leaf₀ wholes leaf = m - leaf
 
 loop-holds : tie.Need-loop-holds Inv-loop μ-loop
 loop-holds c = (omega arith, refl, λ l p h g i. absurd (omega arith))
@@ -56,7 +56,7 @@ loop-again c =
     let own = row-own (a .internals .now) (a .domains .now) (a .first + l .leaf) (row .result) (row .ensures) in (
       omega arith,
       search needs,
-      leaf-more (a .active .now) (a .internals .now) (a .domains .now) (a .first) (a .m) (s .pre .0) (l .work) (f .last .1
+      leaf-more (a .active .now) (a .internals .now) (a .domains .now) (a .first) (a .m) (s .pre .0) (l .wholes) (f .last .1
           .1 .1 .1 .1 .0) (l .leaf) (c .before .before .before .before .before .loop-test .taken) (l .inv .2) (rw own at (f .ensures)),
     )
 
@@ -68,7 +68,7 @@ returns c =
     let s = c .before .before .before .before .before .before in
     let a = s .args in
     let l = c .before .loop in
-    marked-owned (a .active .now) (a .internals .now) (a .domains .now) (a .first) (a .m) (s .pre .0) (l .work) (l .leaf) (c .loop-test .left) (l .inv
+    marked-owned (a .active .now) (a .internals .now) (a .domains .now) (a .first) (a .m) (s .pre .0) (l .wholes) (l .leaf) (c .loop-test .left) (l .inv
     .2)
 
 pub owners-spec : {M : Type 1} → statement M

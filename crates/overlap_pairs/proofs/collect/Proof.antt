@@ -11,16 +11,16 @@ use Rattle.overlap_pairs.proofs.collect.Statement.{statement}
 use Rattle.overlap_pairs.proofs.collect.Tie as tie
 
 abbrev Inv-loop : tie.InvT-loop
-Inv-loop points dimensions neighbours active work₀ n₀ p₀ work n p = (p ≤ length active) × (length work ≡ length work₀) × Collected dimensions points neighbours active work₀ p work n
+Inv-loop points dimensions neighbours active wholes₀ n₀ p₀ wholes n p = (p ≤ length active) × (length wholes ≡ length wholes₀) × Collected dimensions points neighbours active wholes₀ p wholes n
 
 abbrev μ-loop : tie.MeasureT-loop
-μ-loop points dimensions neighbours active work₀ n₀ p₀ work n p = length active - p
+μ-loop points dimensions neighbours active wholes₀ n₀ p₀ wholes n p = length active - p
 
 loop-holds : tie.Need-loop-holds Inv-loop μ-loop
 loop-holds c =
     let s = c .before .before .before in
     let a = s .args in
-    (omega arith, refl, collect-none (a .dimensions) (a .points .now) (a .neighbours) (a .active .now) (s .pre .0 .ascends) (a .work .now))
+    (omega arith, refl, collect-none (a .dimensions) (a .points .now) (a .neighbours) (a .active .now) (s .pre .0 .ascends) (a .wholes .now))
 
 send-row-requires : tie.Need-send-row-requires Inv-loop μ-loop
 send-row-requires c κs =
@@ -29,13 +29,13 @@ send-row-requires c κs =
     let l = c .before .before .loop in
     let k = l .inv .2 in
     let t = c .before .loop-test .taken in
-    let o = collect-room (a .dimensions) (a .points .now) (a .neighbours) (a .active .now) (s .pre .0 .ascends) (a .work .now) (l .p) (l .n) t (k
+    let o = collect-room (a .dimensions) (a .points .now) (a .neighbours) (a .active .now) (s .pre .0 .ascends) (a .wholes .now) (l .p) (l .n) t (k
     .few) in (
       s .pre .0,
       s .pre .1,
       t,
-      collect-owners (a .dimensions) (a .points .now) (a .neighbours) (a .active .now) (s .pre .0 .ascends) (a .work .now) (l
-          .work) (l .p) (l .n) k (l .inv .1) (s .pre .2),
+      collect-owners (a .dimensions) (a .points .now) (a .neighbours) (a .active .now) (s .pre .0 .ascends) (a .wholes .now) (l
+          .wholes) (l .p) (l .n) k (l .inv .1) (s .pre .2),
       k .start,
       omega (arith, l .inv .1, s .pre .3),
     )
@@ -53,15 +53,15 @@ loop-again c =
     let l = c .before .before .before .before .before .loop in
     let k = l .inv .2 in
     let t = c .before .before .before .before .loop-test .taken in
-    let o = collect-room (a .dimensions) (a .points .now) (a .neighbours) (a .active .now) (s .pre .0 .ascends) (a .work .now) (l .p) (l .n) t (k
+    let o = collect-room (a .dimensions) (a .points .now) (a .neighbours) (a .active .now) (s .pre .0 .ascends) (a .wholes .now) (l .p) (l .n) t (k
     .few) in
     let f = c .before .before .send-row in
-    let r : l .n + 2 * (a .neighbours + 1) ≤ length (l .work) = omega (arith, l .inv .1, s .pre .3) in (
+    let r : l .n + 2 * (a .neighbours + 1) ≤ length (l .wholes) = omega (arith, l .inv .1, s .pre .3) in (
       omega arith,
-      collect-long (a .dimensions) (a .points .now) (a .neighbours) (a .active .now) (s .pre .0 .ascends) (a .work .now) (l .work) (l .p)
+      collect-long (a .dimensions) (a .points .now) (a .neighbours) (a .active .now) (s .pre .0 .ascends) (a .wholes .now) (l .wholes) (l .p)
           (l .n) k t r (f .last .1 .1 .1 .1 .1 .0) (f .result) (f .ensures) ∙ l .inv .1,
       collect-more (a .dimensions) (a .points .now) (a .neighbours) (a
-          .active .now) (s .pre .0 .ascends) (a .work .now) (l .work) (l .p) (l .n) k t r (f .last .1 .1 .1 .1 .1 .0) (f .result) (f .ensures),
+          .active .now) (s .pre .0 .ascends) (a .wholes .now) (l .wholes) (l .p) (l .n) k t r (f .last .1 .1 .1 .1 .1 .0) (f .result) (f .ensures),
     )
 
 same-length : tie.Need-same-length Inv-loop μ-loop
@@ -73,7 +73,7 @@ returns c =
     let a = s .args in
     let l = c .before .loop in
     let e : l .p ≡ length (a .active .now) = omega arith in
-    subst (λ (x : ℕ). Collected (a .dimensions) (a .points .now) (a .neighbours) (a .active .now) (a .work .now) x (l .work) (l .n)) e (l .inv .2)
+    subst (λ (x : ℕ). Collected (a .dimensions) (a .points .now) (a .neighbours) (a .active .now) (a .wholes .now) x (l .wholes) (l .n)) e (l .inv .2)
 
 pub collect-spec : {M : Type 1} → statement M
 collect-spec =

@@ -10,10 +10,10 @@ use Rattle.overlap_pairs.proofs.send.Statement.{statement}
 use Rattle.overlap_pairs.proofs.send.Tie as tie
 
 abbrev Inv-loop : tie.InvT-loop
-Inv-loop near a p work₀ n mine w₀ k₀ work w k = (mine ≡ getD work₀ p 0) × Sent near p work₀ n work w k
+Inv-loop near a p wholes₀ n mine w₀ k₀ wholes w k = (mine ≡ getD wholes₀ p 0) × Sent near p wholes₀ n wholes w k
 
 abbrev μ-loop : tie.MeasureT-loop
-μ-loop near a p work₀ n mine w₀ k₀ work w k = length near - k
+μ-loop near a p wholes₀ n mine w₀ k₀ wholes w k = length near - k
 
 mul-mine : tie.Need-mul-mine Inv-loop μ-loop
 mul-mine c = search needs
@@ -22,7 +22,7 @@ slice-read-mine : tie.Need-slice-read-mine Inv-loop μ-loop
 slice-read-mine c = search needs
 
 loop-holds : tie.Need-loop-holds Inv-loop μ-loop
-loop-holds c = let s = c .before in let a = s .args in (refl, send-none (a .near .now) (a .a) (a .p) (a .work .now) (a .n) (s .pre))
+loop-holds c = let s = c .before in let a = s .args in (refl, send-none (a .near .now) (a .a) (a .p) (a .wholes .now) (a .n) (s .pre))
 
 mul-q : tie.Need-mul-q Inv-loop μ-loop
 mul-q c = search needs
@@ -38,7 +38,7 @@ mul-other c =
     let s = c .before .before .before .before in
     let a = s .args in
     let l = c .before .before .loop in
-    let t = send-small (a .near .now) (a .a) (a .p) (a .work .now) (a .n) (s .pre) (l .work) (l .w) (l .k) (l .inv .1) (c .before .loop-test .taken)
+    let t = send-small (a .near .now) (a .a) (a .p) (a .wholes .now) (a .n) (s .pre) (l .wholes) (l .w) (l .k) (l .inv .1) (c .before .loop-test .taken)
     in
     omega arith
 
@@ -47,70 +47,70 @@ slice-read-other c =
     let s = c .before .before .before .before .before in
     let a = s .args in
     let l = c .before .before .before .loop in
-    let t = send-small (a .near .now) (a .a) (a .p) (a .work .now) (a .n) (s .pre) (l .work) (l .w) (l .k) (l .inv .1) (c .before .before .loop-test
+    let t = send-small (a .near .now) (a .a) (a .p) (a .wholes .now) (a .n) (s .pre) (l .wholes) (l .w) (l .k) (l .inv .1) (c .before .before .loop-test
     .taken) in
     let b = s .pre .owners .room in
     let e = l .inv .1 .long in
     omega arith
 
-mul-work : tie.Need-mul-work Inv-loop μ-loop
-mul-work c =
+mul-wholes : tie.Need-mul-wholes Inv-loop μ-loop
+mul-wholes c =
     let s = c .before .before .before .before .before .before in
     let a = s .args in
     let l = c .before .before .before .before .loop in
-    let t = send-small (a .near .now) (a .a) (a .p) (a .work .now) (a .n) (s .pre) (l .work) (l .w) (l .k) (l .inv .1) (c .before .before .before
+    let t = send-small (a .near .now) (a .a) (a .p) (a .wholes .now) (a .n) (s .pre) (l .wholes) (l .w) (l .k) (l .inv .1) (c .before .before .before
     .loop-test .taken) in
     let h = s .pre .here in
     omega arith
 
-add-work : tie.Need-add-work Inv-loop μ-loop
-add-work c =
+add-wholes : tie.Need-add-wholes Inv-loop μ-loop
+add-wholes c =
     let s = c .before .before .before .before .before .before in
     let a = s .args in
     let l = c .before .before .before .before .loop in
-    let t = send-small (a .near .now) (a .a) (a .p) (a .work .now) (a .n) (s .pre) (l .work) (l .w) (l .k) (l .inv .1) (c .before .before .before
+    let t = send-small (a .near .now) (a .a) (a .p) (a .wholes .now) (a .n) (s .pre) (l .wholes) (l .w) (l .k) (l .inv .1) (c .before .before .before
     .loop-test .taken) in
     let h = s .pre .here in
     omega arith
 
-mul-work-2 : tie.Need-mul-work-2 Inv-loop μ-loop
-mul-work-2 c = search needs
+mul-wholes-2 : tie.Need-mul-wholes-2 Inv-loop μ-loop
+mul-wholes-2 c = search needs
 
-slice-write-work : tie.Need-slice-write-work Inv-loop μ-loop
-slice-write-work c = search needs
+slice-write-wholes : tie.Need-slice-write-wholes Inv-loop μ-loop
+slice-write-wholes c = search needs
 
-mul-work-3 : tie.Need-mul-work-3 Inv-loop μ-loop
-mul-work-3 c =
+mul-wholes-3 : tie.Need-mul-wholes-3 Inv-loop μ-loop
+mul-wholes-3 c =
     let s = c .before .before .before .before .before .before in
     let a = s .args in
     let l = c .before .before .before .before .loop in
-    let t = send-small (a .near .now) (a .a) (a .p) (a .work .now) (a .n) (s .pre) (l .work) (l .w) (l .k) (l .inv .1) (c .before .before .before
+    let t = send-small (a .near .now) (a .a) (a .p) (a .wholes .now) (a .n) (s .pre) (l .wholes) (l .w) (l .k) (l .inv .1) (c .before .before .before
     .loop-test .taken) in
     let h = s .pre .here in
     omega arith
 
-add-work-2 : tie.Need-add-work-2 Inv-loop μ-loop
-add-work-2 c =
+add-wholes-2 : tie.Need-add-wholes-2 Inv-loop μ-loop
+add-wholes-2 c =
     let s = c .before .before .before .before .before .before in
     let a = s .args in
     let l = c .before .before .before .before .loop in
-    let t = send-small (a .near .now) (a .a) (a .p) (a .work .now) (a .n) (s .pre) (l .work) (l .w) (l .k) (l .inv .1) (c .before .before .before
+    let t = send-small (a .near .now) (a .a) (a .p) (a .wholes .now) (a .n) (s .pre) (l .wholes) (l .w) (l .k) (l .inv .1) (c .before .before .before
     .loop-test .taken) in
     let h = s .pre .here in
     omega arith
 
-add-work-3 : tie.Need-add-work-3 Inv-loop μ-loop
-add-work-3 c = search needs
+add-wholes-3 : tie.Need-add-wholes-3 Inv-loop μ-loop
+add-wholes-3 c = search needs
 
-mul-work-4 : tie.Need-mul-work-4 Inv-loop μ-loop
-mul-work-4 c = search needs
+mul-wholes-4 : tie.Need-mul-wholes-4 Inv-loop μ-loop
+mul-wholes-4 c = search needs
 
-slice-write-work-2 : tie.Need-slice-write-work-2 Inv-loop μ-loop
-slice-write-work-2 c =
+slice-write-wholes-2 : tie.Need-slice-write-wholes-2 Inv-loop μ-loop
+slice-write-wholes-2 c =
     let s = c .before .before .before .before .before .before in
     let a = s .args in
     let l = c .before .before .before .before .loop in
-    let t = send-small (a .near .now) (a .a) (a .p) (a .work .now) (a .n) (s .pre) (l .work) (l .w) (l .k) (l .inv .1) (c .before .before .before
+    let t = send-small (a .near .now) (a .a) (a .p) (a .wholes .now) (a .n) (s .pre) (l .wholes) (l .w) (l .k) (l .inv .1) (c .before .before .before
     .loop-test .taken) in
     simp length-set (omega arith)
 
@@ -126,7 +126,7 @@ loop-again c =
     let a = s .args in
     let l = c .before .before .before .before .loop in (
       l .inv .0,
-      send-pair (a .near .now) (a .a) (a .p) (a .work .now) (a .n) (s .pre) (l .work) (l .w) (l .k) (l .inv .1) (c .before .before .before
+      send-pair (a .near .now) (a .a) (a .p) (a .wholes .now) (a .n) (s .pre) (l .wholes) (l .w) (l .k) (l .inv .1) (c .before .before .before
           .loop-test .taken) (c .if1 .taken),
     )
 
@@ -139,7 +139,7 @@ loop-again-2 c =
     let a = s .args in
     let l = c .before .before .before .before .loop in (
       l .inv .0,
-      send-skip (a .near .now) (a .a) (a .p) (a .work .now) (a .n) (s .pre) (l .work) (l .w) (l .k) (l .inv .1) (c .before .before .before
+      send-skip (a .near .now) (a .a) (a .p) (a .wholes .now) (a .n) (s .pre) (l .wholes) (l .w) (l .k) (l .inv .1) (c .before .before .before
           .loop-test .taken) (c .if1 .left),
     )
 
@@ -151,7 +151,7 @@ returns c =
     let s = c .before .before .before in
     let a = s .args in
     let l = c .before .loop in
-    send-end (a .near .now) (a .a) (a .p) (a .work .now) (a .n) (s .pre) (l .work) (l .w) (l .k) (l .inv .1) (c .loop-test .left)
+    send-end (a .near .now) (a .a) (a .p) (a .wholes .now) (a .n) (s .pre) (l .wholes) (l .w) (l .k) (l .inv .1) (c .loop-test .left)
 
 pub send-spec : {M : Type 1} → statement M
 send-spec =
@@ -167,15 +167,15 @@ send-spec =
     add-k
     mul-other
     slice-read-other
-    mul-work
-    add-work
-    mul-work-2
-    slice-write-work
-    mul-work-3
-    add-work-2
-    add-work-3
-    mul-work-4
-    slice-write-work-2
+    mul-wholes
+    add-wholes
+    mul-wholes-2
+    slice-write-wholes
+    mul-wholes-3
+    add-wholes-2
+    add-wholes-3
+    mul-wholes-4
+    slice-write-wholes-2
     add-w
     loop-less
     loop-again

@@ -50,7 +50,7 @@ send-requires c κs =
     let N = f .last .1 .1 .1 .1 .1 .0 in
     let g : length N ≡ 66 = c .before .before .before .near2 .given in
     let k : length (take (f .result) N) ≡ f .result = length-take-le (f .result) N (omega (arith, f .ensures .0)) in
-    row-room (a .dimensions) (a .points .now) (a .neighbours) (a .active .now) (getD (a .active .now) (a .p) 0) (a .p) (a .work .now) (a .n) (take (f
+    row-room (a .dimensions) (a .points .now) (a .neighbours) (a .active .now) (getD (a .active .now) (a .p) 0) (a .p) (a .wholes .now) (a .n) (take (f
     .result) N) (take (f .result) (f .last .1 .1 .1 .1 .1 .1 .0)) (s .pre .3) (s .pre .4) (s .pre .5) (s .pre .2) (omega (arith, f .ensures .0)) (f
     .ensures .1)
 

@@ -21,7 +21,7 @@ collect-requires c κs =
     let a = s .args in
     let f = c .before .before .before .owners in
     let W = f .last .1 .1 .1 .1 .1 .0 in
-    let e : length W ≡ length (a .work .now) = c .before .before .work .given in (
+    let e : length W ≡ length (a .wholes .now) = c .before .before .wholes .given in (
       s .pre .0 .rows,
       s .pre .0 .near,
       stage-owners (a .dimensions) (a .points .now) (a .neighbours) (a .active .now) (a .internals .now) (a .domains
@@ -55,10 +55,10 @@ lend-requires c κs =
     let a = s .args in
     let f = c .before .before .before .before .before .before .before .before .before .owners in
     let W = f .last .1 .1 .1 .1 .1 .0 in
-    let e : length W ≡ length (a .work .now) = c .before .before .before .before .before .before .before .before .work .given in
+    let e : length W ≡ length (a .wholes .now) = c .before .before .before .before .before .before .before .before .wholes .given in
     let g = c .before .before .before .before .before .collect in
     let U = g .last .1 .1 .1 .1 .0 in
-    let k : length U ≡ length W = c .before .before .before .before .work2 .given in
+    let k : length U ≡ length W = c .before .before .before .before .wholes2 .given in
     let h : length (a .active .now) ≤ length W = omega (arith, s .pre .1 .0) in
     let r : length (a .active .now) + 2 * length (a .active .now) * (a .neighbours + 1) ≤ length U = omega (arith, e, k, s .pre .1 .0) in (
       s .pre .0 .few,
@@ -92,11 +92,11 @@ returns c =
     let f = c .before .before .before .before .before .before .before .before .before .before .before .before .before .before .before .before .owners
     in
     let W = f .last .1 .1 .1 .1 .1 .0 in
-    let e : length W ≡ length (a .work .now) = c .before .before .before .before .before .before .before .before .before .before .before .before
-    .before .before .before .work .given in
+    let e : length W ≡ length (a .wholes .now) = c .before .before .before .before .before .before .before .before .before .before .before .before
+    .before .before .before .wholes .given in
     let g = c .before .before .before .before .before .before .before .before .before .before .before .before .collect in
     let U = g .last .1 .1 .1 .1 .0 in
-    let k : length U ≡ length W = c .before .before .before .before .before .before .before .before .before .before .before .work2 .given in
+    let k : length U ≡ length W = c .before .before .before .before .before .before .before .before .before .before .before .wholes2 .given in
     let h : length (a .active .now) ≤ length W = omega (arith, s .pre .1 .0) in
     let r : length (a .active .now) + 2 * length (a .active .now) * (a .neighbours + 1) ≤ length U = omega (arith, e, k, s .pre .1 .0) in
     let ls = positionsOf (a .dimensions) (a .points .now) (a .neighbours) (a .active .now) (readOwn (a .internals .now) (a .domains .now) (a .first)
