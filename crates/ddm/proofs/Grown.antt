@@ -67,7 +67,7 @@ module _ (s : Settings) (cs : List Float) (old : TreeLists) (floats : List Float
 
   -- room for the levels
   pub all-space : (P : List ℕ) → length P ≡ length (old .points)
-      → Space (s .dimension) (s .neighbours) (pointCount (s .dimension) cs) mostFine P (old .internals) (old .domains) (old .boxes) (old .borrowed) wholes floats 0 0 0
+      → Space (s .dimension) (s .neighbours) (pointCount (s .dimension) cs) mostFine P (old .internals) (old .domains) (old .boxes) (old .borrowed) floats wholes 0 0 0
   unfolding buildStated
   all-space P e = record {
     level-points = omega (arith, a .enough .points, e);
@@ -75,8 +75,8 @@ module _ (s : Settings) (cs : List Float) (old : TreeLists) (floats : List Float
     domains = omega (arith, a .enough .domains);
     boxes = rows (a .enough .boxes);
     borrowed = omega (arith, a .enough .borrowed, three n (s .neighbours + 1));
-    wholes = omega (arith, a .enough .wholes);
     floats = omega (arith, a .enough .floats);
+    wholes = omega (arith, a .enough .wholes);
   }
     where
       six : (n : ℕ) → 0 + 3 * (2 * n) + 1 ≡ 6 * n + 1

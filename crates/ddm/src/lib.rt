@@ -90,8 +90,8 @@ fn grow(
         domains,
         boxes,
         borrowed,
-        wholes,
         floats,
+        wholes,
     );
     let rows = counts.rows;
     let each = counts.domains;

@@ -39,12 +39,12 @@ fn divide(
     domains: &mut [usize],
     boxes: &mut [f64],
     borrowed: &mut [usize],
-    wholes: &mut [usize],
     floats: &mut [f64],
+    wholes: &mut [usize],
 ) -> Parts
     requires { ⌜ GivenBy plan (now points) (now active) ⌝ }
     requires { ⌜ FitsAt plan place (length (now active)) (now internals) (now domains) (now boxes) (now borrowed) ⌝ }
-    requires { ⌜ Room (plan .neighbours) (length (now active)) (now wholes) (now floats) ⌝ }
+    requires { ⌜ Room (plan .neighbours) (length (now active)) (now floats) (now wholes) ⌝ }
     ensures counts { λ r. ⌜ (r .leaves ≡ length (leavesBy plan (now (points .entry)) (now (active .entry)))) × (r .borrowed ≡ length (borrowedIn (leavesBy plan (now (points .entry)) (now (active .entry))))) ⌝ }
     ensures internals { λ _. ⌜ now (internals .exit) ≡ put (now (internals .entry)) (place .from) (ownIn (leavesBy plan (now (points .entry)) (now (active .entry)))) ⌝ }
     ensures domains { λ _. ⌜ now (domains .exit) ≡ put (now (domains .entry)) (rowNumbers * place .first) (stretches (place .from) (place .bat) (leavesBy plan (now (points .entry)) (now (active .entry)))) ⌝ }
@@ -56,13 +56,13 @@ fn divide(
         plan.dimensions,
         plan.leaf,
         active,
-        wholes,
-        floats,
         internals,
         place.from,
         domains,
         place.first,
         boxes,
+        floats,
+        wholes,
     );
     let b = overlaps::overlaps(
         points,
@@ -102,12 +102,12 @@ pub fn fine_level(
     domains: &mut [usize],
     boxes: &mut [f64],
     borrowed: &mut [usize],
-    wholes: &mut [usize],
     floats: &mut [f64],
+    wholes: &mut [usize],
 ) -> Written
     requires { ⌜ (place .from + 2 * place .a ≤ length (now «level_points»)) × (size ≤ place .a) × GivenBy plan (now points) (activeAt place (now «level_points»)) ⌝ }
     requires { ⌜ FitsAt plan place (place .a) (now internals) (now domains) (now boxes) (now borrowed) ⌝ }
-    requires { ⌜ Room (plan .neighbours) (place .a) (now wholes) (now floats) ⌝ }
+    requires { ⌜ Room (plan .neighbours) (place .a) (now floats) (now wholes) ⌝ }
     ensures counts { λ r. ⌜ (r .leaves ≡ length (leavesBy plan (now (points .entry)) (activeAt place (now («level_points» .entry)))))
         × (r .borrowed ≡ length (borrowedIn (leavesBy plan (now (points .entry)) (activeAt place (now («level_points» .entry))))))
         × (r .next ≡ length (nextAt (plan .dimensions) (now (points .entry)) (plan .leaf) size (activeAt place (now («level_points» .entry))))) ⌝ }
@@ -129,8 +129,8 @@ pub fn fine_level(
         domains,
         boxes,
         borrowed,
-        wholes,
         floats,
+        wholes,
     );
     let m = parts.leaves;
     let next = coarse_points::coarse_points(

@@ -16,13 +16,13 @@ fn put_root(
     points: &[f64],
     dimensions: usize,
     active: &[usize],
-    wholes: &mut [usize],
     floats: &mut [f64],
+    wholes: &mut [usize],
 )
     requires { ⌜ (dimensions ≤ 3) × (0 < length (now active)) × All (Inside dimensions (now points)) (now active) ⌝ }
     requires { ⌜ (length (now active) + 2 ≤ length (now wholes)) × (rowFloats dimensions ≤ length (now floats)) ⌝ }
-    ensures wholes { λ _. ⌜ now (wholes .exit) ≡ put (put (now (wholes .entry)) 0 (now (active .entry))) (length (now (active .entry))) (0 ∷ length (now (active .entry)) ∷ []) ⌝ }
     ensures floats { λ _. ⌜ now (floats .exit) ≡ put (now (floats .entry)) 0 (extents dimensions (now (points .entry)) (now (active .entry))) ⌝ }
+    ensures wholes { λ _. ⌜ now (wholes .exit) ≡ put (put (now (wholes .entry)) 0 (now (active .entry))) (length (now (active .entry))) (0 ∷ length (now (active .entry)) ∷ []) ⌝ }
 {
     let n = active.len();
     stretches::copy_rows(active, 0, n, wholes, 0);
@@ -42,13 +42,13 @@ pub fn leaves(
     dimensions: usize,
     leaf: usize,
     active: &[usize],
-    wholes: &mut [usize],
-    floats: &mut [f64],
     internals: &mut [usize],
     at: usize,
     domains: &mut [usize],
     first: usize,
     boxes: &mut [f64],
+    floats: &mut [f64],
+    wholes: &mut [usize],
 ) -> usize
     requires { ⌜ (0 < dimensions) × (dimensions ≤ 3) × (1 ≤ leaf) × (1 ≤ length (now active)) × GoodRows dimensions (now points) (now active) ⌝ }
     requires { ⌜ (6 * length (now active) ≤ length (now wholes)) × (rowFloats dimensions * (2 * length (now active)) ≤ length (now floats)) ⌝ }
@@ -60,7 +60,7 @@ pub fn leaves(
 {
     let n = active.len();
     let stride = packed::row_floats(dimensions);
-    put_root(points, dimensions, active, wholes, floats);
+    put_root(points, dimensions, active, floats, wholes);
     let mut head: usize = 0;
     let mut tail: usize = 1;
     let mut end = at;

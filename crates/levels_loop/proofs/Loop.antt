@@ -50,31 +50,31 @@ pub record Outs (P I D : List ℕ) (B : List Float) (L rows counts : List ℕ) (
   pub number : built + length rest ≡ length all
 
 -- the lengths stay
-pub record Long (P I D : List ℕ) (B : List Float) (L W : List ℕ) (F : List Float) (P₁ I₁ D₁ : List ℕ) (B₁ : List Float) (L₁ W₁ : List ℕ) (F₁ : List Float) : Type 0 where
+pub record Long (P I D : List ℕ) (B : List Float) (L : List ℕ) (F : List Float) (W : List ℕ) (P₁ I₁ D₁ : List ℕ) (B₁ : List Float) (L₁ : List ℕ) (F₁ : List Float) (W₁ : List ℕ) : Type 0 where
   pub level-points : length P₁ ≡ length P
   pub internals : length I₁ ≡ length I
   pub domains : length D₁ ≡ length D
   pub boxes : length B₁ ≡ length B
   pub borrowed : length L₁ ≡ length L
-  pub wholes : length W₁ ≡ length W
   pub floats : length F₁ ≡ length F
+  pub wholes : length W₁ ≡ length W
 
 -- THE INVARIANT, after `built` fine levels: the next is over the `a` rows from `at` on
-pub record Inv (d : ℕ) (cs : List Float) (leaf q c k n : ℕ) (P I D : List ℕ) (B : List Float) (L W : List ℕ) (F : List Float)
-    (P₁ I₁ D₁ : List ℕ) (B₁ : List Float) (L₁ W₁ : List ℕ) (F₁ : List Float) (built at a first bat : ℕ) (rows counts : List ℕ) : Type 0 where
+pub record Inv (d : ℕ) (cs : List Float) (leaf q c k n : ℕ) (P I D : List ℕ) (B : List Float) (L : List ℕ) (F : List Float) (W : List ℕ)
+    (P₁ I₁ D₁ : List ℕ) (B₁ : List Float) (L₁ : List ℕ) (F₁ : List Float) (W₁ : List ℕ) (built at a first bat : ℕ) (rows counts : List ℕ) : Type 0 where
   pub few : built ≤ mostFine
   pub slots : length rows ≡ 4
   pub slots-too : length counts ≡ 4
   pub given : Given d cs leaf q (part P₁ at a)
-  pub space : Space d q a (mostFine - built) P₁ I₁ D₁ B₁ L₁ W₁ F₁ at first bat
-  pub long : Long P I D B L W F P₁ I₁ D₁ B₁ L₁ W₁ F₁
+  pub space : Space d q a (mostFine - built) P₁ I₁ D₁ B₁ L₁ F₁ W₁ at first bat
+  pub long : Long P I D B L F W P₁ I₁ D₁ B₁ L₁ F₁ W₁
   pub outs : Outs P I D B L (replicate 4 0) (replicate 4 0) d (levelsAfter d cs leaf q c k 0 (part P 0 n)) (levelsAfter d cs leaf q c k built (part P₁ at a))
       P₁ I₁ D₁ B₁ L₁ rows counts built at first bat
 
-module _ {d : ℕ} {cs : List Float} {leaf q n : ℕ} {P I D : List ℕ} {B : List Float} {L W : List ℕ} {F : List Float} (c k : ℕ) where
+module _ {d : ℕ} {cs : List Float} {leaf q n : ℕ} {P I D : List ℕ} {B : List Float} {L : List ℕ} {F : List Float} {W : List ℕ} (c k : ℕ) where
   -- ---- before the first level
-  pub levels-first : Given d cs leaf q (part P 0 n) → Space d q n mostFine P I D B L W F 0 0 0
-      → Inv d cs leaf q c k n P I D B L W F P I D B L W F 0 0 n 0 0 (replicate 4 0) (replicate 4 0)
+  pub levels-first : Given d cs leaf q (part P 0 n) → Space d q n mostFine P I D B L F W 0 0 0
+      → Inv d cs leaf q c k n P I D B L F W P I D B L F W 0 0 n 0 0 (replicate 4 0) (replicate 4 0)
   unfolding packedDomains
   levels-first g s = record {
     few = omega arith;
@@ -82,7 +82,7 @@ module _ {d : ℕ} {cs : List Float} {leaf q n : ℕ} {P I D : List ℕ} {B : Li
     slots-too = refl;
     given = g;
     space = s;
-    long = record { level-points = refl; internals = refl; domains = refl; boxes = refl; borrowed = refl; wholes = refl; floats = refl };
+    long = record { level-points = refl; internals = refl; domains = refl; boxes = refl; borrowed = refl; floats = refl; wholes = refl };
     outs = record {
       level-points = refl;
       internals = refl;
@@ -95,8 +95,8 @@ module _ {d : ℕ} {cs : List Float} {leaf q n : ℕ} {P I D : List ℕ} {B : Li
     };
   }
 
-  module _ {P₁ I₁ D₁ : List ℕ} {B₁ : List Float} {L₁ W₁ : List ℕ} {F₁ : List Float} {built at a first bat : ℕ} {rows counts : List ℕ}
-      (v : Inv d cs leaf q c k n P I D B L W F P₁ I₁ D₁ B₁ L₁ W₁ F₁ built at a first bat rows counts) where
+  module _ {P₁ I₁ D₁ : List ℕ} {B₁ : List Float} {L₁ : List ℕ} {F₁ : List Float} {W₁ : List ℕ} {built at a first bat : ℕ} {rows counts : List ℕ}
+      (v : Inv d cs leaf q c k n P I D B L F W P₁ I₁ D₁ B₁ L₁ F₁ W₁ built at a first bat rows counts) where
     abbrev active : List ℕ
     active = part P₁ at a
 
@@ -151,7 +151,7 @@ module _ {d : ℕ} {cs : List Float} {leaf q n : ℕ} {P I D : List ℕ} {B : Li
       left : mostFine - built ≡ suc (mostFine - (built + 1))
       left = omega (arith, built-below)
 
-      space : Space d q a (suc (mostFine - (built + 1))) P₁ I₁ D₁ B₁ L₁ W₁ F₁ at first bat
+      space : Space d q a (suc (mostFine - (built + 1))) P₁ I₁ D₁ B₁ L₁ F₁ W₁ at first bat
       space = rw left at (v .space)
 
       pub level-points-fit : at + 2 * a ≤ length P₁
@@ -160,7 +160,7 @@ module _ {d : ℕ} {cs : List Float} {leaf q n : ℕ} {P I D : List ℕ} {B : Li
       pub level-fits : Fits d q a I₁ D₁ B₁ L₁ at first bat
       level-fits = fine-fits space
 
-      pub level-room : Room q a W₁ F₁
+      pub level-room : Room q a F₁ W₁
       level-room = fine-room space
 
       most-leaves : {m : ℕ} → m ≡ length (leavesAt d cs leaf q (part P₁ at a)) → m ≤ 2 * a
@@ -245,8 +245,8 @@ module _ {d : ℕ} {cs : List Float} {leaf q n : ℕ} {P I D : List ℕ} {B : Li
                 number = omega (arith, o .number);
               }
 
-          next-long : (W₂ : List ℕ) (F₂ : List Float) → length W₂ ≡ length W₁ → length F₂ ≡ length F₁ → Long P₁ I₁ D₁ B₁ L₁ W₁ F₁ P₂ I₂ D₂ B₂ L₂ W₂ F₂
-          next-long W₂ F₂ eW eF =
+          next-long : (F₂ : List Float) (W₂ : List ℕ) → length F₂ ≡ length F₁ → length W₂ ≡ length W₁ → Long P₁ I₁ D₁ B₁ L₁ F₁ W₁ P₂ I₂ D₂ B₂ L₂ F₂ W₂
+          next-long F₂ W₂ eF eW =
               let rows-fit : rowFloats d * first + length (boxesIn (leavesAt d cs leaf q active)) ≤ length B₁ =
               omega (arith, boxes-all d cs leaf q active (v .given), mul-add (rowFloats d) first (length (leavesAt d cs leaf q active)), mul-le-mul-left (rowFloats d) few-rows, level-fits .boxes) in
               record {
@@ -257,17 +257,17 @@ module _ {d : ℕ} {cs : List Float} {leaf q n : ℕ} {P I D : List ℕ} {B : Li
                     (omega (arith, length-stretches at bat (leavesAt d cs leaf q active), em, few-leaves, level-fits .domains)));
                 boxes = rw eB (length-put B₁ (rowFloats d * first) (boxesIn (leavesAt d cs leaf q active)) rows-fit);
                 borrowed = rw eL (length-put L₁ bat (borrowedIn (leavesAt d cs leaf q active)) (omega (arith, ez, few-borrowed, level-fits .borrowed)));
-                wholes = eW;
                 floats = eF;
+                wholes = eW;
               }
             where
               few-rows : first + length (leavesAt d cs leaf q active) ≤ first + 2 * a
               few-rows = omega (arith, em, few-leaves)
 
-          pub levels-next : (W₂ : List ℕ) (F₂ : List Float) → length W₂ ≡ length W₁ → length F₂ ≡ length F₁
-              → Inv d cs leaf q c k n P I D B L W F P₂ I₂ D₂ B₂ L₂ W₂ F₂ (built + 1) (at + a) b (first + m) (bat + z) (set rows built a) (set counts built m)
-          levels-next W₂ F₂ eW eF =
-              let l = next-long W₂ F₂ eW eF in
+          pub levels-next : (F₂ : List Float) (W₂ : List ℕ) → length F₂ ≡ length F₁ → length W₂ ≡ length W₁
+              → Inv d cs leaf q c k n P I D B L F W P₂ I₂ D₂ B₂ L₂ F₂ W₂ (built + 1) (at + a) b (first + m) (bat + z) (set rows built a) (set counts built m)
+          levels-next F₂ W₂ eF eW =
+              let l = next-long F₂ W₂ eF eW in
               let w = v .long in
               record {
                 few = omega (arith, built-below);
@@ -275,16 +275,16 @@ module _ {d : ℕ} {cs : List Float} {leaf q n : ℕ} {P I D : List ℕ} {B : Li
                 slots-too = length-set counts built m ∙ v .slots-too;
                 given = rw (next-read, ← next-same) (next-given d cs leaf q active (v .given) size small (sizes .0));
                 space =
-                    space-next space b m z (omega (arith, next-is, sizes .1)) few-leaves few-borrowed P₂ I₂ D₂ B₂ L₂ W₂ F₂
-                    (l .level-points) (l .internals) (l .domains) (l .boxes) (l .borrowed) eW eF;
+                    space-next space b m z (omega (arith, next-is, sizes .1)) few-leaves few-borrowed P₂ I₂ D₂ B₂ L₂ F₂ W₂
+                    (l .level-points) (l .internals) (l .domains) (l .boxes) (l .borrowed) eF eW;
                 long = record {
                   level-points = l .level-points ∙ w .level-points;
                   internals = l .internals ∙ w .internals;
                   domains = l .domains ∙ w .domains;
                   boxes = l .boxes ∙ w .boxes;
                   borrowed = l .borrowed ∙ w .borrowed;
-                  wholes = l .wholes ∙ w .wholes;
                   floats = l .floats ∙ w .floats;
+                  wholes = l .wholes ∙ w .wholes;
                 };
                 outs = rw next-read next-outs;
               }

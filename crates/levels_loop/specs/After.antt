@@ -17,11 +17,11 @@ levelsAfter d cs leaf neighbours c k built active = levelsFrom (levelSettings d 
 
 -- Where at most t fine levels and a coarse one over at most `a` rows each are written: from `at` on in the level points and the
 -- internals, from the domain row `first` on, and from `bat` on in the borrowed rows. The lists, and the working room, are long enough.
-pub record Space (d neighbours a t : ℕ) (P I D : List ℕ) (B : List Float) (L W : List ℕ) (F : List Float) (at first bat : ℕ) : Type 0 where
+pub record Space (d neighbours a t : ℕ) (P I D : List ℕ) (B : List Float) (L : List ℕ) (F : List Float) (W : List ℕ) (at first bat : ℕ) : Type 0 where
   pub level-points : at + suc t * a ≤ length P
   pub internals : at + suc t * a ≤ length I
   pub domains : rowNumbers * (first + t * (2 * a) + 1) ≤ length D
   pub boxes : rowFloats d * (first + t * (2 * a) + 1) ≤ length B
   pub borrowed : bat + t * (2 * a * (neighbours + 1)) ≤ length L
-  pub wholes : 32 * a + 8 * a * (neighbours + 1) ≤ length W
   pub floats : 32 * a ≤ length F
+  pub wholes : 32 * a + 8 * a * (neighbours + 1) ≤ length W

@@ -60,11 +60,11 @@ pub fn all_levels(
     domains: &mut [usize],
     boxes: &mut [f64],
     borrowed: &mut [usize],
-    wholes: &mut [usize],
     floats: &mut [f64],
+    wholes: &mut [usize],
 ) -> Counts
     requires { ⌜ (1 ≤ c) × (k ≤ 3) × Given dimensions (now points) leaf neighbours (part (now «level_points») 0 n) ⌝ }
-    requires { ⌜ Space dimensions neighbours n mostFine (now «level_points») (now internals) (now domains) (now boxes) (now borrowed) (now wholes) (now floats) 0 0 0 ⌝ }
+    requires { ⌜ Space dimensions neighbours n mostFine (now «level_points») (now internals) (now domains) (now boxes) (now borrowed) (now floats) (now wholes) 0 0 0 ⌝ }
     ensures counts { λ r. ⌜ (r .levels ≡ length (levelsAfter dimensions (now (points .entry)) leaf neighbours c k 0 (part (now («level_points» .entry)) 0 n)))
         × (r .rows ≡ put (replicate 4 0) 0 (map (λ l. length (l .points)) (levelsAfter dimensions (now (points .entry)) leaf neighbours c k 0 (part (now («level_points» .entry)) 0 n))))
         × (r .domains ≡ put (replicate 4 0) 0 (map (λ l. length (l .leaves)) (levelsAfter dimensions (now (points .entry)) leaf neighbours c k 0 (part (now («level_points» .entry)) 0 n)))) ⌝ }
@@ -102,8 +102,8 @@ pub fn all_levels(
             domains,
             boxes,
             borrowed,
-            wholes,
             floats,
+            wholes,
         );
         rows[built] = a;
         counts[built] = level.leaves;

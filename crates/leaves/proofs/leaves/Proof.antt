@@ -15,12 +15,12 @@ use Rattle.leaves.proofs.leaves.Statement.{statement}
 use Rattle.leaves.proofs.leaves.Tie as tie
 
 abbrev Inv-loop : tie.InvT-loop
-Inv-loop points dimensions leaf active wholes₀ floats₀ internals₀ at domains₀ first boxes₀ n stride head₀ tail₀ end₀ k₀ wholes floats internals domains boxes head tail end k =
+Inv-loop points dimensions leaf active internals₀ at domains₀ first boxes₀ floats₀ wholes₀ n stride head₀ tail₀ end₀ k₀ internals domains boxes floats wholes head tail end k =
     Run dimensions points leaf active internals₀ domains₀ boxes₀ at first wholes internals domains floats boxes head tail end k
     × KeptLengths wholes₀ internals₀ domains₀ floats₀ boxes₀ wholes internals domains floats boxes × (stride ≡ rowFloats dimensions)
 
 abbrev μ-loop : tie.MeasureT-loop
-μ-loop points dimensions leaf active wholes₀ floats₀ internals₀ at domains₀ first boxes₀ n stride head₀ tail₀ end₀ k₀ wholes floats internals domains boxes head tail end k =
+μ-loop points dimensions leaf active internals₀ at domains₀ first boxes₀ floats₀ wholes₀ n stride head₀ tail₀ end₀ k₀ internals domains boxes floats wholes head tail end k =
     cutsLeft (roomIn (length active) wholes) head tail
 
 row-floats-requires : tie.Need-row-floats-requires Inv-loop μ-loop
@@ -38,18 +38,18 @@ loop-holds c =
     let a = r .before .before .before .before .before .before .before .before .before .before .before in
     let p = a .pre in (
       run-first _ _ (p .0 .0) (p .0 .1) _ (p .0 .2) _ (p .0 .3) (p .0 .4) (a .args .wholes .now) _ (a .args .floats .now) _ (p .1 .0 .0) (p .1 .0 .1)
-          (r .put-root .ensures .0) (r .put-root .ensures .1) _ _ _ _ _ (p .1 .1 .0) (p .1 .1 .1) (p .1 .1 .2),
+          (r .put-root .ensures .1) (r .put-root .ensures .0) _ _ _ _ _ (p .1 .1 .0) (p .1 .1 .1) (p .1 .1 .2),
       record {
         same-w = refl;
         same-I = refl;
         same-O = refl;
         same-floats = refl;
         same-B = refl;
-        cap-w = omega (arith, r .put-root .kept .1 .1 .1 .0, a .good .1 .1 .1 .1 .0 .0);
-        cap-I = omega (arith, a .good .1 .1 .1 .1 .1 .1 .0 .0);
-        cap-O = omega (arith, a .good .1 .1 .1 .1 .1 .1 .1 .1 .0 .0);
-        cap-floats = omega (arith, r .put-root .kept .1 .1 .1 .1 .0, a .good .1 .1 .1 .1 .1 .0 .0);
-        cap-B = omega (arith, a .good .1 .1 .1 .1 .1 .1 .1 .1 .1 .1 .0 .0);
+        cap-w = omega (arith, r .put-root .kept .1 .1 .1 .1 .0, a .good .1 .1 .1 .1 .1 .1 .1 .1 .1 .1 .0 .0);
+        cap-I = omega (arith, a .good .1 .1 .1 .1 .0 .0);
+        cap-O = omega (arith, a .good .1 .1 .1 .1 .1 .1 .0 .0);
+        cap-floats = omega (arith, r .put-root .kept .1 .1 .1 .0, a .good .1 .1 .1 .1 .1 .1 .1 .1 .1 .0 .0);
+        cap-B = omega (arith, a .good .1 .1 .1 .1 .1 .1 .1 .1 .0 .0);
       },
       r .before .before .before .row-floats .ensures,
     )

@@ -29,8 +29,8 @@ returns c =
     let measured = boxed .before .before in
     let second = measured .before .before .before in
     let first = second .before .before .before .before in (
-      rw (first .copy-rows .ensures, part-whole _ _ refl) at (second .put-pair .ensures),
       rw (measured .get-pointarray-extents .ensures .1) at (boxed .write-box .ensures),
+      rw (first .copy-rows .ensures, part-whole _ _ refl) at (second .put-pair .ensures),
     )
 
 pub put-root-spec : {M : Type 1} → statement M

@@ -17,11 +17,11 @@ use Rattle.levels_loop.proofs.is_fine.Reads as is-fine-reads
 use Rattle.levels_loop.proofs.next_size.Reads as next-size-reads
 
 abbrev Inv-loop : tie.InvT-loop
-Inv-loop points dimensions leaf neighbours c k n level-points₀ internals₀ domains₀ boxes₀ borrowed₀ wholes₀ floats₀ built₀ from₀ a₀ first₀ bat₀ rows₀ counts₀ level-points internals domains boxes borrowed wholes floats built from a first bat rows counts =
-    Inv dimensions points leaf neighbours c k n level-points₀ internals₀ domains₀ boxes₀ borrowed₀ wholes₀ floats₀ level-points internals domains boxes borrowed wholes floats built from a first bat rows counts
+Inv-loop points dimensions leaf neighbours c k n level-points₀ internals₀ domains₀ boxes₀ borrowed₀ floats₀ wholes₀ built₀ from₀ a₀ first₀ bat₀ rows₀ counts₀ level-points internals domains boxes borrowed floats wholes built from a first bat rows counts =
+    Inv dimensions points leaf neighbours c k n level-points₀ internals₀ domains₀ boxes₀ borrowed₀ floats₀ wholes₀ level-points internals domains boxes borrowed floats wholes built from a first bat rows counts
 
 abbrev μ-loop : tie.MeasureT-loop
-μ-loop points dimensions leaf neighbours c k n level-points₀ internals₀ domains₀ boxes₀ borrowed₀ wholes₀ floats₀ built₀ from₀ a₀ first₀ bat₀ rows₀ counts₀ level-points internals domains boxes borrowed wholes floats built from a first bat rows counts =
+μ-loop points dimensions leaf neighbours c k n level-points₀ internals₀ domains₀ boxes₀ borrowed₀ floats₀ wholes₀ built₀ from₀ a₀ first₀ bat₀ rows₀ counts₀ level-points internals domains boxes borrowed floats wholes built from a first bat rows counts =
     mostFine - built
 
 loop-holds : tie.Need-loop-holds Inv-loop μ-loop
@@ -127,10 +127,10 @@ same-length-5 : tie.Need-same-length-5 Inv-loop μ-loop
 same-length-5 c = omega (arith, c .before .before .before .before .before .before .before .before .before .before .before .before .before .loop .inv .long .borrowed)
 
 same-length-6 : tie.Need-same-length-6 Inv-loop μ-loop
-same-length-6 c = omega (arith, c .before .before .before .before .before .before .before .before .before .before .before .before .before .loop .inv .long .wholes)
+same-length-6 c = omega (arith, c .before .before .before .before .before .before .before .before .before .before .before .before .before .loop .inv .long .floats)
 
 same-length-7 : tie.Need-same-length-7 Inv-loop μ-loop
-same-length-7 c = omega (arith, c .before .before .before .before .before .before .before .before .before .before .before .before .before .loop .inv .long .floats)
+same-length-7 c = omega (arith, c .before .before .before .before .before .before .before .before .before .before .before .before .before .loop .inv .long .wholes)
 
 returns : tie.Need-returns Inv-loop μ-loop
 returns c =
