@@ -10,6 +10,6 @@ cp -r crates crates.txt "$made"
 [ -d target ] && cp -r target "$made"
 mkdir -p "$made/crates/ddm_stages/src"
 cp rust/stages/lib.rt.txt "$made/crates/ddm_stages/src/lib.rt"
-echo 'ddm_stages: lists definition laws order owners leaves overlaps coarse_points' >> "$made/crates.txt"
+echo 'ddm_stages: lists definition rows leaves overlaps coarse_points' >> "$made/crates.txt"
 (cd "$made" && rt staticlib ddm_c && rt staticlib ddm_stages)
 REKVASHU_LIB="$made/target/staticlib" cargo run --manifest-path rust/Cargo.toml --release --offline --features figures --example figures

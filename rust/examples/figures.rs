@@ -14,8 +14,8 @@ use std::hint::black_box;
 extern "C" {
     fn stage_leaves(
         points: *const f64, points_len: usize, dimensions: usize, leaf: usize, active: *const usize, active_len: usize,
-        wholes: *mut usize, wholes_len: usize, floats: *mut f64, floats_len: usize, internals: *mut usize, internals_len: usize,
-        domains: *mut usize, domains_len: usize, boxes: *mut f64, boxes_len: usize,
+        internals: *mut usize, internals_len: usize, domains: *mut usize, domains_len: usize, boxes: *mut f64, boxes_len: usize,
+        floats: *mut f64, floats_len: usize, wholes: *mut usize, wholes_len: usize,
     ) -> usize;
     fn stage_overlaps(
         points: *const f64, points_len: usize, dimensions: usize, neighbours: usize, active: *const usize, active_len: usize,
@@ -25,7 +25,7 @@ extern "C" {
     fn stage_coarse_points(
         points: *const f64, points_len: usize, dimensions: usize, size: usize, internals: *const usize, internals_len: usize,
         domains: *const usize, domains_len: usize, m: usize, level_points: *mut usize, level_points_len: usize, a: usize,
-        wholes: *mut usize, wholes_len: usize, floats: *mut f64, floats_len: usize,
+        floats: *mut f64, floats_len: usize, wholes: *mut usize, wholes_len: usize,
     ) -> usize;
     fn clock_gettime(id: i32, time: *mut [i64; 2]) -> i32;
 }
@@ -69,8 +69,8 @@ fn stages(coords: &[f64], d: usize, s: &plain::Settings, turns: usize) {
     let mut m = 0;
     let cut = compared(turns, || unsafe {
         m = stage_leaves(
-            coords.as_ptr(), coords.len(), d, s.leaf as usize, rows.as_ptr(), n, wholes.as_mut_ptr(), wholes.len(), floats.as_mut_ptr(),
-            floats.len(), internals.as_mut_ptr(), n, domains.as_mut_ptr(), domains.len(), boxes.as_mut_ptr(), boxes.len(),
+            coords.as_ptr(), coords.len(), d, s.leaf as usize, rows.as_ptr(), n, internals.as_mut_ptr(), n, domains.as_mut_ptr(),
+            domains.len(), boxes.as_mut_ptr(), boxes.len(), floats.as_mut_ptr(), floats.len(), wholes.as_mut_ptr(), wholes.len(),
         )
     }, || plain::leaves(&points, s.leaf, &rows));
     line("cut", cut);
@@ -97,7 +97,7 @@ fn stages(coords: &[f64], d: usize, s: &plain::Settings, turns: usize) {
     let sampling = compared(turns, || unsafe {
         next = stage_coarse_points(
             coords.as_ptr(), coords.len(), d, size, internals.as_ptr(), n, domains.as_ptr(), domains.len(), m,
-            level_points.as_mut_ptr(), level_points.len(), n, wholes.as_mut_ptr(), wholes.len(), floats.as_mut_ptr(), floats.len(),
+            level_points.as_mut_ptr(), level_points.len(), n, floats.as_mut_ptr(), floats.len(), wholes.as_mut_ptr(), wholes.len(),
         )
     }, || plain::send(&points, &leaves, size));
     assert_eq!(&level_points[n..n + next], &plain::send(&points, &leaves, size)[..]);
