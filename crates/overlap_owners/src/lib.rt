@@ -47,7 +47,7 @@ fn mark_leaf(
     }
 }
 
-// The leaf of each active row, at the front of the working list. The leaves' own rows are the stretches of the internals that the
+// The leaf of each active row, at the front of `wholes`. The leaves' own rows are the stretches of the internals that the
 // m domain rows from `first` on name.
 pub fn owners(
     active: &[usize],

@@ -11,7 +11,7 @@ ghost use Rattle.overlap_pairs.specs.Pairs.{pairsOf, PairRoom, Taken, Ow
 const POSITIONS: usize = rows::MOST_LEAVES;
 
 // The row at position p takes those at the positions `near`. Where two leaves own the two rows, each leaf gets the other's row:
-// their numbers are written from n on. The owners of the a active rows stand at the front of the list.
+// their numbers are written from n on. The owners of the a active rows stand at the front of `wholes`.
 fn send(near: &[usize], a: usize, p: usize, wholes: &mut [usize], n: usize) -> usize
     requires { ⌜ PairRoom (now near) a p (now wholes) n ⌝ }
     ensures { λ r. ⌜ (r ≡ n + length (pairsOf (λ i. getD (now (wholes .entry)) i 0) p (now (near .entry))))

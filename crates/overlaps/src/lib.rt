@@ -117,7 +117,7 @@ fn lend(
 // The overlap stage of a level. The own rows of the leaves are the stretches of the internals that the m domain rows from `first`
 // on name. For each active row and each row that it takes with another owner, each owner's leaf borrows the other row. The borrowed
 // rows go to `borrowed` from `bat` on, leaf by leaf, and each leaf's start and count to the last two columns of its domain row. The
-// answer is how many borrowed rows there are. The working list holds the owners and, behind them, the numbers.
+// answer is how many borrowed rows there are. `wholes` holds the owners and, behind them, the numbers.
 pub fn overlaps(
     points: &[f64],
     dimensions: usize,
