@@ -150,8 +150,8 @@ pub fn coarse_points(
     level_points: &mut [usize],
     from: usize,
     a: usize,
-    wholes: &mut [usize],
     floats: &mut [f64],
+    wholes: &mut [usize],
 ) -> usize
     requires rows { ⌜ SendsUp dimensions (now points) (part (now «level_points») from a) (now internals) (now domains) first m ⌝ }
     requires room { ⌜ (size ≤ a) × (from + a + size ≤ length (now «level_points»)) × (m ≤ length (now wholes)) × (a ≤ length (now floats)) ⌝ }

@@ -144,8 +144,8 @@ pub fn fine_level(
         list,
         from,
         a,
-        work,
         held,
+        work,
     );
     Written {
         leaves: m,

@@ -14,11 +14,11 @@ use Rattle.print_tree.proofs.write_leaves.Statement.{statement}
 use Rattle.print_tree.proofs.write_leaves.Tie as tie
 
 abbrev Inv-loop : tie.InvT-loop
-Inv-loop j m internals borrowed domains boxes dimensions out₀ at next₀ i₀ out next i =
+Inv-loop j m internals domains boxes borrowed dimensions out₀ at next₀ i₀ out next i =
     Wrote out₀ at (fineText (packed internals borrowed domains boxes dimensions) j i) next out × (i ≤ m) × (length out ≡ length out₀)
 
 abbrev μ-loop : tie.MeasureT-loop
-μ-loop j m internals borrowed domains boxes dimensions out₀ at next₀ i₀ out next i = m - i
+μ-loop j m internals domains boxes borrowed dimensions out₀ at next₀ i₀ out next i = m - i
 
 loop-holds : tie.Need-loop-holds Inv-loop μ-loop
 loop-holds c =

@@ -16,12 +16,12 @@ use Rattle.print_tree.proofs.write_levels.Statement.{statement}
 use Rattle.print_tree.proofs.write_levels.Tie as tie
 
 abbrev Inv-loop : tie.InvT-loop
-Inv-loop levels rows counts level-points internals borrowed domains boxes dimensions out₀ at last next₀ t₀ a₀ j₀ out next t a j =
+Inv-loop levels rows counts level-points internals domains boxes borrowed dimensions out₀ at last next₀ t₀ a₀ j₀ out next t a j =
     (a ≡ total (take t rows)) × (j ≡ total (take t counts)) × Wrote out₀ at (frontText (packed internals borrowed domains boxes dimensions) level-points rows counts t) next out
     × (t ≤ last) × (last ≡ levels - 1) × (length out ≡ length out₀)
 
 abbrev μ-loop : tie.MeasureT-loop
-μ-loop levels rows counts level-points internals borrowed domains boxes dimensions out₀ at last next₀ t₀ a₀ j₀ out next t a j = last - t
+μ-loop levels rows counts level-points internals domains boxes borrowed dimensions out₀ at last next₀ t₀ a₀ j₀ out next t a j = last - t
 
 sub-last : tie.Need-sub-last Inv-loop μ-loop
 sub-last c = omega (arith, c .before .before .before .before .before .before .before .before .pre .0 .some)
