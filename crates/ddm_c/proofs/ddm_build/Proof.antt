@@ -46,8 +46,9 @@ returns-2 : tie.Need-returns-2
 returns-2 c =
     let q = c .before .before .before .before .before .before .before .before .before .before .before .before .before .before .before .before .before .before .before .before .build in
     let w = q .ensures in
+    let start = c .before .before .before .before .before .before .before .before .before .before .before .before .before .before .before .before .before .before .before .before .before .before .before .before .before .before .before .before .before .before .before .before .before .before .before .before .before .before .before in
     build-long _ (listsOf _ _ _ _ _) _ _ _ (listsOf _ _ _ _ _) _ _ _ (treeAnswer (q .result)) _ _
-    (settings-from _ _ _ _ _ _ _ (c .before .before .before .before .before .before .before .before .before .before .before .before .before .before .before .before .before .before .before .before .before .before .before .before .before .before .before .before .policy-of .ensures))
+    (settings-from _ _ _ _ (start .args .policy) (start .args .threshold) _ (c .before .before .before .before .before .before .before .before .before .before .before .before .before .before .before .before .before .before .before .before .before .before .before .before .before .before .before .before .policy-of .ensures))
     (c .before .before .before .before .before .before .before .before .before .before .before .before .before .before .before .before .before .before .before .before .before .before .before .before .before .before .before .before .before .if1 .left) (c .before .before .put-counts .ensures) (w .answers) (w .lists) (w .floats-free) (w .wholes-free)
 
 pub ddm-build-spec : {M : Type 1} → statement M
