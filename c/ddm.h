@@ -120,10 +120,10 @@ size_t ddm_sample(const double *points, size_t points_len, size_t dimensions, si
  * 14, 9. */
 size_t ddm_level_size(size_t a, uint32_t c, uint32_t r, size_t *result, size_t result_len);
 
-/* The quotas of leaves of these sizes for `wanted` seats. quotas and room: one entry per leaf; result: DDM_QUOTA_SLOT. Refusals 8,
- * 11. */
-size_t ddm_quotas(const size_t *sizes, size_t sizes_len, size_t wanted, size_t *quotas, size_t quotas_len, size_t *room,
-                  size_t room_len, size_t *result, size_t result_len);
+/* The quotas of leaves of these sizes for `wanted` seats. quotas and wholes: one entry per leaf; result: DDM_QUOTA_SLOT. Refusals
+ * 8, 11. */
+size_t ddm_quotas(const size_t *sizes, size_t sizes_len, size_t wanted, size_t *quotas, size_t quotas_len, size_t *wholes,
+                  size_t wholes_len, size_t *result, size_t result_len);
 
 /* The square root, rounded to the nearest value (result: DDM_ROOT_SLOT). Refusal 15. */
 size_t ddm_square_root(double x, double *result, size_t result_len);

@@ -54,14 +54,14 @@ static void level_sizes(void) {
 
 static void leaf_quotas(void) {
     const size_t sizes[3] = {3, 0, 5}, large[2] = {DDM_MOST_POINTS, 1};
-    size_t out[4], room[3], slot[DDM_QUOTA_SLOT + 1];
-    mark(out, 4), mark(room, 3), mark(slot, DDM_QUOTA_SLOT + 1);
-    EXPECT(ddm_quotas(sizes, 3, 4, out, 4, room, 3, slot, DDM_QUOTA_SLOT - 1) == 11 && marked(out, 4) && marked(room, 3));
+    size_t out[4], wholes[3], slot[DDM_QUOTA_SLOT + 1];
+    mark(out, 4), mark(wholes, 3), mark(slot, DDM_QUOTA_SLOT + 1);
+    EXPECT(ddm_quotas(sizes, 3, 4, out, 4, wholes, 3, slot, DDM_QUOTA_SLOT - 1) == 11 && marked(out, 4) && marked(wholes, 3));
     EXPECT(marked(slot, DDM_QUOTA_SLOT + 1));
-    EXPECT(ddm_quotas(sizes, 3, 4, out, 2, room, 3, slot, DDM_QUOTA_SLOT + 1) == 11 && marked(out, 4));
+    EXPECT(ddm_quotas(sizes, 3, 4, out, 2, wholes, 3, slot, DDM_QUOTA_SLOT + 1) == 11 && marked(out, 4));
     EXPECT(zeros(slot, DDM_QUOTA_SLOT) && slot[DDM_QUOTA_SLOT] == MARK);
-    EXPECT(ddm_quotas(large, 2, 4, out, 4, room, 3, slot, DDM_QUOTA_SLOT) == 8 && marked(out, 4) && zeros(slot, DDM_QUOTA_SLOT));
-    EXPECT(ddm_quotas(sizes, 3, 4, out, 4, room, 3, slot, DDM_QUOTA_SLOT) == 0);
+    EXPECT(ddm_quotas(large, 2, 4, out, 4, wholes, 3, slot, DDM_QUOTA_SLOT) == 8 && marked(out, 4) && zeros(slot, DDM_QUOTA_SLOT));
+    EXPECT(ddm_quotas(sizes, 3, 4, out, 4, wholes, 3, slot, DDM_QUOTA_SLOT) == 0);
     EXPECT(slot[DDM_QUOTA_WRITTEN] == 3 && slot[DDM_QUOTA_SEATS] == 4);
     EXPECT(out[0] == 2 && out[1] == 0 && out[2] == 2 && out[3] == MARK);
 }

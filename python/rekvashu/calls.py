@@ -85,10 +85,11 @@ def level_size(active, threshold, reductions):
 def quotas(sizes, wanted):
     """How many wells each leaf sends up, of leaves of these sizes, for so many wanted in all."""
     given = [size(f"sizes[{i}]", x) for i, x in enumerate(sizes)]
-    lent, out, room = slot(max(1, len(given))), Lent(ctypes.c_size_t, len(given)), Lent(ctypes.c_size_t, len(given))
+    lent, out, wholes = slot(max(1, len(given))), Lent(ctypes.c_size_t, len(given)), Lent(ctypes.c_size_t, len(given))
     lent[:len(given)] = given
     result = slot(layout.QUOTA_SLOT)
-    passed(load().ddm_quotas(lent, len(given), size("wanted", wanted), out.c, out.entries, room.c, room.entries, result, len(result)))
+    passed(load().ddm_quotas(lent, len(given), size("wanted", wanted), out.c, out.entries, wholes.c, wholes.entries, result,
+                             len(result)))
     return out.cut(result[layout.QUOTA_WRITTEN])[:]
 
 

@@ -124,8 +124,8 @@ pub fn level_size(a: usize, c: u32, r: u32) -> Result<usize, Refusal> {
 /// ```
 pub fn quotas(sizes: &[usize], wanted: usize) -> Result<Vec<usize>, Error> {
     right_version()?;
-    let (mut out, mut room, mut slot) = (reserved(sizes.len())?, reserved(sizes.len())?, [0; QUOTA_SLOT]);
-    match sys::quotas(sizes, wanted, &mut out, &mut room, &mut slot) {
+    let (mut out, mut wholes, mut slot) = (reserved(sizes.len())?, reserved(sizes.len())?, [0; QUOTA_SLOT]);
+    match sys::quotas(sizes, wanted, &mut out, &mut wholes, &mut slot) {
         0 => Ok(out),
         number => Err(refused(number, 0)),
     }

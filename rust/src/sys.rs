@@ -21,8 +21,8 @@ extern "C" {
     ) -> usize;
     fn ddm_level_size(a: usize, c: u32, r: u32, result: *mut usize, result_len: usize) -> usize;
     fn ddm_quotas(
-        sizes: *const usize, sizes_len: usize, wanted: usize, quotas: *mut usize, quotas_len: usize, room: *mut usize,
-        room_len: usize, result: *mut usize, result_len: usize,
+        sizes: *const usize, sizes_len: usize, wanted: usize, quotas: *mut usize, quotas_len: usize, wholes: *mut usize,
+        wholes_len: usize, result: *mut usize, result_len: usize,
     ) -> usize;
     fn ddm_square_root(x: f64, result: *mut f64, result_len: usize) -> usize;
 }
@@ -93,10 +93,10 @@ pub fn level_size(a: usize, c: u32, r: u32, result: &mut [usize; LEVEL_SIZE_SLOT
 }
 
 /// Writes the quotas to `out`, and after an accepted call gives it its length.
-pub fn quotas(sizes: &[usize], wanted: usize, out: &mut Vec<usize>, room: &mut Vec<usize>, result: &mut [usize; QUOTA_SLOT]) -> usize {
+pub fn quotas(sizes: &[usize], wanted: usize, out: &mut Vec<usize>, wholes: &mut Vec<usize>, result: &mut [usize; QUOTA_SLOT]) -> usize {
     let number = unsafe {
         ddm_quotas(
-            sizes.as_ptr(), sizes.len(), wanted, out.as_mut_ptr(), out.capacity(), room.as_mut_ptr(), room.capacity(),
+            sizes.as_ptr(), sizes.len(), wanted, out.as_mut_ptr(), out.capacity(), wholes.as_mut_ptr(), wholes.capacity(),
             result.as_mut_ptr(), result.len(),
         )
     };

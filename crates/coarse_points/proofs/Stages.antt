@@ -76,8 +76,8 @@ module _ (d : ℕ) (cs : List Float) (active I D : List ℕ) (first m : ℕ) (s 
   own-once = same-once (joined own) active (s .leaves .shared) (ascends-once active (s .leaves .ascends))
 
   -- ---- `size` seats, whose quotas stand at the front of the working list
-  module _ (size : ℕ) (held : size ≤ length active) (work : List ℕ) (long : m ≤ length work)
-      (e : take m work ≡ quotasFor (countsAt D first m) size) where
+  module _ (size : ℕ) (held : size ≤ length active) (wholes : List ℕ) (long : m ≤ length wholes)
+      (e : take m wholes ≡ quotasFor (countsAt D first m) size) where
     abbrev ws : List ℕ
     ws = quotasFor counts size
 
@@ -90,19 +90,19 @@ module _ (d : ℕ) (cs : List Float) (active I D : List ℕ) (first m : ℕ) (s 
     many : length ws ≡ m
     many = fair .entries ∙ length-map-from (λ l. ownCount D (first + l)) 0 m
 
-    read : (l : ℕ) → l < m → getD work l 0 ≡ getD ws l 0
-    read l h = sym (getD-take m work l 0 h) ∙ ap (λ (z : List ℕ). getD z l 0) e
+    read : (l : ℕ) → l < m → getD wholes l 0 ≡ getD ws l 0
+    read l h = sym (getD-take m wholes l 0 h) ∙ ap (λ (z : List ℕ). getD z l 0) e
 
-    within : (l : ℕ) → l < m → getD work l 0 ≤ ownCount D (first + l)
+    within : (l : ℕ) → l < m → getD wholes l 0 ≤ ownCount D (first + l)
     within l h = omega (arith, read l h, fair .within l, getD-map-below (λ l. ownCount D (first + l)) m l 0 h)
 
-    sum : total (map (λ l. getD work l 0) (from 0 m)) ≡ size
+    sum : total (map (λ l. getD wholes l 0) (from 0 m)) ≡ size
     sum =
-        sum-below-same m (λ l. getD work l 0) (λ l. getD ws l 0) read
+        sum-below-same m (λ l. getD wholes l 0) (λ l. getD ws l 0) read
         ∙ ap (λ (k : ℕ). total (map (λ l. getD ws l 0) (from 0 k))) (sym many) ∙ sym (total-index ws) ∙ fair .sum
 
     -- what sampling asks
-    pub leaves-fit : (out : List ℕ) (at k : ℕ) → at + size ≤ length out → length active ≤ k → LeavesFit d cs I D first m work out at k
+    pub leaves-fit : (out : List ℕ) (at k : ℕ) → at + size ≤ length out → length active ≤ k → LeavesFit d cs I D first m wholes out at k
     leaves-fit out at k f g = record {
       each = λ l h. record {
         axes = s .axes;
@@ -118,13 +118,13 @@ module _ (d : ℕ) (cs : List Float) (active I D : List ℕ) (first m : ℕ) (s 
 
     -- ---- what is sent, and what becomes of it
     abbrev sent : List ℕ
-    sent = sentAt d cs I D first work m
+    sent = sentAt d cs I D first wholes m
 
     as-defined : sent ≡ joined (zipWith (sentBy d cs) own ws)
-    as-defined = sent-zip d cs I D first work m ws many read
+    as-defined = sent-zip d cs I D first wholes m ws many read
 
-    pub sent-size : length (sentAt d cs I D first work m) ≡ size
-    sent-size = sent-many d cs I D first work m ∙ sum
+    pub sent-size : length (sentAt d cs I D first wholes m) ≡ size
+    sent-size = sent-many d cs I D first wholes m ∙ sum
 
     sent-some : (r : ℕ) → times r sent ≤ times r active
     sent-some r =
@@ -138,12 +138,12 @@ module _ (d : ℕ) (cs : List Float) (active I D : List ℕ) (first m : ℕ) (s 
     pub up-size : length (sentRows d cs active (readOwn I D first m) size) ≡ size
     up-size = ap length (sym up-is) ∙ up-many active (s .leaves .ascends) sent sent-some ∙ sent-size
 
-    pub sorted-up : (ys : List ℕ) → Sorted (λ x y. x ≤ y) ys → Same ys (sentAt d cs I D first work m) → ys ≡ sentRows d cs active (readOwn I D first m) size
+    pub sorted-up : (ys : List ℕ) → Sorted (λ x y. x ≤ y) ys → Same ys (sentAt d cs I D first wholes m) → ys ≡ sentRows d cs active (readOwn I D first m) size
     sorted-up ys o h = sorted-next active (s .leaves .ascends) sent sent-some ys o h ∙ up-is
 
     -- written behind the active rows and sorted there
-    pub written-up : (l : List ℕ) (at : ℕ) (mid : List ℕ) (n : ℕ) (new : List ℕ) → at + size ≤ length l → mid ≡ put l at (sentAt d cs I D first work m)
-        → n ≡ length (sentAt d cs I D first work m) → Reordered mid at n new → new ≡ put l at (sentRows d cs active (readOwn I D first m) size)
+    pub written-up : (l : List ℕ) (at : ℕ) (mid : List ℕ) (n : ℕ) (new : List ℕ) → at + size ≤ length l → mid ≡ put l at (sentAt d cs I D first wholes m)
+        → n ≡ length (sentAt d cs I D first wholes m) → Reordered mid at n new → new ≡ put l at (sentRows d cs active (readOwn I D first m) size)
     written-up l at mid n new f g k o =
         let e : part mid at n ≡ sent = ap (λ (z : List ℕ). part z at n) g ∙ part-put-same l at sent n (omega arith) (sym k) in
         let same : Same (o .rows) sent = λ p. o .same p ∙ ap (count p) e in

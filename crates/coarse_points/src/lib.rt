@@ -12,25 +12,32 @@ ghost use Rattle.packed.specs.Reading.{ownAt, readOwn};
 ghost use Rattle.coarse_points.specs.Sent.{sentRows, countsAt, sentAt, SendsUp, LeafFits, LeavesFit, Reordered};
 
 // Copies the sizes of the m leaves that the domain rows from `first` on name to the front of the working list.
-fn copy_sizes(domains: &[usize], first: usize, m: usize, work: &mut [usize])
-    requires { ⌜ (rowNumbers * (first + m) ≤ length (now domains)) × (m ≤ length (now work)) ⌝ }
-    ensures { λ _. ⌜ take m (now (work .exit)) ≡ countsAt (now (domains .entry)) first m ⌝ }
+fn copy_sizes(domains: &[usize], first: usize, m: usize, wholes: &mut [usize])
+    requires { ⌜ (rowNumbers * (first + m) ≤ length (now domains)) × (m ≤ length (now wholes)) ⌝ }
+    ensures { λ _. ⌜ take m (now (wholes .exit)) ≡ countsAt (now (domains .entry)) first m ⌝ }
 {
     let mut l = 0;
     while l < m {
         let row = packed::read_row(domains, first + l);
-        work[l] = row.internal_count;
+        wholes[l] = row.internal_count;
         l += 1;
     }
 }
 
 // The quotas of these leaves, which have `a` rows in all, at the front of the working list: `size` of the rows go up.
-fn leaf_quotas(domains: &[usize], first: usize, m: usize, a: usize, size: usize, work: &mut [usize])
-    requires { ⌜ (rowNumbers * (first + m) ≤ length (now domains)) × (m ≤ length (now work)) × (a ≡ total (countsAt (now domains) first m)) × (a ≤ mostPoints) × (size ≤ a) ⌝ }
-    ensures { λ _. ⌜ take m (now (work .exit)) ≡ quotasFor (countsAt (now (domains .entry)) first m) size ⌝ }
+fn leaf_quotas(
+    domains: &[usize],
+    first: usize,
+    m: usize,
+    a: usize,
+    size: usize,
+    wholes: &mut [usize],
+)
+    requires { ⌜ (rowNumbers * (first + m) ≤ length (now domains)) × (m ≤ length (now wholes)) × (a ≡ total (countsAt (now domains) first m)) × (a ≤ mostPoints) × (size ≤ a) ⌝ }
+    ensures { λ _. ⌜ take m (now (wholes .exit)) ≡ quotasFor (countsAt (now (domains .entry)) first m) size ⌝ }
 {
-    copy_sizes(domains, first, m, work);
-    quotas::share_in_place(work, m, a, size);
+    copy_sizes(domains, first, m, wholes);
+    quotas::share_in_place(wholes, m, a, size);
 }
 
 // Writes `quota` of the rows, chosen from the row nearest their centroid on, from `at` on: none where the quota is 0.
@@ -41,18 +48,18 @@ fn sample_leaf(
     quota: usize,
     out: &mut [usize],
     at: usize,
-    least: &mut [f64],
+    floats: &mut [f64],
 )
     requires rows { ⌜ GoodRows dimensions (now points) (now rows) ⌝ }
     requires few { ⌜ (dimensions ≤ 3) × (quota ≤ length (now rows)) ⌝ }
-    requires room { ⌜ (at + quota ≤ length (now out)) × (length (now rows) ≤ length (now least)) ⌝ }
+    requires room { ⌜ (at + quota ≤ length (now out)) × (length (now rows) ≤ length (now floats)) ⌝ }
     ensures { λ _. ⌜ now (out .exit) ≡ put (now (out .entry)) at (sentBy dimensions (now (points .entry)) (now (rows .entry)) quota) ⌝ }
 {
     if quota < 1 {
         return;
     }
     let seed = sampling_seed::sampling_seed(points, dimensions, rows);
-    sampling_rounds::sample_rows(points, dimensions, rows, quota, seed, out, at, least);
+    sampling_rounds::sample_rows(points, dimensions, rows, quota, seed, out, at, floats);
 }
 
 // Writes what the leaf at the domain row r sends up from `at` on: `quota` of its own rows.
@@ -65,9 +72,9 @@ fn send_leaf(
     quota: usize,
     out: &mut [usize],
     at: usize,
-    least: &mut [f64],
+    floats: &mut [f64],
 )
-    requires leaf { ⌜ LeafFits dimensions (now points) (now internals) (now domains) r quota (length (now least)) ⌝ }
+    requires leaf { ⌜ LeafFits dimensions (now points) (now internals) (now domains) r quota (length (now floats)) ⌝ }
     requires room { ⌜ at + quota ≤ length (now out) ⌝ }
     ensures { λ _. ⌜ now (out .exit) ≡ put (now (out .entry)) at (sentBy dimensions (now (points .entry)) (ownAt (now (internals .entry)) (now (domains .entry)) r) quota) ⌝ }
 {
@@ -81,7 +88,7 @@ fn send_leaf(
         quota,
         out,
         at,
-        least,
+        floats,
     );
 }
 
@@ -96,9 +103,9 @@ fn send_leaves(
     shares: &[usize],
     out: &mut [usize],
     at: usize,
-    least: &mut [f64],
+    floats: &mut [f64],
 ) -> usize
-    requires { ⌜ LeavesFit dimensions (now points) (now internals) (now domains) first m (now shares) (now out) at (length (now least)) ⌝ }
+    requires { ⌜ LeavesFit dimensions (now points) (now internals) (now domains) first m (now shares) (now out) at (length (now floats)) ⌝ }
     ensures { λ r. ⌜ (r ≡ at + length (sentAt dimensions (now (points .entry)) (now (internals .entry)) (now (domains .entry)) first (now (shares .entry)) m)) × (now (out .exit) ≡ put (now (out .entry)) at (sentAt dimensions (now (points .entry)) (now (internals .entry)) (now (domains .entry)) first (now (shares .entry)) m)) ⌝ }
 {
     let mut end = at;
@@ -114,7 +121,7 @@ fn send_leaves(
             quota,
             out,
             end,
-            least,
+            floats,
         );
         end += quota;
         l += 1;
@@ -143,15 +150,15 @@ pub fn coarse_points(
     level_points: &mut [usize],
     from: usize,
     a: usize,
-    work: &mut [usize],
-    least: &mut [f64],
+    floats: &mut [f64],
+    wholes: &mut [usize],
 ) -> usize
     requires rows { ⌜ SendsUp dimensions (now points) (part (now «level_points») from a) (now internals) (now domains) first m ⌝ }
-    requires room { ⌜ (size ≤ a) × (from + a + size ≤ length (now «level_points»)) × (m ≤ length (now work)) × (a ≤ length (now least)) ⌝ }
+    requires room { ⌜ (size ≤ a) × (from + a + size ≤ length (now «level_points»)) × (m ≤ length (now wholes)) × (a ≤ length (now floats)) ⌝ }
     ensures number { λ r. ⌜ (r ≡ length (sentRows dimensions (now (points .entry)) (part (now («level_points» .entry)) from a) (readOwn (now (internals .entry)) (now (domains .entry)) first m) size)) × (r ≡ size) ⌝ }
     ensures list { λ _. ⌜ now («level_points» .exit) ≡ put (now («level_points» .entry)) (from + a) (sentRows dimensions (now (points .entry)) (part (now («level_points» .entry)) from a) (readOwn (now (internals .entry)) (now (domains .entry)) first m) size) ⌝ }
 {
-    leaf_quotas(domains, first, m, a, size, work);
+    leaf_quotas(domains, first, m, a, size, wholes);
     let start = from + a;
     let end = send_leaves(
         points,
@@ -160,10 +167,10 @@ pub fn coarse_points(
         domains,
         first,
         m,
-        work,
+        wholes,
         level_points,
         start,
-        least,
+        floats,
     );
     sort_stretch(level_points, start, end);
     end - start

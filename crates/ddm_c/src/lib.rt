@@ -50,16 +50,16 @@ pub extern "C" fn ddm_quotas(
     sizes: &[usize],
     wanted: usize,
     quotas: &mut [usize],
-    room: &mut [usize],
+    wholes: &mut [usize],
     result: &mut [usize],
 ) -> usize
-    ensures { λ r. ⌜ QuotasTold (now (sizes .entry)) wanted (now (quotas .entry)) (now (quotas .exit)) (now (room .entry)) (now (room .exit))
+    ensures { λ r. ⌜ QuotasTold (now (sizes .entry)) wanted (now (quotas .entry)) (now (quotas .exit)) (now (wholes .entry)) (now (wholes .exit))
         (now (result .entry)) (now (result .exit)) r ⌝ }
 {
     if result.len() < 2 {
         return 11;
     }
-    let answer = quotas::get_domain_coarse_quotas(sizes, wanted, quotas, room);
+    let answer = quotas::get_domain_coarse_quotas(sizes, wanted, quotas, wholes);
     let told = slots::quota_report(answer);
     stretches::put_pair(result, 0, told.first, told.second);
     told.number

@@ -10,10 +10,10 @@ use mathlib.Core.Bool.{true, false}
 use Rattle.lists.specs.Lists.{from}
 use Rattle.definition.specs.Number.{plusZero}
 use Rattle.definition.specs.Levels.{Policy, auto, fixed, threshold}
-use Rattle.definition.specs.Packed.{DomainRow, buildStated}
+use Rattle.definition.specs.Packed.{DomainRow, BuildSizes, buildStated}
 use Rattle.definition.specs.Tree.{Settings}
 use Rattle.definition.specs.Refusals.{verdict, buildShort, buildTests, buildVerdict, sampleVerdict}
-use Rattle.definition.specs.Outcome.{Answer, TreeLists, numberOf, placeOf, valueOf, listAfter, treeListsAfter, zeroCounts, rootAnswer, sizeAnswer, quotaAnswer, quotaOutput, sampleAnswer, sampleOutput, buildAnswer, buildLists, rowTest, rowsAsked, ownRows, borrowedRows}
+use Rattle.definition.specs.Outcome.{Answer, TreeLists, numberOf, placeOf, valueOf, listAfter, treeListsAfter, zeroCounts, rootAnswer, sizeAnswer, quotaAnswer, quotaOutput, sampleAnswer, sampleOutput, buildAnswer, buildLists, sizesAnswer, rowTest, rowsAsked, ownRows, borrowedRows}
 use Rattle.definition.proofs.WorkedSamples.{opened, line}
 use Rattle.definition.proofs.WorkedExamples.{reports}
 
@@ -75,6 +75,23 @@ Short lists floats wholes = BuildRefused two twoSpoiled lists (line (replicate f
 abbrev Spoiled : List Float → ℕ → Type 0
 Spoiled cs place = BuildRefused two cs (lent 8 8 52 52 36) (line (replicate 64 9)) (replicate 112 9) 10 place
 
+-- the lengths of the seven lists of a build
+abbrev lengths : ℕ → ℕ → ℕ → ℕ → ℕ → ℕ → ℕ → BuildSizes
+lengths points internals domains boxes borrowed floats wholes =
+    record {
+      points = points;
+      internals = internals;
+      domains = domains;
+      boxes = boxes;
+      borrowed = borrowed;
+      floats = floats;
+      wholes = wholes;
+    }
+
+-- the lengths asked alone, for n points on d axes, are refused: zeros
+abbrev LengthsRefused : ℕ → ℕ → ℕ → ℕ → Type 0
+LengthsRefused d n neighbours number = sizesAnswer d n neighbours ≡ refuses number 0 (lengths 0 0 0 0 0 0 0)
+
 -- sampling into an output of one entry, without working room
 abbrev ShortSample : ℕ → List Float → ℕ → ℕ → ℕ → Type 0
 ShortSample d cs wanted seed number = SampleRefused d cs wanted seed (9 ∷ []) [] [] number 0
@@ -129,6 +146,18 @@ pub record RefusedCalls : Type 0 where
   lentAsStated :
       buildAnswer two twoPoints (lent 8 8 52 52 36) (line (replicate 64 9)) (replicate 112 9)
       ≡ reports (record { levels = 2; rows = 2 ∷ 1 ∷ 0 ∷ 0 ∷ []; domains = 4 ∷ 1 ∷ 0 ∷ 0 ∷ [] })
+  -- the lengths asked alone: 1, 5, 6, 8
+  lengths-dimension0 : LengthsRefused 0 0 65 1
+  lengths-dimension4 : LengthsRefused 4 1048577 65 1
+  lengths-dimension-points0 : LengthsRefused 4 0 64 1
+  lengths-dimension-points1048577 : LengthsRefused 0 1048577 64 1
+  lengths-neighbours65 : LengthsRefused 1 0 65 5
+  lengths-neighbours65-points1048577 : LengthsRefused 3 1048577 65 5
+  lengths-points0 : LengthsRefused 3 0 64 6
+  lengths-points1048577 : LengthsRefused 1 1048577 64 8
+  lengths-points1 : sizesAnswer 1 1 0 ≡ reports (lengths 4 4 28 14 6 32 40)
+  lengths-points2 : sizesAnswer 2 2 2 ≡ reports (lengths 8 8 52 52 36 64 112)
+  lengths-points1048576 : sizesAnswer 3 1048576 64 ≡ reports (lengths 4194304 4194304 25165828 37748742 408944640 33554432 578813952)
   -- sampling: 1, 6, 7, 8, 13, 11, 10
   sample-dimension0 : ShortSample 0 [] 0 0 1
   sample-dimension4 : ShortSample 4 [] 0 0 1
@@ -246,6 +275,17 @@ refused-calls =
       spoiled-first = (refl, refl);
       spoiled-minus = (refl, refl);
       lentAsStated = refl;
+      lengths-dimension0 = refl;
+      lengths-dimension4 = refl;
+      lengths-dimension-points0 = refl;
+      lengths-dimension-points1048577 = refl;
+      lengths-neighbours65 = refl;
+      lengths-neighbours65-points1048577 = refl;
+      lengths-points0 = refl;
+      lengths-points1048577 = refl;
+      lengths-points1 = refl;
+      lengths-points2 = refl;
+      lengths-points1048576 = refl;
       sample-dimension0 = (refl, refl);
       sample-dimension4 = (refl, refl);
       sample-points0 = (refl, refl);

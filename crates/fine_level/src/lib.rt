@@ -144,8 +144,8 @@ pub fn fine_level(
         level_points,
         from,
         a,
-        wholes,
         floats,
+        wholes,
     );
     Written {
         leaves: m,

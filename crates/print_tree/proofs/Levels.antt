@@ -48,76 +48,76 @@ texts-last s (m ∷ n ∷ ls) l =
     ∙ sym (append-assoc here (fineTexts (suc s) (n ∷ ls)) (levelLine (suc s + suc (length ls)) l ++ coarseLines (l .leaves)))
     ∙ ap (λ (k : ℕ). (here ++ fineTexts (suc s) (n ∷ ls)) ++ (levelLine k l ++ coarseLines (l .leaves))) number
 
-module _ (p : Packed) (points rows counts : List ℕ) where
+module _ (p : Packed) (level-points rows counts : List ℕ) where
   -- the first t levels, as fine ones
   pub frontText : ℕ → List ℕ
-  frontText t = fineTexts 0 (readLevels p points rows counts t)
+  frontText t = fineTexts 0 (readLevels p level-points rows counts t)
 
   pub fineAt : ℕ → List ℕ
   fineAt t =
-      fineLevelText t (take (total (take t rows) + getD rows t 0 - total (take t rows)) (drop (total (take t rows)) points)) p (total (take t counts))
+      fineLevelText t (take (total (take t rows) + getD rows t 0 - total (take t rows)) (drop (total (take t rows)) level-points)) p (total (take t counts))
       (getD counts t 0)
 
-  one-more : (t : ℕ) → readLevels p points rows counts (t + 1) ≡ readLevels p points rows counts t ++ readLevel p points rows counts t ∷ []
+  one-more : (t : ℕ) → readLevels p level-points rows counts (t + 1) ≡ readLevels p level-points rows counts t ++ readLevel p level-points rows counts t ∷ []
   unfolding readLevels
   one-more t =
-      ap (map (readLevel p points rows counts)) (from-suc 0 t)
-      ∙ map-snoc (readLevel p points rows counts) (from 0 t) (0 + t)
-      ∙ ap (λ (k : ℕ). map (readLevel p points rows counts) (from 0 t) ++ readLevel p points rows counts k ∷ []) (zero-add t)
+      ap (map (readLevel p level-points rows counts)) (from-suc 0 t)
+      ∙ map-snoc (readLevel p level-points rows counts) (from 0 t) (0 + t)
+      ∙ ap (λ (k : ℕ). map (readLevel p level-points rows counts) (from 0 t) ++ readLevel p level-points rows counts k ∷ []) (zero-add t)
 
-  pub how-many : (t : ℕ) → length (readLevels p points rows counts t) ≡ t
+  pub how-many : (t : ℕ) → length (readLevels p level-points rows counts t) ≡ t
   unfolding readLevels
-  how-many t = length-map (from 0 t) (readLevel p points rows counts) ∙ length-from 0 t
+  how-many t = length-map (from 0 t) (readLevel p level-points rows counts) ∙ length-from 0 t
 
   pub front-none : frontText 0 ≡ []
   unfolding frontText readLevels fineTexts from
   front-none = refl
 
   line-at : (t : ℕ)
-      → levelLine t (readLevel p points rows counts t) ≡ pointsLine t (take (total (take t rows) + getD rows t 0 - total (take t rows)) (drop (total (take t rows)) points))
+      → levelLine t (readLevel p level-points rows counts t) ≡ pointsLine t (take (total (take t rows) + getD rows t 0 - total (take t rows)) (drop (total (take t rows)) level-points))
   unfolding levelLine readLevel
-  line-at t = rw (← part-lent points (total (take t rows)) (getD rows t 0))
+  line-at t = rw (← part-lent level-points (total (take t rows)) (getD rows t 0))
 
   pub front-grows : (t : ℕ) → frontText (t + 1) ≡ frontText t ++ fineAt t
   unfolding frontText fineAt fineLevelText readLevel
   front-grows t =
       ap (fineTexts 0) (one-more t)
-      ∙ texts-one 0 (readLevels p points rows counts t) (readLevel p points rows counts t)
+      ∙ texts-one 0 (readLevels p level-points rows counts t) (readLevel p level-points rows counts t)
       ∙ ap (λ (k : ℕ). fineTexts 0
-      (readLevels p points rows counts t) ++ (levelLine k (readLevel p points rows counts t) ++ fineLines 0 (readLevel p points rows counts t .leaves)))
+      (readLevels p level-points rows counts t) ++ (levelLine k (readLevel p level-points rows counts t) ++ fineLines 0 (readLevel p level-points rows counts t .leaves)))
       (zero-add _ ∙ how-many t)
-      ∙ ap (λ (l : List ℕ). fineTexts 0 (readLevels p points rows counts t) ++ (l ++ fineLines 0 (readLevel p points rows counts t .leaves))) (line-at t)
+      ∙ ap (λ (l : List ℕ). fineTexts 0 (readLevels p level-points rows counts t) ++ (l ++ fineLines 0 (readLevel p level-points rows counts t .leaves))) (line-at t)
 
   one-domain : (j : ℕ) → coarseLines (readLeaves p j 1) ≡ leafLine false 0 p j
   unfolding coarseLines readLeaves leafLine boxPart from joined
   one-domain j = append-nil _
 
   pub coarseText : ℕ → List ℕ
-  coarseText t = coarseLevelText t (take (total (take t rows) + getD rows t 0 - total (take t rows)) (drop (total (take t rows)) points)) p (total (take t counts))
+  coarseText t = coarseLevelText t (take (total (take t rows) + getD rows t 0 - total (take t rows)) (drop (total (take t rows)) level-points)) p (total (take t counts))
 
-  pub texts-end : (t : ℕ) → getD counts t 0 ≡ 1 → levelsText 0 (readLevels p points rows counts (t + 1)) ≡ frontText t ++ coarseText t
+  pub texts-end : (t : ℕ) → getD counts t 0 ≡ 1 → levelsText 0 (readLevels p level-points rows counts (t + 1)) ≡ frontText t ++ coarseText t
   unfolding frontText coarseText coarseLevelText readLevel
   texts-end t one =
       ap (levelsText 0) (one-more t)
-      ∙ texts-last 0 (readLevels p points rows counts t) (readLevel p points rows counts t)
+      ∙ texts-last 0 (readLevels p level-points rows counts t) (readLevel p level-points rows counts t)
       ∙ ap (λ (k : ℕ). fineTexts 0
-      (readLevels p points rows counts t) ++ (levelLine k (readLevel p points rows counts t) ++ coarseLines (readLevel p points rows counts t .leaves)))
+      (readLevels p level-points rows counts t) ++ (levelLine k (readLevel p level-points rows counts t) ++ coarseLines (readLevel p level-points rows counts t .leaves)))
       (zero-add _ ∙ how-many t)
-      ∙ ap₂ (λ (l : List ℕ) (k : List ℕ). fineTexts 0 (readLevels p points rows counts t) ++ (l ++ k)) (line-at t)
+      ∙ ap₂ (λ (l : List ℕ) (k : List ℕ). fineTexts 0 (readLevels p level-points rows counts t) ++ (l ++ k)) (line-at t)
       (ap (λ (k : ℕ). coarseLines (readLeaves p (total (take t counts)) k)) one ∙ one-domain (total (take t counts)))
 
   -- ---- the same in the code's terms: a and j are the sums of the counts so far
   module _ (t a j : ℕ) (ea : a ≡ total (take t rows)) (ej : j ≡ total (take t counts)) where
-    pub fine-here : fineAt t ≡ fineLevelText t (take (a + getD rows t 0 - a) (drop a points)) p j (getD counts t 0)
+    pub fine-here : fineAt t ≡ fineLevelText t (take (a + getD rows t 0 - a) (drop a level-points)) p j (getD counts t 0)
     unfolding fineAt
     fine-here = rw (ea, ej)
 
-    pub coarse-here : coarseText t ≡ coarseLevelText t (take (a + getD rows t 0 - a) (drop a points)) p j
+    pub coarse-here : coarseText t ≡ coarseLevelText t (take (a + getD rows t 0 - a) (drop a level-points)) p j
     unfolding coarseText
     coarse-here = rw (ea, ej)
 
-    module _ (n : ℕ) (s : Stands p points rows counts n) (h : t < n) where
-      pub rows-here : a + getD rows t 0 ≤ length points
+    module _ (n : ℕ) (s : Stands p level-points rows counts n) (h : t < n) where
+      pub rows-here : a + getD rows t 0 ≤ length level-points
       rows-here = omega (arith, total-below rows t n h, s .within)
 
       pub fits-here : (i : ℕ) → i < getD counts t 0 → RowFits p (j + i)
@@ -130,7 +130,7 @@ module _ (p : Packed) (points rows counts : List ℕ) where
           go zero g = omega arith
           go (suc k) g = omega (arith, s .fits k (omega arith) .row)
 
-  pub levels-whole : (n t : ℕ) → Stands p points rows counts n → t ≡ n - 1 → levelsText 0 (readLevels p points rows counts n) ≡ frontText t ++ coarseText t
+  pub levels-whole : (n t : ℕ) → Stands p level-points rows counts n → t ≡ n - 1 → levelsText 0 (readLevels p level-points rows counts n) ≡ frontText t ++ coarseText t
   levels-whole n t s e =
       let f : n ≡ t + 1 = omega (arith, s .some) in
-      ap (λ (k : ℕ). levelsText 0 (readLevels p points rows counts k)) f ∙ texts-end t (ap (λ (k : ℕ). getD counts k 0) e ∙ s .coarse)
+      ap (λ (k : ℕ). levelsText 0 (readLevels p level-points rows counts k)) f ∙ texts-end t (ap (λ (k : ℕ). getD counts k 0) e ∙ s .coarse)

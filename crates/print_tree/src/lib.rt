@@ -53,17 +53,17 @@ fn write_leaf(
     fine: bool,
     i: usize,
     j: usize,
-    own: &[usize],
-    borrowed: &[usize],
+    internals: &[usize],
     domains: &[usize],
     boxes: &[f64],
+    borrowed: &[usize],
     dimensions: usize,
     out: &mut [u8],
     at: usize,
 ) -> usize
-    requires { ⌜ RowFits (packed (now own) (now borrowed) (now domains) (now boxes) dimensions) j ⌝ }
-    requires { ⌜ TextRoom (now out) at (leafLine fine i (packed (now own) (now borrowed) (now domains) (now boxes) dimensions) j) ⌝ }
-    ensures { λ r. ⌜ Wrote (now (out .entry)) at (leafLine fine i (packed (now (own .entry)) (now (borrowed .entry)) (now (domains .entry)) (now (boxes .entry)) dimensions) j) r (now (out .exit)) ⌝ }
+    requires { ⌜ RowFits (packed (now internals) (now borrowed) (now domains) (now boxes) dimensions) j ⌝ }
+    requires { ⌜ TextRoom (now out) at (leafLine fine i (packed (now internals) (now borrowed) (now domains) (now boxes) dimensions) j) ⌝ }
+    ensures { λ r. ⌜ Wrote (now (out .entry)) at (leafLine fine i (packed (now (internals .entry)) (now (borrowed .entry)) (now (domains .entry)) (now (boxes .entry)) dimensions) j) r (now (out .exit)) ⌝ }
 {
     let row = packed::read_row(domains, j);
     let o = row.internal_start;
@@ -74,7 +74,7 @@ fn write_leaf(
     let xe = x + boxes::box_width(dimensions);
     write_domain(
         i,
-        &own[o..oe],
+        &internals[o..oe],
         &borrowed[b..be],
         fine,
         &boxes[x..xe],
@@ -87,17 +87,17 @@ fn write_leaf(
 fn write_leaves(
     j: usize,
     m: usize,
-    own: &[usize],
-    borrowed: &[usize],
+    internals: &[usize],
     domains: &[usize],
     boxes: &[f64],
+    borrowed: &[usize],
     dimensions: usize,
     out: &mut [u8],
     at: usize,
 ) -> usize
-    requires { ⌜ ((i : ℕ) → i < m → RowFits (packed (now own) (now borrowed) (now domains) (now boxes) dimensions) (j + i)) ⌝ }
-    requires { ⌜ TextRoom (now out) at (fineLines 0 (readLeaves (packed (now own) (now borrowed) (now domains) (now boxes) dimensions) j m)) ⌝ }
-    ensures { λ r. ⌜ Wrote (now (out .entry)) at (fineLines 0 (readLeaves (packed (now (own .entry)) (now (borrowed .entry)) (now (domains .entry)) (now (boxes .entry)) dimensions) j m)) r (now (out .exit)) ⌝ }
+    requires { ⌜ ((i : ℕ) → i < m → RowFits (packed (now internals) (now borrowed) (now domains) (now boxes) dimensions) (j + i)) ⌝ }
+    requires { ⌜ TextRoom (now out) at (fineLines 0 (readLeaves (packed (now internals) (now borrowed) (now domains) (now boxes) dimensions) j m)) ⌝ }
+    ensures { λ r. ⌜ Wrote (now (out .entry)) at (fineLines 0 (readLeaves (packed (now (internals .entry)) (now (borrowed .entry)) (now (domains .entry)) (now (boxes .entry)) dimensions) j m)) r (now (out .exit)) ⌝ }
 {
     let mut next = at;
     let mut i = 0;
@@ -106,10 +106,10 @@ fn write_leaves(
             true,
             i,
             j + i,
-            own,
-            borrowed,
+            internals,
             domains,
             boxes,
+            borrowed,
             dimensions,
             out,
             next,
@@ -125,20 +125,30 @@ fn write_fine(
     rows: &[usize],
     j: usize,
     m: usize,
-    own: &[usize],
-    borrowed: &[usize],
+    internals: &[usize],
     domains: &[usize],
     boxes: &[f64],
+    borrowed: &[usize],
     dimensions: usize,
     out: &mut [u8],
     at: usize,
 ) -> usize
-    requires { ⌜ ((i : ℕ) → i < m → RowFits (packed (now own) (now borrowed) (now domains) (now boxes) dimensions) (j + i)) ⌝ }
-    requires { ⌜ TextRoom (now out) at (fineLevelText t (now rows) (packed (now own) (now borrowed) (now domains) (now boxes) dimensions) j m) ⌝ }
-    ensures { λ r. ⌜ Wrote (now (out .entry)) at (fineLevelText t (now (rows .entry)) (packed (now (own .entry)) (now (borrowed .entry)) (now (domains .entry)) (now (boxes .entry)) dimensions) j m) r (now (out .exit)) ⌝ }
+    requires { ⌜ ((i : ℕ) → i < m → RowFits (packed (now internals) (now borrowed) (now domains) (now boxes) dimensions) (j + i)) ⌝ }
+    requires { ⌜ TextRoom (now out) at (fineLevelText t (now rows) (packed (now internals) (now borrowed) (now domains) (now boxes) dimensions) j m) ⌝ }
+    ensures { λ r. ⌜ Wrote (now (out .entry)) at (fineLevelText t (now (rows .entry)) (packed (now (internals .entry)) (now (borrowed .entry)) (now (domains .entry)) (now (boxes .entry)) dimensions) j m) r (now (out .exit)) ⌝ }
 {
     let next = write_level(t, rows, out, at);
-    write_leaves(j, m, own, borrowed, domains, boxes, dimensions, out, next)
+    write_leaves(
+        j,
+        m,
+        internals,
+        domains,
+        boxes,
+        borrowed,
+        dimensions,
+        out,
+        next,
+    )
 }
 
 // The lines of the coarse level number t, whose one domain is the domain row number j.
@@ -146,27 +156,27 @@ fn write_coarse(
     t: usize,
     rows: &[usize],
     j: usize,
-    own: &[usize],
-    borrowed: &[usize],
+    internals: &[usize],
     domains: &[usize],
     boxes: &[f64],
+    borrowed: &[usize],
     dimensions: usize,
     out: &mut [u8],
     at: usize,
 ) -> usize
-    requires { ⌜ RowFits (packed (now own) (now borrowed) (now domains) (now boxes) dimensions) j ⌝ }
-    requires { ⌜ TextRoom (now out) at (coarseLevelText t (now rows) (packed (now own) (now borrowed) (now domains) (now boxes) dimensions) j) ⌝ }
-    ensures { λ r. ⌜ Wrote (now (out .entry)) at (coarseLevelText t (now (rows .entry)) (packed (now (own .entry)) (now (borrowed .entry)) (now (domains .entry)) (now (boxes .entry)) dimensions) j) r (now (out .exit)) ⌝ }
+    requires { ⌜ RowFits (packed (now internals) (now borrowed) (now domains) (now boxes) dimensions) j ⌝ }
+    requires { ⌜ TextRoom (now out) at (coarseLevelText t (now rows) (packed (now internals) (now borrowed) (now domains) (now boxes) dimensions) j) ⌝ }
+    ensures { λ r. ⌜ Wrote (now (out .entry)) at (coarseLevelText t (now (rows .entry)) (packed (now (internals .entry)) (now (borrowed .entry)) (now (domains .entry)) (now (boxes .entry)) dimensions) j) r (now (out .exit)) ⌝ }
 {
     let next = write_level(t, rows, out, at);
     write_leaf(
         false,
         0,
         j,
-        own,
-        borrowed,
+        internals,
         domains,
         boxes,
+        borrowed,
         dimensions,
         out,
         next,
@@ -178,18 +188,18 @@ fn write_levels(
     levels: usize,
     rows: &[usize],
     counts: &[usize],
-    points: &[usize],
-    own: &[usize],
-    borrowed: &[usize],
+    level_points: &[usize],
+    internals: &[usize],
     domains: &[usize],
     boxes: &[f64],
+    borrowed: &[usize],
     dimensions: usize,
     out: &mut [u8],
     at: usize,
 ) -> usize
-    requires { ⌜ Stands (packed (now own) (now borrowed) (now domains) (now boxes) dimensions) (now points) (now rows) (now counts) levels ⌝ }
-    requires { ⌜ TextRoom (now out) at (levelsText 0 (readLevels (packed (now own) (now borrowed) (now domains) (now boxes) dimensions) (now points) (now rows) (now counts) levels)) ⌝ }
-    ensures { λ r. ⌜ Wrote (now (out .entry)) at (levelsText 0 (readLevels (packed (now (own .entry)) (now (borrowed .entry)) (now (domains .entry)) (now (boxes .entry)) dimensions) (now (points .entry)) (now (rows .entry)) (now (counts .entry)) levels)) r (now (out .exit)) ⌝ }
+    requires { ⌜ Stands (packed (now internals) (now borrowed) (now domains) (now boxes) dimensions) (now «level_points») (now rows) (now counts) levels ⌝ }
+    requires { ⌜ TextRoom (now out) at (levelsText 0 (readLevels (packed (now internals) (now borrowed) (now domains) (now boxes) dimensions) (now «level_points») (now rows) (now counts) levels)) ⌝ }
+    ensures { λ r. ⌜ Wrote (now (out .entry)) at (levelsText 0 (readLevels (packed (now (internals .entry)) (now (borrowed .entry)) (now (domains .entry)) (now (boxes .entry)) dimensions) (now («level_points» .entry)) (now (rows .entry)) (now (counts .entry)) levels)) r (now (out .exit)) ⌝ }
 {
     let last = levels - 1;
     let mut next = at;
@@ -201,13 +211,13 @@ fn write_levels(
         let m = counts[t];
         next = write_fine(
             t,
-            &points[a..e],
+            &level_points[a..e],
             j,
             m,
-            own,
-            borrowed,
+            internals,
             domains,
             boxes,
+            borrowed,
             dimensions,
             out,
             next,
@@ -219,12 +229,12 @@ fn write_levels(
     let e = a + rows[last];
     write_coarse(
         last,
-        &points[a..e],
+        &level_points[a..e],
         j,
-        own,
-        borrowed,
+        internals,
         domains,
         boxes,
+        borrowed,
         dimensions,
         out,
         next,
@@ -236,18 +246,18 @@ pub fn write_tree(
     levels: usize,
     rows: &[usize],
     counts: &[usize],
-    points: &[usize],
-    own: &[usize],
-    borrowed: &[usize],
+    level_points: &[usize],
+    internals: &[usize],
     domains: &[usize],
     boxes: &[f64],
+    borrowed: &[usize],
     dimensions: usize,
     out: &mut [u8],
     at: usize,
 ) -> usize
-    requires { ⌜ Stands (packed (now own) (now borrowed) (now domains) (now boxes) dimensions) (now points) (now rows) (now counts) levels ⌝ }
-    requires { ⌜ TextRoom (now out) at (treeText (readLevels (packed (now own) (now borrowed) (now domains) (now boxes) dimensions) (now points) (now rows) (now counts) levels)) ⌝ }
-    ensures { λ r. ⌜ Wrote (now (out .entry)) at (treeText (readLevels (packed (now (own .entry)) (now (borrowed .entry)) (now (domains .entry)) (now (boxes .entry)) dimensions) (now (points .entry)) (now (rows .entry)) (now (counts .entry)) levels)) r (now (out .exit)) ⌝ }
+    requires { ⌜ Stands (packed (now internals) (now borrowed) (now domains) (now boxes) dimensions) (now «level_points») (now rows) (now counts) levels ⌝ }
+    requires { ⌜ TextRoom (now out) at (treeText (readLevels (packed (now internals) (now borrowed) (now domains) (now boxes) dimensions) (now «level_points») (now rows) (now counts) levels)) ⌝ }
+    ensures { λ r. ⌜ Wrote (now (out .entry)) at (treeText (readLevels (packed (now (internals .entry)) (now (borrowed .entry)) (now (domains .entry)) (now (boxes .entry)) dimensions) (now («level_points» .entry)) (now (rows .entry)) (now (counts .entry)) levels)) r (now (out .exit)) ⌝ }
 {
     let said = print_texts::write_numbered(b"levels ", levels, out, at);
     let next = print_texts::write_byte(10, out, said);
@@ -255,11 +265,11 @@ pub fn write_tree(
         levels,
         rows,
         counts,
-        points,
-        own,
-        borrowed,
+        level_points,
+        internals,
         domains,
         boxes,
+        borrowed,
         dimensions,
         out,
         next,

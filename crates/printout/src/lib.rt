@@ -20,11 +20,11 @@ pub struct Printed {
 
 // The text of a job: of its tree, or of the build's refusal. The lists have the stated sizes for 32 points on three axes with 16
 // neighbours.
-fn write_job(s: Settings, cs: &[f64], out: &mut [u8]) -> usize
-    requires { ⌜ JobLimits (settingsAre s) (now cs) × (mostBytes ≤ length (now out)) ⌝ }
-    ensures { λ r. ⌜ Wrote (now (out .entry)) 0 (jobText (job (settingsAre s) (now (cs .entry)))) r (now (out .exit)) ⌝ }
+fn write_job(s: Settings, points: &[f64], out: &mut [u8]) -> usize
+    requires { ⌜ JobLimits (settingsAre s) (now points) × (mostBytes ≤ length (now out)) ⌝ }
+    ensures { λ r. ⌜ Wrote (now (out .entry)) 0 (jobText (job (settingsAre s) (now (points .entry)))) r (now (out .exit)) ⌝ }
 {
-    let mut points = [0usize; 128];
+    let mut level_points = [0usize; 128];
     let mut internals = [0usize; 128];
     let mut domains = [0usize; 772];
     let mut boxes = [0.0; 1158];
@@ -34,10 +34,10 @@ fn write_job(s: Settings, cs: &[f64], out: &mut [u8]) -> usize
     let d = s.dimensions;
     let params = s.params;
     let tree = ddm::build(
-        cs,
+        points,
         d,
         params,
-        &mut points,
+        &mut level_points,
         &mut internals,
         &mut domains,
         &mut boxes,
@@ -57,11 +57,11 @@ fn write_job(s: Settings, cs: &[f64], out: &mut [u8]) -> usize
         levels,
         &rows,
         &counts,
-        &points,
+        &level_points,
         &internals,
-        &borrowed,
         &domains,
         &boxes,
+        &borrowed,
         d,
         out,
         0,

@@ -5,7 +5,7 @@ use mathlib.Core.List.{List}
 use Rattle.definition.specs.Outcome.{Answer, Shared, RoomAfter, quotaCall, quotaAnswer, quotaOutput}
 
 -- its answer, the output, and the working room, which an accepted call leaves free but for its length
-pub record SeatsShared (sizes : List ℕ) (wanted : ℕ) (out out′ room room′ : List ℕ) (answer : Answer Shared) : Type 0 where
-  pub answers : answer ≡ quotaAnswer sizes wanted out room
-  pub output : out′ ≡ quotaOutput sizes wanted out room
-  pub room-free : RoomAfter (quotaCall sizes out room) room room′
+pub record SeatsShared (sizes : List ℕ) (wanted : ℕ) (out out′ wholes wholes′ : List ℕ) (answer : Answer Shared) : Type 0 where
+  pub answers : answer ≡ quotaAnswer sizes wanted out wholes
+  pub output : out′ ≡ quotaOutput sizes wanted out wholes
+  pub wholes-free : RoomAfter (quotaCall sizes out wholes) wholes wholes′

@@ -221,14 +221,14 @@ fn copy_sizes(sizes: &[usize], quotas: &mut [usize])
 }
 
 // The quotas for `wanted` seats, held to the total. Document 01's refusals come in its order: 8, 11. The sharing works in the
-// output alone: of the lent room only the length is looked at, and nothing is written to it.
+// output alone: of the lent `wholes` only the length is looked at, and nothing is written to it.
 pub fn get_domain_coarse_quotas(
     sizes: &[usize],
     wanted: usize,
     quotas: &mut [usize],
-    room: &mut [usize],
+    wholes: &mut [usize],
 ) -> QuotaAnswer
-    ensures { λ r. ⌜ SeatsShared (now (sizes .entry)) wanted (now (quotas .entry)) (now (quotas .exit)) (now (room .entry)) (now (room .exit)) (quotaReport r) ⌝ }
+    ensures { λ r. ⌜ SeatsShared (now (sizes .entry)) wanted (now (quotas .entry)) (now (quotas .exit)) (now (wholes .entry)) (now (wholes .exit)) (quotaReport r) ⌝ }
 {
     let rows = total_size(sizes);
     if MOST_POINTS < rows {
@@ -237,7 +237,7 @@ pub fn get_domain_coarse_quotas(
     if quotas.len() < sizes.len() {
         return QuotaAnswer::ShortList;
     }
-    if room.len() < sizes.len() {
+    if wholes.len() < sizes.len() {
         return QuotaAnswer::ShortList;
     }
     let s = smaller(wanted, rows);

@@ -6,26 +6,26 @@ use printing::print_text;
 use quotas::QuotaAnswer;
 
 // A refusal's number, and the working room after it.
-fn print_refused(number: usize, room: &[usize]) {
+fn print_refused(number: usize, wholes: &[usize]) {
     print_named(b" refused", number);
     print_text(b" room");
-    print_list(room);
+    print_list(wholes);
 }
 
 // The quotas, with the output after the call, and the working room too where the call is refused.
-fn print_quotas(sizes: &[usize], wanted: usize, out: &mut [usize], room: &mut [usize]) {
+fn print_quotas(sizes: &[usize], wanted: usize, out: &mut [usize], wholes: &mut [usize]) {
     print_text(b"quotas");
     print_list(sizes);
     print_named(b" for", wanted);
     print_text(b":");
-    let q = quotas::get_domain_coarse_quotas(sizes, wanted, out, room);
+    let q = quotas::get_domain_coarse_quotas(sizes, wanted, out, wholes);
     match q {
         QuotaAnswer::Seated { leaves, seats } => {
             print_named(b" leaves", leaves);
             print_named(b" seats", seats);
         }
-        QuotaAnswer::TooManyPoints => print_refused(8, room),
-        QuotaAnswer::ShortList => print_refused(11, room),
+        QuotaAnswer::TooManyPoints => print_refused(8, wholes),
+        QuotaAnswer::ShortList => print_refused(11, wholes),
     }
     print_text(b" output");
     print_list(out);
@@ -36,15 +36,15 @@ fn print_quotas(sizes: &[usize], wanted: usize, out: &mut [usize], room: &mut [u
 fn print_pair(first: usize, second: usize, wanted: usize) {
     let sizes = [first, second];
     let mut out = [77usize, 78];
-    let mut room = [87usize, 88];
-    print_quotas(&sizes, wanted, &mut out, &mut room);
+    let mut wholes = [87usize, 88];
+    print_quotas(&sizes, wanted, &mut out, &mut wholes);
 }
 
 // Four leaves; the output has one entry more.
 fn print_four(sizes: &[usize; 4], wanted: usize) {
     let mut out = [77usize; 5];
-    let mut room = [88usize; 4];
-    print_quotas(sizes, wanted, &mut out, &mut room);
+    let mut wholes = [88usize; 4];
+    print_quotas(sizes, wanted, &mut out, &mut wholes);
 }
 
 // Lists that are too short: the output, the working room, and the output where the sizes sum too high.
@@ -62,8 +62,8 @@ fn print_short() {
 fn print_none() {
     let sizes = [0usize];
     let mut out = [77usize];
-    let mut room = [88usize];
-    print_quotas(&sizes[..0], 3, &mut out, &mut room);
+    let mut wholes = [88usize];
+    print_quotas(&sizes[..0], 3, &mut out, &mut wholes);
 }
 
 // Quotas, and each refusal of them.

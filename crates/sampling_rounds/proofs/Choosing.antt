@@ -75,13 +75,13 @@ module _ (d : ℕ) (cs : List Float) where
     row i = getD rows i 0
 
     -- k rows are chosen, the last of them at the place `last`; the least squares are those to the chosen rows but the last
-    pub record Choosing (wanted seed : ℕ) (o out : List ℕ) (at : ℕ) (least : List Float) (last k : ℕ) : Type 0 where
+    pub record Choosing (wanted seed : ℕ) (o out : List ℕ) (at : ℕ) (floats : List Float) (last k : ℕ) : Type 0 where
       pub prior : List ℕ
       pub many : length prior + 1 ≡ k
       pub within : last < length rows
       pub written : out ≡ put o at (prior ++ row last ∷ [])
       pub ahead : sampleMore d cs rows (wanted - k) (prior ++ row last ∷ []) ≡ sample d cs rows wanted seed
-      pub entries : (i : ℕ) → i < length rows → Entry (member (row i) (prior ++ row last ∷ [])) (getD least i nan) (reach prior (row i))
+      pub entries : (i : ℕ) → i < length rows → Entry (member (row i) (prior ++ row last ∷ [])) (getD floats i nan) (reach prior (row i))
       pub own : (r : ℕ) → times r (prior ++ row last ∷ []) ≤ times r rows
 
     module _ (g : GoodRows d cs rows) where
@@ -115,7 +115,7 @@ module _ (d : ℕ) (cs : List Float) where
             own = times-more rows [] (row p) (λ r. omega (arith, times-nil r)) (row-times p b) (times-nil (row p));
           }
 
-      module _ (wanted seed : ℕ) (o out : List ℕ) (at : ℕ) (least : List Float) (last k : ℕ) (c : Choosing wanted seed o out at least last k) where
+      module _ (wanted seed : ℕ) (o out : List ℕ) (at : ℕ) (floats : List Float) (last k : ℕ) (c : Choosing wanted seed o out at floats last k) where
         chosen : List ℕ
         chosen = c .prior ++ row last ∷ []
 
@@ -123,29 +123,29 @@ module _ (d : ℕ) (cs : List Float) where
         unfolding chosen
         chosen-length = omega (arith, length-append (c .prior) (row last ∷ []), c .many)
 
-        pub choosing-kept : (i : ℕ) → i < length rows → KeptSquare (getD least i nan)
-        choosing-kept i h = entry-kept (member (row i) (c .prior ++ row last ∷ [])) (getD least i nan) (reach (c .prior) (row i)) (c .entries i h)
+        pub choosing-kept : (i : ℕ) → i < length rows → KeptSquare (getD floats i nan)
+        choosing-kept i h = entry-kept (member (row i) (c .prior ++ row last ∷ [])) (getD floats i nan) (reach (c .prior) (row i)) (c .entries i h)
 
         -- a row is left
-        pub choosing-open : k < length rows → (i : ℕ) × ((i < length rows) × (good (getD least i nan) ≡ true))
+        pub choosing-open : k < length rows → (i : ℕ) × ((i < length rows) × (good (getD floats i nan) ≡ true))
         unfolding chosen
         choosing-open h =
             let n : 0 < length (keep (λ i. not (member i chosen)) rows) = omega (arith, others-count rows (good-once rows g) chosen (c .own), chosen-length) in
             let r = keep-at (λ i. not (member i chosen)) rows 0 0 n in
-            let a : Alike (getD least (r .0) nan) (reach (c .prior) (row (r .0))) =
-            subst (λ (t : Bool). Entry t (getD least (r .0) nan) (reach (c .prior) (row (r .0)))) (not-true (member (row (r .0)) chosen) (r .3)) (c .entries (r .0) (r .1)) in
+            let a : Alike (getD floats (r .0) nan) (reach (c .prior) (row (r .0))) =
+            subst (λ (t : Bool). Entry t (getD floats (r .0) nan) (reach (c .prior) (row (r .0)))) (not-true (member (row (r .0)) chosen) (r .3)) (c .entries (r .0) (r .1)) in
             (r .0, (r .1, a .good-m))
 
         -- the least squares with the last row taken in
         value : ℕ → Float
-        value i = lessened d cs rows last least i
+        value i = lessened d cs rows last floats i
 
         values : (i : ℕ) → i < length rows → Entry (member (row i) chosen) (value i) (reach chosen (row i))
         unfolding chosen value lessened rowsApart distance rowsSq
         values i h =
             rw (reach-snoc (c .prior) (row last) (row i))
-            (entry-lesser (member (row i) chosen) (rowsSq d cs (row last) (row i)) (getD least i nan) (reach (c .prior) (row i))
-            (pair-good d cs rows last least g (c .within) i h) (c .entries i h))
+            (entry-lesser (member (row i) chosen) (rowsSq d cs (row last) (row i)) (getD floats i nan) (reach (c .prior) (row i))
+            (pair-good d cs rows last floats g (c .within) i h) (c .entries i h))
 
         reach-is : (i : ℕ) → i < length rows → reach chosen (row i) ≡ gap d cs chosen (row i)
         unfolding chosen
@@ -168,7 +168,7 @@ module _ (d : ℕ) (cs : List Float) where
         free-value i h e = (subst (λ (t : Bool). Entry t (value i) (reach chosen (row i))) e (values i h)) .good-m
 
         -- the first place with the greatest root has the row that is due
-        due : (r : ℕ) (l : List Float) → Chosen (lessened d cs rows last least) (length rows) r l → (member (row r) chosen ≡ false) × (pick d cs rows chosen ≡ row r)
+        due : (r : ℕ) (l : List Float) → Chosen (lessened d cs rows last floats) (length rows) r l → (member (row r) chosen ≡ false) × (pick d cs rows chosen ≡ row r)
         unfolding value
         due r l h =
             let f = entry-free (member (row r) chosen) (value r) (reach chosen (row r)) (values r (h .inside)) (h .free) in (
@@ -186,7 +186,7 @@ module _ (d : ℕ) (cs : List Float) where
             ∙ sym (ap (λ (m : ℕ). sampleMore d cs rows m chosen) n)
             ∙ c .ahead
 
-        pub choosing-more : (r : ℕ) (l : List Float) → k < wanted → at + k < length o → Chosen (lessened d cs rows last least) (length rows) r l
+        pub choosing-more : (r : ℕ) (l : List Float) → k < wanted → at + k < length o → Chosen (lessened d cs rows last floats) (length rows) r l
             → Choosing wanted seed o (set out (at + k) (row r)) at l r (k + 1)
         unfolding chosen value
         choosing-more r l b q h =

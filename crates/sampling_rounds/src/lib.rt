@@ -31,13 +31,13 @@ fn lesser_of(x: f64, y: f64) -> f64
 }
 
 // The first `count` squares become infinite.
-fn clear(least: &mut [f64], count: usize)
-    requires { ⌜ count ≤ length (now least) ⌝ }
-    ensures { λ _. ⌜ ((i : ℕ) → i < count → getD (now (least .exit)) i nan ≡ inf false) ⌝ }
+fn clear(floats: &mut [f64], count: usize)
+    requires { ⌜ count ≤ length (now floats) ⌝ }
+    ensures { λ _. ⌜ ((i : ℕ) → i < count → getD (now (floats .exit)) i nan ≡ inf false) ⌝ }
 {
     let mut i = 0;
     while i < count {
-        least[i] = 1.0 / 0.0;
+        floats[i] = 1.0 / 0.0;
         i += 1;
     }
 }
@@ -48,13 +48,13 @@ fn lessen(
     dimensions: usize,
     rows: &[usize],
     last: LocalIdx,
-    least: &mut [f64],
+    floats: &mut [f64],
 ) -> Peak
     requires rows { ⌜ GoodRows dimensions (now points) (now rows) ⌝ }
-    requires room { ⌜ (last .0 < length (now rows)) × (length (now rows) ≤ length (now least)) ⌝ }
-    requires kept { ⌜ ((i : ℕ) → i < length (now rows) → KeptSquare (getD (now least) i nan)) ⌝ }
-    ensures values { λ _. ⌜ ((i : ℕ) → i < length (now (rows .entry)) → getD (now (least .exit)) i nan ≡ lessened dimensions (now (points .entry)) (now (rows .entry)) (last .0) (now (least .entry)) i) ⌝ }
-    ensures peak { λ r. ⌜ Peaked (lessened dimensions (now (points .entry)) (now (rows .entry)) (last .0) (now (least .entry))) (length (now (rows .entry))) (r .place) (r .most) (r .second) ⌝ }
+    requires room { ⌜ (last .0 < length (now rows)) × (length (now rows) ≤ length (now floats)) ⌝ }
+    requires kept { ⌜ ((i : ℕ) → i < length (now rows) → KeptSquare (getD (now floats) i nan)) ⌝ }
+    ensures values { λ _. ⌜ ((i : ℕ) → i < length (now (rows .entry)) → getD (now (floats .exit)) i nan ≡ lessened dimensions (now (points .entry)) (now (rows .entry)) (last .0) (now (floats .entry)) i) ⌝ }
+    ensures peak { λ r. ⌜ Peaked (lessened dimensions (now (points .entry)) (now (rows .entry)) (last .0) (now (floats .entry))) (length (now (rows .entry))) (r .place) (r .most) (r .second) ⌝ }
 {
     let from = last.0;
     let row = rows[from];
@@ -64,8 +64,8 @@ fn lessen(
     let mut i = 0;
     while i < rows.len() {
         let square = distances::distance_sq(points, dimensions, GlobalIdx(row), GlobalIdx(rows[i]));
-        let value = lesser_of(square, least[i]);
-        least[i] = value;
+        let value = lesser_of(square, floats[i]);
+        floats[i] = value;
         if most < value {
             second = most;
             most = value;
@@ -82,13 +82,13 @@ fn lessen(
 
 // The first place up to `best` whose root is not less than that of the square at `best`. Squares up to `low` have lesser
 // roots: below a value a little less than the greatest there are none to be rooted.
-fn look_back(least: &[f64], best: usize) -> usize
-    requires { ⌜ best < length (now least) ⌝ }
-    requires { ⌜ good (getD (now least) best nan) ≡ true ⌝ }
-    requires { ⌜ ((i : ℕ) → i < best → KeptSquare (getD (now least) i nan)) ⌝ }
-    ensures { λ r. ⌜ Earliest (λ i. getD (now (least .entry)) i nan) best r ⌝ }
+fn look_back(floats: &[f64], best: usize) -> usize
+    requires { ⌜ best < length (now floats) ⌝ }
+    requires { ⌜ good (getD (now floats) best nan) ≡ true ⌝ }
+    requires { ⌜ ((i : ℕ) → i < best → KeptSquare (getD (now floats) i nan)) ⌝ }
+    ensures { λ r. ⌜ Earliest (λ i. getD (now (floats .entry)) i nan) best r ⌝ }
 {
-    let most = least[best];
+    let most = floats[best];
     let top = root::root(most);
     let near = most * 0.999999999999999;
     let mut low = -1.0;
@@ -97,7 +97,7 @@ fn look_back(least: &[f64], best: usize) -> usize
     }
     let mut i = 0;
     while i < best {
-        let value = least[i];
+        let value = floats[i];
         if low < value {
             if root::root(value) < top {
                 low = value;
@@ -112,12 +112,12 @@ fn look_back(least: &[f64], best: usize) -> usize
 
 // The first place with the greatest root. Two squares can share one root: where the second square may, the places before
 // the greatest are looked through.
-fn first_farthest(least: &[f64], peak: Peak) -> usize
-    requires { ⌜ (peak .place < length (now least)) × (peak .most ≡ getD (now least) (peak .place) nan) ⌝ }
+fn first_farthest(floats: &[f64], peak: Peak) -> usize
+    requires { ⌜ (peak .place < length (now floats)) × (peak .most ≡ getD (now floats) (peak .place) nan) ⌝ }
     requires { ⌜ good (peak .most) ≡ true ⌝ }
-    requires { ⌜ ((i : ℕ) → i < peak .place → KeptSquare (getD (now least) i nan)) ⌝ }
-    requires { ⌜ Held (λ i. getD (now least) i nan) (peak .place) (peak .second) ⌝ }
-    ensures { λ r. ⌜ Earliest (λ i. getD (now (least .entry)) i nan) (peak .place) r ⌝ }
+    requires { ⌜ ((i : ℕ) → i < peak .place → KeptSquare (getD (now floats) i nan)) ⌝ }
+    requires { ⌜ Held (λ i. getD (now floats) i nan) (peak .place) (peak .second) ⌝ }
+    ensures { λ r. ⌜ Earliest (λ i. getD (now (floats .entry)) i nan) (peak .place) r ⌝ }
 {
     let best = peak.place;
     if peak.second < 0.0 {
@@ -126,7 +126,7 @@ fn first_farthest(least: &[f64], peak: Peak) -> usize
     if root::root(peak.second) < root::root(peak.most) {
         return best;
     }
-    look_back(least, best)
+    look_back(floats, best)
 }
 
 // One round: brings the least squares up to date and chooses the farthest row.
@@ -135,17 +135,17 @@ fn next_place(
     dimensions: usize,
     rows: &[usize],
     last: LocalIdx,
-    least: &mut [f64],
+    floats: &mut [f64],
 ) -> LocalIdx
     requires rows { ⌜ GoodRows dimensions (now points) (now rows) ⌝ }
-    requires room { ⌜ (last .0 < length (now rows)) × (length (now rows) ≤ length (now least)) ⌝ }
-    requires kept { ⌜ ((i : ℕ) → i < length (now rows) → KeptSquare (getD (now least) i nan)) ⌝ }
-    requires open { ⌜ ((i : ℕ) × ((i < length (now rows)) × (good (getD (now least) i nan) ≡ true))) ⌝ }
-    ensures { λ r. ⌜ Chosen (lessened dimensions (now (points .entry)) (now (rows .entry)) (last .0) (now (least .entry))) (length (now (rows .entry))) (r .0) (now (least .exit)) ⌝ }
+    requires room { ⌜ (last .0 < length (now rows)) × (length (now rows) ≤ length (now floats)) ⌝ }
+    requires kept { ⌜ ((i : ℕ) → i < length (now rows) → KeptSquare (getD (now floats) i nan)) ⌝ }
+    requires open { ⌜ ((i : ℕ) × ((i < length (now rows)) × (good (getD (now floats) i nan) ≡ true))) ⌝ }
+    ensures { λ r. ⌜ Chosen (lessened dimensions (now (points .entry)) (now (rows .entry)) (last .0) (now (floats .entry))) (length (now (rows .entry))) (r .0) (now (floats .exit)) ⌝ }
 {
-    let peak = lessen(points, dimensions, rows, last, least);
-    let place = first_farthest(least, peak);
-    least[place] = -1.0;
+    let peak = lessen(points, dimensions, rows, last, floats);
+    let place = first_farthest(floats, peak);
+    floats[place] = -1.0;
     LocalIdx(place)
 }
 
@@ -159,21 +159,21 @@ pub fn sample_rows(
     seed: LocalIdx,
     out: &mut [usize],
     at: usize,
-    least: &mut [f64],
+    floats: &mut [f64],
 )
     requires rows { ⌜ GoodRows dimensions (now points) (now rows) ⌝ }
     requires wanted { ⌜ (0 < wanted) × (wanted ≤ length (now rows)) × (seed .0 < length (now rows)) ⌝ }
-    requires room { ⌜ (at + wanted ≤ length (now out)) × (length (now rows) ≤ length (now least)) ⌝ }
+    requires room { ⌜ (at + wanted ≤ length (now out)) × (length (now rows) ≤ length (now floats)) ⌝ }
     ensures { λ _. ⌜ now (out .exit) ≡ put (now (out .entry)) at (sample dimensions (now (points .entry)) (now (rows .entry)) wanted (getD (now (rows .entry)) (seed .0) 0)) ⌝ }
 {
-    clear(least, rows.len());
+    clear(floats, rows.len());
     let first = seed.0;
     out[at] = rows[first];
-    least[first] = -1.0;
+    floats[first] = -1.0;
     let mut last = seed;
     let mut k = 1;
     while k < wanted {
-        last = next_place(points, dimensions, rows, last, least);
+        last = next_place(points, dimensions, rows, last, floats);
         let place = last.0;
         out[at + k] = rows[place];
         k += 1;

@@ -42,18 +42,18 @@ told-value slot k x a b h e f g =
     told-long 1 valueSlot slot _ k a b h e (set-put slot 0 x (omega arith) ∙ ap (λ (y : _). put slot 0 (y ∷ [])) f) g
 
 -- ---- the quotas
-module _ (sizes : List ℕ) (wanted : ℕ) (out room slot : List ℕ) where
-  pub quotas-short : length slot < 2 → QuotasTold sizes wanted out out room room slot slot 11
+module _ (sizes : List ℕ) (wanted : ℕ) (out wholes slot : List ℕ) where
+  pub quotas-short : length slot < 2 → QuotasTold sizes wanted out out wholes wholes slot slot 11
   quotas-short h =
-      record { told = told-short 2 _ slot _ h; output = slot-short 2 slot _ _ h; room-free = room-short 2 slot _ _ h }
+      record { told = told-short 2 _ slot _ h; output = slot-short 2 slot _ _ h; wholes-free = room-short 2 slot _ _ h }
 
-  pub quotas-long : (out′ room′ slot′ : List ℕ) (k x y : ℕ) (a : Answer Shared) → 2 ≤ length slot → SeatsShared sizes wanted out out′ room room′ a
-      → k ≡ a .number → x ≡ a .value .leaves → y ≡ a .value .seats → slot′ ≡ put slot 0 (x ∷ y ∷ []) → QuotasTold sizes wanted out out′ room room′ slot slot′ k
-  quotas-long out′ room′ slot′ k x y a h o e f g w =
+  pub quotas-long : (out′ wholes′ slot′ : List ℕ) (k x y : ℕ) (a : Answer Shared) → 2 ≤ length slot → SeatsShared sizes wanted out out′ wholes wholes′ a
+      → k ≡ a .number → x ≡ a .value .leaves → y ≡ a .value .seats → slot′ ≡ put slot 0 (x ∷ y ∷ []) → QuotasTold sizes wanted out out′ wholes wholes′ slot slot′ k
+  quotas-long out′ wholes′ slot′ k x y a h o e f g w =
       record {
         told = told-long 2 _ slot slot′ k a _ h e (w ∙ rw (f, g)) (o .answers);
         output = slot-long 2 slot _ _ _ h (o .output);
-        room-free = room-long 2 slot _ _ _ h (o .room-free);
+        wholes-free = room-long 2 slot _ _ _ h (o .wholes-free);
       }
 
 -- ---- sampling

@@ -14,10 +14,10 @@ pub record Told {A B : Type 0} (n : ℕ) (values : Answer A → List B) (slot sl
   pub slot-is : slot′ ≡ slotAfter n slot (values answer)
 
 -- the quotas
-pub record QuotasTold (sizes : List ℕ) (wanted : ℕ) (out out′ room room′ slot slot′ : List ℕ) (returned : ℕ) : Type 0 where
-  pub told : Told 2 quotaSlot slot slot′ returned (quotaAnswer sizes wanted out room)
-  pub output : out′ ≡ unlessShort 2 slot out (quotaOutput sizes wanted out room)
-  pub room-free : RoomAfter (slotFirst 2 slot (quotaCall sizes out room)) room room′
+pub record QuotasTold (sizes : List ℕ) (wanted : ℕ) (out out′ wholes wholes′ slot slot′ : List ℕ) (returned : ℕ) : Type 0 where
+  pub told : Told 2 quotaSlot slot slot′ returned (quotaAnswer sizes wanted out wholes)
+  pub output : out′ ≡ unlessShort 2 slot out (quotaOutput sizes wanted out wholes)
+  pub wholes-free : RoomAfter (slotFirst 2 slot (quotaCall sizes out wholes)) wholes wholes′
 
 -- sampling
 pub record SampleTold (d : ℕ) (cs : List Float) (wanted seed : ℕ) (out out′ : List ℕ) (floats floats′ : List Float) (wholes wholes′ slot slot′ : List ℕ) (returned : ℕ) : Type 0 where

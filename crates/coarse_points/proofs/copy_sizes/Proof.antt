@@ -12,10 +12,10 @@ use Rattle.coarse_points.proofs.copy_sizes.Statement.{statement}
 use Rattle.coarse_points.proofs.copy_sizes.Tie as tie
 
 abbrev Inv-loop : tie.InvT-loop
-Inv-loop domains first m work₀ l₀ work l = (l ≤ m) × (length work ≡ length work₀) × (work ≡ map (λ l. ownCount domains (first + l)) (from 0 l) ++ drop l work₀)
+Inv-loop domains first m wholes₀ l₀ wholes l = (l ≤ m) × (length wholes ≡ length wholes₀) × (wholes ≡ map (λ l. ownCount domains (first + l)) (from 0 l) ++ drop l wholes₀)
 
 abbrev μ-loop : tie.MeasureT-loop
-μ-loop domains first m work₀ l₀ work l = m - l
+μ-loop domains first m wholes₀ l₀ wholes l = m - l
 
 loop-holds : tie.Need-loop-holds Inv-loop μ-loop
 loop-holds c = let a = c .before .before .args in (omega arith, refl, rw (map-from-nil (λ l. ownCount (a .domains .now) (a .first + l)) 0))
@@ -26,11 +26,11 @@ add-read-row c = omega arith
 read-row-requires : tie.Need-read-row-requires Inv-loop μ-loop
 read-row-requires c κs = omega arith
 
-mul-work : tie.Need-mul-work Inv-loop μ-loop
-mul-work c = omega arith
+mul-wholes : tie.Need-mul-wholes Inv-loop μ-loop
+mul-wholes c = omega arith
 
-slice-write-work : tie.Need-slice-write-work Inv-loop μ-loop
-slice-write-work c = omega arith
+slice-write-wholes : tie.Need-slice-write-wholes Inv-loop μ-loop
+slice-write-wholes c = omega arith
 
 add-l : tie.Need-add-l Inv-loop μ-loop
 add-l c = omega arith
@@ -45,7 +45,7 @@ loop-again c =
       omega arith,
       simp length-set (omega arith),
       rw (i .inv .2)
-          (front-below-suc (λ l. ownCount (a .domains .now) (a .first + l)) (i .l) (a .work .now) _ 0 (omega arith) (c .read-row .ensures .own-count)),
+          (front-below-suc (λ l. ownCount (a .domains .now) (a .first + l)) (i .l) (a .wholes .now) _ 0 (omega arith) (c .read-row .ensures .own-count)),
     )
 
 same-length : tie.Need-same-length Inv-loop μ-loop
@@ -57,8 +57,8 @@ returns c =
     let i = c .before .loop in
     let f : ℕ → ℕ = λ l. ownCount (a .domains .now) (a .first + l) in
     let e : i .l ≡ a .m = omega arith in
-    ap (take (a .m)) (i .inv .2 ∙ ap (λ (x : ℕ). map f (from 0 x) ++ drop x (a .work .now)) e)
-    ∙ take-at (map f (from 0 (a .m))) (drop (a .m) (a .work .now)) (a .m) (length-map-from f 0 (a .m))
+    ap (take (a .m)) (i .inv .2 ∙ ap (λ (x : ℕ). map f (from 0 x) ++ drop x (a .wholes .now)) e)
+    ∙ take-at (map f (from 0 (a .m))) (drop (a .m) (a .wholes .now)) (a .m) (length-map-from f 0 (a .m))
 
 pub copy-sizes-spec : {M : Type 1} → statement M
 copy-sizes-spec =
@@ -69,8 +69,8 @@ copy-sizes-spec =
     loop-holds
     add-read-row
     read-row-requires
-    mul-work
-    slice-write-work
+    mul-wholes
+    slice-write-wholes
     add-l
     loop-less
     loop-again

@@ -13,10 +13,10 @@ use Rattle.coarse_points.proofs.send_leaves.Statement.{statement}
 use Rattle.coarse_points.proofs.send_leaves.Tie as tie
 
 abbrev Inv-loop : tie.InvT-loop
-Inv-loop points dimensions internals domains first m shares out₀ at least₀ end₀ l₀ out least end l = (l ≤ m) × (length out ≡ length out₀) × (length least ≡ length least₀) × (end ≡ at + length (sentAt dimensions points internals domains first shares l)) × (out ≡ put out₀ at (sentAt dimensions points internals domains first shares l))
+Inv-loop points dimensions internals domains first m shares out₀ at floats₀ end₀ l₀ out floats end l = (l ≤ m) × (length out ≡ length out₀) × (length floats ≡ length floats₀) × (end ≡ at + length (sentAt dimensions points internals domains first shares l)) × (out ≡ put out₀ at (sentAt dimensions points internals domains first shares l))
 
 abbrev μ-loop : tie.MeasureT-loop
-μ-loop points dimensions internals domains first m shares out₀ at least₀ end₀ l₀ out least end l = m - l
+μ-loop points dimensions internals domains first m shares out₀ at floats₀ end₀ l₀ out floats end l = m - l
 
 loop-holds : tie.Need-loop-holds Inv-loop μ-loop
 loop-holds c =

@@ -16,12 +16,12 @@ use Rattle.print_tree.proofs.write_levels.Statement.{statement}
 use Rattle.print_tree.proofs.write_levels.Tie as tie
 
 abbrev Inv-loop : tie.InvT-loop
-Inv-loop levels rows counts points own borrowed domains boxes dimensions out₀ at last next₀ t₀ a₀ j₀ out next t a j =
-    (a ≡ total (take t rows)) × (j ≡ total (take t counts)) × Wrote out₀ at (frontText (packed own borrowed domains boxes dimensions) points rows counts t) next out
+Inv-loop levels rows counts level-points internals domains boxes borrowed dimensions out₀ at last next₀ t₀ a₀ j₀ out next t a j =
+    (a ≡ total (take t rows)) × (j ≡ total (take t counts)) × Wrote out₀ at (frontText (packed internals borrowed domains boxes dimensions) level-points rows counts t) next out
     × (t ≤ last) × (last ≡ levels - 1) × (length out ≡ length out₀)
 
 abbrev μ-loop : tie.MeasureT-loop
-μ-loop levels rows counts points own borrowed domains boxes dimensions out₀ at last next₀ t₀ a₀ j₀ out next t a j = last - t
+μ-loop levels rows counts level-points internals domains boxes borrowed dimensions out₀ at last next₀ t₀ a₀ j₀ out next t a j = last - t
 
 sub-last : tie.Need-sub-last Inv-loop μ-loop
 sub-last c = omega (arith, c .before .before .before .before .before .before .before .before .pre .0 .some)
@@ -30,11 +30,11 @@ loop-holds : tie.Need-loop-holds Inv-loop μ-loop
 loop-holds c =
     let start = c .before .before .before .before .before .before .before .before in
     let a = start .args in
-    let p = packed (a .own .now) (a .borrowed .now) (a .domains .now) (a .boxes .now) (a .dimensions) in
+    let p = packed (a .internals .now) (a .borrowed .now) (a .domains .now) (a .boxes .now) (a .dimensions) in
     let s = start .pre .0 in (
       total-none (a .rows .now),
       total-none (a .counts .now),
-      spelt (sym (front-none p (a .points .now) (a .rows .now) (a .counts .now)))
+      spelt (sym (front-none p (a .level-points .now) (a .rows .now) (a .counts .now)))
           (wrote-none _ _),
       search needs,
       refl,
@@ -51,12 +51,12 @@ add-e : tie.Need-add-e Inv-loop μ-loop
 add-e c =
     let start = c .before .before .before .before .before .before .before .before .before .before .before in
     let a = start .args in
-    let p = packed (a .own .now) (a .borrowed .now) (a .domains .now) (a .boxes .now) (a .dimensions) in
+    let p = packed (a .internals .now) (a .borrowed .now) (a .domains .now) (a .boxes .now) (a .dimensions) in
     let s = start .pre .0 in
     let v = c .before .before .loop in
     omega (
       arith,
-      rows-here p (a .points .now) (a .rows .now) (a .counts .now) (v .t) (v .a) (v .j) (v .inv .0) (v .inv .1) (a .levels) s
+      rows-here p (a .level-points .now) (a .rows .now) (a .counts .now) (v .t) (v .a) (v .j) (v .inv .0) (v .inv .1) (a .levels) s
           (omega (arith, s .some, v .inv .3)),
       start .good,
     )
@@ -71,12 +71,12 @@ mul-write-fine : tie.Need-mul-write-fine Inv-loop μ-loop
 mul-write-fine c =
     let start = c .before .before .before .before .before .before .before .before .before .before .before .before in
     let a = start .args in
-    let p = packed (a .own .now) (a .borrowed .now) (a .domains .now) (a .boxes .now) (a .dimensions) in
+    let p = packed (a .internals .now) (a .borrowed .now) (a .domains .now) (a .boxes .now) (a .dimensions) in
     let s = start .pre .0 in
     let v = c .before .before .before .loop in
     omega (
       arith,
-      rows-here p (a .points .now) (a .rows .now) (a .counts .now) (v .t) (v .a) (v .j) (v .inv .0) (v .inv .1) (a .levels) s
+      rows-here p (a .level-points .now) (a .rows .now) (a .counts .now) (v .t) (v .a) (v .j) (v .inv .0) (v .inv .1) (a .levels) s
           (omega (arith, s .some, v .inv .3)),
       start .good,
     )
@@ -91,37 +91,37 @@ part-write-fine-end : tie.Need-part-write-fine-end Inv-loop μ-loop
 part-write-fine-end c =
     let start = c .before .before .before .before .before .before .before .before .before .before .before .before in
     let a = start .args in
-    let p = packed (a .own .now) (a .borrowed .now) (a .domains .now) (a .boxes .now) (a .dimensions) in
+    let p = packed (a .internals .now) (a .borrowed .now) (a .domains .now) (a .boxes .now) (a .dimensions) in
     let s = start .pre .0 in
     let v = c .before .before .before .loop in
-    rows-here p (a .points .now) (a .rows .now) (a .counts .now) (v .t) (v .a) (v .j) (v .inv .0) (v .inv .1) (a .levels) s (omega (arith, s .some, v .inv .3))
+    rows-here p (a .level-points .now) (a .rows .now) (a .counts .now) (v .t) (v .a) (v .j) (v .inv .0) (v .inv .1) (a .levels) s (omega (arith, s .some, v .inv .3))
 
 write-fine-requires : tie.Need-write-fine-requires Inv-loop μ-loop
 write-fine-requires c κs =
     let start = c .before .before .before .before .before .before .before .before .before .before .before .before .before .before in
     let a = start .args in
-    let p = packed (a .own .now) (a .borrowed .now) (a .domains .now) (a .boxes .now) (a .dimensions) in
+    let p = packed (a .internals .now) (a .borrowed .now) (a .domains .now) (a .boxes .now) (a .dimensions) in
     let s = start .pre .0 in
     let v = c .before .before .before .before .before .loop in
-    let r = room-first _ _ (room-spelt (levels-whole p (a .points .now) (a .rows .now) (a .counts .now) (a .levels) (a .levels - 1) s refl) (start .pre .1)) in
-    let g = grown-room (frontText p (a .points .now) (a .rows .now) (a .counts .now)) (fineAt p (a .points .now) (a .rows .now) (a .counts .now))
-    (front-grows p (a .points .now) (a .rows .now) (a .counts .now)) (a .levels - 1) (v .t) (omega arith) r (v .inv .2) in (
-      fits-here p (a .points .now) (a .rows .now) (a .counts .now) (v .t) (v .a) (v .j) (v .inv .0) (v .inv .1) (a .levels) s
+    let r = room-first _ _ (room-spelt (levels-whole p (a .level-points .now) (a .rows .now) (a .counts .now) (a .levels) (a .levels - 1) s refl) (start .pre .1)) in
+    let g = grown-room (frontText p (a .level-points .now) (a .rows .now) (a .counts .now)) (fineAt p (a .level-points .now) (a .rows .now) (a .counts .now))
+    (front-grows p (a .level-points .now) (a .rows .now) (a .counts .now)) (a .levels - 1) (v .t) (omega arith) r (v .inv .2) in (
+      fits-here p (a .level-points .now) (a .rows .now) (a .counts .now) (v .t) (v .a) (v .j) (v .inv .0) (v .inv .1) (a .levels) s
           (omega (arith, s .some, v .inv .3)),
       room-spelt
-          (fine-here p (a .points .now) (a .rows .now) (a .counts .now) (v .t) (v .a) (v .j) (v .inv .0) (v .inv .1)) g,
+          (fine-here p (a .level-points .now) (a .rows .now) (a .counts .now) (v .t) (v .a) (v .j) (v .inv .0) (v .inv .1)) g,
     )
 
 add-j : tie.Need-add-j Inv-loop μ-loop
 add-j c =
     let start = c .before .before .before .before .before .before .before .before .before .before .before .before .before .before .before .before .before in
     let a = start .args in
-    let p = packed (a .own .now) (a .borrowed .now) (a .domains .now) (a .boxes .now) (a .dimensions) in
+    let p = packed (a .internals .now) (a .borrowed .now) (a .domains .now) (a .boxes .now) (a .dimensions) in
     let s = start .pre .0 in
     let v = c .before .before .before .before .before .before .before .before .loop in
     omega (
       arith,
-      domains-here p (a .points .now) (a .rows .now) (a .counts .now) (v .t) (v .a) (v .j) (v .inv .0) (v .inv .1) (a .levels) s
+      domains-here p (a .level-points .now) (a .rows .now) (a .counts .now) (v .t) (v .a) (v .j) (v .inv .0) (v .inv .1) (a .levels) s
           (omega (arith, s .some, v .inv .3)),
       start .good,
     )
@@ -136,17 +136,17 @@ loop-again : tie.Need-loop-again Inv-loop μ-loop
 loop-again c =
     let start = c .before .before .before .before .before .before .before .before .before .before .before .before .before .before .before .before .before in
     let a = start .args in
-    let p = packed (a .own .now) (a .borrowed .now) (a .domains .now) (a .boxes .now) (a .dimensions) in
+    let p = packed (a .internals .now) (a .borrowed .now) (a .domains .now) (a .boxes .now) (a .dimensions) in
     let s = start .pre .0 in
     let v = c .before .before .before .before .before .before .before .before .loop in
-    let r = room-first _ _ (room-spelt (levels-whole p (a .points .now) (a .rows .now) (a .counts .now) (a .levels) (a .levels - 1) s refl) (start .pre .1)) in
-    let g = grown (frontText p (a .points .now) (a .rows .now) (a .counts .now)) (fineAt p (a .points .now) (a .rows .now) (a .counts .now))
-    (front-grows p (a .points .now) (a .rows .now) (a .counts .now)) (a .levels - 1) (v .t) (omega arith) r (v .inv .2) in (
+    let r = room-first _ _ (room-spelt (levels-whole p (a .level-points .now) (a .rows .now) (a .counts .now) (a .levels) (a .levels - 1) s refl) (start .pre .1)) in
+    let g = grown (frontText p (a .level-points .now) (a .rows .now) (a .counts .now)) (fineAt p (a .level-points .now) (a .rows .now) (a .counts .now))
+    (front-grows p (a .level-points .now) (a .rows .now) (a .counts .now)) (a .levels - 1) (v .t) (omega arith) r (v .inv .2) in (
       ap (λ (k : ℕ). k + getD (a .rows .now) (v .t) 0) (v .inv .0) ∙ sym (total-step (a .rows .now) (v .t)),
       ap (λ (k : ℕ). k + getD (a .counts .now)
           (v .t) 0) (v .inv .1) ∙ sym (total-step (a .counts .now) (v .t)),
       g (spelt
-          (sym (fine-here p (a .points .now) (a .rows .now) (a .counts .now) (v .t) (v .a) (v .j) (v .inv .0) (v .inv .1)))
+          (sym (fine-here p (a .level-points .now) (a .rows .now) (a .counts .now) (v .t) (v .a) (v .j) (v .inv .0) (v .inv .1)))
           (c .before .before .write-fine .ensures)),
       search needs,
       v .inv .4,
@@ -165,25 +165,25 @@ add-e-2 : tie.Need-add-e-2 Inv-loop μ-loop
 add-e-2 c =
     let start = c .before .before .before .before .before .before .before .before .before .before .before in
     let a = start .args in
-    let p = packed (a .own .now) (a .borrowed .now) (a .domains .now) (a .boxes .now) (a .dimensions) in
+    let p = packed (a .internals .now) (a .borrowed .now) (a .domains .now) (a .boxes .now) (a .dimensions) in
     let s = start .pre .0 in
     let v = c .before .before .loop in
     let e : v .t ≡ a .levels - 1 = omega (arith, v .inv .3, c .before .loop-test .left) in
     let ea : v .a ≡ total (take (a .levels - 1) (a .rows .now)) = v .inv .0 ∙ ap (λ (k : ℕ). total (take k (a .rows .now))) e in
     let ej : v .j ≡ total (take (a .levels - 1) (a .counts .now)) = v .inv .1 ∙ ap (λ (k : ℕ). total (take k (a .counts .now))) e in
-    omega (arith, rows-here p (a .points .now) (a .rows .now) (a .counts .now) (a .levels - 1) (v .a) (v .j) ea ej (a .levels) s (omega (arith, s .some)), start .good)
+    omega (arith, rows-here p (a .level-points .now) (a .rows .now) (a .counts .now) (a .levels - 1) (v .a) (v .j) ea ej (a .levels) s (omega (arith, s .some)), start .good)
 
 mul-write-coarse : tie.Need-mul-write-coarse Inv-loop μ-loop
 mul-write-coarse c =
     let start = c .before .before .before .before .before .before .before .before .before .before .before in
     let a = start .args in
-    let p = packed (a .own .now) (a .borrowed .now) (a .domains .now) (a .boxes .now) (a .dimensions) in
+    let p = packed (a .internals .now) (a .borrowed .now) (a .domains .now) (a .boxes .now) (a .dimensions) in
     let s = start .pre .0 in
     let v = c .before .before .loop in
     let e : v .t ≡ a .levels - 1 = omega (arith, v .inv .3, c .before .loop-test .left) in
     let ea : v .a ≡ total (take (a .levels - 1) (a .rows .now)) = v .inv .0 ∙ ap (λ (k : ℕ). total (take k (a .rows .now))) e in
     let ej : v .j ≡ total (take (a .levels - 1) (a .counts .now)) = v .inv .1 ∙ ap (λ (k : ℕ). total (take k (a .counts .now))) e in
-    omega (arith, rows-here p (a .points .now) (a .rows .now) (a .counts .now) (a .levels - 1) (v .a) (v .j) ea ej (a .levels) s (omega (arith, s .some)), start .good)
+    omega (arith, rows-here p (a .level-points .now) (a .rows .now) (a .counts .now) (a .levels - 1) (v .a) (v .j) ea ej (a .levels) s (omega (arith, s .some)), start .good)
 
 sub-write-coarse : tie.Need-sub-write-coarse Inv-loop μ-loop
 sub-write-coarse c = search needs
@@ -195,29 +195,29 @@ part-write-coarse-end : tie.Need-part-write-coarse-end Inv-loop μ-loop
 part-write-coarse-end c =
     let start = c .before .before .before .before .before .before .before .before .before .before .before in
     let a = start .args in
-    let p = packed (a .own .now) (a .borrowed .now) (a .domains .now) (a .boxes .now) (a .dimensions) in
+    let p = packed (a .internals .now) (a .borrowed .now) (a .domains .now) (a .boxes .now) (a .dimensions) in
     let s = start .pre .0 in
     let v = c .before .before .loop in
     let e : v .t ≡ a .levels - 1 = omega (arith, v .inv .3, c .before .loop-test .left) in
     let ea : v .a ≡ total (take (a .levels - 1) (a .rows .now)) = v .inv .0 ∙ ap (λ (k : ℕ). total (take k (a .rows .now))) e in
     let ej : v .j ≡ total (take (a .levels - 1) (a .counts .now)) = v .inv .1 ∙ ap (λ (k : ℕ). total (take k (a .counts .now))) e in
-    rows-here p (a .points .now) (a .rows .now) (a .counts .now) (a .levels - 1) (v .a) (v .j) ea ej (a .levels) s (omega (arith, s .some))
+    rows-here p (a .level-points .now) (a .rows .now) (a .counts .now) (a .levels - 1) (v .a) (v .j) ea ej (a .levels) s (omega (arith, s .some))
 
 write-coarse-requires : tie.Need-write-coarse-requires Inv-loop μ-loop
 write-coarse-requires c κs =
     let start = c .before .before .before .before .before .before .before .before .before .before .before .before .before in
     let a = start .args in
-    let p = packed (a .own .now) (a .borrowed .now) (a .domains .now) (a .boxes .now) (a .dimensions) in
+    let p = packed (a .internals .now) (a .borrowed .now) (a .domains .now) (a .boxes .now) (a .dimensions) in
     let s = start .pre .0 in
     let v = c .before .before .before .before .loop in
     let e : v .t ≡ a .levels - 1 = omega (arith, v .inv .3, c .before .before .before .loop-test .left) in
     let ea : v .a ≡ total (take (a .levels - 1) (a .rows .now)) = v .inv .0 ∙ ap (λ (k : ℕ). total (take k (a .rows .now))) e in
     let ej : v .j ≡ total (take (a .levels - 1) (a .counts .now)) = v .inv .1 ∙ ap (λ (k : ℕ). total (take k (a .counts .now))) e in
-    let w = spelt (ap (frontText p (a .points .now) (a .rows .now) (a .counts .now)) e) (v .inv .2) in
-    let r = room-next _ w (room-spelt (levels-whole p (a .points .now) (a .rows .now) (a .counts .now) (a .levels) (a .levels - 1) s refl) (start .pre .1)) in (
-      rw add-zero at (fits-here p (a .points .now) (a .rows .now) (a .counts .now) (a .levels - 1) (v .a) (v .j) ea ej (a .levels) s
+    let w = spelt (ap (frontText p (a .level-points .now) (a .rows .now) (a .counts .now)) e) (v .inv .2) in
+    let r = room-next _ w (room-spelt (levels-whole p (a .level-points .now) (a .rows .now) (a .counts .now) (a .levels) (a .levels - 1) s refl) (start .pre .1)) in (
+      rw add-zero at (fits-here p (a .level-points .now) (a .rows .now) (a .counts .now) (a .levels - 1) (v .a) (v .j) ea ej (a .levels) s
           (omega (arith, s .some)) 0 (omega (arith, s .coarse))),
-      room-spelt (coarse-here p (a .points .now) (a .rows .now) (a .counts .now) (a .levels - 1)
+      room-spelt (coarse-here p (a .level-points .now) (a .rows .now) (a .counts .now) (a .levels - 1)
           (v .a) (v .j) ea ej) r,
     )
 
@@ -228,16 +228,16 @@ returns : tie.Need-returns Inv-loop μ-loop
 returns c =
     let start = c .before .before .before .before .before .before .before .before .before .before .before .before .before .before .before .before in
     let a = start .args in
-    let p = packed (a .own .now) (a .borrowed .now) (a .domains .now) (a .boxes .now) (a .dimensions) in
+    let p = packed (a .internals .now) (a .borrowed .now) (a .domains .now) (a .boxes .now) (a .dimensions) in
     let s = start .pre .0 in
     let v = c .before .before .before .before .before .before .before .loop in
     let e : v .t ≡ a .levels - 1 = omega (arith, v .inv .3, c .before .before .before .before .before .before .loop-test .left) in
     let ea : v .a ≡ total (take (a .levels - 1) (a .rows .now)) = v .inv .0 ∙ ap (λ (k : ℕ). total (take k (a .rows .now))) e in
     let ej : v .j ≡ total (take (a .levels - 1) (a .counts .now)) = v .inv .1 ∙ ap (λ (k : ℕ). total (take k (a .counts .now))) e in
-    let w = spelt (ap (frontText p (a .points .now) (a .rows .now) (a .counts .now)) e) (v .inv .2) in
-    let r = room-spelt (levels-whole p (a .points .now) (a .rows .now) (a .counts .now) (a .levels) (a .levels - 1) s refl) (start .pre .1) in
-    spelt (sym (levels-whole p (a .points .now) (a .rows .now) (a .counts .now) (a .levels) (a .levels - 1) s refl)) (wrote-then w r (spelt
-    (sym (coarse-here p (a .points .now) (a .rows .now) (a .counts .now) (a .levels - 1) (v .a) (v .j) ea ej))
+    let w = spelt (ap (frontText p (a .level-points .now) (a .rows .now) (a .counts .now)) e) (v .inv .2) in
+    let r = room-spelt (levels-whole p (a .level-points .now) (a .rows .now) (a .counts .now) (a .levels) (a .levels - 1) s refl) (start .pre .1) in
+    spelt (sym (levels-whole p (a .level-points .now) (a .rows .now) (a .counts .now) (a .levels) (a .levels - 1) s refl)) (wrote-then w r (spelt
+    (sym (coarse-here p (a .level-points .now) (a .rows .now) (a .counts .now) (a .levels - 1) (v .a) (v .j) ea ej))
     (c .before .before .write-coarse .ensures)))
 
 pub write-levels-spec : {M : Type 1} → statement M

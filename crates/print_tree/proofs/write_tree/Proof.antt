@@ -16,9 +16,9 @@ unfolding ascii
 write-numbered-requires c κs =
     let start = c .before .before .before .before .before .before .before .before .before .before in
     let a = start .args in
-    let p = packed (a .own .now) (a .borrowed .now) (a .domains .now) (a .boxes .now) (a .dimensions) in
-    let ls = readLevels p (a .points .now) (a .rows .now) (a .counts .now) (a .levels) in
-    let e = tree-texts (a .levels) ls (how-many p (a .points .now) (a .rows .now) (a .counts .now) (a .levels)) in
+    let p = packed (a .internals .now) (a .borrowed .now) (a .domains .now) (a .boxes .now) (a .dimensions) in
+    let ls = readLevels p (a .level-points .now) (a .rows .now) (a .counts .now) (a .levels) in
+    let e = tree-texts (a .levels) ls (how-many p (a .level-points .now) (a .rows .now) (a .counts .now) (a .levels)) in
     let w0 = begin (treeTexts (a .levels) ls) e (start .pre .1) in
     text-room w0 tt
 
@@ -27,9 +27,9 @@ unfolding ascii
 write-byte-requires c κs =
     let start = c .before .before .before .before .before .before .before .before .before .before .before .before .before .before in
     let a = start .args in
-    let p = packed (a .own .now) (a .borrowed .now) (a .domains .now) (a .boxes .now) (a .dimensions) in
-    let ls = readLevels p (a .points .now) (a .rows .now) (a .counts .now) (a .levels) in
-    let e = tree-texts (a .levels) ls (how-many p (a .points .now) (a .rows .now) (a .counts .now) (a .levels)) in
+    let p = packed (a .internals .now) (a .borrowed .now) (a .domains .now) (a .boxes .now) (a .dimensions) in
+    let ls = readLevels p (a .level-points .now) (a .rows .now) (a .counts .now) (a .levels) in
+    let e = tree-texts (a .levels) ls (how-many p (a .level-points .now) (a .rows .now) (a .counts .now) (a .levels)) in
     let w0 = begin (treeTexts (a .levels) ls) e (start .pre .1) in
     let w1 = text-added w0 tt (c .before .before .before .write-numbered .ensures) in
     text-room w1 tt
@@ -39,9 +39,9 @@ unfolding ascii
 write-levels-requires c κs =
     let start = c .before .before .before .before .before .before .before .before .before .before .before .before .before .before .before .before .before .before in
     let a = start .args in
-    let p = packed (a .own .now) (a .borrowed .now) (a .domains .now) (a .boxes .now) (a .dimensions) in
-    let ls = readLevels p (a .points .now) (a .rows .now) (a .counts .now) (a .levels) in
-    let e = tree-texts (a .levels) ls (how-many p (a .points .now) (a .rows .now) (a .counts .now) (a .levels)) in
+    let p = packed (a .internals .now) (a .borrowed .now) (a .domains .now) (a .boxes .now) (a .dimensions) in
+    let ls = readLevels p (a .level-points .now) (a .rows .now) (a .counts .now) (a .levels) in
+    let e = tree-texts (a .levels) ls (how-many p (a .level-points .now) (a .rows .now) (a .counts .now) (a .levels)) in
     let w0 = begin (treeTexts (a .levels) ls) e (start .pre .1) in
     let w1 = text-added w0 tt (c .before .before .before .before .before .before .before .write-numbered .ensures) in
     let w2 = text-added w1 tt (c .before .before .before .write-byte .ensures) in
@@ -55,9 +55,9 @@ unfolding ascii
 returns c =
     let start = c .before .before .before .before .before .before .before .before .before .before .before .before .before .before .before .before .before .before .before .before .before in
     let a = start .args in
-    let p = packed (a .own .now) (a .borrowed .now) (a .domains .now) (a .boxes .now) (a .dimensions) in
-    let ls = readLevels p (a .points .now) (a .rows .now) (a .counts .now) (a .levels) in
-    let e = tree-texts (a .levels) ls (how-many p (a .points .now) (a .rows .now) (a .counts .now) (a .levels)) in
+    let p = packed (a .internals .now) (a .borrowed .now) (a .domains .now) (a .boxes .now) (a .dimensions) in
+    let ls = readLevels p (a .level-points .now) (a .rows .now) (a .counts .now) (a .levels) in
+    let e = tree-texts (a .levels) ls (how-many p (a .level-points .now) (a .rows .now) (a .counts .now) (a .levels)) in
     let w0 = begin (treeTexts (a .levels) ls) e (start .pre .1) in
     let w1 = text-added w0 tt (c .before .before .before .before .before .before .before .before .before .before .write-numbered .ensures) in
     let w2 = text-added w1 tt (c .before .before .before .before .before .before .write-byte .ensures) in

@@ -36,7 +36,7 @@ write-refusal-requires : tie.Need-write-refusal-requires
 write-refusal-requires c κs =
     let start = c .before .before .before .before .before .before .before .before .before .before .before .before .before .before .before .before .before .before .before .before in
     let s = settingsAre (start .args .s) in
-    let cs = start .args .cs .now in
+    let cs = start .args .points .now in
     let w = c .before .before .before .before .before .before .before .before .before .build .ensures in
     let t = c .before .if1 .taken in
     room-spelt (job-refused s cs lentLists _ _ (start .pre .0) rooms _ (w .answers) (omega (arith, t))) (room-for s cs (start .args .out .now) (start .pre .0) (start .pre .1))
@@ -48,7 +48,7 @@ returns : tie.Need-returns
 returns c =
     let start = c .before .before .before .before .before .before .before .before .before .before .before .before .before .before .before .before .before .before .before .before .before .before .before in
     let s = settingsAre (start .args .s) in
-    let cs = start .args .cs .now in
+    let cs = start .args .points .now in
     let w = c .before .before .before .before .before .before .before .before .before .before .before .before .build .ensures in
     let t = c .before .before .before .before .if1 .taken in
     spelt (sym (job-refused s cs lentLists _ _ (start .pre .0) rooms _ (w .answers) (omega (arith, t)))) (c .before .before .write-refusal .ensures)
@@ -78,7 +78,7 @@ write-tree-requires : tie.Need-write-tree-requires
 write-tree-requires c κs =
     let start = c .before .before .before .before .before .before .before .before .before .before .before .before .before .before .before .before .before .before .before .before .before .before .before .before .before .before .before .before .before in
     let s = settingsAre (start .args .s) in
-    let cs = start .args .cs .now in
+    let cs = start .args .points .now in
     let w = c .before .before .before .before .before .before .before .before .before .before .before .before .before .before .before .before .before
     .before .build .ensures in
     let t = c .before .before .before .before .before .before .before .before .before .before .if1 .left in (
@@ -94,7 +94,7 @@ returns-2 : tie.Need-returns-2
 returns-2 c =
     let start = c .before .before .before .before .before .before .before .before .before .before .before .before .before .before .before .before .before .before .before .before .before .before .before .before .before .before .before .before .before .before .before .before in
     let s = settingsAre (start .args .s) in
-    let cs = start .args .cs .now in
+    let cs = start .args .points .now in
     let w = c .before .before .before .before .before .before .before .before .before .before .before .before .before .before .before .before .before
     .before .before .before .before .build .ensures in
     let t = c .before .before .before .before .before .before .before .before .before .before .before .before .before .if1 .left in

@@ -10,7 +10,7 @@ use Rattle.definition.specs.Quotas.{quotasFor}
 use Rattle.definition.specs.Outcome.{written}
 use Rattle.definition.proofs.Fairness.{quotas-length}
 use Rattle.quotas.proofs.Written.{length-written, take-written, written-over}
-use Rattle.quotas.proofs.Verdicts.{refused-8, refused-11-out, refused-11-room, seated}
+use Rattle.quotas.proofs.Verdicts.{refused-8, refused-11-out, refused-11-wholes, seated}
 use borrow.Author.Needs.{needs}
 use Rattle.quotas.proofs.get_domain_coarse_quotas.Statement.{statement}
 use Rattle.quotas.proofs.get_domain_coarse_quotas.Tie as tie
@@ -34,7 +34,7 @@ returns-2 : tie.Need-returns-2
 returns-2 c = refused-11-out _ _ _ _ (omega arith) (omega arith)
 
 returns-3 : tie.Need-returns-3
-returns-3 c = refused-11-room _ _ _ _ (omega arith) (omega arith) (omega arith)
+returns-3 c = refused-11-wholes _ _ _ _ (omega arith) (omega arith) (omega arith)
 
 smaller-requires : tie.Need-smaller-requires
 smaller-requires c κs = search needs

@@ -11,19 +11,19 @@ use Rattle.sampling_rounds.proofs.clear.Statement.{statement}
 use Rattle.sampling_rounds.proofs.clear.Tie as tie
 
 abbrev Inv-loop : tie.InvT-loop
-Inv-loop least₀ count i₀ least i = (i ≤ count) × ((length least ≡ length least₀) × ((k : ℕ) → k < i → getD least k nan ≡ inf false))
+Inv-loop floats₀ count i₀ floats i = (i ≤ count) × ((length floats ≡ length floats₀) × ((k : ℕ) → k < i → getD floats k nan ≡ inf false))
 
 abbrev μ-loop : tie.MeasureT-loop
-μ-loop least₀ count i₀ least i = count - i
+μ-loop floats₀ count i₀ floats i = count - i
 
 loop-holds : tie.Need-loop-holds Inv-loop μ-loop
 loop-holds c = (omega arith, (refl, below-none _))
 
-mul-least : tie.Need-mul-least Inv-loop μ-loop
-mul-least c = omega arith
+mul-floats : tie.Need-mul-floats Inv-loop μ-loop
+mul-floats c = omega arith
 
-slice-write-least : tie.Need-slice-write-least Inv-loop μ-loop
-slice-write-least c = omega arith
+slice-write-floats : tie.Need-slice-write-floats Inv-loop μ-loop
+slice-write-floats c = omega arith
 
 add-i : tie.Need-add-i Inv-loop μ-loop
 add-i c = omega arith
@@ -34,7 +34,7 @@ loop-less c = omega arith
 loop-again : tie.Need-loop-again Inv-loop μ-loop
 unfolding ofBits div
 loop-again c = let l = c .before .loop in
-    (omega arith, (simp length-set (l .inv .1 .0), noted-more (λ k. inf false) (l .least) (l .i) _ nan (omega arith) (l .inv .1 .1) refl))
+    (omega arith, (simp length-set (l .inv .1 .0), noted-more (λ k. inf false) (l .floats) (l .i) _ nan (omega arith) (l .inv .1 .1) refl))
 
 same-length : tie.Need-same-length Inv-loop μ-loop
 same-length c = c .before .loop .inv .1 .0
@@ -49,8 +49,8 @@ clear-spec =
     Inv-loop
     μ-loop
     loop-holds
-    mul-least
-    slice-write-least
+    mul-floats
+    slice-write-floats
     add-i
     loop-less
     loop-again

@@ -14,12 +14,12 @@ use Rattle.sampling_rounds.proofs.lessen.Statement.{statement}
 use Rattle.sampling_rounds.proofs.lessen.Tie as tie
 
 abbrev Inv-loop : tie.InvT-loop
-Inv-loop points dimensions rows least₀ from row place₀ most₀ second₀ i₀ least place most second i =
-    (i ≤ length rows) × ((length rows ≤ length least₀) × (PassedTo (lessened dimensions points rows from least₀) least₀ least i
-    × Seen (lessened dimensions points rows from least₀) i place most second))
+Inv-loop points dimensions rows floats₀ from row place₀ most₀ second₀ i₀ floats place most second i =
+    (i ≤ length rows) × ((length rows ≤ length floats₀) × (PassedTo (lessened dimensions points rows from floats₀) floats₀ floats i
+    × Seen (lessened dimensions points rows from floats₀) i place most second))
 
 abbrev μ-loop : tie.MeasureT-loop
-μ-loop points dimensions rows least₀ from row place₀ most₀ second₀ i₀ least place most second i = length rows - i
+μ-loop points dimensions rows floats₀ from row place₀ most₀ second₀ i₀ floats place most second i = length rows - i
 
 mul-row : tie.Need-mul-row Inv-loop μ-loop
 mul-row c = search needs
@@ -31,11 +31,11 @@ loop-holds : tie.Need-loop-holds Inv-loop μ-loop
 loop-holds c = let s = c .before .before .before .before in
     (omega arith, (s .pre .1 .0 .1, (passed-none _ _, seen-none _)))
 
-mul-least : tie.Need-mul-least Inv-loop μ-loop
-mul-least c = search needs
+mul-floats : tie.Need-mul-floats Inv-loop μ-loop
+mul-floats c = search needs
 
-shared-slice-read-least : tie.Need-shared-slice-read-least Inv-loop μ-loop
-shared-slice-read-least c = search needs
+shared-slice-read-floats : tie.Need-shared-slice-read-floats Inv-loop μ-loop
+shared-slice-read-floats c = search needs
 
 distance-sq-requires : tie.Need-distance-sq-requires Inv-loop μ-loop
 distance-sq-requires c κs = let s = c .before .before .before .before .before .before .before in
@@ -51,11 +51,11 @@ slice-read-lesser-of c = search needs
 lesser-of-requires : tie.Need-lesser-of-requires Inv-loop μ-loop
 lesser-of-requires c κs = search needs
 
-mul-least-2 : tie.Need-mul-least-2 Inv-loop μ-loop
-mul-least-2 c = search needs
+mul-floats-2 : tie.Need-mul-floats-2 Inv-loop μ-loop
+mul-floats-2 c = search needs
 
-slice-write-least : tie.Need-slice-write-least Inv-loop μ-loop
-slice-write-least c = search needs
+slice-write-floats : tie.Need-slice-write-floats Inv-loop μ-loop
+slice-write-floats c = search needs
 
 add-i : tie.Need-add-i Inv-loop μ-loop
 add-i c = search needs
@@ -69,11 +69,11 @@ loop-again c = let s = c .before .before .before .before .before .before .before
     let l = c .before .before .before .before .before .before .loop in
     let h = c .before .before .before .before .before .loop-test .taken in
     let p = l .inv .1 .1 .0 in
-    let v = lessened (a .dimensions) (a .points .now) (a .rows .now) (a .last .0) (a .least .now) in
-    let k = lessened-kept _ _ _ _ (a .least .now) (s .pre .0) (s .pre .1 .0 .0) (s .pre .1 .1) in
+    let v = lessened (a .dimensions) (a .points .now) (a .rows .now) (a .last .0) (a .floats .now) in
+    let k = lessened-kept _ _ _ _ (a .floats .now) (s .pre .0) (s .pre .1 .0 .0) (s .pre .1 .1) in
     let e : c .before .lesser-of .result ≡ v (l .i) =
     lessened-at _ _ _ _ _ (l .i) _ _ _ (c .before .before .before .distance-sq .ensures) (p .left (l .i) (omega arith)) (c .before .lesser-of .ensures) in
-    let q = passed-more v (a .least .now) (l .least) (l .i) (c .before .lesser-of .result) p (omega (arith, h, l .inv, p .same)) e in
+    let q = passed-more v (a .floats .now) (l .floats) (l .i) (c .before .lesser-of .result) p (omega (arith, h, l .inv, p .same)) e in
     ⊎-elim
     (λ w. (
       omega (arith, h),
@@ -106,11 +106,11 @@ returns : tie.Need-returns Inv-loop μ-loop
 returns c = let s = c .before .before .before .before .before .before in
     let a = s .args in
     let l = c .before .loop in
-    let v = lessened (a .dimensions) (a .points .now) (a .rows .now) (a .last .0) (a .least .now) in
+    let v = lessened (a .dimensions) (a .points .now) (a .rows .now) (a .last .0) (a .floats .now) in
     let e : l .i ≡ length (a .rows .now) = le-antisymm (l .inv .0) (c .loop-test .left) in (
       (λ i h. l .inv .1 .1 .0 .done i (omega (arith, e))),
       seen-all v _ _ _ _ (subst (λ (n : ℕ). Seen v n (l .place) (l .most) (l .second)) e (l .inv .1 .1 .1)) (omega (arith, s .pre .1 .0))
-          (lessened-kept _ _ _ _ (a .least .now) (s .pre .0) (s .pre .1 .0 .0) (s .pre .1 .1)),
+          (lessened-kept _ _ _ _ (a .floats .now) (s .pre .0) (s .pre .1 .0 .0) (s .pre .1 .1)),
     )
 
 pub lessen-spec : {M : Type 1} → statement M
@@ -122,14 +122,14 @@ lessen-spec =
     mul-row
     shared-slice-read-row
     loop-holds
-    mul-least
-    shared-slice-read-least
+    mul-floats
+    shared-slice-read-floats
     distance-sq-requires
     mul-lesser-of
     slice-read-lesser-of
     lesser-of-requires
-    mul-least-2
-    slice-write-least
+    mul-floats-2
+    slice-write-floats
     add-i
     loop-less
     loop-again

@@ -15,17 +15,17 @@ use Rattle.sampling_rounds.proofs.look_back.Statement.{statement}
 use Rattle.sampling_rounds.proofs.look_back.Tie as tie
 
 abbrev value : List Float → ℕ → Float
-value least i = getD least i nan
+value floats i = getD floats i nan
 
 here : {i b : ℕ} → i < b → i + 1 ≤ b
 here h = omega arith
 
 abbrev Inv-loop : tie.InvT-loop
-Inv-loop least best most top near low₀ i₀ low i =
-    (i ≤ best) × ((best < length least) × Looked (value least) (squareRoot (value least best)) low i)
+Inv-loop floats best most top near low₀ i₀ low i =
+    (i ≤ best) × ((best < length floats) × Looked (value floats) (squareRoot (value floats best)) low i)
 
 abbrev μ-loop : tie.MeasureT-loop
-μ-loop least best most top near low₀ i₀ low i = best - i
+μ-loop floats best most top near low₀ i₀ low i = best - i
 
 mul-most : tie.Need-mul-most Inv-loop μ-loop
 mul-most c = search needs
@@ -60,7 +60,7 @@ root-requires-3 c κs = search needs
 returns : tie.Need-returns Inv-loop μ-loop
 returns c = let s = c .before .before .before .before .before .before .before .before .before .before .before in
     let l = c .before .before .before .before .before .loop in
-    let v = value (s .args .least .now) in
+    let v = value (s .args .floats .now) in
     let h = c .before .before .before .before .loop-test .taken in
     looked-here v (s .args .best) (l .i) (l .low) (l .inv .1 .1) (l .inv .0)
     (kept-good (l .low) (v (l .i)) (l .inv .1 .1 .kept) (s .pre .1 .1 (l .i) h) (c .before .before .if2 .taken))
@@ -75,7 +75,7 @@ loop-less c = search needs
 loop-again : tie.Need-loop-again Inv-loop μ-loop
 loop-again c = let s = c .before .before .before .before .before .before .before .before .before in
     let l = c .before .before .before .loop in
-    let v = value (s .args .least .now) in
+    let v = value (s .args .floats .now) in
     let h = c .before .before .loop-test .taken in
     let r = squareRoot (v (s .args .best)) in
     let q = l .inv .1 .1 in
@@ -94,7 +94,7 @@ loop-again c = let s = c .before .before .before .before .before .before .before
 returns-2 : tie.Need-returns-2 Inv-loop μ-loop
 returns-2 c = let s = c .before .before .before .before .before .before .before in
     let l = c .before .loop in
-    looked-all (value (s .args .least .now)) (s .args .best) (s .pre .1 .0) (l .i) (l .low) (l .inv .1 .1) (le-antisymm (l .inv .0) (c .loop-test .left))
+    looked-all (value (s .args .floats .now)) (s .args .best) (s .pre .1 .0) (l .i) (l .low) (l .inv .1 .1) (le-antisymm (l .inv .0) (c .loop-test .left))
 
 pub look-back-spec : {M : Type 1} → statement M
 look-back-spec =

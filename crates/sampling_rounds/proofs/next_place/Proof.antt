@@ -18,12 +18,12 @@ first-farthest-requires : tie.Need-first-farthest-requires
 first-farthest-requires c κs = let s = c .before .before .before .before .before .before .before .before in
     let le = c .before .before .before .lessen in
     let a = s .args in
-    let v = lessened (a .dimensions) (a .points .now) (a .rows .now) (a .last .0) (a .least .now) in
+    let v = lessened (a .dimensions) (a .points .now) (a .rows .now) (a .last .0) (a .floats .now) in
     let left = s .pre .1 .1 .1 in
     let room = s .pre .1 .0 in
-    let kept = lessened-kept _ _ _ _ (a .least .now) (s .pre .0) (room .0) (s .pre .1 .1 .0) in
+    let kept = lessened-kept _ _ _ _ (a .floats .now) (s .pre .0) (room .0) (s .pre .1 .1 .0) in
     let good-best = greatest-good v _ _ _ _ (le .ensures .1) kept (left .0) (left .1 .0)
-    (lessened-good _ _ _ _ (a .least .now) (s .pre .0) (room .0) (left .0) (left .1 .0) (left .1 .1)) in
+    (lessened-good _ _ _ _ (a .floats .now) (s .pre .0) (room .0) (left .0) (left .1 .0) (left .1 .1)) in
     let new = le .last .1 .1 .1 .1 .0 in
     let p = peaked-in v new _ _ _ _ (le .ensures .0) (le .ensures .1) in (
       (omega (arith, p .inside, room, le .kept .1 .1 .1 .1 .0), p .here),
@@ -33,11 +33,11 @@ first-farthest-requires c κs = let s = c .before .before .before .before .befor
       ),
     )
 
-mul-least : tie.Need-mul-least
-mul-least c = search needs
+mul-floats : tie.Need-mul-floats
+mul-floats c = search needs
 
-slice-write-least : tie.Need-slice-write-least
-slice-write-least c = search needs
+slice-write-floats : tie.Need-slice-write-floats
+slice-write-floats c = search needs
 
 same-length : tie.Need-same-length
 same-length c = search needs
@@ -46,12 +46,12 @@ returns : tie.Need-returns
 returns c = let s = c .before .before .before .before .before .before .before .before .before in
     let le = c .before .before .before .before .lessen in
     let a = s .args in
-    let v = lessened (a .dimensions) (a .points .now) (a .rows .now) (a .last .0) (a .least .now) in
+    let v = lessened (a .dimensions) (a .points .now) (a .rows .now) (a .last .0) (a .floats .now) in
     let left = s .pre .1 .1 .1 in
     let room = s .pre .1 .0 in
-    let kept = lessened-kept _ _ _ _ (a .least .now) (s .pre .0) (room .0) (s .pre .1 .1 .0) in
+    let kept = lessened-kept _ _ _ _ (a .floats .now) (s .pre .0) (room .0) (s .pre .1 .1 .0) in
     let good-best = greatest-good v _ _ _ _ (le .ensures .1) kept (left .0) (left .1 .0)
-    (lessened-good _ _ _ _ (a .least .now) (s .pre .0) (room .0) (left .0) (left .1 .0) (left .1 .1)) in
+    (lessened-good _ _ _ _ (a .floats .now) (s .pre .0) (room .0) (left .0) (left .1 .0) (left .1 .1)) in
     first-chosen v _ _ _ _ (le .ensures .1) (le .last .1 .1 .1 .1 .0) _ (le .ensures .0) (omega (arith, room, le .kept .1 .1 .1 .1 .0)) good-best (c .first-farthest .ensures)
 
 pub next-place-spec : {M : Type 1} → statement M
@@ -60,7 +60,7 @@ next-place-spec =
     (tie.spec
     lessen-requires
     first-farthest-requires
-    mul-least
-    slice-write-least
+    mul-floats
+    slice-write-floats
     same-length
     returns)

@@ -17,12 +17,12 @@ abbrev Sizes : ℕ → ℕ → ℕ → ℕ → ℕ → ℕ → Type 0
 Sizes o l o₀ l₀ end n = ((o ≡ o₀) × (l ≡ l₀)) × ((end ≤ o) × (n ≤ l))
 
 abbrev Inv-loop : tie.InvT-loop
-Inv-loop points dimensions rows wanted out₀ at least₀ first last₀ k₀ out least last k =
-    (k ≤ wanted) × (Sizes (length out) (length least) (length out₀) (length least₀) (at + wanted) (length rows)
-    × Choosing dimensions points rows wanted (getD rows first 0) out₀ out at least (last .0) k)
+Inv-loop points dimensions rows wanted out₀ at floats₀ first last₀ k₀ out floats last k =
+    (k ≤ wanted) × (Sizes (length out) (length floats) (length out₀) (length floats₀) (at + wanted) (length rows)
+    × Choosing dimensions points rows wanted (getD rows first 0) out₀ out at floats (last .0) k)
 
 abbrev μ-loop : tie.MeasureT-loop
-μ-loop points dimensions rows wanted out₀ at least₀ first last₀ k₀ out least last k = wanted - k
+μ-loop points dimensions rows wanted out₀ at floats₀ first last₀ k₀ out floats last k = wanted - k
 
 clear-requires : tie.Need-clear-requires Inv-loop μ-loop
 clear-requires c κs = omega arith
@@ -39,11 +39,11 @@ mul-out-2 c = omega arith
 slice-write-out : tie.Need-slice-write-out Inv-loop μ-loop
 slice-write-out c = omega arith
 
-mul-least : tie.Need-mul-least Inv-loop μ-loop
-mul-least c = omega arith
+mul-floats : tie.Need-mul-floats Inv-loop μ-loop
+mul-floats c = omega arith
 
-slice-write-least : tie.Need-slice-write-least Inv-loop μ-loop
-slice-write-least c = omega arith
+slice-write-floats : tie.Need-slice-write-floats Inv-loop μ-loop
+slice-write-floats c = omega arith
 
 loop-holds : tie.Need-loop-holds Inv-loop μ-loop
 loop-holds c = let s = c .before .before .before .before .before .before .before .before .before in
@@ -125,8 +125,8 @@ sample-rows-spec =
     shared-slice-read-out
     mul-out-2
     slice-write-out
-    mul-least
-    slice-write-least
+    mul-floats
+    slice-write-floats
     loop-holds
     next-place-requires
     mul-out-3
