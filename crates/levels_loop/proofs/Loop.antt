@@ -1,7 +1,7 @@
 -- The loop over the levels. What is written, with what the levels that are left will write, is what is due. Assumes nothing.
 -- Holds: rowCount, leafCount, Outs, Long, Inv, levels-first, rows-few, end-points, end-internals, end-domains, end-boxes,
---   end-borrowed, end-rows, end-counts, end-number, built-below, level-above, level-points-fit, level-fits, level-room, first-fits,
---   bat-fits, size-few, levels-next
+--   end-borrowed, end-rows, end-counts, end-number, built-below, level-above, level-points-fit, level-fits, level-room,
+--   first-fits, bat-fits, size-few, levels-next
 use mathlib.Core.Path.{_≡_, refl, sym, ap, _∙_}
 use mathlib.Core.Bool.{true, false, _&&_}
 use mathlib.Core.List.{List, [], _∷_, _++_, map}
