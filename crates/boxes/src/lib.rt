@@ -7,12 +7,18 @@ ghost use Rattle.lists.specs.Lists.{part, put};
 ghost use Rattle.definition.specs.Points.{boxWidth};
 ghost use Rattle.boxes.specs.Boxes.{floatsOf};
 
-// How many bounds a box has: a lower and an upper one on each axis.
+// The bounds of a box on one axis: a lower and an upper one.
+const BOUNDS: usize = 2;
+
+// How many bounds a box has on three axes.
+pub const WIDEST_BOX: usize = BOUNDS * 3;
+
+// How many bounds a box has.
 pub fn box_width(dimensions: usize) -> usize
     requires { ⌜ dimensions ≤ 3 ⌝ }
     ensures { λ r. ⌜ r ≡ boxWidth dimensions ⌝ }
 {
-    2 * dimensions
+    BOUNDS * dimensions
 }
 
 // The bounds on up to three axes; those past the dimension are not used.

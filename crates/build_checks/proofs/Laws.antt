@@ -18,7 +18,7 @@ use Rattle.lists.specs.Lists.{anyOf, least}
 use Rattle.lists.proofs.Least.{least-before, least-holds}
 use Rattle.definition.specs.Levels.{threshold, reductions}
 use Rattle.definition.specs.Tree.{Settings, pointCount}
-use Rattle.definition.specs.Packed.{rowNumbers, rowFloats, mostRows, BuildSizes, buildStated}
+use Rattle.definition.specs.Packed.{BuildSizes, buildStated}
 use Rattle.definition.specs.Refusals.{Test, Verdict, accepted, refused, on, verdict, mostPoints, mostNeighbours, zeroThreshold, firstBad, notFinite, coordinatesMissing, settingsTests, pointsTests, buildTests, buildVerdict, buildShort}
 use Rattle.build_checks.specs.Verdicts.{numberedVerdict}
 
@@ -150,38 +150,38 @@ checked-reductions n c f p h =
 
 -- ---- the lists
 module _ (lent stated : BuildSizes) where
-  pub short-1 : lent .points < stated .points → true ≡ buildShort lent stated
+  pub short-1 : lent .level-points < stated .level-points → true ≡ buildShort lent stated
   unfolding buildShort
-  short-1 h = simp (lt-ltb (lent .points) (stated .points) h)
+  short-1 h = simp (lt-ltb (lent .level-points) (stated .level-points) h)
 
-  module _ (a : stated .points ≤ lent .points) where
+  module _ (a : stated .level-points ≤ lent .level-points) where
     pub short-2 : lent .internals < stated .internals → true ≡ buildShort lent stated
     unfolding buildShort
-    short-2 h = simp (le-ltb (lent .points) (stated .points) a, lt-ltb (lent .internals) (stated .internals) h)
+    short-2 h = simp (le-ltb (lent .level-points) (stated .level-points) a, lt-ltb (lent .internals) (stated .internals) h)
 
     module _ (b : stated .internals ≤ lent .internals) where
       pub short-3 : lent .domains < stated .domains → true ≡ buildShort lent stated
       unfolding buildShort
-      short-3 h = simp (le-ltb (lent .points) (stated .points) a, le-ltb (lent .internals) (stated .internals) b, lt-ltb (lent .domains) (stated .domains) h)
+      short-3 h = simp (le-ltb (lent .level-points) (stated .level-points) a, le-ltb (lent .internals) (stated .internals) b, lt-ltb (lent .domains) (stated .domains) h)
 
       module _ (c : stated .domains ≤ lent .domains) where
         pub short-4 : lent .boxes < stated .boxes → true ≡ buildShort lent stated
         unfolding buildShort
-        short-4 h = simp (le-ltb (lent .points) (stated .points) a, le-ltb (lent .internals) (stated .internals) b, le-ltb (lent .domains) (stated .domains) c, lt-ltb (lent .boxes) (stated .boxes) h)
+        short-4 h = simp (le-ltb (lent .level-points) (stated .level-points) a, le-ltb (lent .internals) (stated .internals) b, le-ltb (lent .domains) (stated .domains) c, lt-ltb (lent .boxes) (stated .boxes) h)
 
         module _ (d : stated .boxes ≤ lent .boxes) where
           pub short-5 : lent .borrowed < stated .borrowed → true ≡ buildShort lent stated
           unfolding buildShort
-          short-5 h = simp (le-ltb (lent .points) (stated .points) a, le-ltb (lent .internals) (stated .internals) b, le-ltb (lent .domains) (stated .domains) c, le-ltb (lent .boxes) (stated .boxes) d, lt-ltb (lent .borrowed) (stated .borrowed) h)
+          short-5 h = simp (le-ltb (lent .level-points) (stated .level-points) a, le-ltb (lent .internals) (stated .internals) b, le-ltb (lent .domains) (stated .domains) c, le-ltb (lent .boxes) (stated .boxes) d, lt-ltb (lent .borrowed) (stated .borrowed) h)
 
           module _ (e : stated .borrowed ≤ lent .borrowed) where
             pub short-6 : lent .floats < stated .floats → true ≡ buildShort lent stated
             unfolding buildShort
-            short-6 h = simp (le-ltb (lent .points) (stated .points) a, le-ltb (lent .internals) (stated .internals) b, le-ltb (lent .domains) (stated .domains) c, le-ltb (lent .boxes) (stated .boxes) d, le-ltb (lent .borrowed) (stated .borrowed) e, lt-ltb (lent .floats) (stated .floats) h)
+            short-6 h = simp (le-ltb (lent .level-points) (stated .level-points) a, le-ltb (lent .internals) (stated .internals) b, le-ltb (lent .domains) (stated .domains) c, le-ltb (lent .boxes) (stated .boxes) d, le-ltb (lent .borrowed) (stated .borrowed) e, lt-ltb (lent .floats) (stated .floats) h)
 
             pub short-7 : stated .floats ≤ lent .floats → ltb (lent .wholes) (stated .wholes) ≡ buildShort lent stated
             unfolding buildShort
-            short-7 h = simp (le-ltb (lent .points) (stated .points) a, le-ltb (lent .internals) (stated .internals) b, le-ltb (lent .domains) (stated .domains) c, le-ltb (lent .boxes) (stated .boxes) d, le-ltb (lent .borrowed) (stated .borrowed) e, le-ltb (lent .floats) (stated .floats) h)
+            short-7 h = simp (le-ltb (lent .level-points) (stated .level-points) a, le-ltb (lent .internals) (stated .internals) b, le-ltb (lent .domains) (stated .domains) c, le-ltb (lent .boxes) (stated .boxes) d, le-ltb (lent .borrowed) (stated .borrowed) e, le-ltb (lent .floats) (stated .floats) h)
 
 -- ---- the coordinates
 bad-from : (i : ℕ) (cs : List Float) → (i ≤ firstBad i cs) × (firstBad i cs ≤ i + length cs)

@@ -6,7 +6,7 @@ use native.Mathlib.Omega.{arith}
 use borrow.Author.Tests.{le-leb, lt-leb, lt-ltb, le-ltb, eq-eqb, ne-eqb}
 use Rattle.definition.specs.Packed.{BuildSizes, buildStated}
 use Rattle.definition.specs.Refusals.{verdict, sizesVerdict}
-use Rattle.definition.specs.Outcome.{Answer, numberOf, placeOf, valueOf, sizesAnswer}
+use Rattle.definition.specs.Outcome.{numberOf, placeOf, valueOf, sizesAnswer}
 use Rattle.build_sizes.specs.Sizes.{refusedWith}
 
 module _ (d n neighbours : ℕ) where

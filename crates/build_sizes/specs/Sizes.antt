@@ -9,7 +9,7 @@ use Rattle.build_sizes.specs.declared.SizesAnswer.{SizesAnswer}
 abbrev pub sizesOf : Lengths → BuildSizes
 sizesOf l =
     record {
-      points = l .«level_points»;
+      level-points = l .«level_points»;
       internals = l .internals;
       domains = l .domains;
       boxes = l .boxes;

@@ -8,14 +8,14 @@ ghost use Rattle.definition.specs.Number.{plusZero};
 ghost use Rattle.definition.specs.Points.{boxWidth};
 ghost use Rattle.definition.specs.Packed.{rowNumbers, rowFloats};
 
-// Writes `count` zeros from `at` on.
-fn put_zeros(list: &mut [f64], at: usize, count: usize)
-    requires { ⌜ at + count ≤ length (now list) ⌝ }
-    ensures { λ _. ⌜ now (list .exit) ≡ put (now (list .entry)) at (replicate count plusZero) ⌝ }
+// Writes `count` zeros to the box list, from `at` on.
+fn put_zeros(boxes: &mut [f64], at: usize, count: usize)
+    requires { ⌜ at + count ≤ length (now boxes) ⌝ }
+    ensures { λ _. ⌜ now (boxes .exit) ≡ put (now (boxes .entry)) at (replicate count plusZero) ⌝ }
 {
     let mut i = 0;
     while i < count {
-        list[at + i] = 0.0;
+        boxes[at + i] = 0.0;
         i += 1;
     }
 }

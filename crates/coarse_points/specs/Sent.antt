@@ -47,10 +47,10 @@ pub record LeafFits (d : ℕ) (cs : List Float) (I D : List ℕ) (r quota k : �
   pub within : quota ≤ ownCount D r
 
 -- the same of m leaves with these quotas, and room from `at` on for all that they send
-pub record LeavesFit (d : ℕ) (cs : List Float) (I D : List ℕ) (first m : ℕ) (shares out : List ℕ) (at k : ℕ) : Type 0 where
+pub record LeavesFit (d : ℕ) (cs : List Float) (I D : List ℕ) (first m : ℕ) (shares level-points : List ℕ) (at k : ℕ) : Type 0 where
   pub each : (l : ℕ) → l < m → LeafFits d cs I D (first + l) (getD shares l 0) k
   pub listed : m ≤ length shares
-  pub fits : at + total (map (λ l. getD shares l 0) (from 0 m)) ≤ length out
+  pub fits : at + total (map (λ l. getD shares l 0) (from 0 m)) ≤ length level-points
 
 -- the n numbers from `start` on, sorted in place
 pub record Reordered (old : List ℕ) (start n : ℕ) (new : List ℕ) : Type 0 where

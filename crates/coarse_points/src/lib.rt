@@ -44,39 +44,48 @@ fn leaf_quotas(
 fn sample_leaf(
     points: &[f64],
     dimensions: usize,
+    level_points: &mut [usize],
+    at: usize,
     rows: &[usize],
     quota: usize,
-    out: &mut [usize],
-    at: usize,
     floats: &mut [f64],
 )
     requires rows { ⌜ GoodRows dimensions (now points) (now rows) ⌝ }
     requires few { ⌜ (dimensions ≤ 3) × (quota ≤ length (now rows)) ⌝ }
-    requires room { ⌜ (at + quota ≤ length (now out)) × (length (now rows) ≤ length (now floats)) ⌝ }
-    ensures { λ _. ⌜ now (out .exit) ≡ put (now (out .entry)) at (sentBy dimensions (now (points .entry)) (now (rows .entry)) quota) ⌝ }
+    requires room { ⌜ (at + quota ≤ length (now «level_points»)) × (length (now rows) ≤ length (now floats)) ⌝ }
+    ensures { λ _. ⌜ now («level_points» .exit) ≡ put (now («level_points» .entry)) at (sentBy dimensions (now (points .entry)) (now (rows .entry)) quota) ⌝ }
 {
     if quota < 1 {
         return;
     }
     let seed = sampling_seed::sampling_seed(points, dimensions, rows);
-    sampling_rounds::sample_rows(points, dimensions, rows, quota, seed, out, at, floats);
+    sampling_rounds::sample_rows(
+        points,
+        dimensions,
+        rows,
+        quota,
+        seed,
+        level_points,
+        at,
+        floats,
+    );
 }
 
 // Writes what the leaf at the domain row r sends up from `at` on: `quota` of its own rows.
 fn send_leaf(
     points: &[f64],
     dimensions: usize,
+    level_points: &mut [usize],
+    at: usize,
     internals: &[usize],
     domains: &[usize],
     r: usize,
     quota: usize,
-    out: &mut [usize],
-    at: usize,
     floats: &mut [f64],
 )
     requires leaf { ⌜ LeafFits dimensions (now points) (now internals) (now domains) r quota (length (now floats)) ⌝ }
-    requires room { ⌜ at + quota ≤ length (now out) ⌝ }
-    ensures { λ _. ⌜ now (out .exit) ≡ put (now (out .entry)) at (sentBy dimensions (now (points .entry)) (ownAt (now (internals .entry)) (now (domains .entry)) r) quota) ⌝ }
+    requires room { ⌜ at + quota ≤ length (now «level_points») ⌝ }
+    ensures { λ _. ⌜ now («level_points» .exit) ≡ put (now («level_points» .entry)) at (sentBy dimensions (now (points .entry)) (ownAt (now (internals .entry)) (now (domains .entry)) r) quota) ⌝ }
 {
     let row = packed::read_row(domains, r);
     let start = row.internal_start;
@@ -84,10 +93,10 @@ fn send_leaf(
     sample_leaf(
         points,
         dimensions,
+        level_points,
+        at,
         &internals[start..stop],
         quota,
-        out,
-        at,
         floats,
     );
 }
@@ -96,17 +105,17 @@ fn send_leaf(
 fn send_leaves(
     points: &[f64],
     dimensions: usize,
+    level_points: &mut [usize],
+    at: usize,
     internals: &[usize],
     domains: &[usize],
     first: usize,
     m: usize,
     shares: &[usize],
-    out: &mut [usize],
-    at: usize,
     floats: &mut [f64],
 ) -> usize
-    requires { ⌜ LeavesFit dimensions (now points) (now internals) (now domains) first m (now shares) (now out) at (length (now floats)) ⌝ }
-    ensures { λ r. ⌜ (r ≡ at + length (sentAt dimensions (now (points .entry)) (now (internals .entry)) (now (domains .entry)) first (now (shares .entry)) m)) × (now (out .exit) ≡ put (now (out .entry)) at (sentAt dimensions (now (points .entry)) (now (internals .entry)) (now (domains .entry)) first (now (shares .entry)) m)) ⌝ }
+    requires { ⌜ LeavesFit dimensions (now points) (now internals) (now domains) first m (now shares) (now «level_points») at (length (now floats)) ⌝ }
+    ensures { λ r. ⌜ (r ≡ at + length (sentAt dimensions (now (points .entry)) (now (internals .entry)) (now (domains .entry)) first (now (shares .entry)) m)) × (now («level_points» .exit) ≡ put (now («level_points» .entry)) at (sentAt dimensions (now (points .entry)) (now (internals .entry)) (now (domains .entry)) first (now (shares .entry)) m)) ⌝ }
 {
     let mut end = at;
     let mut l = 0;
@@ -115,12 +124,12 @@ fn send_leaves(
         send_leaf(
             points,
             dimensions,
+            level_points,
+            end,
             internals,
             domains,
             first + l,
             quota,
-            out,
-            end,
             floats,
         );
         end += quota;
@@ -129,12 +138,12 @@ fn send_leaves(
     end
 }
 
-// Sorts the numbers from `start` up to `end` in place.
-fn sort_stretch(list: &mut [usize], start: usize, end: usize)
-    requires { ⌜ (start ≤ end) × (end ≤ length (now list)) ⌝ }
-    ensures { λ _. ⌜ Reordered (now (list .entry)) start (end - start) (now (list .exit)) ⌝ }
+// Sorts the level points from `start` up to `end` in place.
+fn sort_stretch(level_points: &mut [usize], start: usize, end: usize)
+    requires { ⌜ (start ≤ end) × (end ≤ length (now «level_points»)) ⌝ }
+    ensures { λ _. ⌜ Reordered (now («level_points» .entry)) start (end - start) (now («level_points» .exit)) ⌝ }
 {
-    sort::sort(&mut list[start..end]);
+    sort::sort(&mut level_points[start..end]);
 }
 
 // Of the m leaves that share out the `a` active rows from `from` on in the level points, each sends its quota of its own rows
@@ -143,13 +152,13 @@ pub fn coarse_points(
     points: &[f64],
     dimensions: usize,
     size: usize,
+    level_points: &mut [usize],
+    from: usize,
+    a: usize,
     internals: &[usize],
     domains: &[usize],
     first: usize,
     m: usize,
-    level_points: &mut [usize],
-    from: usize,
-    a: usize,
     floats: &mut [f64],
     wholes: &mut [usize],
 ) -> usize
@@ -163,13 +172,13 @@ pub fn coarse_points(
     let end = send_leaves(
         points,
         dimensions,
+        level_points,
+        start,
         internals,
         domains,
         first,
         m,
         wholes,
-        level_points,
-        start,
         floats,
     );
     sort_stretch(level_points, start, end);

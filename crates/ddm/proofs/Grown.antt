@@ -14,7 +14,7 @@ use Rattle.lists.proofs.Put.{put-again}
 use Rattle.lists.proofs.From.{length-from}
 use Rattle.definition.specs.Levels.{threshold, reductions}
 use Rattle.definition.specs.Tree.{Settings, Level, mostFine, levelsFrom, levelsOver, levels, pointCount}
-use Rattle.definition.specs.Packed.{rowFloats, mostRows, buildStated, packedPoints, countsOf}
+use Rattle.definition.specs.Packed.{rowFloats, mostRows, buildStated, packedLevelPoints, countsOf}
 use Rattle.definition.specs.Outcome.{TreeLists, lentSizes}
 use Rattle.definition.proofs.Steps.{fineOf, nextOf, levels-last, levels-end, levels-more}
 use Rattle.definition_laws.proofs.Accepted.{Accepted}
@@ -66,11 +66,11 @@ module _ (s : Settings) (cs : List Float) (old : TreeLists) (floats : List Float
   }
 
   -- room for the levels
-  pub all-space : (P : List ℕ) → length P ≡ length (old .points)
+  pub all-space : (P : List ℕ) → length P ≡ length (old .level-points)
       → Space (s .dimension) (s .neighbours) (pointCount (s .dimension) cs) mostFine P (old .internals) (old .domains) (old .boxes) (old .borrowed) floats wholes 0 0 0
   unfolding buildStated
   all-space P e = record {
-    level-points = omega (arith, a .enough .points, e);
+    level-points = omega (arith, a .enough .level-points, e);
     internals = omega (arith, a .enough .internals);
     domains = omega (arith, a .enough .domains);
     boxes = rows (a .enough .boxes);
@@ -96,7 +96,7 @@ module _ (s : Settings) (cs : List Float) (old : TreeLists) (floats : List Float
 
 -- ---- the level points begin with all rows, which are written first
 pub points-whole : (d : ℕ) (cs : List Float) (leaf q c k n : ℕ) (P P₁ P₂ : List ℕ) → n ≤ length P → P₁ ≡ put P 0 (from 0 n)
-    → P₂ ≡ put P₁ 0 (packedPoints (levelsAfter d cs leaf q c k 0 (from 0 n))) → P₂ ≡ put P 0 (packedPoints (levelsAfter d cs leaf q c k 0 (from 0 n)))
+    → P₂ ≡ put P₁ 0 (packedLevelPoints (levelsAfter d cs leaf q c k 0 (from 0 n))) → P₂ ≡ put P 0 (packedLevelPoints (levelsAfter d cs leaf q c k 0 (from 0 n)))
 points-whole d cs leaf q c k n P P₁ P₂ h e₁ e₂ =
     let f = first-points (levelSettings d leaf q) cs c k mostFine 0 (from 0 n) in
     e₂ ∙ rw (e₁, f .1) (put-again P 0 (from 0 n) (f .0) (omega (arith, length-from 0 n)))

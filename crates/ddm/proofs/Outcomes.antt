@@ -8,7 +8,7 @@ use lib.Ieee.{Float}
 use Rattle.lists.specs.Lists.{put}
 use Rattle.lists.proofs.Put.{put-zero}
 use Rattle.definition.specs.Tree.{Settings, levels}
-use Rattle.definition.specs.Packed.{Counts, countsOf, packedPoints, packedOwn, packedDomains, packedBoxes, packedBorrowed}
+use Rattle.definition.specs.Packed.{Counts, countsOf, packedLevelPoints, packedInternals, packedDomains, packedBoxes, packedBorrowed}
 use Rattle.definition.specs.Refusals.{Refusal, Verdict, accepted, refused}
 use Rattle.definition.specs.Outcome.{Answer, TreeLists, numberOf, placeOf, valueOf, written, listAfter, treeListsAfter, RoomAfter, zeroCounts, buildCall, buildAnswer, buildLists}
 use Rattle.demand3.proofs.Demand.{demand-3-of}
@@ -30,7 +30,7 @@ built s cs old floats wholes a l f w =
       floats-free = f;
       wholes-free = w;
       demand3 =
-          demand-3-of s cs old floats wholes _ _ _ _ _ _ a (ap (λ (t : TreeLists). t .points) l) (ap (λ (t : TreeLists). t .internals) l) (ap (λ (t : TreeLists). t .domains) l)
+          demand-3-of s cs old floats wholes _ _ _ _ _ _ a (ap (λ (t : TreeLists). t .level-points) l) (ap (λ (t : TreeLists). t .internals) l) (ap (λ (t : TreeLists). t .domains) l)
           (ap (λ (t : TreeLists). t .boxes) l) (ap (λ (t : TreeLists). t .borrowed) l);
     }
 
@@ -66,8 +66,8 @@ module _ (s : Settings) (cs : List Float) (old : TreeLists) (floats : List Float
 
     pub lists-accepted :
         record {
-          points = put (old .points) 0 (packedPoints (levels s cs));
-          internals = put (old .internals) 0 (packedOwn (levels s cs));
+          level-points = put (old .level-points) 0 (packedLevelPoints (levels s cs));
+          internals = put (old .internals) 0 (packedInternals (levels s cs));
           domains = put (old .domains) 0 (packedDomains (levels s cs));
           boxes = put (old .boxes) 0 (packedBoxes (levels s cs));
           borrowed = put (old .borrowed) 0 (packedBorrowed (levels s cs));
@@ -76,8 +76,8 @@ module _ (s : Settings) (cs : List Float) (old : TreeLists) (floats : List Float
     lists-accepted =
         rw (
           e,
-          ← written-is (old .points) (packedPoints (levels s cs)),
-          ← written-is (old .internals) (packedOwn (levels s cs)),
+          ← written-is (old .level-points) (packedLevelPoints (levels s cs)),
+          ← written-is (old .internals) (packedInternals (levels s cs)),
           ← written-is (old .domains) (packedDomains (levels s cs)),
           ← written-is (old .boxes) (packedBoxes (levels s cs)),
           ← written-is (old .borrowed) (packedBorrowed (levels s cs)),

@@ -23,7 +23,7 @@ treeAnswer t =
 -- the lists of a tree
 abbrev pub listsOf : List ℕ → List ℕ → List ℕ → List Float → List ℕ → TreeLists
 listsOf level-points internals domains boxes borrowed =
-    record { points = level-points; internals = internals; domains = domains; boxes = boxes; borrowed = borrowed }
+    record { level-points = level-points; internals = internals; domains = domains; boxes = boxes; borrowed = borrowed }
 
 -- The complete outcome of a call: its answer, the five lists, and the working room; and, of an accepted call, demand 3 of what it hands
 -- back. A list named with a prime is the list after the call.

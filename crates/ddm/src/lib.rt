@@ -2,7 +2,7 @@
 ghost use mathlib.Core.Path.{_≡_};
 ghost use Rattle.lists.specs.Lists.{put};
 ghost use Rattle.definition.specs.Tree.{levels};
-ghost use Rattle.definition.specs.Packed.{countsOf, packedPoints, packedOwn, packedDomains, packedBoxes, packedBorrowed};
+ghost use Rattle.definition.specs.Packed.{countsOf, packedLevelPoints, packedInternals, packedDomains, packedBoxes, packedBorrowed};
 ghost use Rattle.definition.specs.Refusals.{accepted};
 ghost use Rattle.definition.specs.Outcome.{zeroCounts, buildCall};
 ghost use Rattle.config.specs.Params.{settingsOf};
@@ -66,8 +66,8 @@ fn grow(
 ) -> DDMTree
     requires { ⌜ buildCall (settingsOf dimensions params) (now points) (listsOf (now «level_points») (now internals) (now domains) (now boxes) (now borrowed)) (now floats) (now wholes) ≡ accepted ⌝ }
     ensures counts { λ r. ⌜ treeAnswer r ≡ record { number = 0; place = 0; value = countsOf (levels (settingsOf dimensions params) (now (points .entry))) } ⌝ }
-    ensures level_points { λ _. ⌜ now («level_points» .exit) ≡ put (now («level_points» .entry)) 0 (packedPoints (levels (settingsOf dimensions params) (now (points .entry)))) ⌝ }
-    ensures internals { λ _. ⌜ now (internals .exit) ≡ put (now (internals .entry)) 0 (packedOwn (levels (settingsOf dimensions params) (now (points .entry)))) ⌝ }
+    ensures level_points { λ _. ⌜ now («level_points» .exit) ≡ put (now («level_points» .entry)) 0 (packedLevelPoints (levels (settingsOf dimensions params) (now (points .entry)))) ⌝ }
+    ensures internals { λ _. ⌜ now (internals .exit) ≡ put (now (internals .entry)) 0 (packedInternals (levels (settingsOf dimensions params) (now (points .entry)))) ⌝ }
     ensures domains { λ _. ⌜ now (domains .exit) ≡ put (now (domains .entry)) 0 (packedDomains (levels (settingsOf dimensions params) (now (points .entry)))) ⌝ }
     ensures boxes { λ _. ⌜ now (boxes .exit) ≡ put (now (boxes .entry)) 0 (packedBoxes (levels (settingsOf dimensions params) (now (points .entry)))) ⌝ }
     ensures borrowed { λ _. ⌜ now (borrowed .exit) ≡ put (now (borrowed .entry)) 0 (packedBorrowed (levels (settingsOf dimensions params) (now (points .entry)))) ⌝ }

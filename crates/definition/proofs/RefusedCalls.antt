@@ -44,9 +44,9 @@ settings d leaf neighbours factor policy = record { dimension = d; leaf = leaf; 
 
 -- lists of these lengths, each entry 9
 abbrev lent : ℕ → ℕ → ℕ → ℕ → ℕ → TreeLists
-lent points internals domains boxes borrowed =
+lent level-points internals domains boxes borrowed =
     record {
-      points = replicate points 9;
+      level-points = replicate level-points 9;
       internals = replicate internals 9;
       domains = replicate domains 9;
       boxes = line (replicate boxes 9);
@@ -77,9 +77,9 @@ Spoiled cs place = BuildRefused two cs (lent 8 8 52 52 36) (line (replicate 64 9
 
 -- the lengths of the seven lists of a build
 abbrev lengths : ℕ → ℕ → ℕ → ℕ → ℕ → ℕ → ℕ → BuildSizes
-lengths points internals domains boxes borrowed floats wholes =
+lengths level-points internals domains boxes borrowed floats wholes =
     record {
-      points = points;
+      level-points = level-points;
       internals = internals;
       domains = domains;
       boxes = boxes;
@@ -131,7 +131,7 @@ pub record RefusedCalls : Type 0 where
   reach4097 : (cs : List Float) → length cs ≡ 4097 → ShortBuild (settings 1 1 64 2 auto) cs 9
   reach4096 : (cs : List Float) → length cs ≡ 4096 → ShortBuild (settings 1 1 64 2 auto) cs 11
   -- each list just too short, and a coordinate that is not a number
-  short-points : Short (lent 7 8 52 52 36) 64 112
+  short-level-points : Short (lent 7 8 52 52 36) 64 112
   short-internals : Short (lent 8 7 52 52 36) 64 112
   short-domains : Short (lent 8 8 51 52 36) 64 112
   short-boxes : Short (lent 8 8 52 51 36) 64 112
@@ -264,7 +264,7 @@ refused-calls =
       reach16 = (refl, refl);
       reach4097 = above-reach;
       reach4096 = at-reach;
-      short-points = (refl, refl);
+      short-level-points = (refl, refl);
       short-internals = (refl, refl);
       short-domains = (refl, refl);
       short-boxes = (refl, refl);

@@ -28,7 +28,7 @@ pub record Examples : Type 0 where
   packed :
       buildLists (onLine 2 2) (line (0 ∷ 1 ∷ 3 ∷ 7 ∷ [])) (nines 4) (floatRoom 4) (wholeRoom 4)
       ≡ record {
-        points = 0 ∷ 1 ∷ 2 ∷ 3 ∷ 0 ∷ 1 ∷ replicate 10 9;
+        level-points = 0 ∷ 1 ∷ 2 ∷ 3 ∷ 0 ∷ 1 ∷ replicate 10 9;
         internals = 0 ∷ 1 ∷ 2 ∷ 3 ∷ 0 ∷ 1 ∷ replicate 10 9;
         domains =
             (0 ∷ 1 ∷ 0 ∷ 1 ∷ []) ++ (1 ∷ 1 ∷ 1 ∷ 2 ∷ []) ++ (2 ∷ 1 ∷ 3 ∷ 2 ∷ []) ++ (3 ∷ 1 ∷ 5 ∷ 1 ∷ []) ++ (4 ∷ 2 ∷ 6 ∷ 0 ∷ [])
@@ -46,7 +46,7 @@ pub record Examples : Type 0 where
   run8-lists :
       buildLists (onLine 4 1) (line (from 0 8)) (nines 8) (floatRoom 8) (wholeRoom 8)
       ≡ record {
-        points = 0 ∷ 1 ∷ 2 ∷ 3 ∷ 4 ∷ 5 ∷ 6 ∷ 7 ∷ 0 ∷ 2 ∷ 4 ∷ 6 ∷ 0 ∷ 4 ∷ 0 ∷ replicate 17 9;
+        level-points = 0 ∷ 1 ∷ 2 ∷ 3 ∷ 4 ∷ 5 ∷ 6 ∷ 7 ∷ 0 ∷ 2 ∷ 4 ∷ 6 ∷ 0 ∷ 4 ∷ 0 ∷ replicate 17 9;
         internals = 0 ∷ 1 ∷ 2 ∷ 3 ∷ 4 ∷ 5 ∷ 6 ∷ 7 ∷ 0 ∷ 2 ∷ 4 ∷ 6 ∷ 0 ∷ 4 ∷ 0 ∷ replicate 17 9;
         domains =
             (0 ∷ 2 ∷ 0 ∷ 1 ∷ []) ++ (2 ∷ 2 ∷ 1 ∷ 2 ∷ []) ++ (4 ∷ 2 ∷ 3 ∷ 2 ∷ []) ++ (6 ∷ 2 ∷ 5 ∷ 1 ∷ [])
@@ -61,7 +61,7 @@ pub record Examples : Type 0 where
   run3-lists :
       buildLists (onLine 1 1) (line (from 0 3)) (nines 3) (floatRoom 3) (wholeRoom 3)
       ≡ record {
-        points = 0 ∷ 1 ∷ 2 ∷ 0 ∷ 1 ∷ 0 ∷ replicate 6 9;
+        level-points = 0 ∷ 1 ∷ 2 ∷ 0 ∷ 1 ∷ 0 ∷ replicate 6 9;
         internals = 0 ∷ 1 ∷ 2 ∷ 0 ∷ 1 ∷ 0 ∷ replicate 6 9;
         domains =
             (0 ∷ 0 ∷ 0 ∷ 0 ∷ []) ++ (0 ∷ 1 ∷ 0 ∷ 1 ∷ []) ++ (1 ∷ 0 ∷ 1 ∷ 0 ∷ []) ++ (1 ∷ 1 ∷ 1 ∷ 2 ∷ []) ++ (2 ∷ 0 ∷ 3 ∷ 0 ∷ []) ++ (2 ∷ 1 ∷ 3 ∷ 1 ∷ [])

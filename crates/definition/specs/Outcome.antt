@@ -11,7 +11,7 @@ use Rattle.definition.specs.Levels.{levelSize}
 use Rattle.definition.specs.Quotas.{heldSeats, quotas}
 use Rattle.definition.specs.Sampling.{sample}
 use Rattle.definition.specs.Tree.{Settings, Level, levels, pointCount}
-use Rattle.definition.specs.Packed.{DomainRow, BuildSizes, buildStated, Counts, countsOf, mostLevels, packedPoints, packedOwn, packedDomains, packedBoxes, packedBorrowed}
+use Rattle.definition.specs.Packed.{DomainRow, BuildSizes, buildStated, Counts, countsOf, mostLevels, packedLevelPoints, packedInternals, packedDomains, packedBoxes, packedBorrowed}
 use Rattle.definition.specs.Refusals.{Verdict, accepted, refused, buildVerdict, sizesVerdict, sampleVerdict, sizeVerdict, quotaVerdict, stretchVerdict, rootVerdict}
 
 -- ---- what a call answers, and what becomes of a lent list
@@ -97,7 +97,7 @@ sampleOutput d cs wanted seed out floats wholes =
 
 -- the lists that a build hands back: level points, internals, domain rows, boxes and borrowed rows
 pub record TreeLists : Type 0 where
-  pub points : List ℕ
+  pub level-points : List ℕ
   pub internals : List ℕ
   pub domains : List ℕ
   pub boxes : List Float
@@ -107,7 +107,7 @@ pub record TreeLists : Type 0 where
 abbrev pub lentSizes : TreeLists → List Float → List ℕ → BuildSizes
 lentSizes l floats wholes =
     record {
-      points = length (l .points);
+      level-points = length (l .level-points);
       internals = length (l .internals);
       domains = length (l .domains);
       boxes = length (l .boxes);
@@ -130,8 +130,8 @@ buildAnswer s cs old floats wholes = answered (buildCall s cs old floats wholes)
 unfoldable pub treeListsAfter : Verdict → List Level → TreeLists → TreeLists
 treeListsAfter v tree old =
     record {
-      points = listAfter v (packedPoints tree) (old .points);
-      internals = listAfter v (packedOwn tree) (old .internals);
+      level-points = listAfter v (packedLevelPoints tree) (old .level-points);
+      internals = listAfter v (packedInternals tree) (old .internals);
       domains = listAfter v (packedDomains tree) (old .domains);
       boxes = listAfter v (packedBoxes tree) (old .boxes);
       borrowed = listAfter v (packedBorrowed tree) (old .borrowed);
@@ -145,7 +145,7 @@ buildLists s cs old floats wholes = treeListsAfter (buildCall s cs old floats wh
 -- what a refused call reports
 abbrev pub zeroSizes : BuildSizes
 zeroSizes =
-    record { points = 0; internals = 0; domains = 0; boxes = 0; borrowed = 0; floats = 0; wholes = 0 }
+    record { level-points = 0; internals = 0; domains = 0; boxes = 0; borrowed = 0; floats = 0; wholes = 0 }
 
 unfoldable pub sizesAnswer : ℕ → ℕ → ℕ → Answer BuildSizes
 sizesAnswer d n neighbours = answered (sizesVerdict d n neighbours) (buildStated d n neighbours) zeroSizes

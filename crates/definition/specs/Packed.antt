@@ -43,18 +43,12 @@ rowOf a b f =
 unfoldable pub leavesIn : List Level → List Leaf
 leavesIn ls = joined (map (λ l. l .leaves) ls)
 
--- the level points, the internals, the borrowed rows and the boxes
-unfoldable pub packedPoints : List Level → List ℕ
-packedPoints ls = joined (map (λ l. l .points) ls)
+-- the level points and the internals
+unfoldable pub packedLevelPoints : List Level → List ℕ
+packedLevelPoints ls = joined (map (λ l. l .points) ls)
 
-unfoldable pub packedOwn : List Level → List ℕ
-packedOwn ls = joined (map (λ f. f .own) (leavesIn ls))
-
-unfoldable pub packedBorrowed : List Level → List ℕ
-packedBorrowed ls = joined (map (λ f. f .borrowed) (leavesIn ls))
-
-unfoldable pub packedBoxes : List Level → List Float
-packedBoxes ls = joined (map (λ f. f .box) (leavesIn ls))
+unfoldable pub packedInternals : List Level → List ℕ
+packedInternals ls = joined (map (λ f. f .own) (leavesIn ls))
 
 -- the domain rows: each stretch starts where the last one of its list ended; the first two start at a and b
 unfoldable pub stretches : ℕ → ℕ → List Leaf → List ℕ
@@ -63,6 +57,13 @@ stretches a b (f ∷ fs) = numbersOf (rowOf a b f) ++ stretches (a + length (f .
 
 unfoldable pub packedDomains : List Level → List ℕ
 packedDomains ls = stretches 0 0 (leavesIn ls)
+
+-- the boxes and the borrowed rows
+unfoldable pub packedBoxes : List Level → List Float
+packedBoxes ls = joined (map (λ f. f .box) (leavesIn ls))
+
+unfoldable pub packedBorrowed : List Level → List ℕ
+packedBorrowed ls = joined (map (λ f. f .borrowed) (leavesIn ls))
 
 -- ---- counts
 
@@ -92,7 +93,7 @@ countsOf ls =
 
 -- the lengths of the lists lent to a build
 pub record BuildSizes : Type 0 where
-  pub points : ℕ
+  pub level-points : ℕ
   pub internals : ℕ
   pub domains : ℕ
   pub boxes : ℕ
@@ -108,7 +109,7 @@ mostRows n = 6 * n + 1
 unfoldable pub buildStated : ℕ → ℕ → ℕ → BuildSizes
 buildStated d n neighbours =
     record {
-      points = 4 * n;
+      level-points = 4 * n;
       internals = 4 * n;
       domains = rowNumbers * mostRows n;
       boxes = rowFloats d * mostRows n;

@@ -73,7 +73,7 @@ zeroThreshold (fixed c) = eqb c 0
 -- 11: a lent list shorter than stated
 unfoldable pub buildShort : BuildSizes → BuildSizes → Bool
 buildShort lent stated =
-    ltb (lent .points) (stated .points) || ltb (lent .internals) (stated .internals) || ltb (lent .domains) (stated .domains)
+    ltb (lent .level-points) (stated .level-points) || ltb (lent .internals) (stated .internals) || ltb (lent .domains) (stated .domains)
     || ltb (lent .boxes) (stated .boxes) || ltb (lent .borrowed) (stated .borrowed) || ltb (lent .floats) (stated .floats)
     || ltb (lent .wholes) (stated .wholes)
 

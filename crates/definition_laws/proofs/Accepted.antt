@@ -143,7 +143,7 @@ passed s n missing lacking judged e =
 
 -- ---- lists that are not shorter than stated
 pub record LentEnough (lent stated : BuildSizes) : Type 0 where
-  pub points : stated .points ≤ lent .points
+  pub level-points : stated .level-points ≤ lent .level-points
   pub internals : stated .internals ≤ lent .internals
   pub domains : stated .domains ≤ lent .domains
   pub boxes : stated .boxes ≤ lent .boxes
@@ -161,7 +161,7 @@ lent-enough lent stated e =
     let domains-fail = or-none _ _ (boxes-fail .0) in
     let internals-fail = or-none _ _ (domains-fail .0) in
     record {
-      points = ltb-false (lent .points) (stated .points) (internals-fail .0);
+      level-points = ltb-false (lent .level-points) (stated .level-points) (internals-fail .0);
       internals = ltb-false (lent .internals) (stated .internals) (internals-fail .1);
       domains = ltb-false (lent .domains) (stated .domains) (domains-fail .1);
       boxes = ltb-false (lent .boxes) (stated .boxes) (boxes-fail .1);

@@ -19,7 +19,7 @@ use Rattle.definition.specs.Levels.{threshold, reductions}
 use Rattle.definition.specs.Cut.{Domain, leavesOf}
 use Rattle.definition.specs.Tree.{Settings, Leaf, Level, coarseLevel, fineLevel, nextActive, mostFine, levelsFrom, levelsOver, pointCount, levels}
 use Rattle.definition.specs.Points.{boxWidth}
-use Rattle.definition.specs.Packed.{leavesIn, packedPoints, packedOwn, packedDomains, packedBoxes, packedBorrowed, stretches, rowNumbers, rowFloats, mostRows, BuildSizes, buildStated}
+use Rattle.definition.specs.Packed.{leavesIn, packedLevelPoints, packedInternals, packedDomains, packedBoxes, packedBorrowed, stretches, rowNumbers, rowFloats, mostRows, BuildSizes, buildStated}
 use Rattle.definition.specs.Refusals.{accepted, buildVerdict}
 use Rattle.definition.proofs.Steps.{fineLeaf, fineOf}
 use Rattle.definition.proofs.Cuts.{Good, leaves-sum}
@@ -40,12 +40,12 @@ pub length-leaves : (ls : List Level) → length (leavesIn ls) ≡ total (map (�
 unfolding leavesIn
 length-leaves ls = length-joined (map (λ l. l .leaves) ls) ∙ ap total (map-map length (λ (l : Level). l .leaves) ls)
 
-pub length-points : (ls : List Level) → length (packedPoints ls) ≡ total (map (λ (l : Level). length (l .points)) ls)
-unfolding packedPoints
+pub length-points : (ls : List Level) → length (packedLevelPoints ls) ≡ total (map (λ (l : Level). length (l .points)) ls)
+unfolding packedLevelPoints
 length-points ls = length-joined (map (λ l. l .points) ls) ∙ ap total (map-map length (λ (l : Level). l .points) ls)
 
-pub length-own : (ls : List Level) → length (packedOwn ls) ≡ total (map (λ (l : Level). total (map (λ (f : Leaf). length (f .own)) (l .leaves))) ls)
-unfolding packedOwn
+pub length-own : (ls : List Level) → length (packedInternals ls) ≡ total (map (λ (l : Level). total (map (λ (f : Leaf). length (f .own)) (l .leaves))) ls)
+unfolding packedInternals
 length-own ls =
     length-joined (map (λ f. f .own) (leavesIn ls)) ∙ ap total (map-map length (λ (f : Leaf). f .own) (leavesIn ls)) ∙ leaves-in (λ f. length (f .own)) ls
 
@@ -78,8 +78,8 @@ pub record PackedFit (d n neighbours : ℕ) (ls : List Level) : Type 0 where
   pub few : length ls ≤ suc mostFine
   pub rows : length (leavesIn ls) ≤ mostRows n
   pub bounds : All (λ (f : Leaf). length (f .box) ≡ boxWidth d) (leavesIn ls)
-  pub points : length (packedPoints ls) ≤ buildStated d n neighbours .points
-  pub internals : length (packedOwn ls) ≤ buildStated d n neighbours .internals
+  pub level-points : length (packedLevelPoints ls) ≤ buildStated d n neighbours .level-points
+  pub internals : length (packedInternals ls) ≤ buildStated d n neighbours .internals
   pub domains : length (packedDomains ls) ≤ buildStated d n neighbours .domains
   pub boxes : length (packedBoxes ls) ≤ buildStated d n neighbours .boxes
   pub borrowed : length (packedBorrowed ls) ≤ buildStated d n neighbours .borrowed
@@ -167,11 +167,11 @@ module _ (s : Settings) (cs : List Float) (pos : 0 < s .dimension) (lp : 1 ≤ s
     few-levels : length ls ≤ suc fuel
     few-levels = omega (arith, sum-of (λ l. 1) 1 1 (λ active q h. omega arith) (λ active q. omega arith), sum-const 1 ls)
 
-    few-points : length (packedPoints ls) ≤ fuel * n + n
+    few-points : length (packedLevelPoints ls) ≤ fuel * n + n
     few-points =
         omega (arith, length-points ls, sum-of (λ l. length (l .points)) n n fine-points (λ active q. omega (arith, coarse-points active, q .1)))
 
-    few-own : length (packedOwn ls) ≤ fuel * n + n
+    few-own : length (packedInternals ls) ≤ fuel * n + n
     few-own =
         omega (arith, length-own ls, sum-of (ofLeaves (λ f. length (f .own))) n n fine-own (λ active q. omega (arith, coarse-own active, q .1)))
 
@@ -212,7 +212,7 @@ packed-fit s cs active pos lp g =
       few = few-levels s cs pos lp n c k mostFine active q;
       rows = r;
       bounds = b;
-      points = omega (arith, few-points s cs pos lp n c k mostFine active q);
+      level-points = omega (arith, few-points s cs pos lp n c k mostFine active q);
       internals = omega (arith, few-own s cs pos lp n c k mostFine active q);
       domains = omega (arith, length-domains tree);
       boxes = omega (arith, boxes-even (s .dimension) (leavesIn tree) b, mul-le-mul-left (rowFloats (s .dimension)) r);
@@ -227,8 +227,8 @@ packed-fit s cs active pos lp g =
 
 -- ---- an accepted build: the lists that it packs fit in what it is lent
 pub record LentFit (lent : BuildSizes) (ls : List Level) : Type 0 where
-  pub points : length (packedPoints ls) ≤ lent .points
-  pub internals : length (packedOwn ls) ≤ lent .internals
+  pub level-points : length (packedLevelPoints ls) ≤ lent .level-points
+  pub internals : length (packedInternals ls) ≤ lent .internals
   pub domains : length (packedDomains ls) ≤ lent .domains
   pub boxes : length (packedBoxes ls) ≤ lent .boxes
   pub borrowed : length (packedBorrowed ls) ≤ lent .borrowed
@@ -236,7 +236,7 @@ pub record LentFit (lent : BuildSizes) (ls : List Level) : Type 0 where
 pub lent-fit : (d n neighbours : ℕ) (lent : BuildSizes) (ls : List Level) → PackedFit d n neighbours ls → LentEnough lent (buildStated d n neighbours) → LentFit lent ls
 lent-fit d n neighbours lent ls f e =
     record {
-      points = le-trans (f .points) (e .points);
+      level-points = le-trans (f .level-points) (e .level-points);
       internals = le-trans (f .internals) (e .internals);
       domains = le-trans (f .domains) (e .domains);
       boxes = le-trans (f .boxes) (e .boxes);

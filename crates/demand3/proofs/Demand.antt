@@ -17,7 +17,7 @@ use Rattle.definition.specs.Number.{plusZero}
 use Rattle.definition.specs.Cut.{Domain, leavesOf}
 use Rattle.definition.specs.Tree.{Settings, Leaf, Level, coarseLevel, fineLevel, mostFine, levelsOver, pointCount, levels}
 use Rattle.definition.specs.Points.{boxWidth}
-use Rattle.definition.specs.Packed.{Counts, leavesIn, packedPoints, packedOwn, packedDomains, packedBoxes, packedBorrowed}
+use Rattle.definition.specs.Packed.{Counts, leavesIn, packedLevelPoints, packedInternals, packedDomains, packedBoxes, packedBorrowed}
 use Rattle.definition.specs.Refusals.{accepted}
 use Rattle.definition.specs.Outcome.{Answer, TreeLists, lentSizes, written, listAfter, valueOf, treeListsAfter, buildCall, buildAnswer, buildLists}
 use Rattle.definition.proofs.Cuts.{Good}
@@ -175,9 +175,9 @@ handed-packs s cs old floats wholes e few boxed = record {
   few = few;
   boxed = boxed;
   counts = rw e;
-  points-rest = drop (length (packedPoints (levels s cs))) (old .points);
+  points-rest = drop (length (packedLevelPoints (levels s cs))) (old .level-points);
   points-are = rw e;
-  internals-rest = drop (length (packedOwn (levels s cs))) (old .internals);
+  internals-rest = drop (length (packedInternals (levels s cs))) (old .internals);
   internals = rw e;
   domains-rest = drop (length (packedDomains (levels s cs))) (old .domains);
   domains = rw e;
@@ -206,15 +206,15 @@ demand-3 s cs old floats wholes e =
 
 -- The same of an answer and five lists of which a contract says that they are the definition's.
 module _ (s : Settings) (cs : List Float) (old : TreeLists) (floats : List Float) (wholes : List ℕ) (answer : Answer Counts)
-    (points internals domains : List ℕ) (boxes : List Float) (borrowed : List ℕ)
+    (level-points internals domains : List ℕ) (boxes : List Float) (borrowed : List ℕ)
     (answer-is : answer ≡ buildAnswer s cs old floats wholes)
-    (points-are : points ≡ buildLists s cs old floats wholes .points)
+    (points-are : level-points ≡ buildLists s cs old floats wholes .level-points)
     (internals-are : internals ≡ buildLists s cs old floats wholes .internals)
     (domains-are : domains ≡ buildLists s cs old floats wholes .domains)
     (boxes-are : boxes ≡ buildLists s cs old floats wholes .boxes)
     (borrowed-are : borrowed ≡ buildLists s cs old floats wholes .borrowed) where
   abbrev lists : TreeLists
-  lists = record { points = points; internals = internals; domains = domains; boxes = boxes; borrowed = borrowed }
+  lists = record { level-points = level-points; internals = internals; domains = domains; boxes = boxes; borrowed = borrowed }
 
   -- an accepted call
   pub demand-3-of : buildCall s cs old floats wholes ≡ accepted → Demand3 s cs (handed answer lists)

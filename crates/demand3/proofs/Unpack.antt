@@ -15,51 +15,51 @@ use Rattle.demand3.specs.Handed.{Handed, levelCount, rowsOn, leavesOn, l
 
 -- the lists that hold the leaves, on d axes
 abbrev pub leafLists : ℕ → Handed → Packed
-leafLists d h = packed (h .lists .internals) (h .lists .borrowed) (h .lists .domains) (h .lists .boxes) d
+leafLists d h = packed (h .lists .internals) (h .lists .domains) (h .lists .boxes) (h .lists .borrowed) d
 
 abbrev pub PackedIn : ℕ → List Level → Handed → Type 0
-PackedIn d ls h = Packs ls (leafLists d h) (h .lists .points) (h .counts)
+PackedIn d ls h = Packs ls (leafLists d h) (h .lists .level-points) (h .counts)
 
 module _ (d : ℕ) (ls : List Level) (h : Handed) (k : PackedIn d ls h) where
   pub handed-levels : levelCount h ≡ length ls
-  handed-levels = tree.levels-are ls (leafLists d h) (h .lists .points) (h .counts) k
+  handed-levels = tree.levels-are ls (leafLists d h) (h .lists .level-points) (h .counts) k
 
   pub handed-rows : (l : ℕ) → rowsOn h l ≡ length (getD ls l noLevel .points)
-  handed-rows = tree.rows-on ls (leafLists d h) (h .lists .points) (h .counts) k
+  handed-rows = tree.rows-on ls (leafLists d h) (h .lists .level-points) (h .counts) k
 
   pub handed-leaves : (l : ℕ) → leavesOn h l ≡ length (getD ls l noLevel .leaves)
-  handed-leaves = tree.leaves-on ls (leafLists d h) (h .lists .points) (h .counts) k
+  handed-leaves = tree.leaves-on ls (leafLists d h) (h .lists .level-points) (h .counts) k
 
   pub handed-listed : (l : ℕ) → listed h l ≡ getD ls l noLevel .points
   unfolding listed
-  handed-listed = tree.listed-is ls (leafLists d h) (h .lists .points) (h .counts) k
+  handed-listed = tree.listed-is ls (leafLists d h) (h .lists .level-points) (h .counts) k
 
   -- ---- a leaf
   module _ (l i : ℕ) (in-level : i < length (getD ls l noLevel .leaves)) where
     there : rowNumber h l i < length (leavesIn ls)
     unfolding rowNumber
-    there = tree.leaf-in ls (leafLists d h) (h .lists .points) (h .counts) k l i in-level
+    there = tree.leaf-in ls (leafLists d h) (h .lists .level-points) (h .counts) k l i in-level
 
     is : getD (leavesIn ls) (rowNumber h l i) noLeaf ≡ getD (getD ls l noLevel .leaves) i noLeaf
     unfolding rowNumber
-    is = tree.leaf-at ls (leafLists d h) (h .lists .points) (h .counts) k l i in-level
+    is = tree.leaf-at ls (leafLists d h) (h .lists .level-points) (h .counts) k l i in-level
 
     pub handed-own-count : domainRow h l i .ownCount ≡ length (getD (getD ls l noLevel .leaves) i noLeaf .own)
     unfolding domainRow
-    handed-own-count = tree.own-count-is ls (leafLists d h) (h .lists .points) (h .counts) k (rowNumber h l i) there ∙ ap (λ (f : Leaf). length (f .own)) is
+    handed-own-count = tree.own-count-is ls (leafLists d h) (h .lists .level-points) (h .counts) k (rowNumber h l i) there ∙ ap (λ (f : Leaf). length (f .own)) is
 
     pub handed-borrowed-count : domainRow h l i .borrowedCount ≡ length (getD (getD ls l noLevel .leaves) i noLeaf .borrowed)
     unfolding domainRow
-    handed-borrowed-count = tree.borrowed-count-is ls (leafLists d h) (h .lists .points) (h .counts) k (rowNumber h l i) there ∙ ap (λ (f : Leaf). length (f .borrowed)) is
+    handed-borrowed-count = tree.borrowed-count-is ls (leafLists d h) (h .lists .level-points) (h .counts) k (rowNumber h l i) there ∙ ap (λ (f : Leaf). length (f .borrowed)) is
 
     pub handed-own : ownOf h l i ≡ getD (getD ls l noLevel .leaves) i noLeaf .own
     unfolding ownOf
-    handed-own = tree.own-is ls (leafLists d h) (h .lists .points) (h .counts) k (rowNumber h l i) there ∙ ap (λ (f : Leaf). f .own) is
+    handed-own = tree.own-is ls (leafLists d h) (h .lists .level-points) (h .counts) k (rowNumber h l i) there ∙ ap (λ (f : Leaf). f .own) is
 
     pub handed-borrowed : borrowedOf h l i ≡ getD (getD ls l noLevel .leaves) i noLeaf .borrowed
     unfolding borrowedOf
-    handed-borrowed = tree.borrowed-is ls (leafLists d h) (h .lists .points) (h .counts) k (rowNumber h l i) there ∙ ap (λ (f : Leaf). f .borrowed) is
+    handed-borrowed = tree.borrowed-is ls (leafLists d h) (h .lists .level-points) (h .counts) k (rowNumber h l i) there ∙ ap (λ (f : Leaf). f .borrowed) is
 
     pub handed-box : boxOf d h l i ≡ getD (getD ls l noLevel .leaves) i noLeaf .box
     unfolding boxOf
-    handed-box = tree.box-is ls (leafLists d h) (h .lists .points) (h .counts) k (rowNumber h l i) there ∙ ap (λ (f : Leaf). f .box) is
+    handed-box = tree.box-is ls (leafLists d h) (h .lists .level-points) (h .counts) k (rowNumber h l i) there ∙ ap (λ (f : Leaf). f .box) is

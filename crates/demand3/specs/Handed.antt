@@ -36,7 +36,7 @@ HasNext h l = suc l < levelCount h
 
 -- the rows that level l lists
 unfoldable pub listed : Handed → ℕ → List ℕ
-listed h l = pointsAt (h .lists .points) (h .counts .rows) l
+listed h l = pointsAt (h .lists .level-points) (h .counts .rows) l
 
 -- ---- leaves
 

@@ -34,10 +34,10 @@ set = onLine 2 2
 
 -- lists that held nines, with these at their fronts
 abbrev handed : List ℕ → List ℕ → List ℕ → List ℕ → List ℕ → Counts → Handed
-handed points internals domains boxes borrowed counts =
+handed level-points internals domains boxes borrowed counts =
     record {
       lists = record {
-        points = points ++ replicate 10 9;
+        level-points = level-points ++ replicate 10 9;
         internals = internals ++ replicate 10 9;
         domains = domains ++ replicate 80 9;
         boxes = line (boxes ++ replicate 40 9);
@@ -50,8 +50,8 @@ abbrev counts : ℕ → List ℕ → List ℕ → Counts
 counts levels rows domains = record { levels = levels; rows = rows; domains = domains }
 
 -- ---- the right lists
-abbrev points : List ℕ
-points = 0 ∷ 1 ∷ 2 ∷ 3 ∷ 0 ∷ 1 ∷ []
+abbrev level-points : List ℕ
+level-points = 0 ∷ 1 ∷ 2 ∷ 3 ∷ 0 ∷ 1 ∷ []
 
 abbrev internals : List ℕ
 internals = 0 ∷ 1 ∷ 2 ∷ 3 ∷ 0 ∷ 1 ∷ []
@@ -69,7 +69,7 @@ abbrev two : Counts
 two = counts 2 (4 ∷ 2 ∷ 0 ∷ 0 ∷ []) (4 ∷ 1 ∷ 0 ∷ 0 ∷ [])
 
 abbrev right : Handed
-right = handed points internals domains boxes borrowed two
+right = handed level-points internals domains boxes borrowed two
 
 -- a build hands them back
 is-right : handedBack set four (nines 4) (floatRoom 4) (wholeRoom 4) ≡ right
@@ -82,20 +82,20 @@ unfolding all-open
 right-has-it = subst (Demand3 set four) is-right (demand-3 set four (nines 4) (floatRoom 4) (wholeRoom 4) refl)
 
 -- ---- wrong in one thing
-abbrev points-but : List ℕ → Counts → Handed
-points-but p c = handed p internals domains boxes borrowed c
+abbrev level-points-but : List ℕ → Counts → Handed
+level-points-but p c = handed p internals domains boxes borrowed c
 
 abbrev internals-but : List ℕ → Handed
-internals-but i = handed points i domains boxes borrowed two
+internals-but i = handed level-points i domains boxes borrowed two
 
 abbrev domains-but : List ℕ → Handed
-domains-but d = handed points internals d boxes borrowed two
+domains-but d = handed level-points internals d boxes borrowed two
 
 abbrev boxes-but : List ℕ → Handed
-boxes-but b = handed points internals domains b borrowed two
+boxes-but b = handed level-points internals domains b borrowed two
 
 abbrev borrowed-but : List ℕ → Handed
-borrowed-but b = handed points internals domains boxes b two
+borrowed-but b = handed level-points internals domains boxes b two
 
 -- nothing written and nothing counted; nothing written, though the counts are right
 pub not-empty : Demand3 set four (handed [] [] [] [] [] (counts 0 (replicate 4 0) (replicate 4 0))) → ⊥
@@ -106,50 +106,50 @@ unfolding all-open
 not-unwritten h = let e : _≡_ {A = ℕ} 9 0 = ap (λ (l : List ℕ). getD l 0 5) (h .first-lists-all) in omega arith
 
 -- five levels are counted
-pub not-many : Demand3 set four (points-but points (counts 5 (4 ∷ 2 ∷ 0 ∷ 0 ∷ []) (4 ∷ 1 ∷ 0 ∷ 0 ∷ []))) → ⊥
+pub not-many : Demand3 set four (level-points-but level-points (counts 5 (4 ∷ 2 ∷ 0 ∷ 0 ∷ []) (4 ∷ 1 ∷ 0 ∷ 0 ∷ []))) → ⊥
 not-many h = let e : 5 ≤ 4 = h .few-levels in omega arith
 
 -- a level follows one that has c rows
-pub not-after-coarse : Demand3 set four (points-but (0 ∷ 1 ∷ 2 ∷ 3 ∷ 0 ∷ 1 ∷ 0 ∷ []) (counts 3 (4 ∷ 2 ∷ 1 ∷ 0 ∷ []) (4 ∷ 1 ∷ 1 ∷ 0 ∷ []))) → ⊥
+pub not-after-coarse : Demand3 set four (level-points-but (0 ∷ 1 ∷ 2 ∷ 3 ∷ 0 ∷ 1 ∷ 0 ∷ []) (counts 3 (4 ∷ 2 ∷ 1 ∷ 0 ∷ []) (4 ∷ 1 ∷ 1 ∷ 0 ∷ []))) → ⊥
 unfolding all-open
 not-after-coarse h = let e : 2 < 2 = h .next-outnumbers 1 (omega arith) in omega arith
 
 -- the second level is missing: the first has more than c rows, and so is neither the last nor a coarse one
-pub not-coarse : Demand3 set four (points-but (0 ∷ 1 ∷ 2 ∷ 3 ∷ []) (counts 1 (4 ∷ 0 ∷ 0 ∷ 0 ∷ []) (4 ∷ 0 ∷ 0 ∷ 0 ∷ []))) → ⊥
+pub not-coarse : Demand3 set four (level-points-but (0 ∷ 1 ∷ 2 ∷ 3 ∷ []) (counts 1 (4 ∷ 0 ∷ 0 ∷ 0 ∷ []) (4 ∷ 0 ∷ 0 ∷ 0 ∷ []))) → ⊥
 unfolding all-open
 not-coarse h = let e : 4 ≤ 2 = h .last-coarse .few in omega arith
 
-pub not-ended : Demand3 set four (points-but (0 ∷ 1 ∷ 2 ∷ 3 ∷ []) (counts 1 (4 ∷ 0 ∷ 0 ∷ 0 ∷ []) (4 ∷ 0 ∷ 0 ∷ 0 ∷ []))) → ⊥
+pub not-ended : Demand3 set four (level-points-but (0 ∷ 1 ∷ 2 ∷ 3 ∷ []) (counts 1 (4 ∷ 0 ∷ 0 ∷ 0 ∷ []) (4 ∷ 0 ∷ 0 ∷ 0 ∷ []))) → ⊥
 unfolding all-open
 not-ended h = let e : 2 ≤ 1 = h .outnumbers-next 0 (omega arith) in omega arith
 
 -- it lists a row twice, drops one, lists one that was not sent up, or is not on the level above, one more than S, or all of them again
-pub not-repeated : Demand3 set four (points-but (0 ∷ 1 ∷ 2 ∷ 3 ∷ 0 ∷ 0 ∷ []) two) → ⊥
+pub not-repeated : Demand3 set four (level-points-but (0 ∷ 1 ∷ 2 ∷ 3 ∷ 0 ∷ 0 ∷ []) two) → ⊥
 unfolding all-open
 not-repeated h = let e : 2 ≤ 1 = h .each-fine 0 (omega arith) .next .each-once 0 in omega arith
 
-pub not-dropped : Demand3 set four (points-but (0 ∷ 1 ∷ 2 ∷ 3 ∷ 0 ∷ []) (counts 2 (4 ∷ 1 ∷ 0 ∷ 0 ∷ []) (4 ∷ 1 ∷ 0 ∷ 0 ∷ []))) → ⊥
+pub not-dropped : Demand3 set four (level-points-but (0 ∷ 1 ∷ 2 ∷ 3 ∷ 0 ∷ []) (counts 2 (4 ∷ 1 ∷ 0 ∷ 0 ∷ []) (4 ∷ 1 ∷ 0 ∷ 0 ∷ []))) → ⊥
 unfolding all-open
 not-dropped h = let e : _≡_ {A = ℕ} 1 2 = h .each-fine 0 (omega arith) .next-size in omega arith
 
-pub not-unsent : Demand3 set four (points-but (0 ∷ 1 ∷ 2 ∷ 3 ∷ 0 ∷ 2 ∷ []) two) → ⊥
+pub not-unsent : Demand3 set four (level-points-but (0 ∷ 1 ∷ 2 ∷ 3 ∷ 0 ∷ 2 ∷ []) two) → ⊥
 unfolding all-open
 not-unsent h = let e : _≡_ {A = ℕ} 1 0 = h .each-fine 0 (omega arith) .next-lists-sent 2 in omega arith
 
-pub not-elsewhere : Demand3 set four (points-but (0 ∷ 1 ∷ 2 ∷ 3 ∷ 0 ∷ 8 ∷ []) two) → ⊥
+pub not-elsewhere : Demand3 set four (level-points-but (0 ∷ 1 ∷ 2 ∷ 3 ∷ 0 ∷ 8 ∷ []) two) → ⊥
 unfolding all-open
 not-elsewhere h = let e : 0 < 0 = h .each-fine 0 (omega arith) .next .from-this 8 (omega arith) in omega arith
 
-pub not-one-more : Demand3 set four (points-but (0 ∷ 1 ∷ 2 ∷ 3 ∷ 0 ∷ 1 ∷ 2 ∷ []) (counts 2 (4 ∷ 3 ∷ 0 ∷ 0 ∷ []) (4 ∷ 1 ∷ 0 ∷ 0 ∷ []))) → ⊥
+pub not-one-more : Demand3 set four (level-points-but (0 ∷ 1 ∷ 2 ∷ 3 ∷ 0 ∷ 1 ∷ 2 ∷ []) (counts 2 (4 ∷ 3 ∷ 0 ∷ 0 ∷ []) (4 ∷ 1 ∷ 0 ∷ 0 ∷ []))) → ⊥
 unfolding all-open
 not-one-more h = let e : _≡_ {A = ℕ} 3 2 = h .each-fine 0 (omega arith) .next-size in omega arith
 
-pub not-all-again : Demand3 set four (points-but (0 ∷ 1 ∷ 2 ∷ 3 ∷ 0 ∷ 1 ∷ 2 ∷ 3 ∷ []) (counts 2 (4 ∷ 4 ∷ 0 ∷ 0 ∷ []) (4 ∷ 1 ∷ 0 ∷ 0 ∷ []))) → ⊥
+pub not-all-again : Demand3 set four (level-points-but (0 ∷ 1 ∷ 2 ∷ 3 ∷ 0 ∷ 1 ∷ 2 ∷ 3 ∷ []) (counts 2 (4 ∷ 4 ∷ 0 ∷ 0 ∷ []) (4 ∷ 1 ∷ 0 ∷ 0 ∷ []))) → ⊥
 unfolding all-open
 not-all-again h = let e : 4 < 4 = h .each-fine 0 (omega arith) .next .fewer in omega arith
 
 -- a count past its list: the second level is said to have thirty rows, and the list ends after twelve
-pub not-counted : Demand3 set four (points-but points (counts 2 (4 ∷ 30 ∷ 0 ∷ 0 ∷ []) (4 ∷ 1 ∷ 0 ∷ 0 ∷ []))) → ⊥
+pub not-counted : Demand3 set four (level-points-but level-points (counts 2 (4 ∷ 30 ∷ 0 ∷ 0 ∷ []) (4 ∷ 1 ∷ 0 ∷ 0 ∷ []))) → ⊥
 unfolding all-open
 not-counted h = let e : _≡_ {A = ℕ} 12 30 = h .counted 1 .of-level in omega arith
 
@@ -163,10 +163,10 @@ unfolding all-open
 not-borrowed-counted h = let e : _≡_ {A = ℕ} 43 90 = h .counted 0 .of-borrowed 3 (omega arith) in omega arith
 
 -- rows, or leaves, are counted beyond the last level
-pub not-leaves-beyond : Demand3 set four (points-but points (counts 2 (4 ∷ 2 ∷ 0 ∷ 0 ∷ []) (4 ∷ 1 ∷ 1 ∷ 0 ∷ []))) → ⊥
+pub not-leaves-beyond : Demand3 set four (level-points-but level-points (counts 2 (4 ∷ 2 ∷ 0 ∷ 0 ∷ []) (4 ∷ 1 ∷ 1 ∷ 0 ∷ []))) → ⊥
 not-leaves-beyond h = let e : _≡_ {A = ℕ} 1 0 = h .none-beyond 2 (omega arith) .1 in omega arith
 
-pub not-beyond : Demand3 set four (points-but points (counts 2 (4 ∷ 2 ∷ 1 ∷ 0 ∷ []) (4 ∷ 1 ∷ 0 ∷ 0 ∷ []))) → ⊥
+pub not-beyond : Demand3 set four (level-points-but level-points (counts 2 (4 ∷ 2 ∷ 1 ∷ 0 ∷ []) (4 ∷ 1 ∷ 0 ∷ 0 ∷ []))) → ⊥
 not-beyond h = let e : _≡_ {A = ℕ} 1 0 = h .none-beyond 2 (omega arith) .0 in omega arith
 
 -- a row is internal to two leaves; the other that is missing then is internal to none
@@ -189,7 +189,7 @@ unfolding all-open
 not-renumbered h = let e : _≡_ {A = ℕ} 2 1 = ap (λ (x : List (List ℕ)). getD (getD x 1 []) 0 9) (h .each-fine 0 (omega arith) .leaves-are) in omega arith
 
 -- the coarse level has two domains; its domain borrows a row; it has a box
-pub not-two-coarse : Demand3 set four (points-but points (counts 2 (4 ∷ 2 ∷ 0 ∷ 0 ∷ []) (4 ∷ 2 ∷ 0 ∷ 0 ∷ []))) → ⊥
+pub not-two-coarse : Demand3 set four (level-points-but level-points (counts 2 (4 ∷ 2 ∷ 0 ∷ 0 ∷ []) (4 ∷ 2 ∷ 0 ∷ 0 ∷ []))) → ⊥
 unfolding all-open
 not-two-coarse h = let e : _≡_ {A = ℕ} 2 1 = h .last-coarse .one-domain in omega arith
 
@@ -236,7 +236,7 @@ abbrev in-six : List ℕ → Handed
 in-six rows =
     record {
       lists = record {
-        points = rows ++ replicate 12 9;
+        level-points = rows ++ replicate 12 9;
         internals = rows ++ replicate 12 9;
         domains =
             0 ∷ 3 ∷ 0 ∷ 1 ∷ 3 ∷ 3 ∷ 1 ∷ 1 ∷ 6 ∷ 2 ∷ 2 ∷ 0 ∷ 8 ∷ 2 ∷ 2 ∷ 0 ∷ 10 ∷ 2 ∷ 2 ∷ 0 ∷ replicate 128 9;
@@ -268,7 +268,7 @@ abbrev pair : ℕ → ℕ → Handed
 pair x y =
     record {
       lists = record {
-        points = 0 ∷ 1 ∷ 2 ∷ 3 ∷ x ∷ y ∷ replicate 10 9;
+        level-points = 0 ∷ 1 ∷ 2 ∷ 3 ∷ x ∷ y ∷ replicate 10 9;
         internals = 0 ∷ 1 ∷ 2 ∷ 3 ∷ x ∷ y ∷ replicate 10 9;
         domains = 0 ∷ 2 ∷ 0 ∷ 1 ∷ 2 ∷ 2 ∷ 1 ∷ 1 ∷ 4 ∷ 2 ∷ 2 ∷ 0 ∷ replicate 88 9;
         boxes = line (0 ∷ 3 ∷ 3 ∷ 7 ∷ 0 ∷ 0 ∷ replicate 44 9);
@@ -297,7 +297,7 @@ abbrev trio : List ℕ → ℕ → ℕ → Handed
 trio own v w =
     record {
       lists = record {
-        points = 0 ∷ 1 ∷ 2 ∷ 3 ∷ 0 ∷ 1 ∷ 2 ∷ replicate 9 9;
+        level-points = 0 ∷ 1 ∷ 2 ∷ 3 ∷ 0 ∷ 1 ∷ 2 ∷ replicate 9 9;
         internals = own ++ 0 ∷ 1 ∷ 2 ∷ replicate 9 9;
         domains = 0 ∷ v ∷ 0 ∷ 1 ∷ 2 ∷ w ∷ 1 ∷ 1 ∷ 4 ∷ 3 ∷ 2 ∷ 0 ∷ replicate 88 9;
         boxes = line (0 ∷ 3 ∷ 3 ∷ 7 ∷ 0 ∷ 0 ∷ replicate 44 9);

@@ -22,7 +22,7 @@ use Rattle.lists.specs.Times.{Once}
 use Rattle.lists.specs.Same.{Same}
 use Rattle.lists.proofs.Same.{same-length}
 use Rattle.definition.specs.Keys.{firstRows, otherRows}
-use Rattle.rows.specs.Rows.{rowLimit, FiniteOn, GoodRow, GoodRows}
+use Rattle.rows.specs.Rows.{rowLimit, FiniteOn, GoodRows}
 use Rattle.argsort.specs.Rows.{NoLater}
 use Rattle.sort.specs.Heap.{Sorted}
 use Rattle.halving.specs.Cuts.{keysOn, onSide, MiddleRow, Halved, CutRoom, Spent, Ranked, Round, Narrows}

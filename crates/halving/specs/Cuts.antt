@@ -20,31 +20,31 @@ pub record MiddleRow (d : ℕ) (cs : List Float) (axis : ℕ) (rows : List ℕ) 
   pub inside : List·Memᴰ m rows
   pub first : keyAt (length rows / 2) (keysOn d cs axis rows) ≡ keyOn d cs axis m ∷ []
 
--- `after` is `work` with the `count` rows from `start` on cut: the left half, then the right half, each in the list's order. The `count`
+-- `after` is `wholes` with the `count` rows from `start` on cut: the left half, then the right half, each in the list's order. The `count`
 -- entries from `spare` on hold anything, and all others are as they were.
-pub record Halved (d : ℕ) (cs : List Float) (axis : ℕ) (work : List ℕ) (start count spare : ℕ) (after : List ℕ) : Type 0 where
+pub record Halved (d : ℕ) (cs : List Float) (axis : ℕ) (wholes : List ℕ) (start count spare : ℕ) (after : List ℕ) : Type 0 where
   pub rest : List ℕ
   pub long : length rest ≡ count
   pub is :
       after
       ≡ put
-      (put work start (firstRows (count / 2) (keysOn d cs axis (part work start count)) ++ otherRows (count / 2) (keysOn d cs axis (part work start count))))
+      (put wholes start (firstRows (count / 2) (keysOn d cs axis (part wholes start count)) ++ otherRows (count / 2) (keysOn d cs axis (part wholes start count))))
       spare
       rest
 
 -- what the cut of a stretch asks: good rows, and as much room behind it
-pub record CutRoom (d : ℕ) (cs : List Float) (axis : ℕ) (work : List ℕ) (start count spare : ℕ) : Type 0 where
+pub record CutRoom (d : ℕ) (cs : List Float) (axis : ℕ) (wholes : List ℕ) (start count spare : ℕ) : Type 0 where
   pub axis-in : axis < d
   pub some : 1 ≤ count
   pub apart : start + count ≤ spare
-  pub fit : spare + count ≤ length work
-  pub good : GoodRows d cs (part work start count)
+  pub fit : spare + count ≤ length wholes
+  pub good : GoodRows d cs (part wholes start count)
 
--- `after` is `work` where the `count` entries from `spare` on hold anything
-pub record Spent (work : List ℕ) (spare count : ℕ) (after : List ℕ) : Type 0 where
+-- `after` is `wholes` where the `count` entries from `spare` on hold anything
+pub record Spent (wholes : List ℕ) (spare count : ℕ) (after : List ℕ) : Type 0 where
   pub rest : List ℕ
   pub long : length rest ≡ count
-  pub is : after ≡ put work spare rest
+  pub is : after ≡ put wholes spare rest
 
 -- ---- the search for the middle row
 

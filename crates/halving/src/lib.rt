@@ -145,18 +145,18 @@ fn middle_of(
     points: &[f64],
     d: usize,
     axis: usize,
-    work: &mut [usize],
+    wholes: &mut [usize],
     start: usize,
     count: usize,
     spare: usize,
 ) -> usize
-    requires { ⌜ CutRoom d (now points) axis (now work) start count spare ⌝ }
-    ensures work { λ _. ⌜ Spent (now (work .entry)) spare count (now (work .exit)) ⌝ }
-    ensures row { λ r. ⌜ MiddleRow d (now (points .entry)) axis (part (now (work .entry)) start count) r ⌝ }
+    requires { ⌜ CutRoom d (now points) axis (now wholes) start count spare ⌝ }
+    ensures wholes { λ _. ⌜ Spent (now (wholes .entry)) spare count (now (wholes .exit)) ⌝ }
+    ensures row { λ r. ⌜ MiddleRow d (now (points .entry)) axis (part (now (wholes .entry)) start count) r ⌝ }
 {
-    copy(work, start, count, spare);
+    copy(wholes, start, count, spare);
     let end = spare + count;
-    middle(points, d, axis, &mut work[spare..end])
+    middle(points, d, axis, &mut wholes[spare..end])
 }
 
 // Moves the rows of a stretch that come before row m to its front, and the others to the spare room, each in their order.
@@ -166,30 +166,30 @@ fn part_rows(
     d: usize,
     axis: usize,
     m: usize,
-    work: &mut [usize],
+    wholes: &mut [usize],
     start: usize,
     count: usize,
     spare: usize,
 ) -> usize
-    requires { ⌜ (start + count ≤ spare) × (spare + count ≤ length (now work)) × FiniteOn d (now points) axis (part (now work) start count)
+    requires { ⌜ (start + count ≤ spare) × (spare + count ≤ length (now wholes)) × FiniteOn d (now points) axis (part (now wholes) start count)
         × (m * d + axis < length (now points)) ⌝ }
-    ensures number { λ r. ⌜ r ≡ length (keep (onSide d (now (points .entry)) axis m true) (part (now (work .entry)) start count)) ⌝ }
-    ensures work { λ _. ⌜ now (work .exit) ≡ put
-        (put (now (work .entry)) start (keep (onSide d (now (points .entry)) axis m true) (part (now (work .entry)) start count)))
+    ensures number { λ r. ⌜ r ≡ length (keep (onSide d (now (points .entry)) axis m true) (part (now (wholes .entry)) start count)) ⌝ }
+    ensures wholes { λ _. ⌜ now (wholes .exit) ≡ put
+        (put (now (wholes .entry)) start (keep (onSide d (now (points .entry)) axis m true) (part (now (wholes .entry)) start count)))
         spare
-        (keep (λ i. not (onSide d (now (points .entry)) axis m true i)) (part (now (work .entry)) start count)) ⌝ }
+        (keep (λ i. not (onSide d (now (points .entry)) axis m true i)) (part (now (wholes .entry)) start count)) ⌝ }
 {
     let mut lo: usize = 0;
     let mut hi: usize = 0;
     let mut i: usize = 0;
     while i < count {
-        let r = work[start + i];
+        let r = wholes[start + i];
         i += 1;
         if argsort::comes_before(points, d, axis, r, m) {
-            work[start + lo] = r;
+            wholes[start + lo] = r;
             lo += 1;
         } else {
-            work[spare + hi] = r;
+            wholes[spare + hi] = r;
             hi += 1;
         }
     }
@@ -203,18 +203,18 @@ pub fn halves(
     points: &[f64],
     d: usize,
     axis: usize,
-    work: &mut [usize],
+    wholes: &mut [usize],
     start: usize,
     count: usize,
     spare: usize,
 ) -> usize
-    requires { ⌜ (axis < d) × (1 ≤ count) × (start + count ≤ spare) × (spare + count ≤ length (now work))
-        × GoodRows d (now points) (part (now work) start count) ⌝ }
-    ensures work { λ _. ⌜ Halved d (now (points .entry)) axis (now (work .entry)) start count spare (now (work .exit)) ⌝ }
-    ensures row { λ r. ⌜ MiddleRow d (now (points .entry)) axis (part (now (work .entry)) start count) r ⌝ }
+    requires { ⌜ (axis < d) × (1 ≤ count) × (start + count ≤ spare) × (spare + count ≤ length (now wholes))
+        × GoodRows d (now points) (part (now wholes) start count) ⌝ }
+    ensures wholes { λ _. ⌜ Halved d (now (points .entry)) axis (now (wholes .entry)) start count spare (now (wholes .exit)) ⌝ }
+    ensures row { λ r. ⌜ MiddleRow d (now (points .entry)) axis (part (now (wholes .entry)) start count) r ⌝ }
 {
-    let m = middle_of(points, d, axis, work, start, count, spare);
-    let lo = part_rows(points, d, axis, m, work, start, count, spare);
-    copy(work, spare, count - lo, start + lo);
+    let m = middle_of(points, d, axis, wholes, start, count, spare);
+    let lo = part_rows(points, d, axis, m, wholes, start, count, spare);
+    copy(wholes, spare, count - lo, start + lo);
     m
 }

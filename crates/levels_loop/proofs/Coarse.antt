@@ -8,15 +8,15 @@ use Rattle.lists.specs.Lists.{joined}
 use Rattle.definition.specs.Number.{plusZero}
 use Rattle.definition.specs.Tree.{Level, coarseLevel}
 use Rattle.definition.specs.Points.{boxWidth}
-use Rattle.definition.specs.Packed.{leavesIn, packedPoints, packedOwn, packedBorrowed, packedBoxes, stretches}
+use Rattle.definition.specs.Packed.{leavesIn, packedLevelPoints, packedInternals, packedBorrowed, packedBoxes, stretches}
 
 module _ (d : ℕ) (active : List ℕ) where
-  pub coarse-points : packedPoints (coarseLevel d active ∷ []) ≡ active
-  unfolding packedPoints coarseLevel joined
+  pub coarse-points : packedLevelPoints (coarseLevel d active ∷ []) ≡ active
+  unfolding packedLevelPoints coarseLevel joined
   coarse-points = append-nil active
 
-  pub coarse-own : packedOwn (coarseLevel d active ∷ []) ≡ active
-  unfolding packedOwn leavesIn coarseLevel joined
+  pub coarse-own : packedInternals (coarseLevel d active ∷ []) ≡ active
+  unfolding packedInternals leavesIn coarseLevel joined
   coarse-own = append-nil active
 
   pub coarse-borrowed : packedBorrowed (coarseLevel d active ∷ []) ≡ []

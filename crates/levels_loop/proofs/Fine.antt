@@ -22,7 +22,7 @@ use Rattle.definition.specs.Quotas.{quotas}
 use Rattle.definition.specs.Cut.{Domain, leavesOf}
 use Rattle.definition.specs.Tree.{Settings, Leaf, Level, coarseLevel, fineLevel, nextActive, mostFine, levelsFrom}
 use Rattle.definition.specs.Points.{boxWidth}
-use Rattle.definition.specs.Packed.{rowFloats, packedPoints}
+use Rattle.definition.specs.Packed.{rowFloats, packedLevelPoints}
 use Rattle.definition.proofs.Steps.{fineOf, nextOf, levels-last, levels-end, levels-more}
 use Rattle.definition.proofs.Cuts.{Good, domainSizes, leaves-sum}
 use Rattle.definition_laws.proofs.Shape.{leaves-boxes}
@@ -115,16 +115,16 @@ module _ (s : Settings) (cs : List Float) (c k : ℕ) where
       ap (λ (z : ℕ). levelsFrom s cs c k z built active) q ∙ levels-more s cs c k (mostFine - (built + 1)) built active (omega arith)
       ∙ ap (λ (z : ℕ). fineOf s cs active ∷ levelsFrom s cs c k (mostFine - (built + 1)) z (nextOf s cs c k built active)) (sym (add-one built))
 
-  coarse-first : (active : List ℕ) → (more : List ℕ) × (packedPoints (coarseLevel (s .dimension) active ∷ []) ≡ active ++ more)
+  coarse-first : (active : List ℕ) → (more : List ℕ) × (packedLevelPoints (coarseLevel (s .dimension) active ∷ []) ≡ active ++ more)
   unfolding coarseLevel
-  coarse-first active = (packedPoints [], points-cons (coarseLevel (s .dimension) active) [])
+  coarse-first active = (packedLevelPoints [], points-cons (coarseLevel (s .dimension) active) [])
 
-  fine-first : (active : List ℕ) (ls : List Level) → (more : List ℕ) × (packedPoints (fineOf s cs active ∷ ls) ≡ active ++ more)
+  fine-first : (active : List ℕ) (ls : List Level) → (more : List ℕ) × (packedLevelPoints (fineOf s cs active ∷ ls) ≡ active ++ more)
   unfolding fineLevel
-  fine-first active ls = (packedPoints ls, points-cons (fineOf s cs active) ls)
+  fine-first active ls = (packedLevelPoints ls, points-cons (fineOf s cs active) ls)
 
   -- the first level's points are the active rows
-  pub first-points : (fuel built : ℕ) (active : List ℕ) → (more : List ℕ) × (packedPoints (levelsFrom s cs c k fuel built active) ≡ active ++ more)
+  pub first-points : (fuel built : ℕ) (active : List ℕ) → (more : List ℕ) × (packedLevelPoints (levelsFrom s cs c k fuel built active) ≡ active ++ more)
   first-points zero built active = rw (levels-last s cs c k built active) (coarse-first active)
   first-points (suc fuel) built active =
       ⊎-elim

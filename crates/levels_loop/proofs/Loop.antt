@@ -20,7 +20,7 @@ use Rattle.definition.specs.Levels.{levelSize}
 use Rattle.definition.specs.Tree.{Settings, Level, mostFine, reductionsLeft, coarseLevel}
 use Rattle.definition.specs.Refusals.{mostPoints}
 use Rattle.definition.specs.Points.{boxWidth}
-use Rattle.definition.specs.Packed.{rowNumbers, rowFloats, leavesIn, packedPoints, packedOwn, packedDomains, packedBoxes, packedBorrowed, stretches}
+use Rattle.definition.specs.Packed.{rowNumbers, rowFloats, leavesIn, packedLevelPoints, packedInternals, packedDomains, packedBoxes, packedBorrowed, stretches}
 use Rattle.definition.proofs.Steps.{fineOf, nextOf}
 use Rattle.definition_laws.proofs.Fit.{length-stretches}
 use Rattle.fine_level.specs.Fine.{leavesAt, nextAt, ownIn, borrowedIn, boxesIn, Given, Fits, Room}
@@ -40,8 +40,8 @@ leafCount l = length (l .leaves)
 -- the lists of a tree, as they were when the loop began and as they are now
 pub record Outs (P I D : List ℕ) (B : List Float) (L rows counts : List ℕ) (d : ℕ) (all rest : List Level) (P₁ I₁ D₁ : List ℕ) (B₁ : List Float) (L₁ rows₁ counts₁ : List ℕ)
     (built at first bat : ℕ) : Type 0 where
-  pub level-points : put P₁ at (packedPoints rest) ≡ put P 0 (packedPoints all)
-  pub internals : put I₁ at (packedOwn rest) ≡ put I 0 (packedOwn all)
+  pub level-points : put P₁ at (packedLevelPoints rest) ≡ put P 0 (packedLevelPoints all)
+  pub internals : put I₁ at (packedInternals rest) ≡ put I 0 (packedInternals all)
   pub domains : put D₁ (rowNumbers * first) (stretches at bat (leavesIn rest)) ≡ put D 0 (packedDomains all)
   pub boxes : put B₁ (rowFloats d * first) (packedBoxes rest) ≡ put B 0 (packedBoxes all)
   pub borrowed : put L₁ bat (packedBorrowed rest) ≡ put L 0 (packedBorrowed all)
@@ -115,10 +115,10 @@ module _ {d : ℕ} {cs : List Float} {leaf q n : ℕ} {P I D : List ℕ} {B : Li
       last : levelsAfter d cs leaf q c k built (part P₁ at a) ≡ coarseLevel d active ∷ []
       last = after-coarse (levelSettings d leaf q) cs c k built active a many no
 
-      pub end-points : P₁ ≡ put P 0 (packedPoints (levelsAfter d cs leaf q c k 0 (part P 0 n)))
+      pub end-points : P₁ ≡ put P 0 (packedLevelPoints (levelsAfter d cs leaf q c k 0 (part P 0 n)))
       end-points = sym (put-part P₁ at a (coarse-fits (v .space) .0)) ∙ rw (last, coarse-points d active) at (v .outs .level-points)
 
-      pub end-internals : I₂ ≡ put I 0 (packedOwn (levelsAfter d cs leaf q c k 0 (part P 0 n)))
+      pub end-internals : I₂ ≡ put I 0 (packedInternals (levelsAfter d cs leaf q c k 0 (part P 0 n)))
       end-internals = eI ∙ rw (last, coarse-own d active) at (v .outs .internals)
 
       pub end-domains : D₂ ≡ put D 0 (packedDomains (levelsAfter d cs leaf q c k 0 (part P 0 n)))

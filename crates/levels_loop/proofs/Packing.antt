@@ -12,7 +12,7 @@ use Rattle.lists.specs.Lists.{put, part, joined}
 use Rattle.lists.proofs.Put.{put-next-at, put-part, length-part, put-again}
 use Rattle.lists.proofs.Joined.{joined-cons, joined-map-append}
 use Rattle.definition.specs.Tree.{Leaf, Level}
-use Rattle.definition.specs.Packed.{rowNumbers, leavesIn, packedPoints, packedOwn, packedBorrowed, packedBoxes, stretches}
+use Rattle.definition.specs.Packed.{rowNumbers, leavesIn, packedLevelPoints, packedInternals, packedBorrowed, packedBoxes, stretches}
 use Rattle.definition_laws.proofs.Fit.{length-stretches}
 use Rattle.fine_level.specs.Fine.{ownIn, borrowedIn, boxesIn}
 
@@ -21,12 +21,12 @@ module _ (l : Level) (ls : List Level) where
   unfolding leavesIn
   leaves-cons = joined-cons (l .leaves) (map (λ (l : Level). l .leaves) ls)
 
-  pub points-cons : packedPoints (l ∷ ls) ≡ l .points ++ packedPoints ls
-  unfolding packedPoints
+  pub points-cons : packedLevelPoints (l ∷ ls) ≡ l .points ++ packedLevelPoints ls
+  unfolding packedLevelPoints
   points-cons = joined-cons (l .points) (map (λ (l : Level). l .points) ls)
 
-  pub own-cons : packedOwn (l ∷ ls) ≡ ownIn (l .leaves) ++ packedOwn ls
-  unfolding packedOwn
+  pub own-cons : packedInternals (l ∷ ls) ≡ ownIn (l .leaves) ++ packedInternals ls
+  unfolding packedInternals
   own-cons = rw leaves-cons (joined-map-append (λ (f : Leaf). f .own) (l .leaves) (leavesIn ls))
 
   pub borrowed-cons : packedBorrowed (l ∷ ls) ≡ borrowedIn (l .leaves) ++ packedBorrowed ls
@@ -53,18 +53,18 @@ stretches-append a b (f ∷ fs) gs =
 -- ---- a level l is written, and then the others behind it
 module _ (l : Level) (ls : List Level) where
   -- the level points: l's stand there already; of the others' the first ones are written twice
-  pub points-more : (P : List ℕ) (from a : ℕ) (next more : List ℕ) → l .points ≡ part P from a → from + a + length next ≤ length P → packedPoints ls ≡ next ++ more
-      → (P₁ P₂ : List ℕ) → P₁ ≡ put P (from + a) next → P₂ ≡ put P₁ (from + a) (packedPoints ls) → P₂ ≡ put P from (packedPoints (l ∷ ls))
+  pub points-more : (P : List ℕ) (from a : ℕ) (next more : List ℕ) → l .points ≡ part P from a → from + a + length next ≤ length P → packedLevelPoints ls ≡ next ++ more
+      → (P₁ P₂ : List ℕ) → P₁ ≡ put P (from + a) next → P₂ ≡ put P₁ (from + a) (packedLevelPoints ls) → P₂ ≡ put P from (packedLevelPoints (l ∷ ls))
   points-more P from a next more e f g P₁ P₂ e₁ e₂ =
       e₂ ∙ rw (e₁, g) (put-again P (from + a) next more f) ∙ ap (put P (from + a)) (sym g)
-      ∙ ap (λ (z : List ℕ). put z (from + a) (packedPoints ls)) (sym (put-part P from a (omega arith)))
-      ∙ put-next-at P from (part P from a) (packedPoints ls) (from + a) (omega arith) (omega (arith, length-part P from a (omega arith)))
+      ∙ ap (λ (z : List ℕ). put z (from + a) (packedLevelPoints ls)) (sym (put-part P from a (omega arith)))
+      ∙ put-next-at P from (part P from a) (packedLevelPoints ls) (from + a) (omega arith) (omega (arith, length-part P from a (omega arith)))
       ∙ rw (points-cons l ls, e)
 
   pub own-more : (I : List ℕ) (from a : ℕ) → length (ownIn (l .leaves)) ≡ a → from ≤ length I
-      → (I₁ I₂ : List ℕ) → I₁ ≡ put I from (ownIn (l .leaves)) → I₂ ≡ put I₁ (from + a) (packedOwn ls) → I₂ ≡ put I from (packedOwn (l ∷ ls))
+      → (I₁ I₂ : List ℕ) → I₁ ≡ put I from (ownIn (l .leaves)) → I₂ ≡ put I₁ (from + a) (packedInternals ls) → I₂ ≡ put I from (packedInternals (l ∷ ls))
   own-more I from a e f I₁ I₂ e₁ e₂ =
-      e₂ ∙ rw (e₁, own-cons l ls) (put-next-at I from (ownIn (l .leaves)) (packedOwn ls) (from + a) f (omega arith))
+      e₂ ∙ rw (e₁, own-cons l ls) (put-next-at I from (ownIn (l .leaves)) (packedInternals ls) (from + a) f (omega arith))
 
   pub borrowed-more : (L : List ℕ) (bat z : ℕ) → length (borrowedIn (l .leaves)) ≡ z → bat ≤ length L
       → (L₁ L₂ : List ℕ) → L₁ ≡ put L bat (borrowedIn (l .leaves)) → L₂ ≡ put L₁ (bat + z) (packedBorrowed ls) → L₂ ≡ put L bat (packedBorrowed (l ∷ ls))

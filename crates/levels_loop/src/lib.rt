@@ -9,7 +9,7 @@ ghost use Rattle.lists.specs.Lists.{put, part};
 ghost use Rattle.definition.specs.Levels.{levelSize};
 ghost use Rattle.definition.specs.Tree.{reductionsLeft, mostFine};
 ghost use Rattle.definition.specs.Refusals.{mostPoints};
-ghost use Rattle.definition.specs.Packed.{packedPoints, packedOwn, packedDomains, packedBoxes, packedBorrowed};
+ghost use Rattle.definition.specs.Packed.{packedLevelPoints, packedInternals, packedDomains, packedBoxes, packedBorrowed};
 ghost use Rattle.fine_level.specs.Fine.{Given};
 ghost use Rattle.levels_loop.specs.After.{levelsAfter, Space};
 use fine_level::Place;
@@ -68,8 +68,8 @@ pub fn all_levels(
     ensures counts { λ r. ⌜ (r .levels ≡ length (levelsAfter dimensions (now (points .entry)) leaf neighbours c k 0 (part (now («level_points» .entry)) 0 n)))
         × (r .rows ≡ put (replicate 4 0) 0 (map (λ l. length (l .points)) (levelsAfter dimensions (now (points .entry)) leaf neighbours c k 0 (part (now («level_points» .entry)) 0 n))))
         × (r .domains ≡ put (replicate 4 0) 0 (map (λ l. length (l .leaves)) (levelsAfter dimensions (now (points .entry)) leaf neighbours c k 0 (part (now («level_points» .entry)) 0 n)))) ⌝ }
-    ensures level_points { λ _. ⌜ now («level_points» .exit) ≡ put (now («level_points» .entry)) 0 (packedPoints (levelsAfter dimensions (now (points .entry)) leaf neighbours c k 0 (part (now («level_points» .entry)) 0 n))) ⌝ }
-    ensures internals { λ _. ⌜ now (internals .exit) ≡ put (now (internals .entry)) 0 (packedOwn (levelsAfter dimensions (now (points .entry)) leaf neighbours c k 0 (part (now («level_points» .entry)) 0 n))) ⌝ }
+    ensures level_points { λ _. ⌜ now («level_points» .exit) ≡ put (now («level_points» .entry)) 0 (packedLevelPoints (levelsAfter dimensions (now (points .entry)) leaf neighbours c k 0 (part (now («level_points» .entry)) 0 n))) ⌝ }
+    ensures internals { λ _. ⌜ now (internals .exit) ≡ put (now (internals .entry)) 0 (packedInternals (levelsAfter dimensions (now (points .entry)) leaf neighbours c k 0 (part (now («level_points» .entry)) 0 n))) ⌝ }
     ensures domains { λ _. ⌜ now (domains .exit) ≡ put (now (domains .entry)) 0 (packedDomains (levelsAfter dimensions (now (points .entry)) leaf neighbours c k 0 (part (now («level_points» .entry)) 0 n))) ⌝ }
     ensures boxes { λ _. ⌜ now (boxes .exit) ≡ put (now (boxes .entry)) 0 (packedBoxes (levelsAfter dimensions (now (points .entry)) leaf neighbours c k 0 (part (now («level_points» .entry)) 0 n))) ⌝ }
     ensures borrowed { λ _. ⌜ now (borrowed .exit) ≡ put (now (borrowed .entry)) 0 (packedBorrowed (levelsAfter dimensions (now (points .entry)) leaf neighbours c k 0 (part (now («level_points» .entry)) 0 n))) ⌝ }

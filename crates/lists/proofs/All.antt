@@ -8,7 +8,7 @@ use native.Mathlib.Omega.{arith}
 use mathlib.Core.Bool.{Bool, true, false}
 use mathlib.Core.List.{List, [], _∷_, _++_, map, List·Memᴰ, List·Memᴰ·head, List·Memᴰ·tail}
 use lib.ListN.{length, getD, take, drop}
-use Rattle.lists.specs.Lists.{consIf, keep, joined, part}
+use Rattle.lists.specs.Lists.{consIf, keep, joined}
 use Rattle.lists.specs.Ascends.{All}
 
 module _ {A : Type 0} (P : A → Type 0) where

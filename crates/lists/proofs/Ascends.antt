@@ -8,15 +8,12 @@ use native.Mathlib.Omega.{arith}
 use native.Mathlib.Nat.{not-suc-le-zero}
 use mathlib.Core.Bool.{Bool, true, false}
 use mathlib.Core.List.{List, [], _∷_, _++_, map, List·Memᴰ, List·Memᴰ·head, List·Memᴰ·tail, List·Memᴰ·not-nil, List·Memᴰ·cases-cons}
-use lib.ListN.{length, getD, take, drop}
-use lib.Dec.{ltb}
-use borrow.Author.Tests.{lt-ltb, le-ltb}
+use lib.ListN.{length, getD}
 use native.Mathlib.Decide.{ℕ-discrete, decLt}
-use Rattle.lists.specs.Lists.{consIf, keep, from, part}
+use Rattle.lists.specs.Lists.{consIf, keep, from}
 use Rattle.lists.specs.Ascends.{All, Ascends}
-use Rattle.lists.proofs.All.{all-append, all-keep, all-take, all-at, all-by-index, all-mem, all-of}
-use Rattle.lists.proofs.Count.{count-len, count-lt, length-keep}
-use Rattle.lists.proofs.Members.{mem-keep, map-mem}
+use Rattle.lists.proofs.All.{all-append, all-keep, all-at, all-by-index, all-mem, all-of}
+use Rattle.lists.proofs.Members.{map-mem}
 use Rattle.lists.proofs.From.{from-mem}
 use Rattle.lists.specs.Times.{times, Once}
 use Rattle.lists.proofs.Times.{times-nil, times-one, times-other, mem-times, times-mem, once-differ}

@@ -2,8 +2,7 @@
 -- Holds: from-mem, mem-from, all-from, length-from, getD-from, from-append, from-snoc, from-suc, below-snoc, below-suc,
 --   count-below-nil, count-below-snoc, count-below-suc, count-below-yes, count-below-no, count-below-same, map-from-nil,
 --   map-below-snoc, map-below-suc, length-map-from, getD-map-from, getD-map-below, map-from-shift, front-below-suc, noted-more,
---   list-below, map-below-same, list-at, map-at, map-from-at, count-at, zip-from-at, fill-more, numbered-more, front-read,
---   front-whole
+--   list-below, map-below-same, list-at, map-at, map-from-at, zip-from-at, fill-more, numbered-more, front-read, front-whole
 use mathlib.Core.Path.{_≡_, refl, sym, ap, ap₂, _∙_}
 use mathlib.Core.Logic.{⊎-elim}
 use Prim.Native.Nat.{ℕ, zero, suc, _+_, _≤_, _<_}
@@ -19,7 +18,7 @@ use borrow.Author.Tests.{eqb-true, eqb-false}
 use Rattle.lists.specs.Lists.{oneIf, count, from, put}
 use Rattle.lists.specs.Ascends.{All}
 use Rattle.lists.proofs.All.{all-of}
-use Rattle.lists.proofs.Count.{count-snoc, count-same, count-map, count-nil}
+use Rattle.lists.proofs.Count.{count-snoc, count-same, count-nil}
 use Rattle.lists.proofs.Map.{map-snoc, map-same, getD-map-in}
 use Rattle.lists.proofs.Put.{put-snoc}
 
@@ -172,9 +171,6 @@ module _ {A : Type 0} where
   map-from-at f g d l j h =
       ap (λ (k : ℕ). map f (from k (length l))) (sym (add-zero j)) ∙ map-from-shift f j 0 (length l)
       ∙ map-below-same (λ i. f (j + i)) (λ i. g (getD l i d)) (length l) h ∙ sym (map-at g l d)
-
-  pub count-at : (p : A → Bool) (l : List A) (d : A) → count p l ≡ count (λ i. p (getD l i d)) (from 0 (length l))
-  count-at p l d = ap (count p) (list-at l d) ∙ count-map (λ i. getD l i d) p (from 0 (length l))
 
 -- ---- two lists of one length, taken together element by element
 pub zip-from-at : {A B C : Type 0} (f : ℕ → C) (g : A → B → C) (x : A) (z : B) (xs : List A) (ws : List B) (j : ℕ) → length ws ≡ length xs

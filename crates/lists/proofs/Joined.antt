@@ -6,19 +6,18 @@ use Prim.Native.Nat.{ℕ, zero, suc, _+_, _*_, _≤_, _<_}
 use native.Mathlib.Nat.{zero-add, add-assoc, mul-suc, not-suc-le-zero, mul-zero}
 use native.Mathlib.Numerals.{add-one}
 use native.Mathlib.Omega.{arith}
-use native.Mathlib.Decide.{decLt}
 use mathlib.Core.Bool.{Bool}
 use mathlib.Core.List.{List, [], _∷_, _++_, map, map-append, append-assoc, append-nil, List·Memᴰ}
 use lib.ListN.{length, getD, take, length-append, List·getD-append}
 use lib.Seq.{take-at, take-suc, drop-append-add, getD-append-add}
 use lib.Dec.{eqb}
-use Rattle.lists.specs.Lists.{keep, count, total, joined, part, oneIf, member}
+use Rattle.lists.specs.Lists.{count, total, joined, part}
 use Rattle.lists.specs.Ascends.{All}
-use Rattle.lists.proofs.Count.{count-append, keep-append, one-le}
+use Rattle.lists.proofs.Count.{count-append}
 use Rattle.lists.proofs.Members.{mem-at, mem-joined}
 use Rattle.lists.specs.Times.{times}
-use Rattle.lists.proofs.Times.{mem-times, member-none}
-use Rattle.lists.proofs.Sums.{sum-le, sum-append}
+use Rattle.lists.proofs.Times.{mem-times}
+use Rattle.lists.proofs.Sums.{sum-append}
 
 module _ {A : Type 0} where
   -- ---- list by list
@@ -113,14 +112,7 @@ two-lists z (l ∷ ls) zero (suc k) h g a b =
 two-lists z (l ∷ ls) (suc j) (suc k) h g a b =
     omega (arith, count-append (λ y. eqb y z) l (joined ls), two-lists z ls j k (omega arith) (omega arith) a b)
 
--- ---- a number that stands once in lists together stands in at most one of them
-member-one : (i : ℕ) (l : List ℕ) → oneIf (member i l) ≤ times i l
-member-one i l = elim (decLt 0 (times i l)) [
-  | yes h ↦ omega (arith, one-le (member i l))
-  | no h ↦ let z : times i l ≡ 0 = omega arith in let e : oneIf (member i l) ≡ 0 = rw (member-none i l z) in omega arith
-]
-
--- a sum over lists together
+-- ---- a sum over lists together
 pub sum-joined : {A : Type 0} (f : A → ℕ) (ls : List (List A)) → total (map f (joined ls)) ≡ total (map (λ l. total (map f l)) ls)
 unfolding total joined
 sum-joined f [] = refl

@@ -4,9 +4,9 @@ use mathlib.Core.Path.{_≡_, refl, ap, _∙_}
 use Prim.Native.Nat.{ℕ, zero, suc, _<_}
 use native.Mathlib.Nat.{not-suc-le-zero, le-of-suc-le-suc}
 use mathlib.Core.List.{List, [], _∷_, _++_, map, map-append, List·Memᴰ, List·Memᴰ·head, List·Memᴰ·tail, zipWith}
-use lib.ListN.{length, getD, set, take, drop}
-use Rattle.lists.specs.Lists.{anyOf, joined}
-use mathlib.Core.Bool.{Bool, _||_}
+use lib.ListN.{length, getD, set, take}
+use Rattle.lists.specs.Lists.{joined}
+use mathlib.Core.Bool.{_||_}
 
 module _ {A B : Type 0} (f : A → B) where
   -- ---- one more element, and stretches

@@ -13,7 +13,7 @@ use native.Mathlib.Numerals.{add-one}
 use native.Mathlib.Omega.{arith}
 use mathlib.Core.List.{List, [], _∷_, _++_, append-assoc, append-nil, map}
 use lib.ListN.{length, getD, set, take, drop, length-append, length-drop, take-append-drop, List·getD-append, length-set, replicate, length-replicate, replicate-append-replicate}
-use lib.Seq.{length-take-le, drop-append-add, take-append-le, drop-append-le, getD-drop, getD-take, drop-drop, take-at, drop-at, set-split, take-add, take-length, take-take, take-suc, take-append-add, drop-cons, take-set-le, drop-set-lt, take-suc-set, take-append-seam, drop-append-seam}
+use lib.Seq.{length-take-le, drop-append-add, take-append-le, drop-append-le, getD-drop, getD-take, drop-drop, take-at, drop-at, set-split, take-add, take-length, take-take, take-suc, take-append-add, drop-cons, take-set-le, drop-set-lt, take-suc-set}
 use borrow.Rule.Slice.PartMut.{putMid}
 use Rattle.lists.specs.Lists.{put, part}
 use Rattle.lists.proofs.Take.{drop-take}

@@ -9,13 +9,13 @@ use mathlib.Core.List.{List, [], _∷_, List·Memᴰ}
 use Prim.Native.Nat.{ℕ, zero, suc, _+_, _-_, _≤_, _<_, min}
 use native.Mathlib.Omega.{arith}
 use native.Mathlib.Decide.{decLe}
-use borrow.Author.Tests.{lt-ltb, le-ltb, eqb-true, eqb-false}
-use lib.Dec.{ltb, eqb}
-use lib.ListN.{length, getD}
+use borrow.Author.Tests.{lt-ltb, le-ltb}
+use lib.Dec.{ltb}
+use lib.ListN.{length}
 use Rattle.lists.specs.Lists.{oneIf, keep, count}
 use Rattle.lists.specs.Ascends.{All}
 use Rattle.lists.proofs.Tests.{clash}
-use Rattle.lists.proofs.All.{all-mem, mem-by-index}
+use Rattle.lists.proofs.All.{all-mem}
 use Rattle.lists.proofs.Count.{count-same, count-le, count-lt, count-len, count-not, length-keep}
 
 -- each two elements compare

@@ -10,10 +10,10 @@ use native.Mathlib.Numerals.{add-one}
 use native.Mathlib.Omega.{arith}
 use mathlib.Core.Bool.{Bool, false}
 use mathlib.Core.List.{List, [], _∷_, _++_, map, map-append, List·Memᴰ, List·Memᴰ·head, List·Memᴰ·tail}
-use lib.ListN.{length, getD, set, take, drop, take-append-drop}
+use lib.ListN.{length, getD, take, drop, take-append-drop}
 use Rattle.lists.specs.Lists.{oneIf, count, total, from, anyOf}
 use Rattle.lists.proofs.From.{from-mem, list-at, from-append, map-below-suc, map-below-snoc}
-use Rattle.lists.proofs.Count.{one-or-le, count-or-le, count-none}
+use Rattle.lists.proofs.Count.{count-or-le, count-none}
 
 -- ---- the sums of two lists
 pub total-nil : total [] ≡ 0

@@ -11,10 +11,10 @@ use native.Mathlib.Numerals.{add-one}
 use borrow.Author.Tests.{le-ltb}
 use lib.Dec.{ltb}
 use lib.ListN.{length, getD, take}
-use lib.Ieee.{Float, nan, isNan, lt, eq}
+use lib.Ieee.{Float, isNan, lt, eq}
 use Rattle.lists.specs.Lists.{keep, count, from, put, part}
 use Rattle.lists.specs.Ascends.{Ascends}
-use Rattle.lists.proofs.All.{all-at, all-take, all-mem}
+use Rattle.lists.proofs.All.{all-take, all-mem}
 use Rattle.lists.proofs.Count.{count-map, count-keep, keep-same, keep-map}
 use Rattle.lists.proofs.Members.{mem-map, map-mem}
 use Rattle.lists.proofs.From.{map-at}

@@ -21,7 +21,7 @@ use Rattle.lists.proofs.Put.{part-nil}
 use Rattle.lists.proofs.Joined.{joined-at, joined-fits, getD-joined, even-lengths}
 use Rattle.definition.specs.Points.{boxWidth}
 use Rattle.definition.specs.Tree.{Leaf, Level, mostFine}
-use Rattle.definition.specs.Packed.{Counts, rowNumbers, rowFloats, rowOf, numbersOf, leavesIn, packedPoints, packedOwn, packedBorrowed, packedDomains, packedBoxes, stretches, perLevel, countsOf}
+use Rattle.definition.specs.Packed.{Counts, rowNumbers, rowFloats, rowOf, numbersOf, leavesIn, packedLevelPoints, packedInternals, packedBorrowed, packedDomains, packedBoxes, stretches, perLevel, countsOf}
 use Rattle.definition_laws.proofs.Fit.{length-leaves, length-points, length-domains}
 use Rattle.packed.specs.Reading.{Packed, ownStart, ownCount, borrowedStart, borrowedCount, ownAt, borrowedAt, boxAt, readLeaf, readLeaves, upTo, pointsAt, readLevel, readLevels, RowFits, Stands}
 use Rattle.packed.proofs.Counts.{noLevel, counts-length, counts-before, level-count}
@@ -63,14 +63,14 @@ number-at rest (f ∷ fs) a b (suc i) k h g =
     (add-assoc a (length (f .own)) (ownSum (take i fs))) (add-assoc b (length (f .borrowed)) (borrowedSum (take i fs)))
 
 -- ---- a tree at the front of the lent lists, with its counts
-pub record Packs (ls : List Level) (p : Packed) (points : List ℕ) (c : Counts) : Type 0 where
+pub record Packs (ls : List Level) (p : Packed) (level-points : List ℕ) (c : Counts) : Type 0 where
   pub few : length ls ≤ suc mostFine
   pub boxed : All (λ (f : Leaf). length (f .box) ≡ boxWidth (p .dimension)) (leavesIn ls)
   pub counts : c ≡ countsOf ls
   pub points-rest : List ℕ
-  pub points-are : points ≡ packedPoints ls ++ points-rest
+  pub points-are : level-points ≡ packedLevelPoints ls ++ points-rest
   pub internals-rest : List ℕ
-  pub internals : p .internals ≡ packedOwn ls ++ internals-rest
+  pub internals : p .internals ≡ packedInternals ls ++ internals-rest
   pub domains-rest : List ℕ
   pub domains : p .domains ≡ packedDomains ls ++ domains-rest
   pub boxes-rest : List Float
@@ -78,7 +78,7 @@ pub record Packs (ls : List Level) (p : Packed) (points : List ℕ) (c : Counts)
   pub borrowed-rest : List ℕ
   pub borrowed : p .borrowed ≡ packedBorrowed ls ++ borrowed-rest
 
-module _ (ls : List Level) (p : Packed) (points : List ℕ) (c : Counts) (k : Packs ls p points c) where
+module _ (ls : List Level) (p : Packed) (level-points : List ℕ) (c : Counts) (k : Packs ls p level-points c) where
   -- ---- counts
   pub levels-are : c .levels ≡ length ls
   unfolding countsOf
@@ -110,14 +110,14 @@ module _ (ls : List Level) (p : Packed) (points : List ℕ) (c : Counts) (k : Pa
       ∙ sym (map-map length (λ (l : Level). l .leaves) (take l ls)) ∙ ap (map length) (sym (take-map (λ (l : Level). l .leaves) l ls))
 
   -- ---- the rows of a level
-  pub listed-is : (l : ℕ) → pointsAt points (c .rows) l ≡ getD ls l noLevel .points
-  unfolding packedPoints
+  pub listed-is : (l : ℕ) → pointsAt level-points (c .rows) l ≡ getD ls l noLevel .points
+  unfolding packedLevelPoints
   listed-is l =
       ⊎-elim
       (λ (past : length ls ≤ l).
       let e : getD ls l noLevel ≡ noLevel = List·getD-eq-default ls noLevel past in
       let n : getD (c .rows) l 0 ≡ 0 = rows-on l ∙ ap (λ (x : Level). length (x .points)) e in
-      rw (n, e) (part-nil points (upTo (c .rows) l)))
+      rw (n, e) (part-nil level-points (upTo (c .rows) l)))
       (λ (h : l < length ls).
       let blocks : List (List ℕ) = map (λ l. l .points) ls in
       let e : getD blocks l [] ≡ getD ls l noLevel .points = getD-map-in (λ l. l .points) ls l noLevel [] h in
@@ -184,7 +184,7 @@ module _ (ls : List Level) (p : Packed) (points : List ℕ) (c : Counts) (k : Pa
     box-count = sym (all-at (λ (f : Leaf). length (f .box) ≡ boxWidth (p .dimension)) all j noLeaf (k .boxed) h)
 
     pub own-is : ownAt (p .internals) (p .domains) j ≡ getD (leavesIn ls) j noLeaf .own
-    unfolding packedOwn
+    unfolding packedInternals
     own-is =
         ap (λ (x : List ℕ). part x (ownStart (p .domains) j) (ownCount (p .domains) j)) (k .internals)
         ∙ stretch-is (λ f. f .own) (ownStart (p .domains) j) (ownCount (p .domains) j) own-start-is own-count-is (k .internals-rest)
@@ -206,7 +206,7 @@ module _ (ls : List Level) (p : Packed) (points : List ℕ) (c : Counts) (k : Pa
     leaf-is = rw (own-is, borrowed-is, box-is)
 
     pub tree-row-fits : p .dimension ≤ 3 → RowFits p j
-    unfolding packedOwn packedBorrowed packedBoxes
+    unfolding packedInternals packedBorrowed packedBoxes
     tree-row-fits axes =
         record {
           axes = axes;
@@ -253,7 +253,7 @@ module _ (ls : List Level) (p : Packed) (points : List ℕ) (c : Counts) (k : Pa
     leaf-at = rw before-is (getD-joined blocks l i noLeaf block-there in-block ∙ ap (λ (x : List Leaf). getD x i noLeaf) block-is)
 
   -- ---- the tree
-  level-is : (l : ℕ) → readLevel p points (c .rows) (c .domains) l ≡ getD ls l noLevel
+  level-is : (l : ℕ) → readLevel p level-points (c .rows) (c .domains) l ≡ getD ls l noLevel
   unfolding readLevel readLeaves
   level-is l =
       let m = getD ls l noLevel .leaves in
@@ -262,17 +262,17 @@ module _ (ls : List Level) (p : Packed) (points : List ℕ) (c : Counts) (k : Pa
       map-from-at (readLeaf p) (λ f. f) noLeaf m start (λ i h. leaf-is (start + i) (leaf-in l i h) ∙ leaf-at l i h) ∙ map-id m in
       rw (listed-is l, leaves-on l, leaves)
 
-  pub tree-back : readLevels p points (c .rows) (c .domains) (length ls) ≡ ls
+  pub tree-back : readLevels p level-points (c .rows) (c .domains) (length ls) ≡ ls
   unfolding readLevels
-  tree-back = map-from-at (readLevel p points (c .rows) (c .domains)) (λ x. x) noLevel ls 0 (λ l h. ap (readLevel p points (c .rows) (c .domains)) (zero-add l) ∙ level-is l) ∙ map-id ls
+  tree-back = map-from-at (readLevel p level-points (c .rows) (c .domains)) (λ x. x) noLevel ls 0 (λ l h. ap (readLevel p level-points (c .rows) (c .domains)) (zero-add l) ∙ level-is l) ∙ map-id ls
 
   -- ---- a reader stays inside the lists, where the last level has one leaf
-  counted-points : upTo (c .rows) (length ls) ≤ length points
+  counted-points : upTo (c .rows) (length ls) ≤ length level-points
   counted-points =
       let n = length ls in
       let e : total (take n (c .rows)) ≡ total (map (λ (l : Level). length (l .points)) ls) =
       ap total (ap (take n) rows-are ∙ counts-before (λ l. length (l .points)) ls (k .few) n (omega arith) ∙ ap (map (λ (l : Level). length (l .points))) (take-length ls)) in
-      omega (arith, e, length-points ls, ap length (k .points-are), length-append (packedPoints ls) (k .points-rest))
+      omega (arith, e, length-points ls, ap length (k .points-are), length-append (packedLevelPoints ls) (k .points-rest))
 
   counted-leaves : upTo (c .domains) (length ls) ≡ length (leavesIn ls)
   counted-leaves =
@@ -280,7 +280,7 @@ module _ (ls : List Level) (p : Packed) (points : List ℕ) (c : Counts) (k : Pa
       ap total (ap (take n) domains-are ∙ counts-before (λ l. length (l .leaves)) ls (k .few) n (omega arith) ∙ ap (map (λ (l : Level). length (l .leaves))) (take-length ls))
       ∙ sym (length-leaves ls)
 
-  pub tree-stands : p .dimension ≤ 3 → 1 ≤ length ls → length (getD ls (length ls - 1) noLevel .leaves) ≡ 1 → Stands p points (c .rows) (c .domains) (c .levels)
+  pub tree-stands : p .dimension ≤ 3 → 1 ≤ length ls → length (getD ls (length ls - 1) noLevel .leaves) ≡ 1 → Stands p level-points (c .rows) (c .domains) (c .levels)
   tree-stands axes some one =
       record {
         some = omega (arith, levels-are);

@@ -54,14 +54,14 @@ readOwn internals domains first m = map (λ l. ownAt internals domains (first + 
 -- the lists that hold leaves on so many axes
 pub record Packed : Type 0 where
   pub internals : List ℕ
-  pub borrowed : List ℕ
   pub domains : List ℕ
   pub boxes : List Float
+  pub borrowed : List ℕ
   pub dimension : ℕ
 
-abbrev pub packed : List ℕ → List ℕ → List ℕ → List Float → ℕ → Packed
-packed internals borrowed domains boxes d =
-    record { internals = internals; borrowed = borrowed; domains = domains; boxes = boxes; dimension = d }
+abbrev pub packed : List ℕ → List ℕ → List Float → List ℕ → ℕ → Packed
+packed internals domains boxes borrowed d =
+    record { internals = internals; domains = domains; boxes = boxes; borrowed = borrowed; dimension = d }
 
 -- the leaf of the domain row number j
 unfoldable pub readLeaf : Packed → ℕ → Leaf
@@ -84,18 +84,18 @@ upTo counts l = total (take l counts)
 
 -- the rows that it lists: its stretch of the level points, which starts where those of the levels before it end
 abbrev pub pointsAt : List ℕ → List ℕ → ℕ → List ℕ
-pointsAt points rows l = part points (upTo rows l) (getD rows l 0)
+pointsAt level-points rows l = part level-points (upTo rows l) (getD rows l 0)
 
 unfoldable pub readLevel : Packed → List ℕ → List ℕ → List ℕ → ℕ → Level
-readLevel p points rows counts l =
+readLevel p level-points rows counts l =
     record {
-      points = pointsAt points rows l;
+      points = pointsAt level-points rows l;
       leaves = readLeaves p (upTo counts l) (getD counts l 0);
     }
 
 -- the first n levels
 unfoldable pub readLevels : Packed → List ℕ → List ℕ → List ℕ → ℕ → List Level
-readLevels p points rows counts n = map (readLevel p points rows counts) (from 0 n)
+readLevels p level-points rows counts n = map (readLevel p level-points rows counts) (from 0 n)
 
 -- ---- what has to stand in the lists before a reader may go by them
 
@@ -108,10 +108,10 @@ pub record RowFits (p : Packed) (j : ℕ) : Type 0 where
   pub box : rowFloats (p .dimension) * j + boxWidth (p .dimension) ≤ length (p .boxes)
 
 -- n levels with their counts; the last one is coarse, with one domain
-pub record Stands (p : Packed) (points rows counts : List ℕ) (n : ℕ) : Type 0 where
+pub record Stands (p : Packed) (level-points rows counts : List ℕ) (n : ℕ) : Type 0 where
   pub some : 1 ≤ n
   pub rowed : n ≤ length rows
   pub counted : n ≤ length counts
-  pub within : upTo rows n ≤ length points
+  pub within : upTo rows n ≤ length level-points
   pub fits : (j : ℕ) → j < upTo counts n → RowFits p j
   pub coarse : getD counts (n - 1) 0 ≡ 1

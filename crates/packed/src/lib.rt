@@ -2,12 +2,14 @@
 ghost use mathlib.Core.Path.{_≡_};
 ghost use Prim.Native.Nat.{_+_, _*_, _^_, _≤_, _<_};
 ghost use lib.ListN.{length};
-ghost use Rattle.definition.specs.Points.{boxWidth};
 ghost use Rattle.definition.specs.Packed.{rowNumbers, rowFloats};
 ghost use Rattle.packed.specs.Rows.{plainRow, IsRow, putRow, putOwn, putBorrowed};
 
 // How many whole numbers a domain row has.
 pub const ROW_NUMBERS: usize = 4;
+
+// How many floats it has on three axes.
+pub const MOST_ROW_FLOATS: usize = boxes::WIDEST_BOX;
 
 // Which of them says what. Where the own rows start is the first.
 const OWN_COUNT: usize = 1;

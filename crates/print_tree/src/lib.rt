@@ -61,9 +61,9 @@ fn write_leaf(
     out: &mut [u8],
     at: usize,
 ) -> usize
-    requires { ⌜ RowFits (packed (now internals) (now borrowed) (now domains) (now boxes) dimensions) j ⌝ }
-    requires { ⌜ TextRoom (now out) at (leafLine fine i (packed (now internals) (now borrowed) (now domains) (now boxes) dimensions) j) ⌝ }
-    ensures { λ r. ⌜ Wrote (now (out .entry)) at (leafLine fine i (packed (now (internals .entry)) (now (borrowed .entry)) (now (domains .entry)) (now (boxes .entry)) dimensions) j) r (now (out .exit)) ⌝ }
+    requires { ⌜ RowFits (packed (now internals) (now domains) (now boxes) (now borrowed) dimensions) j ⌝ }
+    requires { ⌜ TextRoom (now out) at (leafLine fine i (packed (now internals) (now domains) (now boxes) (now borrowed) dimensions) j) ⌝ }
+    ensures { λ r. ⌜ Wrote (now (out .entry)) at (leafLine fine i (packed (now (internals .entry)) (now (domains .entry)) (now (boxes .entry)) (now (borrowed .entry)) dimensions) j) r (now (out .exit)) ⌝ }
 {
     let row = packed::read_row(domains, j);
     let o = row.internal_start;
@@ -95,9 +95,9 @@ fn write_leaves(
     out: &mut [u8],
     at: usize,
 ) -> usize
-    requires { ⌜ ((i : ℕ) → i < m → RowFits (packed (now internals) (now borrowed) (now domains) (now boxes) dimensions) (j + i)) ⌝ }
-    requires { ⌜ TextRoom (now out) at (fineLines 0 (readLeaves (packed (now internals) (now borrowed) (now domains) (now boxes) dimensions) j m)) ⌝ }
-    ensures { λ r. ⌜ Wrote (now (out .entry)) at (fineLines 0 (readLeaves (packed (now (internals .entry)) (now (borrowed .entry)) (now (domains .entry)) (now (boxes .entry)) dimensions) j m)) r (now (out .exit)) ⌝ }
+    requires { ⌜ ((i : ℕ) → i < m → RowFits (packed (now internals) (now domains) (now boxes) (now borrowed) dimensions) (j + i)) ⌝ }
+    requires { ⌜ TextRoom (now out) at (fineLines 0 (readLeaves (packed (now internals) (now domains) (now boxes) (now borrowed) dimensions) j m)) ⌝ }
+    ensures { λ r. ⌜ Wrote (now (out .entry)) at (fineLines 0 (readLeaves (packed (now (internals .entry)) (now (domains .entry)) (now (boxes .entry)) (now (borrowed .entry)) dimensions) j m)) r (now (out .exit)) ⌝ }
 {
     let mut next = at;
     let mut i = 0;
@@ -133,9 +133,9 @@ fn write_fine(
     out: &mut [u8],
     at: usize,
 ) -> usize
-    requires { ⌜ ((i : ℕ) → i < m → RowFits (packed (now internals) (now borrowed) (now domains) (now boxes) dimensions) (j + i)) ⌝ }
-    requires { ⌜ TextRoom (now out) at (fineLevelText t (now rows) (packed (now internals) (now borrowed) (now domains) (now boxes) dimensions) j m) ⌝ }
-    ensures { λ r. ⌜ Wrote (now (out .entry)) at (fineLevelText t (now (rows .entry)) (packed (now (internals .entry)) (now (borrowed .entry)) (now (domains .entry)) (now (boxes .entry)) dimensions) j m) r (now (out .exit)) ⌝ }
+    requires { ⌜ ((i : ℕ) → i < m → RowFits (packed (now internals) (now domains) (now boxes) (now borrowed) dimensions) (j + i)) ⌝ }
+    requires { ⌜ TextRoom (now out) at (fineLevelText t (now rows) (packed (now internals) (now domains) (now boxes) (now borrowed) dimensions) j m) ⌝ }
+    ensures { λ r. ⌜ Wrote (now (out .entry)) at (fineLevelText t (now (rows .entry)) (packed (now (internals .entry)) (now (domains .entry)) (now (boxes .entry)) (now (borrowed .entry)) dimensions) j m) r (now (out .exit)) ⌝ }
 {
     let next = write_level(t, rows, out, at);
     write_leaves(
@@ -164,9 +164,9 @@ fn write_coarse(
     out: &mut [u8],
     at: usize,
 ) -> usize
-    requires { ⌜ RowFits (packed (now internals) (now borrowed) (now domains) (now boxes) dimensions) j ⌝ }
-    requires { ⌜ TextRoom (now out) at (coarseLevelText t (now rows) (packed (now internals) (now borrowed) (now domains) (now boxes) dimensions) j) ⌝ }
-    ensures { λ r. ⌜ Wrote (now (out .entry)) at (coarseLevelText t (now (rows .entry)) (packed (now (internals .entry)) (now (borrowed .entry)) (now (domains .entry)) (now (boxes .entry)) dimensions) j) r (now (out .exit)) ⌝ }
+    requires { ⌜ RowFits (packed (now internals) (now domains) (now boxes) (now borrowed) dimensions) j ⌝ }
+    requires { ⌜ TextRoom (now out) at (coarseLevelText t (now rows) (packed (now internals) (now domains) (now boxes) (now borrowed) dimensions) j) ⌝ }
+    ensures { λ r. ⌜ Wrote (now (out .entry)) at (coarseLevelText t (now (rows .entry)) (packed (now (internals .entry)) (now (domains .entry)) (now (boxes .entry)) (now (borrowed .entry)) dimensions) j) r (now (out .exit)) ⌝ }
 {
     let next = write_level(t, rows, out, at);
     write_leaf(
@@ -197,9 +197,9 @@ fn write_levels(
     out: &mut [u8],
     at: usize,
 ) -> usize
-    requires { ⌜ Stands (packed (now internals) (now borrowed) (now domains) (now boxes) dimensions) (now «level_points») (now rows) (now counts) levels ⌝ }
-    requires { ⌜ TextRoom (now out) at (levelsText 0 (readLevels (packed (now internals) (now borrowed) (now domains) (now boxes) dimensions) (now «level_points») (now rows) (now counts) levels)) ⌝ }
-    ensures { λ r. ⌜ Wrote (now (out .entry)) at (levelsText 0 (readLevels (packed (now (internals .entry)) (now (borrowed .entry)) (now (domains .entry)) (now (boxes .entry)) dimensions) (now («level_points» .entry)) (now (rows .entry)) (now (counts .entry)) levels)) r (now (out .exit)) ⌝ }
+    requires { ⌜ Stands (packed (now internals) (now domains) (now boxes) (now borrowed) dimensions) (now «level_points») (now rows) (now counts) levels ⌝ }
+    requires { ⌜ TextRoom (now out) at (levelsText 0 (readLevels (packed (now internals) (now domains) (now boxes) (now borrowed) dimensions) (now «level_points») (now rows) (now counts) levels)) ⌝ }
+    ensures { λ r. ⌜ Wrote (now (out .entry)) at (levelsText 0 (readLevels (packed (now (internals .entry)) (now (domains .entry)) (now (boxes .entry)) (now (borrowed .entry)) dimensions) (now («level_points» .entry)) (now (rows .entry)) (now (counts .entry)) levels)) r (now (out .exit)) ⌝ }
 {
     let last = levels - 1;
     let mut next = at;
@@ -255,9 +255,9 @@ pub fn write_tree(
     out: &mut [u8],
     at: usize,
 ) -> usize
-    requires { ⌜ Stands (packed (now internals) (now borrowed) (now domains) (now boxes) dimensions) (now «level_points») (now rows) (now counts) levels ⌝ }
-    requires { ⌜ TextRoom (now out) at (treeText (readLevels (packed (now internals) (now borrowed) (now domains) (now boxes) dimensions) (now «level_points») (now rows) (now counts) levels)) ⌝ }
-    ensures { λ r. ⌜ Wrote (now (out .entry)) at (treeText (readLevels (packed (now (internals .entry)) (now (borrowed .entry)) (now (domains .entry)) (now (boxes .entry)) dimensions) (now («level_points» .entry)) (now (rows .entry)) (now (counts .entry)) levels)) r (now (out .exit)) ⌝ }
+    requires { ⌜ Stands (packed (now internals) (now domains) (now boxes) (now borrowed) dimensions) (now «level_points») (now rows) (now counts) levels ⌝ }
+    requires { ⌜ TextRoom (now out) at (treeText (readLevels (packed (now internals) (now domains) (now boxes) (now borrowed) dimensions) (now «level_points») (now rows) (now counts) levels)) ⌝ }
+    ensures { λ r. ⌜ Wrote (now (out .entry)) at (treeText (readLevels (packed (now (internals .entry)) (now (domains .entry)) (now (boxes .entry)) (now (borrowed .entry)) dimensions) (now («level_points» .entry)) (now (rows .entry)) (now (counts .entry)) levels)) r (now (out .exit)) ⌝ }
 {
     let said = print_texts::write_numbered(b"levels ", levels, out, at);
     let next = print_texts::write_byte(10, out, said);

@@ -18,10 +18,10 @@ use Rattle.lists.proofs.Tests.{le-or-lt}
 use Rattle.lists.proofs.Map.{getD-map-in}
 use Rattle.definition.specs.Number.{plusZero}
 use Rattle.definition.specs.Tree as tree
-use Rattle.definition.specs.Packed.{Counts, BuildSizes, buildStated, rowFloats, countsOf, packedPoints, packedOwn, packedBorrowed, packedBoxes, packedDomains}
+use Rattle.definition.specs.Packed.{Counts, BuildSizes, buildStated, mostRows, rowNumbers, rowFloats, countsOf, packedLevelPoints, packedInternals, packedBorrowed, packedBoxes, packedDomains}
 use Rattle.definition.specs.Refusals.{Verdict, accepted, refused, verdict, buildShort, buildVerdict}
 use Rattle.definition.specs.Outcome.{Answer, numberOf, placeOf, valueOf, written, listAfter, TreeLists, lentSizes, buildCall, buildAnswer, treeListsAfter, buildLists}
-use Rattle.formats.specs.Stream.{job, streamPoints, jobIn}
+use Rattle.formats.specs.Stream.{job, streamPoints, streamNeighbours, jobIn}
 use Rattle.formats.specs.Printout.{treeText, refusalText, builtText, jobText, printout}
 use Rattle.definition_laws.proofs.Accepted.{LentEnough, build-zero}
 use Rattle.stream_laws.specs.Sizes.{JobLimits, WithinLimits, mostBytes}
@@ -43,7 +43,7 @@ none-short : (lent stated : BuildSizes) → LentEnough lent stated → buildShor
 unfolding buildShort
 none-short lent stated e =
     rw (
-      le-ltb (lent .points) (stated .points) (e .points),
+      le-ltb (lent .level-points) (stated .level-points) (e .level-points),
       le-ltb (lent .internals) (stated .internals) (e .internals),
       le-ltb (lent .domains) (stated .domains) (e .domains),
       le-ltb (lent .boxes) (stated .boxes) (e .boxes),
@@ -56,7 +56,7 @@ none-short lent stated e =
 as-stated : (stated : BuildSizes) → LentEnough stated stated
 as-stated stated =
     record {
-      points = le-refl (stated .points);
+      level-points = le-refl (stated .level-points);
       internals = le-refl (stated .internals);
       domains = le-refl (stated .domains);
       boxes = le-refl (stated .boxes);
@@ -65,30 +65,25 @@ as-stated stated =
       wholes = le-refl (stated .wholes);
     }
 
--- the program's lists, for 32 points on three axes with 16 neighbours
-pub record Roomy (lent : BuildSizes) : Type 0 where
-  pub points : lent .points ≡ 128
-  pub internals : lent .internals ≡ 128
-  pub domains : lent .domains ≡ 772
-  pub boxes : lent .boxes ≡ 1158
-  pub borrowed : lent .borrowed ≡ 3264
-  pub floats : lent .floats ≡ 1024
-  pub wholes : lent .wholes ≡ 5376
+-- the program's lists: those of the largest job
+abbrev pub Roomy : BuildSizes → Type 0
+Roomy lent = lent ≡ buildStated 3 streamPoints streamNeighbours
 
-roomy : (d n k : ℕ) (lent : BuildSizes) → d ≤ 3 → n ≤ 32 → k ≤ 16 → Roomy lent → LentEnough lent (buildStated d n k)
+-- they suffice for every job
+roomy : (d n k : ℕ) → d ≤ 3 → n ≤ streamPoints → k ≤ streamNeighbours → LentEnough (buildStated 3 streamPoints streamNeighbours) (buildStated d n k)
 unfolding buildStated
-roomy d n k lent hd hn hk r =
-    let a = mul-le-mul {n₁ = rowFloats d} {m₁ = 6 * n + 1} {n₂ = rowFloats 3} {m₂ = 193} (omega arith) (omega arith) in
-    let b = mul-le-mul {n₁ = 6 * n} {m₁ = k + 1} {n₂ = 192} {m₂ = 17} (omega arith) (omega arith) in
-    let c = mul-le-mul {n₁ = 8 * n} {m₁ = k + 1} {n₂ = 256} {m₂ = 17} (omega arith) (omega arith) in
+roomy d n k hd hn hk =
+    let a = mul-le-mul {n₁ = rowFloats d} {m₁ = mostRows n} {n₂ = rowFloats 3} {m₂ = mostRows streamPoints} (omega arith) (omega arith) in
+    let b = mul-le-mul {n₁ = 6 * n} {m₁ = k + 1} {n₂ = 6 * streamPoints} {m₂ = streamNeighbours + 1} (omega arith) (omega arith) in
+    let c = mul-le-mul {n₁ = 8 * n} {m₁ = k + 1} {n₂ = 8 * streamPoints} {m₂ = streamNeighbours + 1} (omega arith) (omega arith) in
     record {
-      points = omega (arith, r .points);
-      internals = omega (arith, r .internals);
-      domains = omega (arith, r .domains);
-      boxes = omega (arith, r .boxes);
-      borrowed = omega (arith, r .borrowed);
-      floats = omega (arith, r .floats);
-      wholes = omega (arith, r .wholes);
+      level-points = omega arith;
+      internals = omega arith;
+      domains = omega arith;
+      boxes = omega arith;
+      borrowed = omega arith;
+      floats = omega arith;
+      wholes = omega arith;
     }
 
 -- ---- a build in the program's lists
@@ -105,8 +100,8 @@ module _ (s : tree.Settings) (cs : List Float) (old : TreeLists) (floats : List 
     unfolding buildVerdict
     as-printed =
         let few : tree.pointCount (s .dimension) cs ≤ streamPoints = div-le-of-le-mul (s .dimension) (rw mul-comm at (limits .points-few)) in
-        let a = none-short (lentSizes old floats wholes) stated (roomy (s .dimension) _ (s .neighbours) _ (limits .axes-few) few (limits .neighbours-few) rooms) in
-        rw (a, none-short stated stated (as-stated stated))
+        let a = none-short (buildStated 3 streamPoints streamNeighbours) stated (roomy (s .dimension) _ (s .neighbours) (limits .axes-few) few (limits .neighbours-few)) in
+        rw (rooms, a, none-short stated stated (as-stated stated))
 
     -- by its answer
     module _ (r : Answer Counts) (e : r ≡ buildAnswer s cs old floats wholes) where
@@ -144,8 +139,8 @@ module _ (s : tree.Settings) (cs : List Float) (old : TreeLists) (floats : List 
         counts-are = ap (λ (a : Answer Counts). a .value) e ∙ rw (job-accepted h)
 
         lists-are : new ≡ record {
-          points = written (packedPoints ls) (old .points);
-          internals = written (packedOwn ls) (old .internals);
+          level-points = written (packedLevelPoints ls) (old .level-points);
+          internals = written (packedInternals ls) (old .internals);
           domains = written (packedDomains ls) (old .domains);
           boxes = written (packedBoxes ls) (old .boxes);
           borrowed = written (packedBorrowed ls) (old .borrowed);
@@ -154,9 +149,9 @@ module _ (s : tree.Settings) (cs : List Float) (old : TreeLists) (floats : List 
         lists-are = f ∙ rw (job-accepted h)
 
         abbrev lists : Packed
-        lists = packed (new .internals) (new .borrowed) (new .domains) (new .boxes) (s .dimension)
+        lists = packed (new .internals) (new .domains) (new .boxes) (new .borrowed) (s .dimension)
 
-        tree-packed : Packs ls lists (new .points) (r .value)
+        tree-packed : Packs ls lists (new .level-points) (r .value)
         unfolding written
         tree-packed =
             let shaped = tree-shaped s cs in
@@ -164,9 +159,9 @@ module _ (s : tree.Settings) (cs : List Float) (old : TreeLists) (floats : List 
               few = shaped .few;
               boxed = shaped .wide;
               counts = counts-are;
-              points-rest = drop (length (packedPoints ls)) (old .points);
-              points-are = ap (λ (l : TreeLists). l .points) lists-are;
-              internals-rest = drop (length (packedOwn ls)) (old .internals);
+              points-rest = drop (length (packedLevelPoints ls)) (old .level-points);
+              points-are = ap (λ (l : TreeLists). l .level-points) lists-are;
+              internals-rest = drop (length (packedInternals ls)) (old .internals);
               internals = ap (λ (l : TreeLists). l .internals) lists-are;
               domains-rest = drop (length (packedDomains ls)) (old .domains);
               domains = ap (λ (l : TreeLists). l .domains) lists-are;
@@ -176,44 +171,44 @@ module _ (s : tree.Settings) (cs : List Float) (old : TreeLists) (floats : List 
               borrowed = ap (λ (l : TreeLists). l .borrowed) lists-are;
             }
 
-        pub tree-ready : Stands (packed (new .internals) (new .borrowed) (new .domains) (new .boxes) (s .dimension)) (new .points) (r .value .rows) (r .value .domains)
+        pub tree-ready : Stands (packed (new .internals) (new .domains) (new .boxes) (new .borrowed) (s .dimension)) (new .level-points) (r .value .rows) (r .value .domains)
             (r .value .levels)
         tree-ready =
             let shaped = tree-shaped s cs in
             let last = length ls - 1 in
-            tree-stands ls lists (new .points) (r .value) tree-packed (limits .axes-few) (shaped .some)
+            tree-stands ls lists (new .level-points) (r .value) tree-packed (limits .axes-few) (shaped .some)
             (sym (getD-map-in (λ (l : tree.Level). length (l .leaves)) ls last noLevel 0 (omega (arith, shaped .some))) ∙ shaped .last)
 
         pub job-tree : jobText (job s cs)
-            ≡ treeText (readLevels (packed (new .internals) (new .borrowed) (new .domains) (new .boxes) (s .dimension)) (new .points) (r .value .rows)
+            ≡ treeText (readLevels (packed (new .internals) (new .domains) (new .boxes) (new .borrowed) (s .dimension)) (new .level-points) (r .value .rows)
             (r .value .domains) (r .value .levels))
         job-tree =
             text-accepted h
-            ∙ ap treeText (sym (ap (readLevels lists (new .points) (r .value .rows) (r .value .domains)) (levels-are ls lists (new .points) (r .value) tree-packed)
-            ∙ tree-back ls lists (new .points) (r .value) tree-packed))
+            ∙ ap treeText (sym (ap (readLevels lists (new .level-points) (r .value .rows) (r .value .domains)) (levels-are ls lists (new .level-points) (r .value) tree-packed)
+            ∙ tree-back ls lists (new .level-points) (r .value) tree-packed))
 
 -- ---- the program's lists, as they are lent
 abbrev pub lentLists : TreeLists
 lentLists =
     record {
-      points = replicate 128 0;
-      internals = replicate 128 0;
-      domains = replicate 772 0;
-      boxes = replicate 1158 plusZero;
-      borrowed = replicate 3264 0;
+      level-points = replicate (4 * streamPoints) 0;
+      internals = replicate (4 * streamPoints) 0;
+      domains = replicate (rowNumbers * mostRows streamPoints) 0;
+      boxes = replicate (rowFloats 3 * mostRows streamPoints) plusZero;
+      borrowed = replicate (6 * streamPoints * (streamNeighbours + 1)) 0;
     }
 
-pub rooms : Roomy (lentSizes lentLists (replicate 1024 plusZero) (replicate 5376 0))
+pub rooms : Roomy (lentSizes lentLists (replicate (32 * streamPoints) plusZero) (replicate (32 * streamPoints + 8 * streamPoints * (streamNeighbours + 1)) 0))
+unfolding buildStated
 rooms =
-    record {
-      points = length-replicate {A = ℕ} 128 0;
-      internals = length-replicate {A = ℕ} 128 0;
-      domains = length-replicate {A = ℕ} 772 0;
-      boxes = length-replicate 1158 plusZero;
-      borrowed = length-replicate {A = ℕ} 3264 0;
-      floats = length-replicate 1024 plusZero;
-      wholes = length-replicate {A = ℕ} 5376 0;
-    }
+    rw (
+      length-replicate {A = ℕ} (4 * streamPoints) 0,
+      length-replicate {A = ℕ} (rowNumbers * mostRows streamPoints) 0,
+      length-replicate (rowFloats 3 * mostRows streamPoints) plusZero,
+      length-replicate {A = ℕ} (6 * streamPoints * (streamNeighbours + 1)) 0,
+      length-replicate (32 * streamPoints) plusZero,
+      length-replicate {A = ℕ} (32 * streamPoints + 8 * streamPoints * (streamNeighbours + 1)) 0,
+    )
 
 -- ---- room for the texts
 pub room-for : (s : tree.Settings) (cs : List Float) (out : List ℕ) → JobLimits s cs → mostBytes ≤ length out → TextRoom out 0 (jobText (job s cs))
@@ -242,7 +237,7 @@ module _ (r : Read) (cs : List Float) (bs : List ℕ) (h : jobOf r cs ≡ jobIn 
         go : (x : Read) → x ≡ Whole s n → WithinLimits (jobOf x cs) → JobLimits (settingsAre s) (take (n * s .dimensions) cs)
         go x f k = rw f at k
 
-    pub floats-here : Within r → n * s .dimensions ≤ 96
+    pub floats-here : Within r → n * s .dimensions ≤ 3 * streamPoints
     floats-here w =
         let k : n ≤ streamPoints = rw e at w in
         mul-le-mul {n₁ = n} {m₁ = s .dimensions} {n₂ = 32} {m₂ = 3} k (limits-here .axes-few)

@@ -11,6 +11,26 @@ ghost use Rattle.stream_reader.specs.Reading.{settingsAre};
 ghost use Rattle.print_texts.specs.Wrote.{Wrote};
 ghost use Rattle.printout.specs.Printing.{printAnswer, printOutput, printedAnswer};
 
+// The largest job: so many points on three axes, each of which takes so many rows, and its domain rows.
+const POINTS: usize = stream_reader::MOST_POINTS;
+
+const TAKEN: usize = stream_reader::MOST_NEIGHBOURS as usize + 1;
+
+const ROWS: usize = 6 * POINTS + 1;
+
+// The lengths of the lists that its build is to be lent. The level points and the internals have as many entries.
+const LEVEL_POINTS: usize = 4 * POINTS;
+
+const DOMAINS: usize = packed::ROW_NUMBERS * ROWS;
+
+const BOXES: usize = packed::MOST_ROW_FLOATS * ROWS;
+
+const BORROWED: usize = 6 * POINTS * TAKEN;
+
+const FLOATS: usize = 32 * POINTS;
+
+const WHOLES: usize = 32 * POINTS + 8 * POINTS * TAKEN;
+
 // How many bytes were written, or the number of a refusal (11: the output list is short) and its place.
 pub struct Printed {
     pub number: usize,
@@ -18,19 +38,18 @@ pub struct Printed {
     pub count: usize,
 }
 
-// The text of a job: of its tree, or of the build's refusal. The lists have the stated sizes for 32 points on three axes with 16
-// neighbours.
+// The text of a job: of its tree, or of the build's refusal. The lists suffice for the largest job.
 fn write_job(s: Settings, points: &[f64], out: &mut [u8]) -> usize
     requires { ⌜ JobLimits (settingsAre s) (now points) × (mostBytes ≤ length (now out)) ⌝ }
     ensures { λ r. ⌜ Wrote (now (out .entry)) 0 (jobText (job (settingsAre s) (now (points .entry)))) r (now (out .exit)) ⌝ }
 {
-    let mut level_points = [0usize; 128];
-    let mut internals = [0usize; 128];
-    let mut domains = [0usize; 772];
-    let mut boxes = [0.0; 1158];
-    let mut borrowed = [0usize; 3264];
-    let mut floats = [0.0; 1024];
-    let mut wholes = [0usize; 5376];
+    let mut level_points = [0usize; LEVEL_POINTS];
+    let mut internals = [0usize; LEVEL_POINTS];
+    let mut domains = [0usize; DOMAINS];
+    let mut boxes = [0.0; BOXES];
+    let mut borrowed = [0usize; BORROWED];
+    let mut floats = [0.0; FLOATS];
+    let mut wholes = [0usize; WHOLES];
     let d = s.dimensions;
     let params = s.params;
     let tree = ddm::build(
@@ -73,13 +92,13 @@ fn write_printout(input: &[u8], output: &mut [u8]) -> usize
     requires { ⌜ mostBytes ≤ length (now output) ⌝ }
     ensures { λ r. ⌜ Wrote (now (output .entry)) 0 (printed (now (input .entry))) r (now (output .exit)) ⌝ }
 {
-    let mut coords = [0.0; 96];
-    let read = stream_reader::read_job(input, &mut coords);
+    let mut points = [0.0; 3 * POINTS];
+    let read = stream_reader::read_job(input, &mut points);
     match read {
         Read::Broken(number, place) => print_texts::write_refusal(number, place, output, 0),
         Read::Whole(s, n) => {
             let k = n * s.dimensions;
-            write_job(s, &coords[..k], output)
+            write_job(s, &points[..k], output)
         }
     }
 }

@@ -7,23 +7,23 @@ ghost use Rattle.definition.specs.Packed.{rowNumbers};
 ghost use Rattle.queue.specs.Rows.{twoHalves, twoOwn};
 
 // Writes start and count of the two halves of a stretch to a list, from `at` on: left before right.
-pub fn put_halves(list: &mut [usize], at: usize, start: usize, count: usize)
-    requires { ⌜ (at + 4 ≤ length (now list)) × (start + count < 2 ^ 64) ⌝ }
-    ensures { λ _. ⌜ now (list .exit) ≡ put (now (list .entry)) at (twoHalves start count) ⌝ }
+pub fn put_halves(wholes: &mut [usize], at: usize, start: usize, count: usize)
+    requires { ⌜ (at + 4 ≤ length (now wholes)) × (start + count < 2 ^ 64) ⌝ }
+    ensures { λ _. ⌜ now (wholes .exit) ≡ put (now (wholes .entry)) at (twoHalves start count) ⌝ }
 {
     let half = count / 2;
-    stretches::put_pair(list, at, start, half);
-    stretches::put_pair(list, at + 2, start + half, count - half);
+    stretches::put_pair(wholes, at, start, half);
+    stretches::put_pair(wholes, at + 2, start + half, count - half);
 }
 
 // Writes start and count of two leaves to the domain rows from the k-th on. They take up `count` rows from `start` on.
-fn put_leaves(list: &mut [usize], k: usize, start: usize, count: usize)
-    requires { ⌜ (rowNumbers * (k + 2) ≤ length (now list)) × (start + count < 2 ^ 64) ⌝ }
-    ensures { λ _. ⌜ now (list .exit) ≡ twoOwn (now (list .entry)) k start count ⌝ }
+fn put_leaves(domains: &mut [usize], k: usize, start: usize, count: usize)
+    requires { ⌜ (rowNumbers * (k + 2) ≤ length (now domains)) × (start + count < 2 ^ 64) ⌝ }
+    ensures { λ _. ⌜ now (domains .exit) ≡ twoOwn (now (domains .entry)) k start count ⌝ }
 {
     let half = count / 2;
-    packed::put_own(list, k, start, half);
-    packed::put_own(list, k + 1, start + half, count - half);
+    packed::put_own(domains, k, start, half);
+    packed::put_own(domains, k + 1, start + half, count - half);
 }
 
 // Packs two leaves, the halves of the `count` rows from `start` on: their rows go to `internals` from `at` on, and start and count of

@@ -23,7 +23,7 @@ use Rattle.lists.proofs.Tests.{or-none}
 use Rattle.definition.specs.Packed.{sampleStated}
 use Rattle.definition.specs.Refusals.{on, Verdict, accepted, refused, wrongDimension, coordinatesMissing, firstBad, notFinite, mostPoints, sampleShort, sampleVerdict}
 use Rattle.definition.specs.Sampling.{sample}
-use Rattle.definition.specs.Outcome.{answered, numberOf, placeOf, valueOf, written, listAfter, RoomAfter, sampleCall, sampleAnswer, sampleOutput}
+use Rattle.definition.specs.Outcome.{numberOf, placeOf, valueOf, written, listAfter, RoomAfter, sampleCall, sampleAnswer, sampleOutput}
 use Rattle.rows.specs.Rows.{GoodRows}
 use Rattle.rows.proofs.AllRows.{all-rows-good}
 use Rattle.definition_laws.proofs.Accepted.{passes, right-dimension}

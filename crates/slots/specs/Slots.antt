@@ -40,7 +40,7 @@ sampleSlot a = a .place ∷ a .value ∷ []
 -- the lengths that a build is to be lent, in the order of its lists
 abbrev pub lengthsOf : BuildSizes → List ℕ
 lengthsOf b =
-    b .points ∷ b .internals ∷ b .domains ∷ b .boxes ∷ b .borrowed ∷ b .floats ∷ b .wholes ∷ []
+    b .level-points ∷ b .internals ∷ b .domains ∷ b .boxes ∷ b .borrowed ∷ b .floats ∷ b .wholes ∷ []
 
 abbrev pub sizesSlot : Answer BuildSizes → List ℕ
 sizesSlot a = lengthsOf (a .value)

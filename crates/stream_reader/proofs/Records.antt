@@ -3,9 +3,9 @@
 -- is the state between two records with its start (`begun`) and its steps (`reading-..`), `policy-..` the policy. Assumes nothing.
 -- Holds: axis, point-none, point-step, point-short, point-there, point-room, whole-long, job-broken, job-low, job-high, Reading,
 --   begun, spot, reading-cut, reading-full, reading-more, reading-over, reading-done
-use mathlib.Core.Path.{_≡_, refl, sym, ap, _∙_}
+use mathlib.Core.Path.{_≡_, sym, ap, _∙_}
 use mathlib.Core.Bool.{Bool, true, false}
-use Prim.Native.Nat.{ℕ, zero, suc, _+_, _-_, _*_, _≤_, _<_}
+use Prim.Native.Nat.{ℕ, suc, _+_, _-_, _*_, _≤_, _<_}
 use native.Mathlib.Nat.{mul-le-mul, suc-mul, zero-mul}
 use native.Mathlib.Numerals.{add-one}
 use native.Mathlib.Omega.{arith}
@@ -21,7 +21,6 @@ use Rattle.lists.specs.Lists.{from}
 use Rattle.lists.proofs.From.{map-below-suc}
 use Rattle.lists.proofs.Tests.{and-fst}
 use Rattle.definition.specs.Tree as tree
-use Rattle.definition.specs.Levels.{auto, fixed}
 use Rattle.formats.specs.Bytes.{markedBy, whole, markSize, floatSize, floatAt, valueAt}
 use Rattle.formats.specs.Stream.{settingsSize, dimensionField, settingsIn, pointMark, pointSize, coordinatesAt, job, broken, brokenAt, tooLarge, streamPoints, streamNeighbours, readPoints, held, jobIn}
 use Rattle.stream_laws.proofs.Stream.{length-coordinates, stream-end, stream-cut, stream-full, stream-more}
@@ -100,11 +99,11 @@ pub record Reading (s : tree.Settings) (bs : List ℕ) (cs : List Float) (at n :
   pub few : n ≤ streamPoints
   pub flat : s .dimension ≤ 3
   pub within : at ≤ length bs
-  pub room : 96 ≤ length cs
+  pub room : 3 * streamPoints ≤ length cs
   pub same : jobIn bs ≡ held (readPoints s (streamPoints - n) at (drop at bs) (take (n * s .dimension) cs))
 
 pub begun : (s : tree.Settings) (bs : List ℕ) (cs : List Float) → settingsWhole bs ≡ true → s ≡ settingsIn bs → (s .dimension ≡ 0 → ⊥)
-    → s .dimension ≤ 3 → 96 ≤ length cs → Reading s bs cs settingsSize 0
+    → s .dimension ≤ 3 → 3 * streamPoints ≤ length cs → Reading s bs cs settingsSize 0
 begun s bs cs w e h g r =
     record {
       few = omega arith;
@@ -115,7 +114,7 @@ begun s bs cs w e h g r =
     }
 
 -- the product of a count and the dimension
-pub spot : (n d : ℕ) → n < streamPoints → d ≤ 3 → n * d + d ≤ 96
+pub spot : (n d : ℕ) → n < streamPoints → d ≤ 3 → n * d + d ≤ 3 * streamPoints
 spot n d h g = omega (arith, suc-mul n d, mul-le-mul {n₁ = suc n} {m₁ = d} {n₂ = streamPoints} {m₂ = 3} h g)
 
 module _ {s : tree.Settings} {bs : List ℕ} {cs : List Float} {at n : ℕ} (r : Reading s bs cs at n) where

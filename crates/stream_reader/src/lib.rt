@@ -3,13 +3,13 @@ use config::DDMParams;
 use config::SizePolicy;
 ghost use mathlib.Core.Path.{_≡_};
 ghost use mathlib.Core.Bool.{_&&_};
-ghost use Prim.Native.Nat.{_+_, _≤_};
+ghost use Prim.Native.Nat.{_+_, _*_, _≤_};
 ghost use lib.ListN.{length, drop};
 ghost use Rattle.lists.specs.Lists.{put};
 ghost use Rattle.config.specs.Params.{thresholdPolicy};
 ghost use Rattle.formats.specs.Bytes.{whole, markSize};
 ghost use Rattle.definition.specs.Levels.{policyFrom};
-ghost use Rattle.formats.specs.Stream.{settingsMark, settingsSize, policyFits, settingsIn, pointMark, pointSize, coordinatesAt, jobIn};
+ghost use Rattle.formats.specs.Stream.{settingsMark, settingsSize, policyFits, settingsIn, pointMark, pointSize, coordinatesAt, streamPoints, jobIn};
 ghost use Rattle.stream_reader.specs.Reading.{settingsAre, jobOf, Within};
 
 // A record's mark, and a float.
@@ -33,9 +33,9 @@ const THRESHOLD: usize = POLICY + 1;
 const SETTINGS: usize = THRESHOLD + 4;
 
 // The most points, and the most neighbours, that a stream may have.
-const MOST_POINTS: usize = 32;
+pub const MOST_POINTS: usize = 32;
 
-const MOST_NEIGHBOURS: u32 = 16;
+pub const MOST_NEIGHBOURS: u32 = 16;
 
 // The number of axes, and the settings of the build.
 pub struct Settings {
@@ -111,21 +111,21 @@ fn point_whole(d: usize, input: &[u8], at: usize) -> bool
 }
 
 // The coordinates of the point record at `at`, stored from the index k on.
-fn read_point(d: usize, input: &[u8], at: usize, coords: &mut [f64], k: usize)
-    requires { ⌜ (d ≤ 3) × (at + pointSize d ≤ length (now input)) × (k + d ≤ length (now coords)) ⌝ }
-    ensures { λ _. ⌜ now (coords .exit) ≡ put (now (coords .entry)) k (coordinatesAt d markSize (drop at (now (input .entry)))) ⌝ }
+fn read_point(d: usize, input: &[u8], at: usize, points: &mut [f64], k: usize)
+    requires { ⌜ (d ≤ 3) × (at + pointSize d ≤ length (now input)) × (k + d ≤ length (now points)) ⌝ }
+    ensures { λ _. ⌜ now (points .exit) ≡ put (now (points .entry)) k (coordinatesAt d markSize (drop at (now (input .entry)))) ⌝ }
 {
     let mut a = 0;
     while a < d {
-        coords[k + a] = bytes_in::float_at(input, at + (MARK + FLOAT * a));
+        points[k + a] = bytes_in::float_at(input, at + (MARK + FLOAT * a));
         a += 1;
     }
 }
 
-// Reads a job: its settings, and its points' coordinates at the front of `coords`.
-pub fn read_job(input: &[u8], coords: &mut [f64]) -> Read
-    requires { ⌜ 96 ≤ length (now coords) ⌝ }
-    ensures same { λ r. ⌜ jobOf r (now (coords .exit)) ≡ jobIn (now (input .entry)) ⌝ }
+// Reads a job: its settings, and its points' coordinates at the front of `points`.
+pub fn read_job(input: &[u8], points: &mut [f64]) -> Read
+    requires { ⌜ 3 * streamPoints ≤ length (now points) ⌝ }
+    ensures same { λ r. ⌜ jobOf r (now (points .exit)) ≡ jobIn (now (input .entry)) ⌝ }
     ensures within { λ r. ⌜ Within r ⌝ }
 {
     if !settings_whole(input) {
@@ -148,7 +148,7 @@ pub fn read_job(input: &[u8], coords: &mut [f64]) -> Read
         if n == MOST_POINTS {
             return Read::Broken(17, 0);
         }
-        read_point(d, input, at, coords, n * d);
+        read_point(d, input, at, points, n * d);
         at += MARK + FLOAT * d;
         n += 1;
     }

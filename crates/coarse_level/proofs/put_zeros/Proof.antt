@@ -13,22 +13,22 @@ use Rattle.coarse_level.proofs.put_zeros.Reads as reads
 use Rattle.coarse_level.proofs.put_zeros.Lts as lts
 
 abbrev Inv-loop : tie.InvT-loop
-Inv-loop list₀ at count i₀ list i = (i ≤ count) × (length list ≡ length list₀) × (list ≡ put list₀ at (replicate i plusZero))
+Inv-loop boxes₀ at count i₀ boxes i = (i ≤ count) × (length boxes ≡ length boxes₀) × (boxes ≡ put boxes₀ at (replicate i plusZero))
 
 abbrev μ-loop : tie.MeasureT-loop
-μ-loop list₀ at count i₀ list i = count - i
+μ-loop boxes₀ at count i₀ boxes i = count - i
 
 loop-holds : tie.Need-loop-holds Inv-loop μ-loop
-loop-holds c = (omega arith, omega arith, sym (put-nil (c .args .list .now) (c .args .at)))
+loop-holds c = (omega arith, omega arith, sym (put-nil (c .args .boxes .now) (c .args .at)))
 
-add-list : tie.Need-add-list Inv-loop μ-loop
-add-list c = search needs
+add-boxes : tie.Need-add-boxes Inv-loop μ-loop
+add-boxes c = search needs
 
-mul-list : tie.Need-mul-list Inv-loop μ-loop
-mul-list c = search needs
+mul-boxes : tie.Need-mul-boxes Inv-loop μ-loop
+mul-boxes c = search needs
 
-slice-write-list : tie.Need-slice-write-list Inv-loop μ-loop
-slice-write-list c = search needs
+slice-write-boxes : tie.Need-slice-write-boxes Inv-loop μ-loop
+slice-write-boxes c = search needs
 
 add-i : tie.Need-add-i Inv-loop μ-loop
 add-i c = search needs
@@ -41,8 +41,8 @@ loop-again c =
     let P = c .before .before .args in
     let l = c .before .loop in (
       search needs,
-      length-set (l .list) (P .at + l .i) plusZero ∙ l .inv .1,
-      rw (l .inv .2) (put-same-more (P .list .now) (P .at) (l .i) plusZero (omega (arith, c .before .before .pre, c .loop-test .taken))),
+      length-set (l .boxes) (P .at + l .i) plusZero ∙ l .inv .1,
+      rw (l .inv .2) (put-same-more (P .boxes .now) (P .at) (l .i) plusZero (omega (arith, c .before .before .pre, c .loop-test .taken))),
     )
 
 same-length : tie.Need-same-length Inv-loop μ-loop
@@ -53,7 +53,7 @@ returns c =
     let P = c .before .before .args in
     let l = c .before .loop in
     let e : l .i ≡ P .count = omega (arith, c .loop-test .left, l .inv .0) in
-    l .inv .2 ∙ ap (λ (k : ℕ). put (P .list .now) (P .at) (replicate k plusZero)) e
+    l .inv .2 ∙ ap (λ (k : ℕ). put (P .boxes .now) (P .at) (replicate k plusZero)) e
 
 pub put-zeros-spec : {M : Type 1} → statement M
 put-zeros-spec =
@@ -62,9 +62,9 @@ put-zeros-spec =
     Inv-loop
     μ-loop
     loop-holds
-    add-list
-    mul-list
-    slice-write-list
+    add-boxes
+    mul-boxes
+    slice-write-boxes
     add-i
     loop-less
     loop-again

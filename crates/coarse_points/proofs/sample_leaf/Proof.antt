@@ -13,7 +13,7 @@ use Rattle.coarse_points.proofs.sample_leaf.Tie as tie
 returns : tie.Need-returns
 returns c =
     let a = c .before .before .before .before .before .args in
-    sym (ap (put (a .out .now) (a .at)) (sent-none (a .dimensions) (a .points .now) (a .rows .now) (a .quota) (omega arith)) ∙ put-nil (a .out .now) (a .at))
+    sym (ap (put (a .level-points .now) (a .at)) (sent-none (a .dimensions) (a .points .now) (a .rows .now) (a .quota) (omega arith)) ∙ put-nil (a .level-points .now) (a .at))
 
 sampling-seed-requires : tie.Need-sampling-seed-requires
 sampling-seed-requires c κs =
@@ -35,8 +35,8 @@ returns-2 : tie.Need-returns-2
 returns-2 c =
     let a = c .before .before .before .before .before .before .before .before .before .before .before .before .before .args in
     c .before .before .before .before .sample-rows .ensures
-    ∙ ap (λ (s : ℕ). put (a .out .now) (a .at) (sample (a .dimensions) (a .points .now) (a .rows .now) (a .quota) s)) (c .before .before .before .before .before .before .before .sampling-seed .ensures .1)
-    ∙ ap (put (a .out .now) (a .at)) (sym (sent-some (a .dimensions) (a .points .now) (a .rows .now) (a .quota) (omega arith)))
+    ∙ ap (λ (s : ℕ). put (a .level-points .now) (a .at) (sample (a .dimensions) (a .points .now) (a .rows .now) (a .quota) s)) (c .before .before .before .before .before .before .before .sampling-seed .ensures .1)
+    ∙ ap (put (a .level-points .now) (a .at)) (sym (sent-some (a .dimensions) (a .points .now) (a .rows .now) (a .quota) (omega arith)))
 
 pub sample-leaf-spec : {M : Type 1} → statement M
 sample-leaf-spec =

@@ -51,7 +51,7 @@ returns c =
     let a = c .before .before .before .before .before .before .before .before .before .before .before .before .before .before .before .args in
     let row = c .before .before .before .before .before .before .before .before .before .read-row in
     c .before .before .before .before .sample-leaf .ensures
-    ∙ ap (λ (z : List ℕ). put (a .out .now) (a .at) (sentBy (a .dimensions) (a .points .now) z (a .quota))) (own-lent (a .internals .now) (a .domains .now) (a .r) (row .result) (row .ensures))
+    ∙ ap (λ (z : List ℕ). put (a .level-points .now) (a .at) (sentBy (a .dimensions) (a .points .now) z (a .quota))) (own-lent (a .internals .now) (a .domains .now) (a .r) (row .result) (row .ensures))
 
 pub send-leaf-spec : {M : Type 1} → statement M
 send-leaf-spec =

@@ -13,16 +13,16 @@ use Rattle.coarse_points.proofs.send_leaves.Statement.{statement}
 use Rattle.coarse_points.proofs.send_leaves.Tie as tie
 
 abbrev Inv-loop : tie.InvT-loop
-Inv-loop points dimensions internals domains first m shares out₀ at floats₀ end₀ l₀ out floats end l = (l ≤ m) × (length out ≡ length out₀) × (length floats ≡ length floats₀) × (end ≡ at + length (sentAt dimensions points internals domains first shares l)) × (out ≡ put out₀ at (sentAt dimensions points internals domains first shares l))
+Inv-loop points dimensions level-points₀ at internals domains first m shares floats₀ end₀ l₀ level-points floats end l = (l ≤ m) × (length level-points ≡ length level-points₀) × (length floats ≡ length floats₀) × (end ≡ at + length (sentAt dimensions points internals domains first shares l)) × (level-points ≡ put level-points₀ at (sentAt dimensions points internals domains first shares l))
 
 abbrev μ-loop : tie.MeasureT-loop
-μ-loop points dimensions internals domains first m shares out₀ at floats₀ end₀ l₀ out floats end l = m - l
+μ-loop points dimensions level-points₀ at internals domains first m shares floats₀ end₀ l₀ level-points floats end l = m - l
 
 loop-holds : tie.Need-loop-holds Inv-loop μ-loop
 loop-holds c =
     let a = c .before .before .before .before .before .before .args in
     let e = sent-first (a .dimensions) (a .points .now) (a .internals .now) (a .domains .now) (a .first) (a .shares .now) in
-    (omega arith, refl, refl, omega (arith, ap length e), sym (ap (put (a .out .now) (a .at)) e ∙ put-nil (a .out .now) (a .at)))
+    (omega arith, refl, refl, omega (arith, ap length e), sym (ap (put (a .level-points .now) (a .at)) e ∙ put-nil (a .level-points .now) (a .at)))
 
 mul-quota : tie.Need-mul-quota Inv-loop μ-loop
 mul-quota c = omega arith
@@ -32,7 +32,7 @@ shared-slice-read-quota c = omega (arith, c .before .before .before .before .bef
 
 add-send-leaf : tie.Need-add-send-leaf Inv-loop μ-loop
 add-send-leaf c =
-    let f = c .before .before .before .before .before .before .before .before .before .pre .each (c .before .before .loop .l) (omega arith) in
+    let f = c .before .before .before .before .before .before .before .before .before .before .pre .each (c .before .before .before .loop .l) (omega arith) in
     omega (arith, f .row)
 
 send-leaf-requires : tie.Need-send-leaf-requires Inv-loop μ-loop
@@ -63,7 +63,7 @@ loop-again c =
     let s = c .before .before .before .before .before .before .before .before .before .before .before .before .before .before .before .before in
     let i = c .before .before .before .before .before .before .before .before .before .loop in
     let h : i .l < s .args .m = omega arith in
-    let e = c .before .before .before .before .send-leaf .ensures ∙ leaf-list _ _ _ _ _ _ _ _ _ _ (s .pre) (i .l) (i .end) (i .out) h (i .inv .3) (i .inv .4) in
+    let e = c .before .before .before .before .send-leaf .ensures ∙ leaf-list _ _ _ _ _ _ _ _ _ _ (s .pre) (i .l) (i .end) (i .level-points) h (i .inv .3) (i .inv .4) in
     (omega arith, omega arith, omega arith, omega (arith, leaf-end _ _ _ _ _ _ _ _ _ _ (s .pre) (i .l), i .inv .3), e)
 
 same-length : tie.Need-same-length Inv-loop μ-loop
@@ -78,7 +78,7 @@ returns c =
     let i = c .before .loop in
     let e : i .l ≡ a .m = omega arith in
     let q = ap (sentAt (a .dimensions) (a .points .now) (a .internals .now) (a .domains .now) (a .first) (a .shares .now)) e in
-    (i .inv .3 ∙ ap (λ (z : List ℕ). a .at + length z) q, i .inv .4 ∙ ap (put (a .out .now) (a .at)) q)
+    (i .inv .3 ∙ ap (λ (z : List ℕ). a .at + length z) q, i .inv .4 ∙ ap (put (a .level-points .now) (a .at)) q)
 
 pub send-leaves-spec : {M : Type 1} → statement M
 send-leaves-spec =

@@ -9,7 +9,7 @@ use Rattle.lists.specs.Lists.{put, part, from}
 use Rattle.lists.proofs.Put.{part-put-same, length-put}
 use Rattle.lists.proofs.From.{length-from}
 use Rattle.definition.specs.Tree.{Level}
-use Rattle.definition.specs.Packed.{Counts, countsOf, packedPoints, packedOwn, packedDomains, packedBoxes, packedBorrowed}
+use Rattle.definition.specs.Packed.{Counts, countsOf, packedLevelPoints, packedInternals, packedDomains, packedBoxes, packedBorrowed}
 use Rattle.definition_laws.proofs.Accepted.{build-accepted}
 use Rattle.config.specs.Params.{settingsOf}
 use Rattle.ddm.specs.Build.{listsOf}
@@ -122,9 +122,9 @@ returns c =
     let t = tree-is s cs n _ _ refl ec ek in (
       ap (λ (v : Counts). record { number = 0; place = 0; value = v }) (counts-whole _ _ _ _ _ _ _ _ _ _ (w .0 .0) (w .0 .1) (w .0 .2) ∙ ap countsOf (sym t)),
       (
-        points-whole _ _ _ _ _ _ n (P .level-points .now) _ _ (omega (arith, space .level-points)) refl (w .1 .0) ∙ ap (λ (ls : List Level). put (P .level-points .now) 0 (packedPoints ls)) (sym t),
+        points-whole _ _ _ _ _ _ n (P .level-points .now) _ _ (omega (arith, space .level-points)) refl (w .1 .0) ∙ ap (λ (ls : List Level). put (P .level-points .now) 0 (packedLevelPoints ls)) (sym t),
         (
-          w .1 .1 .0 ∙ ap (λ (ls : List Level). put (P .internals .now) 0 (packedOwn ls)) (sym t),
+          w .1 .1 .0 ∙ ap (λ (ls : List Level). put (P .internals .now) 0 (packedInternals ls)) (sym t),
           (
             w .1 .1 .1 .0 ∙ ap (λ (ls : List Level). put (P .domains .now) 0 (packedDomains ls)) (sym t),
             (

@@ -14,22 +14,22 @@ use Rattle.halving.proofs.halves.Statement.{statement}
 use Rattle.halving.proofs.halves.Tie as tie
 
 -- what the function asks, by name
-room : (d : ℕ) (cs : List Float) (axis : ℕ) (work : List ℕ) (start count spare : ℕ)
-    → (axis < d) × (1 ≤ count) × (start + count ≤ spare) × (spare + count ≤ length work) × GoodRows d cs (part work start count)
-    → CutRoom d cs axis work start count spare
-room d cs axis work start count spare p = record { axis-in = p .0; some = p .1; apart = p .2; fit = p .3; good = p .4 }
+room : (d : ℕ) (cs : List Float) (axis : ℕ) (wholes : List ℕ) (start count spare : ℕ)
+    → (axis < d) × (1 ≤ count) × (start + count ≤ spare) × (spare + count ≤ length wholes) × GoodRows d cs (part wholes start count)
+    → CutRoom d cs axis wholes start count spare
+room d cs axis wholes start count spare p = record { axis-in = p .0; some = p .1; apart = p .2; fit = p .3; good = p .4 }
 
 middle-of-requires : tie.Need-middle-of-requires
 middle-of-requires c κs =
     let a = c .before .before .before .args in
-    let r = room (a .d) (a .points .now) (a .axis) (a .work .now) (a .start) (a .count) (a .spare) (c .before .before .before .pre) in
+    let r = room (a .d) (a .points .now) (a .axis) (a .wholes .now) (a .start) (a .count) (a .spare) (c .before .before .before .pre) in
     r
 
 part-rows-requires : tie.Need-part-rows-requires
 part-rows-requires c κs =
     let a = c .before .before .before .before .before .before .before .args in
     let r =
-    room (a .d) (a .points .now) (a .axis) (a .work .now) (a .start) (a .count) (a .spare)
+    room (a .d) (a .points .now) (a .axis) (a .wholes .now) (a .start) (a .count) (a .spare)
     (c .before .before .before .before .before .before .before .pre) in
     let e = c .before .before .before .middle-of .ensures in
     (r .apart, spent-room r (e .1) (e .0), spent-finite r (e .1) (e .0), middle-inside r (e .1) (e .0))
@@ -38,7 +38,7 @@ sub-copy : tie.Need-sub-copy
 sub-copy c =
     let a = c .before .before .before .before .before .before .before .before .before .before .before .args in
     let r =
-    room (a .d) (a .points .now) (a .axis) (a .work .now) (a .start) (a .count) (a .spare)
+    room (a .d) (a .points .now) (a .axis) (a .wholes .now) (a .start) (a .count) (a .spare)
     (c .before .before .before .before .before .before .before .before .before .before .before .pre) in
     let e = c .before .before .before .before .before .before .before .middle-of .ensures in
     let f = c .before .before .before .part-rows .ensures in
@@ -48,7 +48,7 @@ add-copy : tie.Need-add-copy
 add-copy c =
     let a = c .before .before .before .before .before .before .before .before .before .before .before .args in
     let r =
-    room (a .d) (a .points .now) (a .axis) (a .work .now) (a .start) (a .count) (a .spare)
+    room (a .d) (a .points .now) (a .axis) (a .wholes .now) (a .start) (a .count) (a .spare)
     (c .before .before .before .before .before .before .before .before .before .before .before .pre) in
     let e = c .before .before .before .before .before .before .before .middle-of .ensures in
     let f = c .before .before .before .part-rows .ensures in
@@ -58,7 +58,7 @@ copy-requires : tie.Need-copy-requires
 copy-requires c κs =
     let a = c .before .before .before .before .before .before .before .before .before .before .before .args in
     let r =
-    room (a .d) (a .points .now) (a .axis) (a .work .now) (a .start) (a .count) (a .spare)
+    room (a .d) (a .points .now) (a .axis) (a .wholes .now) (a .start) (a .count) (a .spare)
     (c .before .before .before .before .before .before .before .before .before .before .before .pre) in
     let e = c .before .before .before .before .before .before .before .middle-of .ensures in
     let f = c .before .before .before .part-rows .ensures in
@@ -73,7 +73,7 @@ returns : tie.Need-returns
 returns c =
     let a = c .before .before .before .before .before .before .before .before .before .before .before .before .before .before .args in
     let r =
-    room (a .d) (a .points .now) (a .axis) (a .work .now) (a .start) (a .count) (a .spare)
+    room (a .d) (a .points .now) (a .axis) (a .wholes .now) (a .start) (a .count) (a .spare)
     (c .before .before .before .before .before .before .before .before .before .before .before .before .before .before .pre) in
     let e = c .before .before .before .before .before .before .before .before .before .before .middle-of .ensures in
     let f = c .before .before .before .before .before .before .part-rows .ensures in

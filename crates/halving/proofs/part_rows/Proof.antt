@@ -11,11 +11,11 @@ use Rattle.halving.proofs.part_rows.Statement.{statement}
 use Rattle.halving.proofs.part_rows.Tie as tie
 
 abbrev Inv-loop : tie.InvT-loop
-Inv-loop points d axis m work₀ start count spare lo₀ hi₀ i₀ work lo hi i =
-    Parted (onSide d points axis m true) work₀ start count spare work lo hi i
+Inv-loop points d axis m wholes₀ start count spare lo₀ hi₀ i₀ wholes lo hi i =
+    Parted (onSide d points axis m true) wholes₀ start count spare wholes lo hi i
 
 abbrev μ-loop : tie.MeasureT-loop
-μ-loop points d axis m work₀ start count spare lo₀ hi₀ i₀ work lo hi i = count - i
+μ-loop points d axis m wholes₀ start count spare lo₀ hi₀ i₀ wholes lo hi i = count - i
 
 loop-holds : tie.Need-loop-holds Inv-loop μ-loop
 loop-holds c = parted-first _ _ _ _ _ (c .before .before .pre .0) (c .before .before .pre .1)
@@ -42,14 +42,14 @@ comes-before-requires c κs =
     let m = s .pre .3 in
     (omega arith, omega arith)
 
-add-work : tie.Need-add-work Inv-loop μ-loop
-add-work c = search needs
+add-wholes : tie.Need-add-wholes Inv-loop μ-loop
+add-wholes c = search needs
 
-mul-work : tie.Need-mul-work Inv-loop μ-loop
-mul-work c = search needs
+mul-wholes : tie.Need-mul-wholes Inv-loop μ-loop
+mul-wholes c = search needs
 
-slice-write-work : tie.Need-slice-write-work Inv-loop μ-loop
-slice-write-work c = search needs
+slice-write-wholes : tie.Need-slice-write-wholes Inv-loop μ-loop
+slice-write-wholes c = search needs
 
 add-lo : tie.Need-add-lo Inv-loop μ-loop
 add-lo c = search needs
@@ -62,14 +62,14 @@ loop-again c =
     parted-left (c .before .before .before .before .loop .inv) (c .before .before .before .loop-test .taken)
     (sym (c .before .comes-before .ensures) ∙ c .if1 .taken)
 
-add-work-2 : tie.Need-add-work-2 Inv-loop μ-loop
-add-work-2 c = search needs
+add-wholes-2 : tie.Need-add-wholes-2 Inv-loop μ-loop
+add-wholes-2 c = search needs
 
-mul-work-2 : tie.Need-mul-work-2 Inv-loop μ-loop
-mul-work-2 c = search needs
+mul-wholes-2 : tie.Need-mul-wholes-2 Inv-loop μ-loop
+mul-wholes-2 c = search needs
 
-slice-write-work-2 : tie.Need-slice-write-work-2 Inv-loop μ-loop
-slice-write-work-2 c = search needs
+slice-write-wholes-2 : tie.Need-slice-write-wholes-2 Inv-loop μ-loop
+slice-write-wholes-2 c = search needs
 
 add-hi : tie.Need-add-hi Inv-loop μ-loop
 add-hi c = search needs
@@ -100,15 +100,15 @@ part-rows-spec =
     slice-read-r
     add-i
     comes-before-requires
-    add-work
-    mul-work
-    slice-write-work
+    add-wholes
+    mul-wholes
+    slice-write-wholes
     add-lo
     loop-less
     loop-again
-    add-work-2
-    mul-work-2
-    slice-write-work-2
+    add-wholes-2
+    mul-wholes-2
+    slice-write-wholes-2
     add-hi
     loop-less-2
     loop-again-2

@@ -69,7 +69,7 @@ write-domain-requires c κs =
     let from = c .before .before .before .before .before .floats-before in
     let width = c .before .before .before .before .box-width in
     room-spelt
-    (leaf-line (a .fine) (a .i) (packed (a .internals .now) (a .borrowed .now) (a .domains .now) (a .boxes .now) (a .dimensions)) (a .j) (row .result) (row .ensures) (from .result)
+    (leaf-line (a .fine) (a .i) (packed (a .internals .now) (a .domains .now) (a .boxes .now) (a .borrowed .now) (a .dimensions)) (a .j) (row .result) (row .ensures) (from .result)
     (width .result) (from .ensures) (width .ensures))
     (start .pre .1)
 
@@ -84,7 +84,7 @@ returns c =
     let from = c .before .before .before .before .before .before .before .before .floats-before in
     let width = c .before .before .before .before .before .before .before .box-width in
     spelt (sym
-    (leaf-line (a .fine) (a .i) (packed (a .internals .now) (a .borrowed .now) (a .domains .now) (a .boxes .now) (a .dimensions)) (a .j) (row .result) (row .ensures) (from .result)
+    (leaf-line (a .fine) (a .i) (packed (a .internals .now) (a .domains .now) (a .boxes .now) (a .borrowed .now) (a .dimensions)) (a .j) (row .result) (row .ensures) (from .result)
     (width .result) (from .ensures) (width .ensures)))
     (c .before .before .write-domain .ensures)
 

@@ -17,7 +17,7 @@ use Rattle.print_tree.proofs.write_levels.Tie as tie
 
 abbrev Inv-loop : tie.InvT-loop
 Inv-loop levels rows counts level-points internals domains boxes borrowed dimensions out₀ at last next₀ t₀ a₀ j₀ out next t a j =
-    (a ≡ total (take t rows)) × (j ≡ total (take t counts)) × Wrote out₀ at (frontText (packed internals borrowed domains boxes dimensions) level-points rows counts t) next out
+    (a ≡ total (take t rows)) × (j ≡ total (take t counts)) × Wrote out₀ at (frontText (packed internals domains boxes borrowed dimensions) level-points rows counts t) next out
     × (t ≤ last) × (last ≡ levels - 1) × (length out ≡ length out₀)
 
 abbrev μ-loop : tie.MeasureT-loop
@@ -30,7 +30,7 @@ loop-holds : tie.Need-loop-holds Inv-loop μ-loop
 loop-holds c =
     let start = c .before .before .before .before .before .before .before .before in
     let a = start .args in
-    let p = packed (a .internals .now) (a .borrowed .now) (a .domains .now) (a .boxes .now) (a .dimensions) in
+    let p = packed (a .internals .now) (a .domains .now) (a .boxes .now) (a .borrowed .now) (a .dimensions) in
     let s = start .pre .0 in (
       total-none (a .rows .now),
       total-none (a .counts .now),
@@ -51,7 +51,7 @@ add-e : tie.Need-add-e Inv-loop μ-loop
 add-e c =
     let start = c .before .before .before .before .before .before .before .before .before .before .before in
     let a = start .args in
-    let p = packed (a .internals .now) (a .borrowed .now) (a .domains .now) (a .boxes .now) (a .dimensions) in
+    let p = packed (a .internals .now) (a .domains .now) (a .boxes .now) (a .borrowed .now) (a .dimensions) in
     let s = start .pre .0 in
     let v = c .before .before .loop in
     omega (
@@ -71,7 +71,7 @@ mul-write-fine : tie.Need-mul-write-fine Inv-loop μ-loop
 mul-write-fine c =
     let start = c .before .before .before .before .before .before .before .before .before .before .before .before in
     let a = start .args in
-    let p = packed (a .internals .now) (a .borrowed .now) (a .domains .now) (a .boxes .now) (a .dimensions) in
+    let p = packed (a .internals .now) (a .domains .now) (a .boxes .now) (a .borrowed .now) (a .dimensions) in
     let s = start .pre .0 in
     let v = c .before .before .before .loop in
     omega (
@@ -91,7 +91,7 @@ part-write-fine-end : tie.Need-part-write-fine-end Inv-loop μ-loop
 part-write-fine-end c =
     let start = c .before .before .before .before .before .before .before .before .before .before .before .before in
     let a = start .args in
-    let p = packed (a .internals .now) (a .borrowed .now) (a .domains .now) (a .boxes .now) (a .dimensions) in
+    let p = packed (a .internals .now) (a .domains .now) (a .boxes .now) (a .borrowed .now) (a .dimensions) in
     let s = start .pre .0 in
     let v = c .before .before .before .loop in
     rows-here p (a .level-points .now) (a .rows .now) (a .counts .now) (v .t) (v .a) (v .j) (v .inv .0) (v .inv .1) (a .levels) s (omega (arith, s .some, v .inv .3))
@@ -100,7 +100,7 @@ write-fine-requires : tie.Need-write-fine-requires Inv-loop μ-loop
 write-fine-requires c κs =
     let start = c .before .before .before .before .before .before .before .before .before .before .before .before .before .before in
     let a = start .args in
-    let p = packed (a .internals .now) (a .borrowed .now) (a .domains .now) (a .boxes .now) (a .dimensions) in
+    let p = packed (a .internals .now) (a .domains .now) (a .boxes .now) (a .borrowed .now) (a .dimensions) in
     let s = start .pre .0 in
     let v = c .before .before .before .before .before .loop in
     let r = room-first _ _ (room-spelt (levels-whole p (a .level-points .now) (a .rows .now) (a .counts .now) (a .levels) (a .levels - 1) s refl) (start .pre .1)) in
@@ -116,7 +116,7 @@ add-j : tie.Need-add-j Inv-loop μ-loop
 add-j c =
     let start = c .before .before .before .before .before .before .before .before .before .before .before .before .before .before .before .before .before in
     let a = start .args in
-    let p = packed (a .internals .now) (a .borrowed .now) (a .domains .now) (a .boxes .now) (a .dimensions) in
+    let p = packed (a .internals .now) (a .domains .now) (a .boxes .now) (a .borrowed .now) (a .dimensions) in
     let s = start .pre .0 in
     let v = c .before .before .before .before .before .before .before .before .loop in
     omega (
@@ -136,7 +136,7 @@ loop-again : tie.Need-loop-again Inv-loop μ-loop
 loop-again c =
     let start = c .before .before .before .before .before .before .before .before .before .before .before .before .before .before .before .before .before in
     let a = start .args in
-    let p = packed (a .internals .now) (a .borrowed .now) (a .domains .now) (a .boxes .now) (a .dimensions) in
+    let p = packed (a .internals .now) (a .domains .now) (a .boxes .now) (a .borrowed .now) (a .dimensions) in
     let s = start .pre .0 in
     let v = c .before .before .before .before .before .before .before .before .loop in
     let r = room-first _ _ (room-spelt (levels-whole p (a .level-points .now) (a .rows .now) (a .counts .now) (a .levels) (a .levels - 1) s refl) (start .pre .1)) in
@@ -165,7 +165,7 @@ add-e-2 : tie.Need-add-e-2 Inv-loop μ-loop
 add-e-2 c =
     let start = c .before .before .before .before .before .before .before .before .before .before .before in
     let a = start .args in
-    let p = packed (a .internals .now) (a .borrowed .now) (a .domains .now) (a .boxes .now) (a .dimensions) in
+    let p = packed (a .internals .now) (a .domains .now) (a .boxes .now) (a .borrowed .now) (a .dimensions) in
     let s = start .pre .0 in
     let v = c .before .before .loop in
     let e : v .t ≡ a .levels - 1 = omega (arith, v .inv .3, c .before .loop-test .left) in
@@ -177,7 +177,7 @@ mul-write-coarse : tie.Need-mul-write-coarse Inv-loop μ-loop
 mul-write-coarse c =
     let start = c .before .before .before .before .before .before .before .before .before .before .before in
     let a = start .args in
-    let p = packed (a .internals .now) (a .borrowed .now) (a .domains .now) (a .boxes .now) (a .dimensions) in
+    let p = packed (a .internals .now) (a .domains .now) (a .boxes .now) (a .borrowed .now) (a .dimensions) in
     let s = start .pre .0 in
     let v = c .before .before .loop in
     let e : v .t ≡ a .levels - 1 = omega (arith, v .inv .3, c .before .loop-test .left) in
@@ -195,7 +195,7 @@ part-write-coarse-end : tie.Need-part-write-coarse-end Inv-loop μ-loop
 part-write-coarse-end c =
     let start = c .before .before .before .before .before .before .before .before .before .before .before in
     let a = start .args in
-    let p = packed (a .internals .now) (a .borrowed .now) (a .domains .now) (a .boxes .now) (a .dimensions) in
+    let p = packed (a .internals .now) (a .domains .now) (a .boxes .now) (a .borrowed .now) (a .dimensions) in
     let s = start .pre .0 in
     let v = c .before .before .loop in
     let e : v .t ≡ a .levels - 1 = omega (arith, v .inv .3, c .before .loop-test .left) in
@@ -207,7 +207,7 @@ write-coarse-requires : tie.Need-write-coarse-requires Inv-loop μ-loop
 write-coarse-requires c κs =
     let start = c .before .before .before .before .before .before .before .before .before .before .before .before .before in
     let a = start .args in
-    let p = packed (a .internals .now) (a .borrowed .now) (a .domains .now) (a .boxes .now) (a .dimensions) in
+    let p = packed (a .internals .now) (a .domains .now) (a .boxes .now) (a .borrowed .now) (a .dimensions) in
     let s = start .pre .0 in
     let v = c .before .before .before .before .loop in
     let e : v .t ≡ a .levels - 1 = omega (arith, v .inv .3, c .before .before .before .loop-test .left) in
@@ -228,7 +228,7 @@ returns : tie.Need-returns Inv-loop μ-loop
 returns c =
     let start = c .before .before .before .before .before .before .before .before .before .before .before .before .before .before .before .before in
     let a = start .args in
-    let p = packed (a .internals .now) (a .borrowed .now) (a .domains .now) (a .boxes .now) (a .dimensions) in
+    let p = packed (a .internals .now) (a .domains .now) (a .boxes .now) (a .borrowed .now) (a .dimensions) in
     let s = start .pre .0 in
     let v = c .before .before .before .before .before .before .before .loop in
     let e : v .t ≡ a .levels - 1 = omega (arith, v .inv .3, c .before .before .before .before .before .before .loop-test .left) in

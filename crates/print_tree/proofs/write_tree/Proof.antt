@@ -16,7 +16,7 @@ unfolding ascii
 write-numbered-requires c κs =
     let start = c .before .before .before .before .before .before .before .before .before .before in
     let a = start .args in
-    let p = packed (a .internals .now) (a .borrowed .now) (a .domains .now) (a .boxes .now) (a .dimensions) in
+    let p = packed (a .internals .now) (a .domains .now) (a .boxes .now) (a .borrowed .now) (a .dimensions) in
     let ls = readLevels p (a .level-points .now) (a .rows .now) (a .counts .now) (a .levels) in
     let e = tree-texts (a .levels) ls (how-many p (a .level-points .now) (a .rows .now) (a .counts .now) (a .levels)) in
     let w0 = begin (treeTexts (a .levels) ls) e (start .pre .1) in
@@ -27,7 +27,7 @@ unfolding ascii
 write-byte-requires c κs =
     let start = c .before .before .before .before .before .before .before .before .before .before .before .before .before .before in
     let a = start .args in
-    let p = packed (a .internals .now) (a .borrowed .now) (a .domains .now) (a .boxes .now) (a .dimensions) in
+    let p = packed (a .internals .now) (a .domains .now) (a .boxes .now) (a .borrowed .now) (a .dimensions) in
     let ls = readLevels p (a .level-points .now) (a .rows .now) (a .counts .now) (a .levels) in
     let e = tree-texts (a .levels) ls (how-many p (a .level-points .now) (a .rows .now) (a .counts .now) (a .levels)) in
     let w0 = begin (treeTexts (a .levels) ls) e (start .pre .1) in
@@ -39,7 +39,7 @@ unfolding ascii
 write-levels-requires c κs =
     let start = c .before .before .before .before .before .before .before .before .before .before .before .before .before .before .before .before .before .before in
     let a = start .args in
-    let p = packed (a .internals .now) (a .borrowed .now) (a .domains .now) (a .boxes .now) (a .dimensions) in
+    let p = packed (a .internals .now) (a .domains .now) (a .boxes .now) (a .borrowed .now) (a .dimensions) in
     let ls = readLevels p (a .level-points .now) (a .rows .now) (a .counts .now) (a .levels) in
     let e = tree-texts (a .levels) ls (how-many p (a .level-points .now) (a .rows .now) (a .counts .now) (a .levels)) in
     let w0 = begin (treeTexts (a .levels) ls) e (start .pre .1) in
@@ -55,7 +55,7 @@ unfolding ascii
 returns c =
     let start = c .before .before .before .before .before .before .before .before .before .before .before .before .before .before .before .before .before .before .before .before .before in
     let a = start .args in
-    let p = packed (a .internals .now) (a .borrowed .now) (a .domains .now) (a .boxes .now) (a .dimensions) in
+    let p = packed (a .internals .now) (a .domains .now) (a .boxes .now) (a .borrowed .now) (a .dimensions) in
     let ls = readLevels p (a .level-points .now) (a .rows .now) (a .counts .now) (a .levels) in
     let e = tree-texts (a .levels) ls (how-many p (a .level-points .now) (a .rows .now) (a .counts .now) (a .levels)) in
     let w0 = begin (treeTexts (a .levels) ls) e (start .pre .1) in

@@ -32,8 +32,8 @@ mul-k c =
     let few = floats-here _ _ (start .args .input .now) same _ _ told (job .ensures .1) in
     omega (arith, few)
 
-array-share-prefix-coords : tie.Need-array-share-prefix-coords
-array-share-prefix-coords c =
+array-share-prefix-points : tie.Need-array-share-prefix-points
+array-share-prefix-points c =
     let start = c .before .before .before .before .before .before .before .before .before in
     let told = c .before .before .read2 .given .1 in
     let job = c .before .before .before .before .before .read-job in
@@ -86,7 +86,7 @@ write-printout-spec =
     write-refusal-requires
     enum-known-read-2
     mul-k
-    array-share-prefix-coords
+    array-share-prefix-points
     slice-aggregate-write-job
     write-job-requires
     same-length

@@ -3,7 +3,7 @@ use mathlib.Core.Path.{refl, ap, _∙_}
 use mathlib.Core.List.{List}
 use Prim.Native.Nat.{ℕ}
 use lib.ListN.{length}
-use Rattle.lists.specs.Lists.{put, part}
+use Rattle.lists.specs.Lists.{put}
 use Rattle.lists.proofs.Put.{part-whole}
 use Rattle.quotas.proofs.Written.{put-written}
 use borrow.Author.Needs.{needs}

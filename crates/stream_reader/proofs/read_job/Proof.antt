@@ -11,10 +11,10 @@ use Rattle.stream_reader.proofs.read_job.Statement.{statement}
 use Rattle.stream_reader.proofs.read_job.Tie as tie
 
 abbrev Inv-loop : tie.InvT-loop
-Inv-loop input coords₀ s d at₀ n₀ coords at n = Reading (settingsAre s) input coords at n × (length coords ≡ length coords₀)
+Inv-loop input points₀ s d at₀ n₀ points at n = Reading (settingsAre s) input points at n × (length points ≡ length points₀)
 
 abbrev μ-loop : tie.MeasureT-loop
-μ-loop input coords₀ s d at₀ n₀ coords at n = length input - at
+μ-loop input points₀ s d at₀ n₀ points at n = length input - at
 
 settings-whole-requires : tie.Need-settings-whole-requires Inv-loop μ-loop
 settings-whole-requires c κs = search needs

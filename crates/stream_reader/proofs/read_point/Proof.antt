@@ -11,10 +11,10 @@ use Rattle.stream_reader.proofs.read_point.Statement.{statement}
 use Rattle.stream_reader.proofs.read_point.Tie as tie
 
 abbrev Inv-loop : tie.InvT-loop
-Inv-loop d input at coords₀ k a₀ coords a = (coords ≡ put coords₀ k (coordinatesAt a markSize (drop at input))) × (a ≤ d) × (length coords ≡ length coords₀)
+Inv-loop d input at points₀ k a₀ points a = (points ≡ put points₀ k (coordinatesAt a markSize (drop at input))) × (a ≤ d) × (length points ≡ length points₀)
 
 abbrev μ-loop : tie.MeasureT-loop
-μ-loop d input at coords₀ k a₀ coords a = d - a
+μ-loop d input at points₀ k a₀ points a = d - a
 
 loop-holds : tie.Need-loop-holds Inv-loop μ-loop
 loop-holds c = (point-none (c .before .before .args .at) (c .before .before .args .input .now) _ _, search needs, search needs)
@@ -31,14 +31,14 @@ add-float-at-2 c = search needs
 float-at-requires : tie.Need-float-at-requires Inv-loop μ-loop
 float-at-requires c κs = search needs
 
-add-coords : tie.Need-add-coords Inv-loop μ-loop
-add-coords c = search needs
+add-points : tie.Need-add-points Inv-loop μ-loop
+add-points c = search needs
 
-mul-coords : tie.Need-mul-coords Inv-loop μ-loop
-mul-coords c = search needs
+mul-points : tie.Need-mul-points Inv-loop μ-loop
+mul-points c = search needs
 
-slice-write-coords : tie.Need-slice-write-coords Inv-loop μ-loop
-slice-write-coords c = search needs
+slice-write-points : tie.Need-slice-write-points Inv-loop μ-loop
+slice-write-points c = search needs
 
 add-a : tie.Need-add-a Inv-loop μ-loop
 add-a c = search needs
@@ -75,9 +75,9 @@ read-point-spec =
     add-float-at
     add-float-at-2
     float-at-requires
-    add-coords
-    mul-coords
-    slice-write-coords
+    add-points
+    mul-points
+    slice-write-points
     add-a
     loop-less
     loop-again
