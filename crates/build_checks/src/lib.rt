@@ -11,10 +11,8 @@ ghost use Rattle.build_checks.specs.Verdicts.{numberedVerdict, verdictOf
 use build_sizes::BuildSizes;
 use config::DDMParams;
 use config::SizePolicy;
+use rows::MOST_NEIGHBOURS;
 use rows::MOST_POINTS;
-
-// The most neighbours.
-const MOST_NEIGHBOURS: u32 = 64;
 
 // What the tests of a build come to: accepted, or refused with a number and a place.
 pub enum Checked {

@@ -5,10 +5,8 @@ ghost use Rattle.definition.specs.Packed.{buildStated};
 ghost use Rattle.definition.specs.Refusals.{mostPoints, mostNeighbours};
 ghost use Rattle.definition.specs.Outcome.{sizesAnswer};
 ghost use Rattle.build_sizes.specs.Sizes.{sizesOf, sizesReport, refusedWith};
+use rows::MOST_NEIGHBOURS;
 use rows::MOST_POINTS;
-
-// The most neighbours.
-const MOST_NEIGHBOURS: u32 = 64;
 
 // The lengths of the five lists, and of the two lists of working room.
 pub struct BuildSizes {

@@ -20,22 +20,22 @@ use Rattle.definition.proofs.WorkedExamples.{reports}
 -- ---- outcomes
 
 -- a refused call
-abbrev refuses : {A : Type 0} → ℕ → ℕ → A → Answer A
-refuses number place zeros = record { number = number; place = place; value = zeros }
+abbrev refusesAt : {A : Type 0} → ℕ → ℕ → A → Answer A
+refusesAt number place zeros = record { number = number; place = place; value = zeros }
 
 -- a build in these lists is refused: zero counts, and each list as found
 abbrev BuildRefused : Settings → List Float → TreeLists → List Float → List ℕ → ℕ → ℕ → Type 0
 BuildRefused s cs old floats wholes number place =
-    (buildAnswer s cs old floats wholes ≡ refuses number place zeroCounts) × (buildLists s cs old floats wholes ≡ old)
+    (buildAnswer s cs old floats wholes ≡ refusesAt number place zeroCounts) × (buildLists s cs old floats wholes ≡ old)
 
 -- the same of sampling, and of quotas
 abbrev SampleRefused : ℕ → List Float → ℕ → ℕ → List ℕ → List Float → List ℕ → ℕ → ℕ → Type 0
 SampleRefused d cs wanted seed out floats wholes number place =
-    (sampleAnswer d cs wanted seed out floats wholes ≡ refuses number place 0) × (sampleOutput d cs wanted seed out floats wholes ≡ out)
+    (sampleAnswer d cs wanted seed out floats wholes ≡ refusesAt number place 0) × (sampleOutput d cs wanted seed out floats wholes ≡ out)
 
 abbrev QuotaRefused : List ℕ → ℕ → List ℕ → List ℕ → ℕ → Type 0
 QuotaRefused sizes s out wholes number =
-    (quotaAnswer sizes s out wholes ≡ refuses number 0 (record { leaves = 0; seats = 0 })) × (quotaOutput sizes s out wholes ≡ out)
+    (quotaAnswer sizes s out wholes ≡ refusesAt number 0 (record { leaves = 0; seats = 0 })) × (quotaOutput sizes s out wholes ≡ out)
 
 -- ---- calls
 
@@ -90,7 +90,7 @@ lengths level-points internals domains boxes borrowed floats wholes =
 
 -- the lengths asked alone, for n points on d axes, are refused: zeros
 abbrev LengthsRefused : ℕ → ℕ → ℕ → ℕ → Type 0
-LengthsRefused d n neighbours number = sizesAnswer d n neighbours ≡ refuses number 0 (lengths 0 0 0 0 0 0 0)
+LengthsRefused d n neighbours number = sizesAnswer d n neighbours ≡ refusesAt number 0 (lengths 0 0 0 0 0 0 0)
 
 -- sampling into an output of one entry, without working room
 abbrev ShortSample : ℕ → List Float → ℕ → ℕ → ℕ → Type 0
@@ -175,12 +175,12 @@ pub record RefusedCalls : Type 0 where
   sample-spoiled : TwoSampled twoSpoiled 2 4 2 10 3
   sample-stated : sampleAnswer 2 twoPoints 2 1 (9 ∷ 9 ∷ []) (line (replicate 4 9)) (replicate 2 9) ≡ reports 2
   -- level size: 4, 8, 14, 9
-  size-threshold0 : sizeAnswer 1048577 0 0 ≡ refuses 4 0 0
-  size-rows0 : sizeAnswer 0 0 1 ≡ refuses 4 0 0
-  size-points1048577 : sizeAnswer 1048577 1048577 0 ≡ refuses 8 0 0
-  size-points1048576 : sizeAnswer 1048576 1048576 0 ≡ refuses 14 0 0
-  size-left0 : sizeAnswer 1048576 1048575 0 ≡ refuses 9 0 0
-  size-left4 : sizeAnswer 8 1 4 ≡ refuses 9 0 0
+  size-threshold0 : sizeAnswer 1048577 0 0 ≡ refusesAt 4 0 0
+  size-rows0 : sizeAnswer 0 0 1 ≡ refusesAt 4 0 0
+  size-points1048577 : sizeAnswer 1048577 1048577 0 ≡ refusesAt 8 0 0
+  size-points1048576 : sizeAnswer 1048576 1048576 0 ≡ refusesAt 14 0 0
+  size-left0 : sizeAnswer 1048576 1048575 0 ≡ refusesAt 9 0 0
+  size-left4 : sizeAnswer 8 1 4 ≡ refusesAt 9 0 0
   size-left3 : sizeAnswer 8 1 3 ≡ reports 4
   size-left1 : sizeAnswer 1048576 1 1 ≡ reports 1
   -- quotas: 8, 11
@@ -199,9 +199,9 @@ pub record RefusedCalls : Type 0 where
   borrowed-test12 : rowTest borrowedRows asked (from 10 9) (from 20 3) ≡ 12
   borrowed-rows12 : rowsAsked borrowedRows asked (from 10 9) (from 20 3) ≡ []
   -- the root: the value next to -0 is negative, -0 is not (`rootOfMinusZero` of the lookalikes)
-  root-negative : rootAnswer (ofBits binary64 0x8000000000000001) ≡ refuses 15 0 plusZero
-  root-infinite : rootAnswer (inf true) ≡ refuses 15 0 plusZero
-  root-nan : rootAnswer nan ≡ refuses 15 0 plusZero
+  root-negative : rootAnswer (ofBits binary64 0x8000000000000001) ≡ refusesAt 15 0 plusZero
+  root-infinite : rootAnswer (inf true) ≡ refusesAt 15 0 plusZero
+  root-nan : rootAnswer nan ≡ refusesAt 15 0 plusZero
 
 -- ---- the rows over so many points that the list is not written out
 opened-build : ℕ

@@ -18,6 +18,7 @@ use Rattle.lists.proofs.Sums.{sum-add, sum-mul, sum-below-le, count-sum, total-
 use Rattle.definition.specs.Quotas.{sizeAt, wholeAt, remainderAt, leftover, seatsAt}
 use Rattle.definition.specs.SeatCut.{above, ties, extraBy, CutBy}
 use Rattle.definition.proofs.Seats.{extraAt, extra-is, cut-from, one-lt, sum-extra, extra-none, extra-le}
+use Rattle.definition.specs.Refusals.{mostPoints}
 
 -- a divisor of 0 where there is nothing to share
 pub by-zero : (x p : ℕ) → (p ≡ 0 → x ≡ 0) → (x / max 1 p ≡ x / p) × (x % max 1 p ≡ x % p)
@@ -167,5 +168,5 @@ module _ (capacities : List ℕ) (rest : ℕ) (within : rest ≤ total capacitie
         omega (arith, whole-by)
 
   -- a share is small
-  pub share-small : (i p divisor : ℕ) → p ≡ rest * sizeAt capacities i → rest ≤ 1048576 → sizeAt capacities i ≤ 1048576 → p / divisor ≤ 1099511627776
+  pub share-small : (i p divisor : ℕ) → p ≡ rest * sizeAt capacities i → rest ≤ mostPoints → sizeAt capacities i ≤ mostPoints → p / divisor ≤ 1099511627776
   share-small i p divisor ep hr hw = omega (arith, div-le-self p divisor, mul-le-mul hr hw)

@@ -14,6 +14,7 @@ use Rattle.lists.proofs.Least.{least-is, least-above, least-le, least-holds}
 use Rattle.definition.specs.Levels.{reductions, exactSize, levelSize}
 use Rattle.definition.specs.LevelLaws.{activeAfter, Sized, Ends}
 use Rattle.definition.proofs.Powers.{pow-1, pow-2, pow-3}
+use Rattle.definition.specs.Refusals.{mostPoints}
 
 -- ---- the number of reductions, test by test
 pub reductions-steps : (n c f : ℕ) → reductions n c f ≡ cond (leb n c) 0 (cond (leb n (c * f)) 1 (cond (leb n (c * f * f)) 2 (cond (leb n (c * f * f * f)) 3 4)))
@@ -31,12 +32,12 @@ module _ (a c r : ℕ) where
       (λ h. le-leb _ _ (rw e at (at h))))
 
   -- c * a^(r-1) is below 2^64
-  pub goal-bound : (p : ℕ) → p ≡ a ^ (r - 1) → a ≤ 1048576 → c < a → r ≤ 3 → c * p ≤ 1048576 * 1048576 ^ 2
+  pub goal-bound : (p : ℕ) → p ≡ a ^ (r - 1) → a ≤ mostPoints → c < a → r ≤ 3 → c * p ≤ mostPoints * mostPoints ^ 2
   goal-bound p e ha hc hr =
-      let l : c ≤ 1048576 = omega arith in
+      let l : c ≤ mostPoints = omega arith in
       let k : r - 1 ≤ 2 = omega arith in
-      let q : 0 < 1048576 = omega arith in
-      let h : p ≤ 1048576 ^ 2 = rw e (le-trans (pow-le-pow-left ha (r - 1)) (pow-le-pow-right q k)) in
+      let q : 0 < mostPoints = omega arith in
+      let h : p ≤ mostPoints ^ 2 = rw e (le-trans (pow-le-pow-left ha (r - 1)) (pow-le-pow-right q k)) in
       mul-le-mul l h
 
 below-exact : (a c s j : ℕ) → j < c → c < a → j ^ suc s < c * a ^ s

@@ -8,7 +8,7 @@ use lib.Ieee.{binary64, ofBits}
 use Rattle.lists.specs.Lists.{from}
 use Rattle.definition.specs.Levels.{auto, threshold}
 use Rattle.definition.specs.Packed.{Counts}
-use Rattle.definition.specs.Outcome.{Answer, Shared, rootAnswer, sizeAnswer, quotaAnswer, quotaOutput, sampleAnswer, sampleOutput, buildAnswer, buildLists}
+use Rattle.definition.specs.Outcome.{Answer, Shared, rootAnswer, sizeAnswer, quotaAnswer, quotaOutput, sampleAnswer, sampleOutput, buildAnswer, TreeLists, buildLists}
 use Rattle.definition.proofs.WorkedSamples.{opened, line, onLine, nines, floatRoom, wholeRoom}
 
 -- an accepted call that reports x
@@ -23,19 +23,21 @@ built levels rows domains = reports (record { levels = levels; rows = rows; doma
 abbrev shared : ℕ → ℕ → Answer Shared
 shared leaves seats = reports (record { leaves = leaves; seats = seats })
 
+-- the lists after the build over the points 0, 1, 3, 7
+abbrev tree4 : TreeLists
+tree4 = buildLists (onLine 2 2) (line (0 ∷ 1 ∷ 3 ∷ 7 ∷ [])) (nines 4) (floatRoom 4) (wholeRoom 4)
+
 pub record Examples : Type 0 where
-  -- the tree of the points 0, 1, 3, 7 in lists that held nines: packed, and what stands past it stays
-  packed :
-      buildLists (onLine 2 2) (line (0 ∷ 1 ∷ 3 ∷ 7 ∷ [])) (nines 4) (floatRoom 4) (wholeRoom 4)
-      ≡ record {
-        level-points = 0 ∷ 1 ∷ 2 ∷ 3 ∷ 0 ∷ 1 ∷ replicate 10 9;
-        internals = 0 ∷ 1 ∷ 2 ∷ 3 ∷ 0 ∷ 1 ∷ replicate 10 9;
-        domains =
-            (0 ∷ 1 ∷ 0 ∷ 1 ∷ []) ++ (1 ∷ 1 ∷ 1 ∷ 2 ∷ []) ++ (2 ∷ 1 ∷ 3 ∷ 2 ∷ []) ++ (3 ∷ 1 ∷ 5 ∷ 1 ∷ []) ++ (4 ∷ 2 ∷ 6 ∷ 0 ∷ [])
-            ++ replicate 80 9;
-        boxes = line (0 ∷ 1 ∷ 1 ∷ 3 ∷ 3 ∷ 7 ∷ 7 ∷ 7 ∷ 0 ∷ 0 ∷ replicate 40 9);
-        borrowed = 1 ∷ 0 ∷ 2 ∷ 1 ∷ 3 ∷ 2 ∷ replicate 42 9;
-      }
+  -- the tree of the points 0, 1, 3, 7 in lists that held nines: packed, and what stands past it stays. A row for each list; the
+  -- domain rows come last, since they count the rows of the others
+  packed-level-points : tree4 .level-points ≡ 0 ∷ 1 ∷ 2 ∷ 3 ∷ 0 ∷ 1 ∷ replicate 10 9
+  packed-internals : tree4 .internals ≡ 0 ∷ 1 ∷ 2 ∷ 3 ∷ 0 ∷ 1 ∷ replicate 10 9
+  packed-boxes : tree4 .boxes ≡ line (0 ∷ 1 ∷ 1 ∷ 3 ∷ 3 ∷ 7 ∷ 7 ∷ 7 ∷ 0 ∷ 0 ∷ replicate 40 9)
+  packed-borrowed : tree4 .borrowed ≡ 1 ∷ 0 ∷ 2 ∷ 1 ∷ 3 ∷ 2 ∷ replicate 42 9
+  packed-domains :
+      tree4 .domains
+      ≡ (0 ∷ 1 ∷ 0 ∷ 1 ∷ []) ++ (1 ∷ 1 ∷ 1 ∷ 2 ∷ []) ++ (2 ∷ 1 ∷ 3 ∷ 2 ∷ []) ++ (3 ∷ 1 ∷ 5 ∷ 1 ∷ []) ++ (4 ∷ 2 ∷ 6 ∷ 0 ∷ [])
+      ++ replicate 80 9
   counted : buildAnswer (onLine 2 2) (line (0 ∷ 1 ∷ 3 ∷ 7 ∷ [])) (nines 4) (floatRoom 4) (wholeRoom 4) ≡ built 2 (4 ∷ 2 ∷ 0 ∷ 0 ∷ []) (4 ∷ 1 ∷ 0 ∷ 0 ∷ [])
   -- Auto
   auto1 : threshold auto 1 ≡ 512
@@ -94,7 +96,11 @@ pub examples : Examples
 unfolding opened
 examples =
     record {
-      packed = refl;
+      packed-level-points = refl;
+      packed-internals = refl;
+      packed-boxes = refl;
+      packed-borrowed = refl;
+      packed-domains = refl;
       counted = refl;
       auto1 = refl;
       auto16384 = refl;

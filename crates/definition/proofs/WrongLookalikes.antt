@@ -17,11 +17,11 @@ use Rattle.definition.proofs.WorkedSamples.{opened, line, onLine}
 use Rattle.definition.proofs.WorkedExamples.{reports}
 
 -- the rows of each leaf of a level, the box of each, and the rows of each level
-abbrev rowsIn : ℕ → List Float → ℕ → ℕ → List (List ℕ)
-rowsIn d cs leaf n = map (λ q. q .rows) (leavesOf d cs leaf (from 0 n))
+abbrev rowsCut : ℕ → List Float → ℕ → ℕ → List (List ℕ)
+rowsCut d cs leaf n = map (λ q. q .rows) (leavesOf d cs leaf (from 0 n))
 
-abbrev boxesIn : ℕ → List Float → ℕ → ℕ → List (List Float)
-boxesIn d cs leaf n = map (λ q. q .box) (leavesOf d cs leaf (from 0 n))
+abbrev boxesCut : ℕ → List Float → ℕ → ℕ → List (List Float)
+boxesCut d cs leaf n = map (λ q. q .box) (leavesOf d cs leaf (from 0 n))
 
 abbrev pointsIn : List Level → List (List ℕ)
 pointsIn ls = map (λ l. l .points) ls
@@ -55,23 +55,23 @@ autoLine = record { dimension = 1; leaf = 2; neighbours = 1; factor = 2; policy 
 
 pub record Lookalikes : Type 0 where
   -- cutting depth first would give the two shallow leaves of the right half later
-  breadthFirst : map length (rowsIn 1 (line (from 0 14)) 2 14) ≡ 1 ∷ 2 ∷ 1 ∷ 2 ∷ 1 ∷ 1 ∷ 1 ∷ 1 ∷ 1 ∷ 1 ∷ 1 ∷ 1 ∷ []
+  breadthFirst : map length (rowsCut 1 (line (from 0 14)) 2 14) ≡ 1 ∷ 2 ∷ 1 ∷ 2 ∷ 1 ∷ 1 ∷ 1 ∷ 1 ∷ 1 ∷ 1 ∷ 1 ∷ 1 ∷ []
   -- and remainder ties would fall elsewhere: the next level would be 0, 1, 2
   breadthFirstTies : pointsIn (levels (onLine 1 3) (line (from 0 6))) ≡ from 0 6 ∷ (0 ∷ 1 ∷ 3 ∷ []) ∷ []
   -- a cut on the third axis, then on the second and on the first: cut on the first axis alone, the leaves would be rows 3, 0, 2, 1
-  cutAxes : rowsIn 3 solid 2 4 ≡ (2 ∷ []) ∷ (1 ∷ []) ∷ (3 ∷ []) ∷ (0 ∷ []) ∷ []
+  cutAxes : rowsCut 3 solid 2 4 ≡ (2 ∷ []) ∷ (1 ∷ []) ∷ (3 ∷ []) ∷ (0 ∷ []) ∷ []
   -- each child changes one bound, on the axis that is cut, and has the others from its parent
   cutBoxes :
-      boxesIn 3 solid 2 4
+      boxesCut 3 solid 2 4
       ≡ line (0 ∷ 0 ∷ 0 ∷ 5 ∷ 5 ∷ 8 ∷ []) ∷ line (0 ∷ 5 ∷ 0 ∷ 5 ∷ 7 ∷ 8 ∷ []) ∷ line (0 ∷ 0 ∷ 8 ∷ 4 ∷ 7 ∷ 9 ∷ []) ∷ line (4 ∷ 0 ∷ 8 ∷ 5 ∷ 7 ∷ 9 ∷ []) ∷ []
   -- the first of the longest axes: by the last one the halves would be rows 0, 1 and 2, 3
-  firstLongest : rowsIn 2 square 3 4 ≡ (0 ∷ 2 ∷ []) ∷ (1 ∷ 3 ∷ []) ∷ []
+  firstLongest : rowsCut 2 square 3 4 ≡ (0 ∷ 2 ∷ []) ∷ (1 ∷ 3 ∷ []) ∷ []
   -- a box is inherited: measured from its own points, the left leaf's would end at 1
-  boxInherited : boxesIn 1 (line (0 ∷ 1 ∷ 5 ∷ 9 ∷ [])) 3 4 ≡ line (0 ∷ 5 ∷ []) ∷ line (5 ∷ 9 ∷ []) ∷ []
+  boxInherited : boxesCut 1 (line (0 ∷ 1 ∷ 5 ∷ 9 ∷ [])) 3 4 ≡ line (0 ∷ 5 ∷ []) ∷ line (5 ∷ 9 ∷ []) ∷ []
   -- -0 equals +0, so the lower row goes left: with -0 below +0 it would be row 1
-  zeroRows : rowsIn 1 zeros 2 2 ≡ (0 ∷ []) ∷ (1 ∷ []) ∷ []
+  zeroRows : rowsCut 1 zeros 2 2 ≡ (0 ∷ []) ∷ (1 ∷ []) ∷ []
   -- both bounds of the root are +0, the sign met first, and the plane is row 1's -0
-  zeroBoxes : boxesIn 1 zeros 2 2 ≡ zeros ∷ floats (0x8000000000000000 ∷ 0 ∷ []) ∷ []
+  zeroBoxes : boxesCut 1 zeros 2 2 ≡ zeros ∷ floats (0x8000000000000000 ∷ 0 ∷ []) ∷ []
   -- two squares share one root, and then the lower row is due: by squares row 2 would come
   sampledByRoot : sampleOutput 2 sameRoot 2 0 (replicate 2 9) (line (replicate 6 9)) (replicate 3 9) ≡ 0 ∷ 1 ∷ []
   -- the same of the seed: by squares it would be row 1

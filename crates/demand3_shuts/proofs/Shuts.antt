@@ -33,8 +33,8 @@ abbrev set : Settings
 set = onLine 2 2
 
 -- lists that held nines, with these at their fronts
-abbrev handed : List ℕ → List ℕ → List ℕ → List ℕ → List ℕ → Counts → Handed
-handed level-points internals domains boxes borrowed counts =
+abbrev inLists : List ℕ → List ℕ → List ℕ → List ℕ → List ℕ → Counts → Handed
+inLists level-points internals domains boxes borrowed counts =
     record {
       lists = record {
         level-points = level-points ++ replicate 10 9;
@@ -69,7 +69,7 @@ abbrev two : Counts
 two = counts 2 (4 ∷ 2 ∷ 0 ∷ 0 ∷ []) (4 ∷ 1 ∷ 0 ∷ 0 ∷ [])
 
 abbrev right : Handed
-right = handed level-points internals domains boxes borrowed two
+right = inLists level-points internals domains boxes borrowed two
 
 -- a build hands them back
 is-right : handedBack set four (nines 4) (floatRoom 4) (wholeRoom 4) ≡ right
@@ -83,25 +83,25 @@ right-has-it = subst (Demand3 set four) is-right (demand-3 set four (nines 4) (f
 
 -- ---- wrong in one thing
 abbrev level-points-but : List ℕ → Counts → Handed
-level-points-but p c = handed p internals domains boxes borrowed c
+level-points-but p c = inLists p internals domains boxes borrowed c
 
 abbrev internals-but : List ℕ → Handed
-internals-but i = handed level-points i domains boxes borrowed two
+internals-but i = inLists level-points i domains boxes borrowed two
 
 abbrev domains-but : List ℕ → Handed
-domains-but d = handed level-points internals d boxes borrowed two
+domains-but d = inLists level-points internals d boxes borrowed two
 
 abbrev boxes-but : List ℕ → Handed
-boxes-but b = handed level-points internals domains b borrowed two
+boxes-but b = inLists level-points internals domains b borrowed two
 
 abbrev borrowed-but : List ℕ → Handed
-borrowed-but b = handed level-points internals domains boxes b two
+borrowed-but b = inLists level-points internals domains boxes b two
 
 -- nothing written and nothing counted; nothing written, though the counts are right
-pub not-empty : Demand3 set four (handed [] [] [] [] [] (counts 0 (replicate 4 0) (replicate 4 0))) → ⊥
+pub not-empty : Demand3 set four (inLists [] [] [] [] [] (counts 0 (replicate 4 0) (replicate 4 0))) → ⊥
 not-empty h = omega (arith, h .some-level)
 
-pub not-unwritten : Demand3 set four (handed [] [] [] [] [] two) → ⊥
+pub not-unwritten : Demand3 set four (inLists [] [] [] [] [] two) → ⊥
 unfolding all-open
 not-unwritten h = let e : _≡_ {A = ℕ} 9 0 = ap (λ (l : List ℕ). getD l 0 5) (h .first-lists-all) in omega arith
 

@@ -45,8 +45,8 @@ unfolding best
 bound-first better f [] h = absurd (not-suc-le-zero h)
 bound-first better f (r ∷ rows) h = sym (either (better (f r) (f r)) (f r))
 
-whole : (better : Float → Float → Bool) (f : ℕ → Float) (rows : List ℕ) (t : ℕ) → length rows ≤ t → bestIn better f rows t ≡ best better (f (getD rows 0 0)) (map f rows)
-whole better f rows t h = ap (best better (f (getD rows 0 0))) (take-all t (map f rows) (rw (length-map rows f) h))
+best-whole : (better : Float → Float → Bool) (f : ℕ → Float) (rows : List ℕ) (t : ℕ) → length rows ≤ t → bestIn better f rows t ≡ best better (f (getD rows 0 0)) (map f rows)
+best-whole better f rows t h = ap (best better (f (getD rows 0 0))) (take-all t (map f rows) (rw (length-map rows f) h))
 
 again : (better : Float → Float → Bool) (x : Float) (xs : List Float) → best better x (x ∷ xs) ≡ best better x xs
 unfolding best
@@ -57,7 +57,7 @@ pub bound-end : (upper : Bool) (f : ℕ → Float) (rows : List ℕ) (t : ℕ) (
 unfolding leastOf greatestOf
 bound-end upper f [] t m p h e = absurd (not-suc-le-zero p)
 bound-end upper f (r ∷ rows) t m p h e =
-    e ∙ whole (beyond upper) f (r ∷ rows) t h ∙ again (beyond upper) (f r) (map f rows) ∙ side upper
+    e ∙ best-whole (beyond upper) f (r ∷ rows) t h ∙ again (beyond upper) (f r) (map f rows) ∙ side upper
   where
     side : (u : Bool) → best (beyond u) (f r) (map f rows) ≡ cond u greatestOf leastOf (f r ∷ map f rows)
     side true = refl

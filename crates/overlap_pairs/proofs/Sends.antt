@@ -14,6 +14,7 @@ use Rattle.lists.specs.Lists.{joined, put}
 use Rattle.lists.proofs.Put.{put-nil, put-snoc, getD-put-before}
 use Rattle.lists.proofs.Joined.{joined-map-more}
 use Rattle.lists.proofs.Members.{joined-mem, mem-joined, mem-map, map-mem}
+use Rattle.rows.specs.Rows.{mostLeaves}
 use Rattle.overlap_pairs.specs.Pairs.{code, pairOf, pairsOf, PairRoom}
 
 module _ (own : ℕ → ℕ) (p : ℕ) where
@@ -92,7 +93,7 @@ module _ (near : List ℕ) (a p : ℕ) (wholes₀ : List ℕ) (n : ℕ) (R : Pai
       send-owner = send-stay q (R .within k here)
 
       -- the numbers fit, and so does the room
-      pub send-small : (own p < 2097152) × (getD wholes q 0 < 2097152) × (q < a) × (a ≤ 2097152) × (w + 2 ≤ length wholes)
+      pub send-small : (own p < mostLeaves) × (getD wholes q 0 < mostLeaves) × (q < a) × (a ≤ mostLeaves) × (w + 2 ≤ length wholes)
       send-small =
           let f = R .fits in let e = s .end in let m = s .most in let l = s .long in
           (R .owners .small p (R .here), rw send-owner (R .owners .small q (R .within k here)), R .within k here, R .owners .few, omega arith)

@@ -10,6 +10,9 @@ ghost use Rattle.overlap_pairs.specs.Pairs.{pairsOf, PairRoom, Taken, Ow
 // A leaf and a position as one number: leaf * POSITIONS + position.
 const POSITIONS: usize = rows::MOST_LEAVES;
 
+// Room for the nearest rows: a row itself, its neighbours, and one that falls out.
+const NEAREST: usize = rows::MOST_NEIGHBOURS as usize + 2;
+
 // The row at position p takes those at the positions `near`. Where two leaves own the two rows, each leaf gets the other's row:
 // their numbers are written from n on. The owners of the a active rows stand at the front of `wholes`.
 fn send(near: &[usize], a: usize, p: usize, wholes: &mut [usize], n: usize) -> usize
@@ -47,8 +50,8 @@ fn send_row(
         × (length (now active) ≤ n) × (n + 2 * (neighbours + 1) ≤ length (now wholes)) ⌝ }
     ensures { λ r. ⌜ Taken dimensions (now (points .entry)) neighbours (now (active .entry)) p (now (wholes .entry)) (now (wholes .exit)) n r ⌝ }
 {
-    let mut near = [0usize; 66];
-    let mut far = [0.0f64; 66];
+    let mut near = [0usize; NEAREST];
+    let mut far = [0.0f64; NEAREST];
     let count = nearest_scan::nearest(
         points,
         dimensions,

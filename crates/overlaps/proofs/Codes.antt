@@ -14,25 +14,26 @@ use Rattle.lists.proofs.All.{all-append, all-imp, all-map, all-mem}
 use Rattle.lists.proofs.Members.{mem-left, mem-right, mem-map, map-mem}
 use Rattle.lists.proofs.Map.{map-same}
 use Rattle.lists.proofs.Ascends.{ascends-append, ascends-map}
+use Rattle.rows.specs.Rows.{mostLeaves}
 use Rattle.overlap_pairs.specs.Pairs.{code}
 use Rattle.overlaps.specs.Codes.{codesFrom, codedRows}
 
 abbrev Small : List (List ℕ) → Type 0
-Small ls = All (λ l. All (λ q. q < 2097152) l) ls
+Small ls = All (λ l. All (λ q. q < mostLeaves) l) ls
 
 -- ---- the numbers of one leaf, and those from a leaf on
-pub block-range : (l : ℕ) (ps : List ℕ) → All (λ q. q < 2097152) ps → All (λ c. (l * 2097152 ≤ c) × (c < suc l * 2097152)) (map (code l) ps)
+pub block-range : (l : ℕ) (ps : List ℕ) → All (λ q. q < mostLeaves) ps → All (λ c. (l * mostLeaves ≤ c) × (c < suc l * mostLeaves)) (map (code l) ps)
 block-range l ps h =
-    all-map (λ c. (l * 2097152 ≤ c) × (c < suc l * 2097152)) (code l) ps
-    (all-imp (λ q. q < 2097152) (λ q. (l * 2097152 ≤ code l q) × (code l q < suc l * 2097152)) ps (λ q g. (omega arith, omega arith)) h)
+    all-map (λ c. (l * mostLeaves ≤ c) × (c < suc l * mostLeaves)) (code l) ps
+    (all-imp (λ q. q < mostLeaves) (λ q. (l * mostLeaves ≤ code l q) × (code l q < suc l * mostLeaves)) ps (λ q g. (omega arith, omega arith)) h)
 
-pub codes-above : (l : ℕ) (ls : List (List ℕ)) → Small ls → All (λ c. l * 2097152 ≤ c) (codesFrom l ls)
+pub codes-above : (l : ℕ) (ls : List (List ℕ)) → Small ls → All (λ c. l * mostLeaves ≤ c) (codesFrom l ls)
 unfolding codesFrom All
 codes-above l [] h = tt
 codes-above l (ps ∷ ls) h =
-    all-append (λ c. l * 2097152 ≤ c) (map (code l) ps) (codesFrom (suc l) ls)
-    (all-imp (λ c. (l * 2097152 ≤ c) × (c < suc l * 2097152)) (λ c. l * 2097152 ≤ c) (map (code l) ps) (λ c g. g .0) (block-range l ps (h .0)))
-    (all-imp (λ c. suc l * 2097152 ≤ c) (λ c. l * 2097152 ≤ c) (codesFrom (suc l) ls) (λ c g. omega arith) (codes-above (suc l) ls (h .1)))
+    all-append (λ c. l * mostLeaves ≤ c) (map (code l) ps) (codesFrom (suc l) ls)
+    (all-imp (λ c. (l * mostLeaves ≤ c) × (c < suc l * mostLeaves)) (λ c. l * mostLeaves ≤ c) (map (code l) ps) (λ c g. g .0) (block-range l ps (h .0)))
+    (all-imp (λ c. suc l * mostLeaves ≤ c) (λ c. l * mostLeaves ≤ c) (codesFrom (suc l) ls) (λ c g. omega arith) (codes-above (suc l) ls (h .1)))
 
 pub codes-ascend : (l : ℕ) (ls : List (List ℕ)) → Small ls → All Ascends ls → Ascends (codesFrom l ls)
 unfolding codesFrom All Ascends
@@ -40,8 +41,8 @@ codes-ascend l [] h up = tt
 codes-ascend l (ps ∷ ls) h up =
     ascends-append (map (code l) ps) (codesFrom (suc l) ls)
     (ascends-map (code l) ps (λ a b i j g. omega arith) (up .0)) (codes-ascend (suc l) ls (h .1) (up .1))
-    (all-imp (λ c. (l * 2097152 ≤ c) × (c < suc l * 2097152)) (λ x. All (λ y. x < y) (codesFrom (suc l) ls)) (map (code l) ps)
-    (λ c g. all-imp (λ y. suc l * 2097152 ≤ y) (λ y. c < y) (codesFrom (suc l) ls) (λ y k. omega (arith, g .1)) (codes-above (suc l) ls (h .1))) (block-range l ps (h .0)))
+    (all-imp (λ c. (l * mostLeaves ≤ c) × (c < suc l * mostLeaves)) (λ x. All (λ y. x < y) (codesFrom (suc l) ls)) (map (code l) ps)
+    (λ c g. all-imp (λ y. suc l * mostLeaves ≤ y) (λ y. c < y) (codesFrom (suc l) ls) (λ y k. omega (arith, g .1)) (codes-above (suc l) ls (h .1))) (block-range l ps (h .0)))
 
 -- ---- members
 pub codes-mem : (l : ℕ) (ls : List (List ℕ)) (z : ℕ) → List·Memᴰ z (codesFrom l ls) → (i : ℕ) × (q : ℕ) × (i < length ls) × List·Memᴰ q (getD ls i []) × (z ≡ code (l + i) q)
@@ -72,11 +73,11 @@ pub rows-codes : (active : List ℕ) (l : ℕ) (ls : List (List ℕ)) → Small 
 unfolding codesFrom codedRows joined All
 rows-codes active l [] h = refl
 rows-codes active l (ps ∷ ls) h =
-    let f : ℕ → ℕ = λ c. getD active (c % 2097152) 0 in
+    let f : ℕ → ℕ = λ c. getD active (c % mostLeaves) 0 in
     map-append f (map (code l) ps) (codesFrom (suc l) ls)
     ∙ ap₂ (λ (x y : List ℕ). x ++ y)
     (map-map f (code l) ps ∙ map-same (λ q. f (code l q)) (λ q. getD active q 0) ps
-    (λ q i. let g = all-mem (λ q. q < 2097152) ps (h .0) q i in let e : code l q % 2097152 ≡ q = omega arith in ap (λ (k : ℕ). getD active k 0) e))
+    (λ q i. let g = all-mem (λ q. q < mostLeaves) ps (h .0) q i in let e : code l q % mostLeaves ≡ q = omega arith in ap (λ (k : ℕ). getD active k 0) e))
     (rows-codes active (suc l) ls (h .1))
 
 pub length-codes : (l : ℕ) (ls : List (List ℕ)) → length (codesFrom l ls) ≡ length (joined ls)

@@ -16,6 +16,7 @@ use Rattle.lists.proofs.Put.{length-put, getD-put-before, getD-put-after}
 use Rattle.lists.proofs.Sums.{total-snoc}
 use Rattle.lists.proofs.Map.{map-snoc}
 use Rattle.definition.specs.Packed.{rowNumbers}
+use Rattle.rows.specs.Rows.{mostLeaves}
 use Rattle.packed.specs.Rows.{putBorrowed}
 use Rattle.overlap_pairs.specs.Pairs.{code}
 use Rattle.overlaps.specs.Codes.{codesFrom, Reached, Positions}
@@ -92,13 +93,13 @@ pub record Columned (codes : List ℕ) (first at : ℕ) (D₀ D : List ℕ) (lea
   pub start : s ≡ total (map length (take leaf ls))
   pub list : D ≡ withBorrowed at (take leaf ls) first D₀
 
-module _ (codes : List ℕ) (m first at : ℕ) (D₀ : List ℕ) (room : rowNumbers * (first + m) ≤ length D₀) (ls : List (List ℕ)) (P : Positions m 2097152 ls) (is : codes ≡ codesFrom 0 ls) where
+module _ (codes : List ℕ) (m first at : ℕ) (D₀ : List ℕ) (room : rowNumbers * (first + m) ≤ length D₀) (ls : List (List ℕ)) (P : Positions m mostLeaves ls) (is : codes ≡ codesFrom 0 ls) where
   pub column-none : Columned codes first at D₀ D₀ 0 0 ls
   unfolding withBorrowed total
   column-none = record { start = refl; list = refl }
 
   module _ (D : List ℕ) (leaf s e : ℕ) (c : Columned codes first at D₀ D leaf s ls) (here : leaf < m) (inside : s ≤ length codes)
-      (r : Reached codes s ((leaf + 1) * 2097152) e) where
+      (r : Reached codes s ((leaf + 1) * mostLeaves) e) where
     ps : List ℕ
     ps = getD ls leaf []
 
@@ -115,18 +116,18 @@ module _ (codes : List ℕ) (m first at : ℕ) (D₀ : List ℕ) (room : rowNumb
         zero-plus : (k : ℕ) → 0 + k ≡ k
         zero-plus k = omega arith
 
-    small : All (λ q. q < 2097152) ps
+    small : All (λ q. q < mostLeaves) ps
     unfolding ps
-    small = let n = P .number in all-at (λ l. All (λ q. q < 2097152) l) ls leaf [] (P .below) (omega arith)
+    small = let n = P .number in all-at (λ l. All (λ q. q < mostLeaves) l) ls leaf [] (P .below) (omega arith)
 
     pub column-end : e ≡ s + length (getD ls leaf [])
     unfolding ps rest
     column-end =
         let q : leaf + 1 ≡ suc leaf = add-one leaf in
-        let limit : (leaf + 1) * 2097152 ≡ suc leaf * 2097152 = ap (λ (k : ℕ). k * 2097152) q in
-        reach-end codes (map (code leaf) ps) (codesFrom (suc leaf) rest) s ((leaf + 1) * 2097152) e left
-        (all-imp (λ c. (leaf * 2097152 ≤ c) × (c < suc leaf * 2097152)) (λ c. c < (leaf + 1) * 2097152) (map (code leaf) ps) (λ c g. omega (arith, g .1)) (block-range leaf ps small))
-        (all-imp (λ c. suc leaf * 2097152 ≤ c) (λ c. (leaf + 1) * 2097152 ≤ c) (codesFrom (suc leaf) rest) (λ c g. omega arith) (codes-above (suc leaf) rest (all-drop (λ l. All (λ q. q < 2097152) l) (suc leaf) ls (P .below))))
+        let limit : (leaf + 1) * mostLeaves ≡ suc leaf * mostLeaves = ap (λ (k : ℕ). k * mostLeaves) q in
+        reach-end codes (map (code leaf) ps) (codesFrom (suc leaf) rest) s ((leaf + 1) * mostLeaves) e left
+        (all-imp (λ c. (leaf * mostLeaves ≤ c) × (c < suc leaf * mostLeaves)) (λ c. c < (leaf + 1) * mostLeaves) (map (code leaf) ps) (λ c g. omega (arith, g .1)) (block-range leaf ps small))
+        (all-imp (λ c. suc leaf * mostLeaves ≤ c) (λ c. (leaf + 1) * mostLeaves ≤ c) (codesFrom (suc leaf) rest) (λ c g. omega arith) (codes-above (suc leaf) rest (all-drop (λ l. All (λ q. q < mostLeaves) l) (suc leaf) ls (P .below))))
         inside r ∙ ap (λ (k : ℕ). s + k) (length-map ps (code leaf))
 
     pub column-more : Columned codes first at D₀ (putBorrowed D (first + leaf) (at + s) (e - s)) (leaf + 1) e ls

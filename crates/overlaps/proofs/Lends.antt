@@ -12,6 +12,7 @@ use Rattle.lists.proofs.Members.{mem-at}
 use Rattle.lists.specs.Same.{Same}
 use Rattle.lists.proofs.Same.{same-mem, same-length}
 use Rattle.lists.proofs.Ascends.{ascends-unique}
+use Rattle.rows.specs.Rows.{mostLeaves}
 use Rattle.overlaps.specs.Codes.{codesFrom, codedRows, Distinct, Positions, Encoded}
 use Rattle.overlaps.proofs.Codes.{codes-ascend, rows-codes, length-codes}
 
@@ -24,14 +25,14 @@ same-distinct old mid new s d = record {
   short = (let h = d .short in omega (arith, same-length mid old s));
 }
 
-module _ (m n : ℕ) (few : n ≤ 2097152) (codes : List ℕ) (ls : List (List ℕ)) (H : Encoded m n codes ls) where
+module _ (m n : ℕ) (few : n ≤ mostLeaves) (codes : List ℕ) (ls : List (List ℕ)) (H : Encoded m n codes ls) where
   -- positions below n are below 2 ^ 21
-  pub small-lists : Positions m 2097152 ls
+  pub small-lists : Positions m mostLeaves ls
   small-lists =
       record {
         number = H .lists .number;
         ascend = H .lists .ascend;
-        below = all-imp (λ l. All (λ q. q < n) l) (λ l. All (λ q. q < 2097152) l) ls (λ l a. all-imp (λ q. q < n) (λ q. q < 2097152) l (λ q g. omega arith) a) (H .lists .below);
+        below = all-imp (λ l. All (λ q. q < n) l) (λ l. All (λ q. q < mostLeaves) l) ls (λ l a. all-imp (λ q. q < n) (λ q. q < mostLeaves) l (λ q g. omega arith) a) (H .lists .below);
       }
 
   module _ (new : List ℕ) (d : Distinct codes new) where
@@ -48,5 +49,5 @@ module _ (m n : ℕ) (few : n ≤ 2097152) (codes : List ℕ) (ls : List (List �
     distinct-length = ap length distinct-codes ∙ length-codes 0 ls
 
 -- each number's position is that of an active row
-pub distinct-inside : (codes new : List ℕ) (n : ℕ) → Distinct codes new → ((z : ℕ) → List·Memᴰ z codes → z % 2097152 < n) → (k : ℕ) → k < length new → getD new k 0 % 2097152 < n
+pub distinct-inside : (codes new : List ℕ) (n : ℕ) → Distinct codes new → ((z : ℕ) → List·Memᴰ z codes → z % mostLeaves < n) → (k : ℕ) → k < length new → getD new k 0 % mostLeaves < n
 distinct-inside codes new n d f k h = f (getD new k 0) (d .less (getD new k 0) (mem-at new k 0 h))

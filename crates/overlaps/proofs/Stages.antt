@@ -12,6 +12,7 @@ use Rattle.lists.specs.Lists.{joined, part, put}
 use Rattle.lists.proofs.Map.{map-joined}
 use Rattle.lists.proofs.Put.{length-part}
 use Rattle.lists.proofs.Same.{same-mem}
+use Rattle.rows.specs.Rows.{mostLeaves}
 use Rattle.packed.specs.Reading.{readOwn}
 use Rattle.overlap_owners.specs.Own.{Owned}
 use Rattle.packed.proofs.OwnRows.{read-length}
@@ -49,7 +50,7 @@ module _ (d : ℕ) (cs : List Float) (neighbours : ℕ) (active I D : List ℕ) 
         let t = e .1 in
         omega (arith, length-part wholes (length active) (r - length active) (omega arith), c .few, twice (length active) neighbours)
 
-    pub stage-inside : (z : ℕ) → List·Memᴰ z codes → z % 2097152 < length active
+    pub stage-inside : (z : ℕ) → List·Memᴰ z codes → z % mostLeaves < length active
     stage-inside z i =
         let s = c .only z i in
         let b = s .below in

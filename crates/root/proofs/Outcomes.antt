@@ -5,6 +5,7 @@ use mathlib.Core.List.{[], _∷_}
 use lib.Dec.{T}
 use lib.Ieee.{Float, nan, inf, fin, ne, lt, isNan}
 use lib.Ieee.Compare.{differs-from-itself, nan-differs}
+use Rattle.lists.proofs.Tests.{or-true}
 use Rattle.definition.specs.Number.{squareRoot, plusZero}
 use Rattle.definition.specs.Refusals.{on, verdict, rootVerdict}
 use Rattle.definition.specs.Outcome.{answered, numberOf, placeOf, valueOf, rootAnswer}
@@ -32,10 +33,6 @@ by-test x t h = ap (λ (b : Bool). answered (verdict (on b 15 ∷ [])) (squareRo
 refused-by : (x : Float) → (isNan x || lt x plusZero) ≡ true → rootReport Refused ≡ rootAnswer x
 unfolding verdict numberOf placeOf valueOf
 refused-by x h = by-test x true h
-
-or-true : (a : Bool) → (a || true) ≡ true
-or-true true = refl
-or-true false = refl
 
 pub nan-refused : (x : Float) → ne x x ≡ true → rootReport Refused ≡ rootAnswer x
 nan-refused x h = refused-by x (ap (λ (t : Bool). t || lt x plusZero) (is-nan x h))

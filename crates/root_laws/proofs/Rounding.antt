@@ -90,9 +90,9 @@ next-scaled : (r p : ℕ) → 2 * (r + 1) * p ≡ 2 * r * p + 2 * p
 next-scaled r p = ap (λ (z : ℕ). z * p) (mul-add 2 r 1) ∙ add-mul (2 * r) 2 p
 
 -- twice the root of A * 4 ^ (j + 1), against the two odd numbers next to 2 * q, scaled
-above :
+odd-above :
     (A r j : ℕ) → (r + 1) * (r + 1) < A + (r + 1) → 2 * (r + 1) * 2 ^ suc j < halves (A * 2 ^ suc j * 2 ^ suc j) + 2 ^ suc j
-above A r j N =
+odd-above A r j N =
     let p = 2 ^ j in
     let c = (2 * r + 1) * p in
     let e : 2 ^ suc j ≡ 2 * p = pow-succ' 2 j in
@@ -106,8 +106,8 @@ above A r j N =
     let m : 2 * r * 2 ^ suc j ≡ 2 * r * (2 * p) = ap (λ (z : ℕ). 2 * r * z) e in
     omega arith
 
-under : (A q j : ℕ) → A ≤ q * q + q → halves (A * 2 ^ suc j * 2 ^ suc j) < 2 * q * 2 ^ suc j + 2 ^ suc j
-under A q j N =
+odd-below : (A q j : ℕ) → A ≤ q * q + q → halves (A * 2 ^ suc j * 2 ^ suc j) < 2 * q * 2 ^ suc j + 2 ^ suc j
+odd-below A q j N =
     let p = 2 ^ j in
     let d = (2 * q + 1) * p in
     let e : 2 ^ suc j ≡ 2 * p = pow-succ' 2 j in
@@ -161,7 +161,7 @@ nearest-root :
     (A q j : ℕ) → NearRoot A q → closest (halves (A * 2 ^ suc j * 2 ^ suc j) * 2 ^ 1074) (2 * 2 ^ 1074 * 2 ^ suc j) ≡ q
 nearest-root A q j N =
     by-scale (halves (A * 2 ^ suc j * 2 ^ suc j)) (2 ^ suc j) (2 ^ 1074) q (pow-pos (suc j)) (pow-pos 1074) lo
-    (under A q j (N .high))
+    (odd-below A q j (N .high))
   where
     e : q ≡ q - 1 + 1
     e = prev q (N .least)
@@ -169,7 +169,7 @@ nearest-root A q j N =
     lo : 2 * q * 2 ^ suc j < halves (A * 2 ^ suc j * 2 ^ suc j) + 2 ^ suc j
     lo =
         subst (λ (z : ℕ). 2 * z * 2 ^ suc j < halves (A * 2 ^ suc j * 2 ^ suc j) + 2 ^ suc j) (sym e)
-        (above A (q - 1) j (subst (λ (z : ℕ). z * z < A + z) e (N .low)))
+        (odd-above A (q - 1) j (subst (λ (z : ℕ). z * z < A + z) e (N .low)))
 
 dropped : (j z : ℕ) → z ≡ suc (52 + suc j) → z - 53 ≡ suc j
 dropped j z e = omega arith

@@ -17,7 +17,7 @@ fn print_auto(n: usize) {
 
 // The number of reductions of n points.
 fn print_reductions(n: u32, c: u32, f: u32) {
-    if 1_048_576 < n {
+    if rows::MOST_POINTS < n as usize {
         return;
     }
     print_named(b"reductions", n as usize);

@@ -3,7 +3,7 @@ use Prim.Native.Nat.{ℕ, _+_, _*_, _≤_}
 use native.Mathlib.Nat.{mul-le-mul}
 use native.Mathlib.Omega.{arith}
 use Rattle.definition.specs.Packed.{rowFloats, mostRows, buildStated}
-use Rattle.definition.specs.Refusals.{mostPoints}
+use Rattle.definition.specs.Refusals.{mostPoints, mostNeighbours}
 use borrow.Author.Needs.{needs}
 use Rattle.build_sizes.proofs.stated_sizes.Statement.{statement}
 use Rattle.build_sizes.proofs.stated_sizes.Tie as tie
@@ -41,7 +41,7 @@ mul-t10 c = search needs
 mul-t11 : tie.Need-mul-t11
 mul-t11 c =
     let a = c .before .args in
-    omega (arith, product (6 * a .n) (a .neighbours + 1) 6291456 65 (omega arith) (omega arith))
+    omega (arith, product (6 * a .n) (a .neighbours + 1) (6 * mostPoints) (mostNeighbours + 1) (omega arith) (omega arith))
 
 mul-t12 : tie.Need-mul-t12
 mul-t12 c = search needs
@@ -55,12 +55,12 @@ mul-t14 c = search needs
 mul-t15 : tie.Need-mul-t15
 mul-t15 c =
     let a = c .before .args in
-    omega (arith, product (8 * a .n) (a .neighbours + 1) 8388608 65 (omega arith) (omega arith))
+    omega (arith, product (8 * a .n) (a .neighbours + 1) (8 * mostPoints) (mostNeighbours + 1) (omega arith) (omega arith))
 
 add-t16 : tie.Need-add-t16
 add-t16 c =
     let a = c .before .args in
-    omega (arith, product (8 * a .n) (a .neighbours + 1) 8388608 65 (omega arith) (omega arith))
+    omega (arith, product (8 * a .n) (a .neighbours + 1) (8 * mostPoints) (mostNeighbours + 1) (omega arith) (omega arith))
 
 returns : tie.Need-returns
 unfolding buildStated

@@ -8,11 +8,12 @@ use Rattle.overlaps.specs.Codes.{codesFrom, Positions}
 use Rattle.overlaps.proofs.Columns.{Columned, column-none, column-more, column-all}
 use borrow.Author.Needs.{needs}
 use native.Mathlib.Omega.{arith}
+use Rattle.rows.specs.Rows.{mostLeaves}
 use Rattle.overlaps.proofs.write_columns.Statement.{statement}
 use Rattle.overlaps.proofs.write_columns.Tie as tie
 
 abbrev Inv-loop : tie.InvT-loop
-Inv-loop codes domains₀ first m bat leaf₀ s₀ domains leaf s = (leaf ≤ m) × (s ≤ length codes) × (length domains ≡ length domains₀) × ((ls : List (List ℕ)) → Positions m 2097152 ls → codes ≡ codesFrom 0 ls → Columned codes first bat domains₀ domains leaf s ls)
+Inv-loop codes domains₀ first m bat leaf₀ s₀ domains leaf s = (leaf ≤ m) × (s ≤ length codes) × (length domains ≡ length domains₀) × ((ls : List (List ℕ)) → Positions m mostLeaves ls → codes ≡ codesFrom 0 ls → Columned codes first bat domains₀ domains leaf s ls)
 
 abbrev μ-loop : tie.MeasureT-loop
 μ-loop codes domains₀ first m bat leaf₀ s₀ domains leaf s = m - leaf

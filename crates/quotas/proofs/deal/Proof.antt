@@ -5,6 +5,7 @@ use Prim.Native.Nat.{ℕ, _≤_, max}
 use native.Mathlib.Omega.{arith}
 use Rattle.lists.specs.Lists.{total}
 use Rattle.definition.specs.Quotas.{sizeAt}
+use Rattle.definition.specs.Refusals.{mostPoints}
 use Rattle.quotas.specs.Sharing.{Sharing, capacities}
 use Rattle.quotas.proofs.OneLeaf.{seat-cut-is}
 use borrow.Author.Needs.{needs}
@@ -12,7 +13,7 @@ use Rattle.quotas.proofs.deal.Statement.{statement}
 use Rattle.quotas.proofs.deal.Tie as tie
 
 -- what the sharing asks, from what the numbers are
-shared : (sizes : List ℕ) (first rest capacity pool : ℕ) → ((j : ℕ) → sizeAt sizes j ≤ 1048576) → first ≤ 1 → rest ≤ capacity → capacity ≤ 1048576
+shared : (sizes : List ℕ) (first rest capacity pool : ℕ) → ((j : ℕ) → sizeAt sizes j ≤ mostPoints) → first ≤ 1 → rest ≤ capacity → capacity ≤ mostPoints
     → total (capacities sizes first) ≡ capacity → pool ≡ max 1 capacity → Sharing sizes first rest pool
 shared sizes first rest capacity pool fit one within small all e =
     record { sizes-fit = fit; first-fits = one; rest-fits = omega arith; within = omega arith; divisor = omega arith }

@@ -4,6 +4,7 @@ use Prim.Native.Nat.{ℕ, _-_, _*_, _≤_}
 use native.Mathlib.Nat.{mul-le-mul, mul-zero}
 use native.Mathlib.Omega.{arith}
 use borrow.Author.Needs.{needs}
+use Rattle.definition.specs.Refusals.{mostPoints}
 use Rattle.quotas.proofs.product.Statement.{statement}
 use Rattle.quotas.proofs.product.Tie as tie
 
@@ -16,7 +17,7 @@ returns c =
 mul-result : tie.Need-mul-result
 mul-result c =
     let a = c .before .args in
-    let h : a .w - a .first ≤ 1048576 = omega arith in
+    let h : a .w - a .first ≤ mostPoints = omega arith in
     omega (arith, mul-le-mul (c .before .pre .1) h)
 
 returns-2 : tie.Need-returns-2

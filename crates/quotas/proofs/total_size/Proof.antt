@@ -6,11 +6,12 @@ use lib.ListN.{length, take}
 use lib.Seq.{take-all}
 use Rattle.lists.specs.Lists.{total}
 use Rattle.lists.proofs.Sums.{total-nil, total-step, total-front}
+use Rattle.definition.specs.Refusals.{mostPoints}
 use Rattle.quotas.proofs.total_size.Statement.{statement}
 use Rattle.quotas.proofs.total_size.Tie as tie
 
 abbrev Inv-loop : tie.InvT-loop
-Inv-loop sizes sum₀ i₀ sum i = (i ≤ length sizes) × (sum ≡ total (take i sizes)) × (sum ≤ 1048576)
+Inv-loop sizes sum₀ i₀ sum i = (i ≤ length sizes) × (sum ≡ total (take i sizes)) × (sum ≤ mostPoints)
 
 abbrev μ-loop : tie.MeasureT-loop
 μ-loop sizes sum₀ i₀ sum i = length sizes - i
