@@ -23,8 +23,8 @@ extern "C" {
         borrowed: *mut usize, borrowed_len: usize, wholes: *mut usize, wholes_len: usize,
     ) -> usize;
     fn stage_coarse_points(
-        points: *const f64, points_len: usize, dimensions: usize, size: usize, internals: *const usize, internals_len: usize,
-        domains: *const usize, domains_len: usize, m: usize, level_points: *mut usize, level_points_len: usize, a: usize,
+        points: *const f64, points_len: usize, dimensions: usize, size: usize, level_points: *mut usize, level_points_len: usize,
+        a: usize, internals: *const usize, internals_len: usize, domains: *const usize, domains_len: usize, m: usize,
         floats: *mut f64, floats_len: usize, wholes: *mut usize, wholes_len: usize,
     ) -> usize;
     fn clock_gettime(id: i32, time: *mut [i64; 2]) -> i32;
@@ -96,8 +96,8 @@ fn stages(coords: &[f64], d: usize, s: &plain::Settings, turns: usize) {
     let mut next = 0;
     let sampling = compared(turns, || unsafe {
         next = stage_coarse_points(
-            coords.as_ptr(), coords.len(), d, size, internals.as_ptr(), n, domains.as_ptr(), domains.len(), m,
-            level_points.as_mut_ptr(), level_points.len(), n, floats.as_mut_ptr(), floats.len(), wholes.as_mut_ptr(), wholes.len(),
+            coords.as_ptr(), coords.len(), d, size, level_points.as_mut_ptr(), level_points.len(), n, internals.as_ptr(), n,
+            domains.as_ptr(), domains.len(), m, floats.as_mut_ptr(), floats.len(), wholes.as_mut_ptr(), wholes.len(),
         )
     }, || plain::send(&points, &leaves, size));
     assert_eq!(&level_points[n..n + next], &plain::send(&points, &leaves, size)[..]);

@@ -240,7 +240,7 @@ module _ (r : Read) (cs : List Float) (bs : List ℕ) (h : jobOf r cs ≡ jobIn 
     pub floats-here : Within r → n * s .dimensions ≤ 3 * streamPoints
     floats-here w =
         let k : n ≤ streamPoints = rw e at w in
-        mul-le-mul {n₁ = n} {m₁ = s .dimensions} {n₂ = 32} {m₂ = 3} k (limits-here .axes-few)
+        mul-le-mul {n₁ = n} {m₁ = s .dimensions} {n₂ = streamPoints} {m₂ = 3} k (limits-here .axes-few)
 
 -- ---- the outcome of the whole call
 module _ (input output : List ℕ) where
