@@ -1,5 +1,5 @@
 -- `root::square_root` meets its contract: its test is the refusal's. Assumes nothing.
-use mathlib.Core.Logic.{⊎-elim}
+use mathlib.Core.Logic.{inl, inr}
 use borrow.Author.Needs.{needs}
 use Rattle.root.proofs.Outcomes.{nan-refused, negative-refused, value-given}
 use Rattle.root.proofs.square_root.Statement.{statement}
@@ -8,7 +8,10 @@ use Rattle.root.proofs.square_root.Tie as tie
 returns : tie.Need-returns
 returns c =
     let x = c .before .args .x in
-    ⊎-elim (λ w. nan-refused x (w .taken)) (λ w. negative-refused x (w .1 .taken)) (c .if1 .came)
+    elim (c .if1 .came) [
+      | inl w ↦ nan-refused x (w .taken)
+      | inr w ↦ negative-refused x (w .1 .taken)
+    ]
 
 root-requires : tie.Need-root-requires
 root-requires c κs = search needs
