@@ -52,6 +52,20 @@ class Layout(unittest.TestCase):
             with self.subTest(str(path.relative_to(ROOT))):
                 self.assertRegex(path.read_text(encoding="utf-8"), r"(?m)^# \S+ \S+")
 
+    def test_each_edit_fits_its_file(self):
+        for path in sorted(ROOT.glob("crates/*/must-fail/*.edit")):
+            with self.subTest(str(path.relative_to(ROOT))):
+                text = ""
+                for line in path.read_text(encoding="utf-8").splitlines():
+                    word, _, rest = line.partition(": ")
+                    if word == "file":
+                        text = (path.parent.parent / rest).read_text(encoding="utf-8")
+                    elif word == "old":
+                        self.assertEqual(text.count(rest), 1, rest)
+                        old = rest
+                    elif word == "new":
+                        text = text.replace(old, rest)
+
     def test_contracts_cite_definitions_and_no_laws(self):
         for path in [*ROOT.glob("crates/*/src/*.rt"), *ROOT.glob("crates/*/specs/**/*.antt")]:
             with self.subTest(str(path.relative_to(ROOT))):
