@@ -8,15 +8,15 @@ ghost use Rattle.packed.specs.Rows.{plainRow, IsRow, putRow, putOwn, put
 // How many whole numbers a domain row has.
 pub const ROW_NUMBERS: usize = 4;
 
-// How many floats it has on three axes.
-pub const MOST_ROW_FLOATS: usize = boxes::WIDEST_BOX;
-
 // Which of them says what. Where the own rows start is the first.
 const OWN_COUNT: usize = 1;
 
 const BORROWED_START: usize = 2;
 
 const BORROWED_COUNT: usize = 3;
+
+// How many floats a domain row has on three axes, for lists of a fixed length.
+pub const MOST_ROW_FLOATS: usize = boxes::WIDEST_BOX;
 
 // A domain row: where the leaf's stretch of each list starts, and how many rows it has there.
 pub struct DomainRow {
