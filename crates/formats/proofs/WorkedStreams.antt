@@ -11,8 +11,8 @@ use Rattle.definition.specs.Number.{plusZero}
 use Rattle.definition.specs.Levels.{Policy, auto, fixed}
 use Rattle.definition.specs.Tree.{Settings}
 use Rattle.definition.proofs.WorkedSamples.{opened, line}
-use Rattle.formats.specs.Bytes.{little, bytesOf, floatBytes}
-use Rattle.formats.specs.Stream.{coordinatesAt, policyFits, settingsIn, Job, job, broken, brokenAt, tooLarge, readPoints, held, jobIn}
+use Rattle.formats.specs.Bytes.{floatsAt, little, bytesOf, floatBytes}
+use Rattle.formats.specs.Stream.{policyFits, settingsIn, Job, job, broken, brokenAt, tooLarge, readPoints, held, jobIn}
 use Rattle.formats.specs.Printout.{ascii, decimalOnto, decimal, hexOnto, rowsText, boxText, domainLine, fineLines, coarseLines, levelLine, levelsText, treeText, refusalText, builtText, jobText, printout}
 
 -- ---- streams
@@ -109,7 +109,7 @@ pub record Printouts : Type 0 where
 
 -- the definitions yield every row
 pub streams : Streams
-unfolding opened little bytesOf point coordinatesAt policyFits settingsIn readPoints held jobIn
+unfolding opened little bytesOf point floatsAt policyFits settingsIn readPoints held jobIn
 streams =
     record {
       fields = refl;
@@ -145,7 +145,7 @@ streams =
     }
 
 pub printouts : Printouts
-unfolding opened little bytesOf point coordinatesAt policyFits settingsIn readPoints held jobIn ascii decimalOnto decimal hexOnto rowsText boxText domainLine fineLines coarseLines levelLine levelsText treeText refusalText builtText jobText printout
+unfolding opened little bytesOf point floatsAt policyFits settingsIn readPoints held jobIn ascii decimalOnto decimal hexOnto rowsText boxText domainLine fineLines coarseLines levelLine levelsText treeText refusalText builtText jobText printout
 printouts =
     record {
       printed = refl;

@@ -1,10 +1,11 @@
 -- Numbers, floats and marks as bytes. Definitions only.
 use Prim.Native.Nat.{ℕ, zero, suc, _+_, _*_, _/_, _%_}
 use mathlib.Core.Bool.{Bool, _&&_}
-use mathlib.Core.List.{List, [], _∷_}
+use mathlib.Core.List.{List, [], _∷_, map}
 use lib.ListN.{length, drop, getD}
 use lib.Dec.{leb, eqb}
 use lib.Ieee.{Float, binary64, ofBits, toBits}
+use Rattle.lists.specs.Lists.{from, joined}
 
 -- ---- numbers, little-endian
 
@@ -23,6 +24,26 @@ unfoldable pub bytesOf : ℕ → ℕ → List ℕ
 bytesOf zero n = []
 bytesOf (suc k) n = n % 256 ∷ bytesOf k (n / 256)
 
+-- ---- counts and rows
+
+-- the bytes of a count or a row
+abbrev pub numberSize : ℕ
+numberSize = 4
+
+-- the number in the 4 bytes from `at` on
+abbrev pub numberAt : ℕ → List ℕ → ℕ
+numberAt at bs = field numberSize at bs
+
+-- the n numbers from `at` on
+unfoldable pub numbersAt : ℕ → ℕ → List ℕ → List ℕ
+numbersAt n at bs = map (λ i. numberAt (at + numberSize * i) bs) (from 0 n)
+
+abbrev pub numberBytes : ℕ → List ℕ
+numberBytes n = bytesOf numberSize n
+
+unfoldable pub numbersBytes : List ℕ → List ℕ
+numbersBytes ns = joined (map numberBytes ns)
+
 -- ---- floats, by their bits
 
 -- the bytes of a float
@@ -33,8 +54,15 @@ floatSize = 8
 abbrev pub floatAt : ℕ → List ℕ → Float
 floatAt at bs = ofBits binary64 (field floatSize at bs)
 
+-- the n floats from `at` on
+unfoldable pub floatsAt : ℕ → ℕ → List ℕ → List Float
+floatsAt n at bs = map (λ i. floatAt (at + floatSize * i) bs) (from 0 n)
+
 abbrev pub floatBytes : Float → List ℕ
 floatBytes x = bytesOf floatSize (toBits binary64 x)
+
+unfoldable pub floatsBytes : List Float → List ℕ
+floatsBytes xs = joined (map floatBytes xs)
 
 -- ---- marks
 
@@ -48,6 +76,9 @@ markOf first second = record { first = first; second = second }
 
 abbrev pub markSize : ℕ
 markSize = 2
+
+abbrev pub markBytes : Mark → List ℕ
+markBytes m = m .first ∷ m .second ∷ []
 
 -- the bytes begin with the mark
 abbrev pub markedBy : Mark → List ℕ → Bool

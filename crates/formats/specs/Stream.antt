@@ -1,15 +1,14 @@
 -- The job stream: a settings record and point records, as bytes. Definitions only.
 use Prim.Native.Nat.{ℕ, zero, suc, _+_, _*_}
 use mathlib.Core.Bool.{Bool, _&&_, _||_, cond}
-use mathlib.Core.List.{List, [], _∷_, _++_, map}
+use mathlib.Core.List.{List, [], _∷_, _++_}
 use lib.ListN.{drop}
 use lib.Dec.{ltb, eqb}
 use lib.Ieee.{Float}
-use Rattle.lists.specs.Lists.{from}
-use Rattle.definition.specs.Levels.{policyFrom}
+use Rattle.definition.specs.Levels.{Policy, auto, fixed, policyFrom}
 use Rattle.definition.specs.Tree.{Settings}
 use Rattle.definition.specs.Refusals.{Refusal, wrongDimension}
-use Rattle.formats.specs.Bytes.{Mark, markOf, markSize, whole, Field, fieldEnd, valueAt, floatSize, floatAt}
+use Rattle.formats.specs.Bytes.{Mark, markOf, markSize, whole, Field, fieldEnd, valueAt, bytesOf, floatSize, floatsAt}
 
 -- ---- the settings record: its mark, and its fields one after the other
 
@@ -52,6 +51,17 @@ settingsIn bs =
       policy = policyFrom (valueAt policyField bs) (valueAt thresholdField bs);
     }
 
+-- policy and threshold, as the record has them
+abbrev pub policyBytes : Policy → List ℕ
+policyBytes auto = bytesOf (policyField .width) 0 ++ bytesOf (thresholdField .width) 0
+policyBytes (fixed c) = bytesOf (policyField .width) 1 ++ bytesOf (thresholdField .width) c
+
+-- the record's bytes after its mark
+unfoldable pub settingsBytes : Settings → List ℕ
+settingsBytes s =
+    bytesOf (dimensionField .width) (s .dimension) ++ bytesOf (leafField .width) (s .leaf) ++ bytesOf (neighboursField .width) (s .neighbours)
+    ++ bytesOf (factorField .width) (s .factor) ++ policyBytes (s .policy)
+
 -- ---- points
 
 abbrev pub pointMark : Mark
@@ -60,10 +70,6 @@ pointMark = markOf 0x50 0x54
 -- a point record's bytes: the mark's, and a float per axis
 abbrev pub pointSize : ℕ → ℕ
 pointSize d = markSize + floatSize * d
-
--- the d coordinates from `at` on
-unfoldable pub coordinatesAt : ℕ → ℕ → List ℕ → List Float
-coordinatesAt d at bs = map (λ a. floatAt (at + floatSize * a) bs) (from 0 d)
 
 -- what a stream comes to: settings and coordinates, or a refusal
 pub data Job : Type 0 where
@@ -93,7 +99,7 @@ readPoints s zero at (b ∷ bs) cs = cond (whole pointMark (pointSize (s .dimens
 readPoints s (suc room) at [] cs = job s cs
 readPoints s (suc room) at (b ∷ bs) cs =
     let size = pointSize (s .dimension) in
-    let more = readPoints s room (at + size) (drop size (b ∷ bs)) (cs ++ coordinatesAt (s .dimension) markSize (b ∷ bs)) in
+    let more = readPoints s room (at + size) (drop size (b ∷ bs)) (cs ++ floatsAt (s .dimension) markSize (b ∷ bs)) in
     cond (whole pointMark size (b ∷ bs)) more (brokenAt at)
 
 -- neighbours over 16 give 17 after the last record

@@ -17,8 +17,8 @@ use Rattle.lists.proofs.From.{map-below-same}
 use Rattle.lists.proofs.Take.{drop-take}
 use Rattle.definition.specs.Tree.{Settings}
 use Rattle.definition.specs.Refusals.{wrongDimension}
-use Rattle.formats.specs.Bytes.{Mark, markSize, Field, fieldEnd, little, field, valueAt, whole, floatAt, floatSize}
-use Rattle.formats.specs.Stream.{Job, broken, brokenAt, coordinatesAt, pointMark, pointSize, settingsMark, settingsSize, dimensionField, leafField, neighboursField, factorField, policyField, thresholdField, policyFits, settingsIn, streamPoints, readPoints, held, jobIn}
+use Rattle.formats.specs.Bytes.{floatsAt, Mark, markSize, Field, fieldEnd, little, field, valueAt, whole, floatAt, floatSize}
+use Rattle.formats.specs.Stream.{Job, broken, brokenAt, pointMark, pointSize, settingsMark, settingsSize, dimensionField, leafField, neighboursField, factorField, policyField, thresholdField, policyFits, settingsIn, streamPoints, readPoints, held, jobIn}
 use Rattle.formats.specs.Printout.{jobText, printout}
 use Rattle.stream_laws.specs.Sizes.{decisive}
 use Rattle.definition_laws.proofs.Accepted.{right-dimension}
@@ -49,8 +49,8 @@ module _ (n : ℕ) (bs : List ℕ) where
   whole-take : (m : Mark) (size : ℕ) → 2 ≤ size → size ≤ n → whole m size (take n bs) ≡ whole m size bs
   whole-take m size g h = rw (long-take size h, getD-take n bs 0 0 (omega arith), getD-take n bs 1 0 (omega arith))
 
-  point-take : (d : ℕ) → pointSize d ≤ n → coordinatesAt d markSize (take n bs) ≡ coordinatesAt d markSize bs
-  unfolding coordinatesAt
+  point-take : (d : ℕ) → pointSize d ≤ n → floatsAt d markSize (take n bs) ≡ floatsAt d markSize bs
+  unfolding floatsAt
   point-take d h =
       map-below-same (λ a. floatAt (markSize + floatSize * a) (take n bs)) (λ a. floatAt (markSize + floatSize * a) bs) d
       (λ a below. ap (ofBits binary64) (field-take floatSize (markSize + floatSize * a) (omega arith)))
@@ -99,7 +99,7 @@ module _ (s : Settings) where
       same-point (suc room) at n bs cs long
       (λ some there. stream-more s (take n bs) cs room at (some-take n bs (omega arith) some) (whole-take n bs pointMark size (omega arith) long ∙ there)
       ∙ ap₂ (λ (l : List ℕ) (x : List Float). readPoints s room (at + size) l (cs ++ x)) (drop-take size n bs) (point-take n bs d long)
-      ∙ points-take room (at + size) (n - size) (drop size bs) (cs ++ coordinatesAt d markSize bs) rest
+      ∙ points-take room (at + size) (n - size) (drop size bs) (cs ++ floatsAt d markSize bs) rest
       ∙ sym (stream-more s bs cs room at some there))
 
 -- ---- the settings

@@ -15,12 +15,12 @@ use Rattle.lists.proofs.From.{length-map-from}
 use Rattle.definition.specs.Tree.{Settings}
 use Rattle.definition.specs.Refusals.{wrongDimension}
 use Rattle.stream_laws.specs.Sizes.{WithinLimits}
-use Rattle.formats.specs.Bytes.{whole, markSize, valueAt}
-use Rattle.formats.specs.Stream.{Job, job, broken, brokenAt, tooLarge, coordinatesAt, pointMark, pointSize, settingsMark, settingsSize, dimensionField, policyFits, settingsIn, streamPoints, streamNeighbours, readPoints, held, jobIn}
+use Rattle.formats.specs.Bytes.{floatsAt, whole, markSize, valueAt}
+use Rattle.formats.specs.Stream.{Job, job, broken, brokenAt, tooLarge, pointMark, pointSize, settingsMark, settingsSize, dimensionField, policyFits, settingsIn, streamPoints, streamNeighbours, readPoints, held, jobIn}
 use Rattle.definition_laws.proofs.Accepted.{right-dimension}
 
-pub length-coordinates : (d at : ℕ) (bs : List ℕ) → length (coordinatesAt d at bs) ≡ d
-unfolding coordinatesAt
+pub length-coordinates : (d at : ℕ) (bs : List ℕ) → length (floatsAt d at bs) ≡ d
+unfolding floatsAt
 length-coordinates d at bs = length-map-from _ 0 d
 
 -- ---- the points one after the other
@@ -58,12 +58,12 @@ module _ (s : Settings) (bs : List ℕ) (cs : List Float) where
 
   -- a whole point
   pub stream-more : (room at : ℕ) → 0 < length bs → whole pointMark size bs ≡ true
-      → readPoints s (suc room) at bs cs ≡ readPoints s room (at + size) (drop size bs) (cs ++ coordinatesAt (s .dimension) markSize bs)
+      → readPoints s (suc room) at bs cs ≡ readPoints s room (at + size) (drop size bs) (cs ++ floatsAt (s .dimension) markSize bs)
   unfolding readPoints
   stream-more room at h e = go bs h e
     where
       go : (bs : List ℕ) → 0 < length bs → whole pointMark size bs ≡ true
-          → readPoints s (suc room) at bs cs ≡ readPoints s room (at + size) (drop size bs) (cs ++ coordinatesAt (s .dimension) markSize bs)
+          → readPoints s (suc room) at bs cs ≡ readPoints s room (at + size) (drop size bs) (cs ++ floatsAt (s .dimension) markSize bs)
       go [] h e = absurd (omega arith)
       go (b ∷ bs) h e = rw e
 
@@ -86,7 +86,7 @@ points-few s p h zero at (b ∷ bs) cs g = cond-few (whole pointMark (pointSize 
 points-few s p h (suc room) at [] cs g = (p, h, omega arith)
 points-few s p h (suc room) at (b ∷ bs) cs g =
     let d = s .dimension in
-    let x = coordinatesAt d markSize (b ∷ bs) in
+    let x = floatsAt d markSize (b ∷ bs) in
     let fits : length (cs ++ x) + room * d ≤ streamPoints * d = omega (arith, length-append cs x, length-coordinates d markSize (b ∷ bs), suc-mul room d) in
     cond-few (whole pointMark (pointSize d) (b ∷ bs)) (readPoints s room (at + pointSize d) (drop (pointSize d) (b ∷ bs)) (cs ++ x)) (brokenAt at)
     (points-few s p h room (at + pointSize d) (drop (pointSize d) (b ∷ bs)) (cs ++ x) fits) tt

@@ -21,8 +21,8 @@ use Rattle.lists.specs.Lists.{from}
 use Rattle.lists.proofs.From.{map-below-suc}
 use Rattle.lists.proofs.Tests.{and-fst}
 use Rattle.definition.specs.Tree as tree
-use Rattle.formats.specs.Bytes.{markedBy, whole, markSize, floatSize, floatAt, valueAt}
-use Rattle.formats.specs.Stream.{settingsSize, dimensionField, settingsIn, pointMark, pointSize, coordinatesAt, job, broken, brokenAt, tooLarge, streamPoints, streamNeighbours, readPoints, held, jobIn}
+use Rattle.formats.specs.Bytes.{floatsAt, markedBy, whole, markSize, floatSize, floatAt, valueAt}
+use Rattle.formats.specs.Stream.{settingsSize, dimensionField, settingsIn, pointMark, pointSize, job, broken, brokenAt, tooLarge, streamPoints, streamNeighbours, readPoints, held, jobIn}
 use Rattle.stream_laws.proofs.Stream.{length-coordinates, stream-end, stream-cut, stream-full, stream-more}
 use Rattle.stream_reader.proofs.Whole.{settingsWhole}
 
@@ -31,26 +31,26 @@ module _ (at : ℕ) (bs : List ℕ) where
   pub axis : ℕ → Float
   axis a = floatAt (at + (markSize + floatSize * a)) bs
 
-  point-is : (d : ℕ) → coordinatesAt d markSize (drop at bs) ≡ map axis (from 0 d)
-  unfolding coordinatesAt axis
+  point-is : (d : ℕ) → floatsAt d markSize (drop at bs) ≡ map axis (from 0 d)
+  unfolding floatsAt axis
   point-is d = simp (drop-drop)
 
-  pub point-none : (l : List Float) (k : ℕ) → l ≡ put l k (coordinatesAt 0 markSize (drop at bs))
-  unfolding coordinatesAt from
+  pub point-none : (l : List Float) (k : ℕ) → l ≡ put l k (floatsAt 0 markSize (drop at bs))
+  unfolding floatsAt from
   point-none l k = sym (put-nil l k)
 
-  point-more : (a : ℕ) → coordinatesAt (a + 1) markSize (drop at bs) ≡ coordinatesAt a markSize (drop at bs) ++ axis a ∷ []
+  point-more : (a : ℕ) → floatsAt (a + 1) markSize (drop at bs) ≡ floatsAt a markSize (drop at bs) ++ axis a ∷ []
   point-more a =
       point-is (a + 1) ∙ map-below-suc axis a ∙ ap (λ (l : List Float). l ++ axis a ∷ []) (sym (point-is a))
 
   -- one axis more is stored
-  pub point-step : (l m : List Float) (k a : ℕ) (x : Float) → m ≡ put l k (coordinatesAt a markSize (drop at bs)) → k + a < length l
+  pub point-step : (l m : List Float) (k a : ℕ) (x : Float) → m ≡ put l k (floatsAt a markSize (drop at bs)) → k + a < length l
       → x ≡ floatAt (at + (markSize + floatSize * a)) bs
-      → set m (k + a) x ≡ put l k (coordinatesAt (a + 1) markSize (drop at bs))
+      → set m (k + a) x ≡ put l k (floatsAt (a + 1) markSize (drop at bs))
   unfolding axis
   point-step l m k a x e h g =
       rw (e, g)
-      (put-snoc l k (coordinatesAt a markSize (drop at bs)) (axis a) (k + a) (omega (arith, length-coordinates a markSize (drop at bs))) h ∙ ap (put l k) (sym (point-more a)))
+      (put-snoc l k (floatsAt a markSize (drop at bs)) (axis a) (k + a) (omega (arith, length-coordinates a markSize (drop at bs))) h ∙ ap (put l k) (sym (point-more a)))
 
 -- ---- a whole point record
 pub point-short : (d at : ℕ) (bs : List ℕ) → length bs - at < pointSize d → false ≡ whole pointMark (pointSize d) (drop at bs)
@@ -133,13 +133,13 @@ module _ {s : tree.Settings} {bs : List ℕ} {cs : List Float} {at n : ℕ} (r :
       (stream-full s (drop at bs) (take (n * s .dimension) cs) at (left h) e))
 
   pub reading-more : at < length bs → whole pointMark (pointSize (s .dimension)) (drop at bs) ≡ true → (n ≡ streamPoints → ⊥) → (ds : List Float)
-      → ds ≡ put cs (n * s .dimension) (coordinatesAt (s .dimension) markSize (drop at bs))
+      → ds ≡ put cs (n * s .dimension) (floatsAt (s .dimension) markSize (drop at bs))
       → length ds ≡ length cs → Reading s bs ds (at + pointSize (s .dimension)) (n + 1)
   reading-more h e f ds p l =
       let d = s .dimension in
       let size = pointSize d in
       let k = n * d in
-      let x = coordinatesAt d markSize (drop at bs) in
+      let x = floatsAt d markSize (drop at bs) in
       let m : n < streamPoints = omega (arith, r .few) in
       let z : streamPoints - n ≡ suc (streamPoints - (n + 1)) = omega arith in
       let t : (n + 1) * d ≡ k + length x = omega (arith, ap (λ (i : ℕ). i * d) (add-one n), suc-mul n d, length-coordinates d markSize (drop at bs)) in

@@ -7,9 +7,9 @@ ghost use Prim.Native.Nat.{_+_, _*_, _≤_};
 ghost use lib.ListN.{length, drop};
 ghost use Rattle.lists.specs.Lists.{put};
 ghost use Rattle.config.specs.Params.{thresholdPolicy};
-ghost use Rattle.formats.specs.Bytes.{whole, markSize};
+ghost use Rattle.formats.specs.Bytes.{floatsAt, whole, markSize};
 ghost use Rattle.definition.specs.Levels.{policyFrom};
-ghost use Rattle.formats.specs.Stream.{settingsMark, settingsSize, policyFits, settingsIn, pointMark, pointSize, coordinatesAt, streamPoints, jobIn};
+ghost use Rattle.formats.specs.Stream.{settingsMark, settingsSize, policyFits, settingsIn, pointMark, pointSize, streamPoints, jobIn};
 ghost use Rattle.stream_reader.specs.Reading.{settingsAre, jobOf, Within};
 
 // A record's mark, and a float.
@@ -113,7 +113,7 @@ fn point_whole(d: usize, input: &[u8], at: usize) -> bool
 // The coordinates of the point record at `at`, stored from the index k on.
 fn read_point(d: usize, input: &[u8], at: usize, points: &mut [f64], k: usize)
     requires { ⌜ (d ≤ 3) × (at + pointSize d ≤ length (now input)) × (k + d ≤ length (now points)) ⌝ }
-    ensures { λ _. ⌜ now (points .exit) ≡ put (now (points .entry)) k (coordinatesAt d markSize (drop at (now (input .entry)))) ⌝ }
+    ensures { λ _. ⌜ now (points .exit) ≡ put (now (points .entry)) k (floatsAt d markSize (drop at (now (input .entry)))) ⌝ }
 {
     let mut a = 0;
     while a < d {

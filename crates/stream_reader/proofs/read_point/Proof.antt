@@ -1,7 +1,6 @@
 -- `stream_reader::read_point` meets its contract. Assumes nothing.
 use Rattle.stream_reader.proofs.Records.{point-none, point-step}
-use Rattle.formats.specs.Bytes.{markSize}
-use Rattle.formats.specs.Stream.{coordinatesAt}
+use Rattle.formats.specs.Bytes.{floatsAt, markSize}
 use Rattle.lists.specs.Lists.{put}
 use lib.ListN.{length, drop, length-set}
 use Prim.Native.Nat.{_-_, _≤_}
@@ -11,7 +10,7 @@ use Rattle.stream_reader.proofs.read_point.Statement.{statement}
 use Rattle.stream_reader.proofs.read_point.Tie as tie
 
 abbrev Inv-loop : tie.InvT-loop
-Inv-loop d input at points₀ k a₀ points a = (points ≡ put points₀ k (coordinatesAt a markSize (drop at input))) × (a ≤ d) × (length points ≡ length points₀)
+Inv-loop d input at points₀ k a₀ points a = (points ≡ put points₀ k (floatsAt a markSize (drop at input))) × (a ≤ d) × (length points ≡ length points₀)
 
 abbrev μ-loop : tie.MeasureT-loop
 μ-loop d input at points₀ k a₀ points a = d - a

@@ -1,0 +1,2 @@
+-- The table of files.
+pub mod WorkedFiles

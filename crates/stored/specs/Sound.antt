@@ -1,0 +1,85 @@
+-- The tests that a tree has to pass before it is written or handed out. Definitions only.
+use Prim.Native.Nat.{ℕ}
+use mathlib.Core.Bool.{Bool, true, false, not, _&&_}
+use mathlib.Core.List.{List, [], _∷_, map}
+use lib.ListN.{length, replicate}
+use lib.Dec.{leb, ltb, eqb}
+use lib.Ieee.{Float, binary64, toBits, isNan}
+use Rattle.lists.specs.Lists.{anyOf, member, count, from, joined}
+use Rattle.definition.specs.Number.{plusZero}
+use Rattle.definition.specs.Points.{boxWidth}
+use Rattle.definition.specs.Tree.{Settings, Leaf, Level}
+use Rattle.definition.specs.Packed.{mostLevels, buildStated, packedLevelPoints, packedInternals, packedDomains, packedBorrowed}
+
+-- ---- lists
+
+-- each element passes the test
+abbrev pub allOf : {A : Type 0} → (A → Bool) → List A → Bool
+allOf p xs = not (anyOf (λ x. not (p x)) xs)
+
+-- the same numbers in the same order
+unfoldable pub same : List ℕ → List ℕ → Bool
+same [] [] = true
+same [] (y ∷ ys) = false
+same (x ∷ xs) [] = false
+same (x ∷ xs) (y ∷ ys) = eqb x y && same xs ys
+
+-- ascending without repeats
+unfoldable pub ascending : List ℕ → Bool
+ascending [] = true
+ascending (x ∷ xs) = allOf (λ y. ltb x y) xs && ascending xs
+
+-- ---- a level
+
+-- internals a partition: each listed row is internal once, and no other row is
+unfoldable pub partitioned : Level → Bool
+partitioned l =
+    let own = joined (map (λ f. f .own) (l .leaves)) in
+    allOf (λ i. eqb (count (λ j. eqb j i) own) 1) (l .points) && allOf (λ i. member i (l .points)) own
+
+-- lists ascending without repeats; borrowed rows active and foreign
+unfoldable pub soundLeaf : List ℕ → Leaf → Bool
+soundLeaf active f =
+    ascending (f .own) && ascending (f .borrowed) && allOf (λ j. member j active && not (member j (f .own))) (f .borrowed)
+
+-- a box of two bounds on each axis, none of them a NaN
+unfoldable pub soundBox : ℕ → Leaf → Bool
+soundBox d f = eqb (length (f .box)) (boxWidth d) && not (anyOf isNan (f .box))
+
+-- no box: +0 for each bound
+unfoldable pub noBox : ℕ → Leaf → Bool
+noBox d f = same (map (toBits binary64) (f .box)) (map (toBits binary64) (replicate (boxWidth d) plusZero))
+
+unfoldable pub soundRows : Level → Bool
+soundRows l = ascending (l .points) && partitioned l && allOf (soundLeaf (l .points)) (l .leaves)
+
+-- a nonempty proper part (both lists ascend, so a proper part is a shorter one)
+unfoldable pub properPart : List ℕ → List ℕ → Bool
+properPart rows above = ltb 0 (length rows) && ltb (length rows) (length above) && allOf (λ i. member i above) rows
+
+-- ---- the levels: one domain in the last one, and only there; each a nonempty proper part of the one above
+
+unfoldable pub soundLevels : ℕ → List Level → Bool
+soundLevels d [] = false
+soundLevels d (l ∷ []) = soundRows l && eqb (length (l .leaves)) 1 && allOf (noBox d) (l .leaves)
+soundLevels d (l ∷ m ∷ ls) =
+    soundRows l && not (eqb (length (l .leaves)) 1) && allOf (soundBox d) (l .leaves) && properPart (m .points) (l .points)
+    && soundLevels d (m ∷ ls)
+
+-- the first level lists all rows
+unfoldable pub firstAll : ℕ → List Level → Bool
+firstAll n [] = false
+firstAll n (l ∷ ls) = same (l .points) (from 0 n)
+
+-- no more than document 01's lists hold
+unfoldable pub fits : ℕ → ℕ → ℕ → List Level → Bool
+fits d n neighbours ls =
+    let stated = buildStated d n neighbours in
+    leb (length (packedLevelPoints ls)) (stated .level-points) && leb (length (packedInternals ls)) (stated .internals)
+    && leb (length (packedDomains ls)) (stated .domains) && leb (length (packedBorrowed ls)) (stated .borrowed)
+
+-- the tests of a tree over n rows
+unfoldable pub sound : Settings → ℕ → List Level → Bool
+sound s n ls =
+    let d = s .dimension in
+    leb (length ls) mostLevels && firstAll n ls && soundLevels d ls && fits d n (s .neighbours) ls
