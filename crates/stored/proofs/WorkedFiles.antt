@@ -1,15 +1,16 @@
--- The file of document 01's four points, byte for byte, and what the definitions make of it and of damaged copies. Each row is
--- computed. Assumes nothing.
-use Prim.Native.Nat.{ℕ, _*_, _+_, _-_}
-use mathlib.Core.Bool.{Bool, true, false, not}
+-- The file of document 01's four points, byte for byte, and what the definitions make of it, of damaged copies, and of trees at the
+-- limits. Each row is computed. Assumes nothing.
+-- Holds: fourFile, kept, Files, files
+use Prim.Native.Nat.{ℕ}
+use mathlib.Core.Bool.{Bool, true, false}
 use mathlib.Core.Path.{_≡_, refl}
-use mathlib.Core.List.{List, [], _∷_, _++_, map}
-use lib.ListN.{set, take, drop, length}
-use lib.Ieee.{binary64, toBits}
-use Rattle.lists.specs.Lists.{from, anyOf}
-use Rattle.definition.specs.Tree.{Level, levels}
-use Rattle.definition.specs.Packed.{Counts, countsOf}
-use Rattle.definition.specs.Outcome.{Answer, buildLists}
+use mathlib.Core.List.{List, [], _∷_, _++_}
+use lib.ListN.{set, getD, take, length, replicate}
+use lib.Ieee.{Float, binary64, ofBits}
+use Rattle.definition.specs.Levels.{Policy, auto, fixed}
+use Rattle.definition.specs.Tree.{Settings, Leaf, Level, levels}
+use Rattle.definition.specs.Packed.{Counts}
+use Rattle.definition.specs.Outcome.{Answer, TreeLists, zeroCounts, buildLists}
 use Rattle.definition.proofs.WorkedSamples.{opened, line, onLine, nines, floatRoom, wholeRoom}
 use Rattle.packed.specs.Reading.{readLeaf, readLeaves, readLevel, readLevels}
 use Rattle.formats.specs.Bytes.{little, bytesOf, numbersAt, numbersBytes, floatsAt, floatsBytes}
@@ -32,71 +33,202 @@ fourFile =
     ++ (0x54 ∷ 0x4c ∷ 2 ∷ 0 ∷ 0 ∷ 0 ∷ 1 ∷ 0 ∷ 0 ∷ 0 ∷ 0 ∷ 0 ∷ 0 ∷ 0 ∷ 1 ∷ 0 ∷ 0 ∷ 0 ∷ [])
     ++ (0x54 ∷ 0x44 ∷ 2 ∷ 0 ∷ 0 ∷ 0 ∷ 0 ∷ 0 ∷ 0 ∷ 0 ∷ 0 ∷ 0 ∷ 0 ∷ 0 ∷ 1 ∷ 0 ∷ 0 ∷ 0 ∷ [])
 
--- the tree, with its counts and lists
+-- the settings and points, the tree, its counts and its lists, with tails of nines
+abbrev place : List Float
+place = line (0 ∷ 1 ∷ 3 ∷ 7 ∷ [])
+
 abbrev four : List Level
-four = levels (onLine 2 2) (line (0 ∷ 1 ∷ 3 ∷ 7 ∷ []))
+four = levels (onLine 2 2) place
 
 abbrev fourCounts : Counts
 fourCounts = record { levels = 2; rows = 4 ∷ 2 ∷ 0 ∷ 0 ∷ []; domains = 4 ∷ 1 ∷ 0 ∷ 0 ∷ [] }
 
+abbrev fourLists : TreeLists
+fourLists = buildLists (onLine 2 2) place (nines 4) (floatRoom 4) (wholeRoom 4)
+
+-- answers
 abbrev reports : {A : Type 0} → A → Answer A
 reports x = record { number = 0; place = 0; value = x }
 
 abbrev refuses : {A : Type 0} → ℕ → A → Answer A
 refuses k zeros = record { number = k; place = 0; value = zeros }
 
-abbrev none : Counts
-none = record { levels = 0; rows = 0 ∷ 0 ∷ 0 ∷ 0 ∷ []; domains = 0 ∷ 0 ∷ 0 ∷ 0 ∷ [] }
+-- ---- loading
 
 -- the file with one byte changed
 abbrev with : ℕ → ℕ → List ℕ
 with at b = set fourFile at b
 
 abbrev load : List ℕ → Answer Counts
-load bs = loadAnswer (onLine 2 2) (line (0 ∷ 1 ∷ 3 ∷ 7 ∷ [])) bs (nines 4)
+load bs = loadAnswer (onLine 2 2) place bs (nines 4)
+
+-- Auto, which resolves to 512 here, and the Fixed 512
+abbrev onAuto : Policy → Settings
+onAuto p = record { dimension = 1; leaf = 2; neighbours = 1; factor = 2; policy = p }
+
+-- ---- writing
+
+-- what a call with these counts and lists answers, and the lists with one number changed
+abbrev write : Counts → TreeLists → ℕ → Answer ℕ
+write c l room = writeAnswer (onLine 2 2) place c l (replicate room 9)
+
+abbrev withDomain : ℕ → ℕ → TreeLists
+withDomain at x =
+    record {
+      level-points = fourLists .level-points;
+      internals = fourLists .internals;
+      domains = set (fourLists .domains) at x;
+      boxes = fourLists .boxes;
+      borrowed = fourLists .borrowed;
+    }
+
+abbrev withBoxes : List Float → TreeLists
+withBoxes boxes =
+    record {
+      level-points = fourLists .level-points;
+      internals = fourLists .internals;
+      domains = fourLists .domains;
+      boxes = boxes;
+      borrowed = fourLists .borrowed;
+    }
+
+abbrev withBound : ℕ → Float → TreeLists
+withBound at x = withBoxes (set (fourLists .boxes) at x)
+
+abbrev counts : ℕ → List ℕ → List ℕ → Counts
+counts n rows domains = record { levels = n; rows = rows; domains = domains }
+
+-- ---- the limits: two points, two leaves of one row each, then leaves without rows, and a coarse level of one row
+
+abbrev leaf : List ℕ → List ℕ → Leaf
+leaf own borrowed = record { own = own; borrowed = borrowed; box = line (0 ∷ 1 ∷ []) }
+
+unfoldable pair : List Leaf → List Level
+pair more =
+    record { points = 0 ∷ 1 ∷ []; leaves = leaf (0 ∷ []) [] ∷ leaf (1 ∷ []) [] ∷ more }
+    ∷ record { points = 0 ∷ []; leaves = record { own = 0 ∷ []; borrowed = []; box = line (0 ∷ 0 ∷ []) } ∷ [] }
+    ∷ []
+
+-- so many leaves that hold and borrow nothing, and that borrow both rows
+abbrev empty : ℕ → List Leaf
+empty m = replicate m (leaf [] [])
+
+abbrev borrowing : ℕ → List Leaf
+borrowing m = replicate m (leaf [] (0 ∷ 1 ∷ []))
+
+abbrev onPair : ℕ → Settings
+onPair neighbours = record { dimension = 1; leaf = 1; neighbours = neighbours; factor = 2; policy = fixed 1 }
+
+-- their file's verdict alone, by the file's own settings and points
+abbrev passes : ℕ → List Leaf → Bool
+passes neighbours more = wellFormed (fileBytes (onPair neighbours) (line (0 ∷ 1 ∷ [])) (pair more))
 
 -- To unfold this is to unfold every definition that its line names.
 unfoldable pub kept : ℕ
-unfolding opened little bytesOf numbersAt numbersBytes floatsAt floatsBytes settingsIn settingsBytes readLeaf readLeaves readLevel readLevels headBytes pointBytes frontBytes levelBytes domainBytes treeRecords fileBytes same ascending partitioned soundLeaf soundBox noBox soundRows properPart soundLevels firstAll fits sound leafIn leafSize leavesAt afterLeaves levelIn afterLevel levelsAt pointsIn treeIn taken buildable wellFormed listsShort ownTests loadVerdict loadAnswer loadLists treeHeld packs writeVerdict writeAnswer writeOutput fourFile
+unfolding opened little bytesOf numbersAt numbersBytes floatsAt floatsBytes settingsIn settingsBytes readLeaf readLeaves readLevel readLevels headBytes pointBytes frontBytes levelBytes domainBytes treeRecords fileBytes same ascending partitioned soundLeaf soundBox noBox soundRows properPart soundLevels firstAll fits sound leafIn leafSize leavesAt afterLeaves levelIn afterLevel levelsAt pointsIn treeIn taken buildable wellFormed listsShort ownTests loadVerdict loadAnswer loadLists treeHeld packs writeVerdict writeAnswer writeOutput fourFile pair
 kept = 0
 
-pub record Kept : Type 0 where
-  -- the writer's bytes, and the tree read back
-  file : fileBytes (onLine 2 2) (line (0 ∷ 1 ∷ 3 ∷ 7 ∷ [])) four ≡ fourFile
+pub record Files : Type 0 where
+  -- a domain record: internal rows, then borrowed rows; lower bounds, then upper ones; the coarse domain has none
+  internal-first : domainBytes [] (leaf (1 ∷ []) (0 ∷ 2 ∷ [])) ≡ 0x54 ∷ 0x44 ∷ numbersBytes (1 ∷ 2 ∷ 1 ∷ 0 ∷ 2 ∷ [])
+  lower-first : domainBytes (line (0 ∷ 1 ∷ [])) (leaf (1 ∷ []) []) ≡ 0x54 ∷ 0x44 ∷ numbersBytes (1 ∷ 0 ∷ 1 ∷ 0 ∷ 0 ∷ 0 ∷ 0x3ff00000 ∷ [])
+  coarse-bare : getD (treeRecords four) 6 [] ≡ 0x54 ∷ 0x44 ∷ numbersBytes (2 ∷ 0 ∷ 0 ∷ 1 ∷ [])
+  -- the writer's bytes, 270 of them, and the tree read back
+  file : fileBytes (onLine 2 2) place four ≡ fourFile
+  bytes : length fourFile ≡ 270
   tree : treeIn fourFile ≡ four
   -- loaded: the counts and lists of the build
   loaded : load fourFile ≡ reports fourCounts
-  lists : loadLists (onLine 2 2) (line (0 ∷ 1 ∷ 3 ∷ 7 ∷ [])) fourFile (nines 4) ≡ buildLists (onLine 2 2) (line (0 ∷ 1 ∷ 3 ∷ 7 ∷ [])) (nines 4) (floatRoom 4) (wholeRoom 4)
-  -- one byte less, one byte more
-  short : load (take 269 fourFile) ≡ refuses 20 none
-  long : load (fourFile ++ 0 ∷ []) ≡ refuses 20 none
-  -- a mark, a policy, a NaN bound, an own row borrowed, a row in two leaves, a next level of other rows
-  mark : load (with 91 0x45) ≡ refuses 20 none
-  policy : load (with 15 2) ≡ refuses 20 none
-  bound : load (set (with 122 0xf8) 123 0x7f) ≡ refuses 20 none
-  own-borrowed : load (with 104 0) ≡ refuses 20 none
-  two-leaves : load (with 134 0) ≡ refuses 20 none
-  -- other settings, and other points: -0 for +0
-  settings : loadAnswer (onLine 2 3) (line (0 ∷ 1 ∷ 3 ∷ 7 ∷ [])) fourFile (nines 4) ≡ refuses 18 none
-  points : loadAnswer (onLine 2 2) (line (0 ∷ 1 ∷ 3 ∷ 8 ∷ [])) fourFile (nines 4) ≡ refuses 19 none
-  both : loadAnswer (onLine 2 3) (line (0 ∷ 1 ∷ 3 ∷ 8 ∷ [])) fourFile (nines 4) ≡ refuses 18 none
+  lists : loadLists (onLine 2 2) place fourFile (nines 4) ≡ fourLists
+  -- nothing at all, one byte less, one byte more
+  nothing : load [] ≡ refuses 20 zeroCounts
+  cut : load (take 269 fourFile) ≡ refuses 20 zeroCounts
+  longer : load (fourFile ++ 0 ∷ []) ≡ refuses 20 zeroCounts
+  -- a mark, a policy, a leaf threshold that the build refuses
+  mark : load (with 91 0x45) ≡ refuses 20 zeroCounts
+  policy : load (with 15 2) ≡ refuses 20 zeroCounts
+  threshold-zero : load (with 3 0) ≡ refuses 20 zeroCounts
+  -- a NaN bound; an own row borrowed; a row in two leaves; a first level without its last row; a next level with a row twice
+  bound : load (set (with 122 0xf8) 123 0x7f) ≡ refuses 20 zeroCounts
+  own-borrowed : load (with 104 0) ≡ refuses 20 zeroCounts
+  two-leaves : load (with 134 0) ≡ refuses 20 zeroCounts
+  next-twice : load (with 248 0) ≡ refuses 20 zeroCounts
+  -- a bound turned or infinite, and another foreign row, are not noticed
+  infinite : load (set (with 122 0xf0) 123 0x7f) ≡ reports fourCounts
+  other-row : load (with 104 3) ≡ reports fourCounts
+  -- other settings, other points, and -0 for +0; of two refusals the one that comes first
+  settings : loadAnswer (onLine 2 3) place fourFile (nines 4) ≡ refuses 18 zeroCounts
+  points : loadAnswer (onLine 2 2) (line (0 ∷ 1 ∷ 3 ∷ 8 ∷ [])) fourFile (nines 4) ≡ refuses 19 zeroCounts
+  sign : loadAnswer (onLine 2 2) (set place 0 (ofBits binary64 0x8000000000000000)) fourFile (nines 4) ≡ refuses 19 zeroCounts
+  settings-first : loadAnswer (onLine 2 3) (line (0 ∷ 1 ∷ 3 ∷ 8 ∷ [])) fourFile (nines 4) ≡ refuses 18 zeroCounts
+  file-first : loadAnswer (onLine 2 3) place (with 91 0x45) (nines 4) ≡ refuses 20 zeroCounts
+  own-first : loadAnswer (onLine 0 3) place (with 91 0x45) (nines 4) ≡ refuses 2 zeroCounts
+  -- Auto is not the number that it resolves to
+  as-given : loadAnswer (onAuto auto) place (fileBytes (onAuto (fixed 512)) place (levels (onAuto (fixed 512)) place)) (nines 4) ≡ refuses 18 zeroCounts
+  -- written: as many bytes, the bytes, and what stood behind them
+  written : write fourCounts fourLists 271 ≡ reports 270
+  output : writeOutput (onLine 2 2) place fourCounts fourLists (replicate 271 9) ≡ fourFile ++ 9 ∷ []
+  no-room : write fourCounts fourLists 269 ≡ refuses 11 0
+  -- no level, five, a count past the last level, a count that no list holds
+  no-level : write (counts 0 (0 ∷ 0 ∷ 0 ∷ 0 ∷ []) (0 ∷ 0 ∷ 0 ∷ 0 ∷ [])) fourLists 270 ≡ refuses 20 0
+  past-last : write (counts 2 (4 ∷ 2 ∷ 0 ∷ 0 ∷ []) (4 ∷ 1 ∷ 0 ∷ 1 ∷ [])) fourLists 270 ≡ refuses 20 0
+  rows-past : write (counts 2 (4 ∷ 2 ∷ 1 ∷ 0 ∷ []) (4 ∷ 1 ∷ 0 ∷ 0 ∷ [])) fourLists 270 ≡ refuses 20 0
+  -- a last level with several domains, although each has +0 for a box
+  several-last : write (counts 1 (4 ∷ 0 ∷ 0 ∷ 0 ∷ []) (4 ∷ 0 ∷ 0 ∷ 0 ∷ [])) (withBoxes (line (replicate 50 0))) 270 ≡ refuses 20 0
+  -- a stretch that starts elsewhere, and one that ends past its list
+  elsewhere : write fourCounts (withDomain 4 2) 270 ≡ refuses 20 0
+  past-list : write fourCounts (withDomain 17 64) 270 ≡ refuses 20 0
+  -- a coarse box of -0; before that the room for the file does not count
+  minus-zero : write fourCounts (withBound 9 (ofBits binary64 0x8000000000000000)) 0 ≡ refuses 20 0
+  -- 13 domains in all pass, and 14 don't; without neighbours 12 borrowed rows pass, and 13 don't
+  domains-most : passes 1 (empty 10) ≡ true
+  domains-more : passes 1 (empty 11) ≡ false
+  borrowed-most : passes 0 (borrowing 6 ++ empty 4) ≡ true
+  borrowed-more : passes 0 (borrowing 6 ++ leaf [] (0 ∷ []) ∷ empty 3) ≡ false
 
-pub keptRows : Kept
+pub files : Files
 unfolding kept
-keptRows =
+files =
     record {
+      internal-first = refl;
+      lower-first = refl;
+      coarse-bare = refl;
       file = refl;
+      bytes = refl;
       tree = refl;
       loaded = refl;
       lists = refl;
-      short = refl;
-      long = refl;
+      nothing = refl;
+      cut = refl;
+      longer = refl;
       mark = refl;
       policy = refl;
+      threshold-zero = refl;
       bound = refl;
       own-borrowed = refl;
       two-leaves = refl;
+      next-twice = refl;
+      infinite = refl;
+      other-row = refl;
       settings = refl;
       points = refl;
-      both = refl;
+      sign = refl;
+      settings-first = refl;
+      file-first = refl;
+      own-first = refl;
+      as-given = refl;
+      written = refl;
+      output = refl;
+      no-room = refl;
+      no-level = refl;
+      past-last = refl;
+      rows-past = refl;
+      several-last = refl;
+      elsewhere = refl;
+      past-list = refl;
+      minus-zero = refl;
+      domains-most = refl;
+      domains-more = refl;
+      borrowed-most = refl;
+      borrowed-more = refl;
     }
