@@ -1,5 +1,5 @@
 #!/usr/bin/env python3
-"""Writes crates/job_streams/data/streams: job streams, whole and damaged, each with what the program is to print for it.
+"""Writes crates/run_job_streams/data/streams: job streams, whole and damaged, each with what the program is to print for it.
 
 Run from the project's root; it takes no input, and each run writes the same file. The answers come from tools/model.py,
 which follows the paper in plain Python and shares nothing with the Rattle code. A record of the file is the stream's
@@ -11,7 +11,7 @@ import struct
 
 import model
 
-PATH = "crates/job_streams/data/streams"
+PATH = "crates/run_job_streams/data/streams"
 MOST_BYTES = 1_500_000
 WORD = 2 ** 32 - 1
 INFINITY = 0x7FF0000000000000

@@ -7,10 +7,10 @@ ghost use Rattle.formats.specs.Printout.{printout};
 ghost use Rattle.stream_laws.specs.Sizes.{decisive, mostBytes};
 ghost use Rattle.ddm_tree.specs.Input.{frontAfter, Stopped, PrintoutFor, Replies};
 
-// The room for a stream. Its first 878 bytes decide the printout (`front-printed` of job_laws), so a longer stream is read no further.
+// The room for a stream. Its first 878 bytes decide the printout (`front-printed` of stream_laws), so a longer stream is read no further.
 const STREAM: usize = 1024;
 
-// The room for a printout: none is longer (`printout-long` of job_laws).
+// The room for a printout: none is longer (`printout-long` of stream_laws).
 const TEXT: usize = 131072;
 
 fn text_room() -> [u8; TEXT]
