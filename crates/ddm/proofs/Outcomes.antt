@@ -12,7 +12,8 @@ use Rattle.definition.specs.Packed.{Counts, countsOf, packedLevelPoints, packed
 use Rattle.definition.specs.Refusals.{Refusal, Verdict, accepted, refused}
 use Rattle.definition.specs.Outcome.{Answer, TreeLists, numberOf, placeOf, valueOf, written, listAfter, treeListsAfter, RoomAfter, zeroCounts, buildCall, buildAnswer, buildLists}
 use Rattle.demand3.proofs.Demand.{demand-3-of}
-use Rattle.ddm.specs.Build.{listsOf, Built}
+use Rattle.tree_answer.specs.Answers.{listsOf}
+use Rattle.ddm.specs.Build.{Built}
 
 -- ---- the lists one by one, and together
 pub whole-lists : {p p′ i i′ d d′ l l′ : List ℕ} {b b′ : List Float} → p ≡ p′ → i ≡ i′ → d ≡ d′ → b ≡ b′ → l ≡ l′ → listsOf p i d b l ≡ listsOf p′ i′ d′ b′ l′

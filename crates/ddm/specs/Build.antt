@@ -1,4 +1,4 @@
--- The code's answer, and the lists that it is lent, as those of the definition. Definitions only.
+-- The outcome of a build. Definitions only.
 use Prim.Native.Nat.{ℕ}
 use mathlib.Core.List.{List}
 use lib.Ieee.{Float}
@@ -9,21 +9,6 @@ use Rattle.definition.specs.Refusals.{accepted}
 use Rattle.definition.specs.Outcome.{Answer, TreeLists, buildCall, buildAnswer, buildLists, RoomAfter}
 use Rattle.demand3.specs.Handed.{handed}
 use Rattle.demand3.specs.Demand3.{Demand3}
-use Rattle.ddm.specs.declared.DDMTree.{DDMTree}
-
--- the answer: number and place of a refusal, and the counts
-abbrev pub treeAnswer : DDMTree → Answer Counts
-treeAnswer t =
-    record {
-      number = t .number;
-      place = t .place;
-      value = record { levels = t .levels; rows = t .rows; domains = t .domains };
-    }
-
--- the lists of a tree
-abbrev pub listsOf : List ℕ → List ℕ → List ℕ → List Float → List ℕ → TreeLists
-listsOf level-points internals domains boxes borrowed =
-    record { level-points = level-points; internals = internals; domains = domains; boxes = boxes; borrowed = borrowed }
 
 -- The complete outcome of a call: its answer, the five lists, and the working room; and, of an accepted call, demand 3 of what it hands
 -- back. A list named with a prime is the list after the call.

@@ -4,9 +4,10 @@ ghost use Rattle.lists.specs.Lists.{put};
 ghost use Rattle.definition.specs.Tree.{levels};
 ghost use Rattle.definition.specs.Packed.{countsOf, packedLevelPoints, packedInternals, packedDomains, packedBoxes, packedBorrowed};
 ghost use Rattle.definition.specs.Refusals.{accepted};
-ghost use Rattle.definition.specs.Outcome.{zeroCounts, buildCall};
+ghost use Rattle.definition.specs.Outcome.{buildCall};
 ghost use Rattle.config.specs.Params.{settingsOf};
-ghost use Rattle.ddm.specs.Build.{treeAnswer, listsOf, Built};
+ghost use Rattle.tree_answer.specs.Answers.{treeAnswer, listsOf};
+ghost use Rattle.ddm.specs.Build.{Built};
 use build_checks::Checked;
 
 // The settings, and the other calls, each with its answer.
@@ -27,29 +28,7 @@ pub use root::RootAnswer;
 pub use root::square_root;
 pub use sampling::SampleAnswer;
 pub use sampling::farthest_point_sampling;
-
-// What a build answers: the number of a refusal (0 for none) and its place; how many levels the tree has, and how many rows and
-// domains each of them has.
-pub struct DDMTree {
-    pub number: usize,
-    pub place: usize,
-    pub levels: usize,
-    pub rows: [usize; 4],
-    pub domains: [usize; 4],
-}
-
-// A refusal: no counts.
-fn refusal(number: usize, place: usize) -> DDMTree
-    ensures { λ r. ⌜ treeAnswer r ≡ record { number = number; place = place; value = zeroCounts } ⌝ }
-{
-    DDMTree {
-        number: number,
-        place: place,
-        levels: 0,
-        rows: [0; 4],
-        domains: [0; 4],
-    }
-}
+pub use tree_answer::DDMTree;
 
 // The tree of an accepted call.
 fn grow(
@@ -134,7 +113,7 @@ pub fn build(
     };
     let checked = build_checks::check_build(points, dimensions, params, lent);
     match checked {
-        Checked::Refused(number, place) => refusal(number, place),
+        Checked::Refused(number, place) => tree_answer::refusal(number, place),
         Checked::Accepted => grow(
             points,
             dimensions,

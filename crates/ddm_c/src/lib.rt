@@ -4,7 +4,7 @@
 ghost use mathlib.Core.Path.{_≡_};
 ghost use Rattle.definition.specs.Refusals.{stretchVerdict};
 ghost use Rattle.definition.specs.Outcome.{numberOf, rootAnswer, sizeAnswer, sizesAnswer};
-ghost use Rattle.ddm.specs.Build.{listsOf};
+ghost use Rattle.tree_answer.specs.Answers.{listsOf};
 ghost use Rattle.slots.specs.Settings.{settingsFrom};
 ghost use Rattle.slots.specs.Slots.{valueSlot, sizesSlot, versionNumber};
 ghost use Rattle.slots.specs.Told.{Told, QuotasTold, SampleTold, BuildTold};

@@ -3,7 +3,7 @@ use mathlib.Core.Path.{sym, ap, _∙_}
 use borrow.Author.Needs.{needs}
 use Rattle.config.specs.Params.{settingsOf}
 use Rattle.build_checks.specs.Verdicts.{verdictOf}
-use Rattle.ddm.specs.Build.{listsOf}
+use Rattle.tree_answer.specs.Answers.{listsOf}
 use Rattle.ddm.proofs.Outcomes.{room-refused, room-accepted, answer-refused, lists-refused, answer-accepted, lists-accepted, built, whole-lists}
 use Rattle.ddm.proofs.build.Statement.{statement}
 use Rattle.ddm.proofs.build.Tie as tie
@@ -11,7 +11,7 @@ use Rattle.ddm.proofs.build.Reads as reads
 use Rattle.ddm.proofs.build.Lts as lts
 use Rattle.build_checks.proofs.check_build.Reads as check-build-reads
 use Rattle.ddm.proofs.grow.Reads as grow-reads
-use Rattle.ddm.proofs.refusal.Reads as refusal-reads
+use Rattle.tree_answer.proofs.refusal.Reads as refusal-reads
 
 check-build-requires : tie.Need-check-build-requires
 check-build-requires c κs = search needs

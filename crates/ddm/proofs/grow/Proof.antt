@@ -12,7 +12,7 @@ use Rattle.definition.specs.Tree.{Level}
 use Rattle.definition.specs.Packed.{Counts, countsOf, packedLevelPoints, packedInternals, packedDomains, packedBoxes, packedBorrowed}
 use Rattle.definition_laws.proofs.Accepted.{build-accepted}
 use Rattle.config.specs.Params.{settingsOf}
-use Rattle.ddm.specs.Build.{listsOf}
+use Rattle.tree_answer.specs.Answers.{listsOf}
 use Rattle.ddm.proofs.Grown.{tree-is, all-rows, all-space, few-reductions, points-whole, counts-whole}
 use Rattle.ddm.proofs.grow.Statement.{statement}
 use Rattle.ddm.proofs.grow.Tie as tie

@@ -1,6 +1,6 @@
 -- `ddm_c::ddm_build` meets its contract. Assumes nothing.
 use native.Mathlib.Omega.{arith}
-use Rattle.ddm.specs.Build.{treeAnswer, listsOf}
+use Rattle.tree_answer.specs.Answers.{treeAnswer, listsOf}
 use Rattle.slots.proofs.Told.{settings-from, build-short, build-long}
 use borrow.Author.Needs.{needs}
 use Rattle.ddm_c.proofs.ddm_build.Statement.{statement}
