@@ -1,0 +1,215 @@
+-- The levels of the build pass the tests of a stored tree, each with the one below it. Assumes nothing.
+use mathlib.Core.Path.{_≡_, refl, subst}
+use mathlib.Core.Logic.{⊎-elim}
+use mathlib.Core.Bool.{true, false, not, _&&_}
+use mathlib.Core.List.{List, [], _∷_, map, map-map}
+use Prim.Native.Nat.{ℕ, zero, suc, _≤_, _<_}
+use native.Mathlib.Omega.{arith}
+use native.Mathlib.Decide.{decLt}
+use borrow.Author.Tests.{lt-ltb, eq-eqb, ne-eqb}
+use lib.Dec.{eqb}
+use lib.ListN.{length, replicate, length-map}
+use lib.Ieee.{Float, isNan, binary64, toBits}
+use Rattle.lists.specs.Lists.{member, anyOf, joined}
+use Rattle.lists.specs.Ascends.{All, Ascends}
+use Rattle.lists.specs.Times.{times, Once}
+use Rattle.lists.proofs.Tests.{and-of, le-or-lt}
+use Rattle.lists.proofs.All.{all-imp, all-map, all-mem, all-of}
+use Rattle.lists.proofs.Ascends.{ascends-keep, ascends-once}
+use Rattle.lists.proofs.Joined.{joined-one}
+use Rattle.lists.proofs.Times.{from-times, member-some, member-none, times-keep-le}
+use Rattle.definition.specs.Number.{plusZero}
+use Rattle.definition.specs.Points.{boxWidth}
+use Rattle.definition.specs.Cut.{Domain, leavesOf}
+use Rattle.definition.specs.Overlaps.{borrowedBy}
+use Rattle.definition.specs.Tree.{Settings, Leaf, Level, coarseLevel, fineLevel, nextActive, reductionsLeft, levelsFrom}
+use Rattle.definition.proofs.Cuts.{Good, rowsOf, leaves-ascend}
+use Rattle.definition.proofs.Borrowed.{borrows-not-own}
+use Rattle.definition.proofs.Steps.{fineLeaf, fineOf, nextOf, sentFrom, levels-last, levels-end, levels-more}
+use Rattle.definition.proofs.Sizes.{sized}
+use Rattle.definition.proofs.OneLevel.{OneLevel, one-level}
+use Rattle.definition_laws.proofs.Shape.{leaves-boxes}
+use Rattle.definition.proofs.Levels.{next-good}
+use Rattle.stored.specs.Sound.{allOf, ascending, partitioned, soundLeaf, soundBox, noBox, soundRows, properPart, soundLevels}
+use Rattle.stored_built.proofs.Passing.{all-pass, none-passes, same-self, ascends-pass}
+use Rattle.stored_built.proofs.FineLeaves.{leaves-two, leaves-known}
+
+-- ---- own rows that share the listed rows out
+shares-pass : (points own : List ℕ) → Once points → ((r : ℕ) → times r own ≡ times r points)
+    → allOf (λ i. eqb (times i own) 1) points && allOf (λ i. member i points) own ≡ true
+shares-pass points own once h =
+    and-of
+    (all-pass (λ i. eqb (times i own) 1) points (from-times (λ i. eqb (times i own) 1 ≡ true) points (λ r m. eq-eqb (times r own) 1 (omega (arith, h r, once r, m)))))
+    (all-pass (λ i. member i points) own (from-times (λ i. member i points ≡ true) own (λ r m. member-some r points (omega (arith, h r, m)))))
+
+next-ascends : (active : List ℕ) (sent : List (List ℕ)) → Ascends active → Ascends (nextActive active sent)
+unfolding nextActive
+next-ascends active sent h = ascends-keep (λ i. member i (joined sent)) active h
+
+-- ---- levels of which the first lists these rows
+pub record Starts (active : List ℕ) (ls : List Level) : Type 0 where
+  pub first : Level
+  pub rest : List Level
+  pub are : ls ≡ first ∷ rest
+  pub lists : first .points ≡ active
+
+-- ---- the coarse level
+module _ (d : ℕ) (active : List ℕ) (ascends : Ascends active) where
+  abbrev coarseLeaf : Leaf
+  coarseLeaf = record { own = active; borrowed = []; box = replicate (boxWidth d) plusZero }
+
+  coarse-leaf : soundLeaf active coarseLeaf ≡ true
+  unfolding soundLeaf ascending anyOf
+  coarse-leaf = rw (ascends-pass active ascends)
+
+  coarse-rows : soundRows (coarseLevel d active) ≡ true
+  unfolding soundRows partitioned coarseLevel All
+  coarse-rows =
+      and-of
+      (and-of (ascends-pass active ascends) (rw (joined-one active) (shares-pass active active (ascends-once active ascends) (λ r. refl))))
+      (all-pass (soundLeaf active) (coarseLeaf ∷ []) (coarse-leaf, tt))
+
+  coarse-box : noBox d coarseLeaf ≡ true
+  unfolding noBox
+  coarse-box = same-self (map (toBits binary64) (replicate (boxWidth d) plusZero))
+
+  coarse-passes : soundLevels d (coarseLevel d active ∷ []) ≡ true
+  unfolding soundLevels coarseLevel All
+  coarse-passes = and-of (and-of coarse-rows refl) (all-pass (noBox d) (coarseLeaf ∷ []) (coarse-box, tt))
+
+-- ---- a fine level
+module _ (s : Settings) (cs : List Float) (c k built : ℕ) (active : List ℕ) (pos : 0 < s .dimension) (lp : 1 ≤ s .leaf) (cp : 1 ≤ c)
+    (good : Good (s .dimension) cs active) (ascends : Ascends active) (many : c < length active) where
+  abbrev d : ℕ
+  d = s .dimension
+
+  abbrev qs : List Domain
+  qs = leavesOf (s .dimension) cs (s .leaf) active
+
+  abbrev toLeaf : Domain → Leaf
+  toLeaf = fineLeaf (s .dimension) cs (s .neighbours) active
+
+  level : OneLevel s cs c k built active
+  level = one-level s cs c k built active pos lp cp good many
+
+  -- ---- a leaf that owns these rows
+  module _ (own : List ℕ) where
+    abbrev borrowed : List ℕ
+    borrowed = borrowedBy (s .dimension) cs (s .neighbours) active own
+
+    -- what it borrows is listed
+    borrows-times : (r : ℕ) → times r borrowed ≤ times r active
+    unfolding borrowedBy
+    borrows-times r = times-keep-le _ active r
+
+    borrows-listed : (r : ℕ) → 0 < times r borrowed → member r active ≡ true
+    borrows-listed r m = member-some r active (omega (arith, m, borrows-times r))
+
+    -- and none of its own
+    borrows-foreign : (r : ℕ) → 0 < times r borrowed → times r own ≡ 0
+    borrows-foreign r m = elim (decLt 0 (times r own)) [
+      | yes h ↦ absurd (omega (arith, m, borrows-not-own d cs (s .neighbours) active own r h))
+      | no h ↦ omega arith
+    ]
+
+    borrows-ascending : Ascends borrowed
+    unfolding borrowedBy
+    borrows-ascending = ascends-keep _ active ascends
+
+    borrows-pass : allOf (λ j. member j active && not (member j own)) borrowed ≡ true
+    borrows-pass =
+        all-pass (λ j. member j active && not (member j own)) borrowed
+        (from-times (λ j. member j active && not (member j own) ≡ true) borrowed
+        (λ r m. and-of (borrows-listed r m) (rw (member-none r own (borrows-foreign r m)) refl)))
+
+  fine-leaf : (q : Domain) → Ascends (q .rows) → soundLeaf active (toLeaf q) ≡ true
+  unfolding soundLeaf
+  fine-leaf q h = and-of (and-of (ascends-pass (q .rows) h) (ascends-pass (borrowed (q .rows)) (borrows-ascending (q .rows)))) (borrows-pass (q .rows))
+
+  own-rows : map (λ (f : Leaf). f .own) (map toLeaf qs) ≡ map (λ (q : Domain). q .rows) qs
+  own-rows = map-map (λ (f : Leaf). f .own) toLeaf qs
+
+  fine-rows : soundRows (fineOf s cs active) ≡ true
+  unfolding soundRows partitioned fineLevel
+  fine-rows =
+      and-of
+      (and-of (ascends-pass active ascends) (rw own-rows (shares-pass active (rowsOf qs) (level .once) (level .internal-once))))
+      (all-pass (soundLeaf active) (map toLeaf qs)
+      (all-map (λ f. soundLeaf active f ≡ true) toLeaf qs
+      (all-imp (λ q. Ascends (q .rows)) (λ q. soundLeaf active (toLeaf q) ≡ true) qs fine-leaf (leaves-ascend d cs (s .leaf) active ascends))))
+
+  -- ---- its boxes
+  box-passes : (q : Domain) → length (q .box) ≡ boxWidth d → All (λ x. isNan x ≡ false) (q .box) → soundBox d (toLeaf q) ≡ true
+  unfolding soundBox
+  box-passes q w h = and-of (eq-eqb (length (q .box)) (boxWidth d) w) (rw (none-passes isNan (q .box) h) refl)
+
+  fine-boxes : allOf (soundBox d) (map toLeaf qs) ≡ true
+  fine-boxes =
+      let width = leaves-boxes d cs (s .leaf) active in
+      let known = leaves-known d cs pos (s .leaf) active good in
+      all-pass (soundBox d) (map toLeaf qs)
+      (all-map (λ f. soundBox d f ≡ true) toLeaf qs
+      (all-of (λ q. soundBox d (toLeaf q) ≡ true) qs
+      (λ q m. box-passes q
+      (all-mem (λ q. length (q .box) ≡ boxWidth d) qs width q m)
+      (all-mem (λ q. All (λ x. isNan x ≡ false) (q .box)) qs known q m))))
+
+  -- ---- two leaves or more, so that it isn't taken for the coarse level
+  fine-count : not (eqb (length (map toLeaf qs)) 1) ≡ true
+  fine-count =
+      let two = leaves-two d cs pos (s .leaf) lp active good (omega arith) in
+      let no : length (map toLeaf qs) ≡ 1 → ⊥ = λ e. omega (arith, two, length-map qs toLeaf) in
+      rw (ne-eqb (length (map toLeaf qs)) 1 no) refl
+
+  -- ---- the rows of the level below it
+  next-passes : properPart (nextOf s cs c k built active) active ≡ true
+  unfolding properPart
+  next-passes =
+      let next = nextOf s cs c k built active in
+      let some = sized (length active) c (reductionsLeft k built) cp many (omega arith) .some in
+      and-of
+      (and-of
+      (lt-ltb 0 (length next) (omega (arith, level .next-size, some)))
+      (lt-ltb (length next) (length active) (omega (arith, level .next-size, level .size-fewer))))
+      (all-pass (λ i. member i active) next (from-times (λ i. member i active ≡ true) next (λ r m. member-some r active (omega (arith, m, level .next-once r)))))
+
+  fine-passes : (ls : List Level) → Starts (nextOf s cs c k built active) ls → soundLevels d ls ≡ true → soundLevels d (fineOf s cs active ∷ ls) ≡ true
+  unfolding soundLevels fineLevel
+  fine-passes ls st h =
+      let below = subst (λ (x : List Level). soundLevels d x ≡ true) (st .are) h in
+      rw (st .are) (and-of (and-of (and-of (and-of fine-rows fine-count) fine-boxes) (rw (st .lists) next-passes)) below)
+
+-- ---- the levels over active rows
+module _ (s : Settings) (cs : List Float) (c k : ℕ) where
+  -- the first one lists these rows
+  pub levels-start : (fuel built : ℕ) (active : List ℕ) → Starts active (levelsFrom s cs c k fuel built active)
+  unfolding coarseLevel fineLevel
+  levels-start zero built active =
+      record { first = coarseLevel (s .dimension) active; rest = []; are = levels-last s cs c k built active; lists = refl }
+  levels-start (suc fuel) built active =
+      ⊎-elim
+      (λ (few : length active ≤ c).
+      record { first = coarseLevel (s .dimension) active; rest = []; are = levels-end s cs c k fuel built active few; lists = refl })
+      (λ (many : c < length active).
+      record {
+        first = fineOf s cs active;
+        rest = levelsFrom s cs c k fuel (suc built) (nextOf s cs c k built active);
+        are = levels-more s cs c k fuel built active many;
+        lists = refl;
+      })
+      (le-or-lt (length active) c)
+
+  -- THE LAW: all of them pass, down to the coarse one
+  pub levels-pass : 0 < s .dimension → 1 ≤ s .leaf → 1 ≤ c → (fuel built : ℕ) (active : List ℕ) → Good (s .dimension) cs active → Ascends active
+      → soundLevels (s .dimension) (levelsFrom s cs c k fuel built active) ≡ true
+  levels-pass pos lp cp zero built active g h = rw (levels-last s cs c k built active) (coarse-passes (s .dimension) active h)
+  levels-pass pos lp cp (suc fuel) built active g h =
+      ⊎-elim
+      (λ (few : length active ≤ c). rw (levels-end s cs c k fuel built active few) (coarse-passes (s .dimension) active h))
+      (λ (many : c < length active).
+      let sent = sentFrom s cs c k built active in
+      let next = nextOf s cs c k built active in
+      rw (levels-more s cs c k fuel built active many)
+      (fine-passes s cs c k built active pos lp cp g h many (levelsFrom s cs c k fuel (suc built) next) (levels-start fuel (suc built) next)
+      (levels-pass pos lp cp fuel (suc built) next (next-good active sent (s .dimension) cs g) (next-ascends active sent h))))
+      (le-or-lt (length active) c)
