@@ -3,3 +3,4 @@ pub mod Passing
 pub mod FineLeaves
 pub mod BuiltLevels
 pub mod BuiltSound
+pub mod Held
