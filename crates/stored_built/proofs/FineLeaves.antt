@@ -1,4 +1,4 @@
--- The leaves of a fine level: at least two, each with a box of two bounds on each axis and no NaN in it. Assumes nothing.
+-- The leaves of a fine level: at least two, and no NaN in their boxes. Assumes nothing.
 use mathlib.Core.Path.{_≡_, refl}
 use mathlib.Core.Logic.{⊎-elim}
 use mathlib.Core.Bool.{false}
@@ -45,6 +45,7 @@ module _ (d : ℕ) (cs : List Float) (pos : 0 < d) (leaf : ℕ) (lp : 1 ≤ leaf
       (omega (arith, queue-least fuel qs (u .1) (omega (arith, cuts-done d cs pos leaf lp q qs u)))))
       (le-or-lt (2 * leaf) (length (q .rows)))
 
+  -- THE LAW: a fine level is never of one leaf, so its leaf count tells it from the coarse one
   pub leaves-two : (active : List ℕ) → Good d cs active → 1 ≤ length active → 2 ≤ length (leavesOf d cs leaf active)
   unfolding leavesOf rootDomain All
   leaves-two active g some =
@@ -63,12 +64,14 @@ zero-known : isNan plusZero ≡ false
 unfolding isNan ofBits
 zero-known = refl
 
+-- one element changed
 all-set : {A : Type 0} (P : A → Type 0) (l : List A) (i : ℕ) (x : A) → All P l → P x → All P (set l i x)
 unfolding All
 all-set P [] i x h k = tt
 all-set P (y ∷ l) zero x h k = (k, h .1)
 all-set P (y ∷ l) (suc i) x h k = (h .0, all-set P l i x (h .1) k)
 
+-- the least and the greatest of numbers
 least-known : (xs : List Float) → All Known xs → Known (leastOf xs)
 unfolding All leastOf
 least-known [] h = zero-known
@@ -121,6 +124,7 @@ module _ (d : ℕ) (cs : List Float) where
     unfolding rightOf
     right-boxed q h = (right-good d cs q (h .0), all-set Known (q .box) (longestAxis d cs (q .rows)) (plane d cs (q .rows)) (h .1) (plane-known (q .rows) (h .0)))
 
+    -- THE LAW: no box of a leaf has a NaN
     pub leaves-known : (leaf : ℕ) (active : List ℕ) → Good d cs active → All (λ (q : Domain). All (λ x. isNan x ≡ false) (q .box)) (leavesOf d cs leaf active)
     unfolding rootDomain
     leaves-known leaf active g =

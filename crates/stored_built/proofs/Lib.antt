@@ -4,3 +4,4 @@ pub mod FineLeaves
 pub mod BuiltLevels
 pub mod BuiltSound
 pub mod Held
+pub mod Written
