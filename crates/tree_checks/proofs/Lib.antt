@@ -1,0 +1,2 @@
+-- The law of the checks.
+pub mod NoRoom
