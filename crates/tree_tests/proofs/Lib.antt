@@ -1,1 +1,7 @@
 -- Laws of the tests in turn.
+pub mod AllPass
+pub mod Rows
+pub mod Sets
+pub mod Checked
+pub mod Taken
+pub mod Marking
