@@ -1,7 +1,10 @@
 -- Laws of the tests in turn.
+pub mod Several
 pub mod AllPass
 pub mod Rows
 pub mod Sets
 pub mod Checked
 pub mod Taken
 pub mod Marking
+pub mod Partition
+pub mod Leaves
