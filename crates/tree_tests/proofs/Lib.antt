@@ -8,3 +8,7 @@ pub mod Taken
 pub mod Marking
 pub mod Partition
 pub mod Leaves
+pub mod AllRows
+pub mod Levels
+pub mod SoundLevels
+pub mod SoundInTurn

@@ -1,0 +1,65 @@
+-- What holds of a level that is sound, and of those behind it. Assumes nothing.
+-- Holds: CoarseLevel, FineLevel, coarse-level, fine-level, sound-rows-first, sound-rows-ascend
+use mathlib.Core.Path.{_≡_}
+use Prim.Native.Nat.{ℕ, _<_}
+use mathlib.Core.Bool.{true, false, not, _&&_}
+use mathlib.Core.List.{List, [], _∷_, List·Memᴰ}
+use lib.ListN.{length}
+use lib.Dec.{ltb, eqb}
+use borrow.Author.Tests.{not-true, ltb-true, eqb-true}
+use Rattle.lists.specs.Lists.{member}
+use Rattle.lists.specs.Ascends.{Ascends}
+use Rattle.definition.specs.Tree.{Leaf, Level}
+use Rattle.stored.specs.Sound.{allOf, ascending, partitioned, soundLeaf, soundBox, noBox, soundRows, properPart, soundLevels}
+use Rattle.tree_tests.proofs.Several.{three-pass}
+use Rattle.tree_tests.proofs.AllPass.{all-pass-each, ascending-ascends}
+
+-- the coarse one
+pub record CoarseLevel (d : ℕ) (l : Level) : Type 0 where
+  pub rows : soundRows l ≡ true
+  pub one : length (l .leaves) ≡ 1
+  pub boxes : (f : Leaf) → List·Memᴰ f (l .leaves) → noBox d f ≡ true
+
+-- a fine one and those behind it
+pub record FineLevel (d : ℕ) (l m : Level) (ls : List Level) : Type 0 where
+  pub rows : soundRows l ≡ true
+  pub more : eqb (length (l .leaves)) 1 ≡ false
+  pub boxes : (f : Leaf) → List·Memᴰ f (l .leaves) → soundBox d f ≡ true
+  pub some : 0 < length (m .points)
+  pub fewer-rows : length (m .points) < length (l .points)
+  pub inside : (i : ℕ) → List·Memᴰ i (m .points) → member i (l .points) ≡ true
+  pub later : soundLevels d (m ∷ ls) ≡ true
+
+pub coarse-level : (d : ℕ) (l : Level) → soundLevels d (l ∷ []) ≡ true → CoarseLevel d l
+unfolding soundLevels
+coarse-level d l h =
+    let g = three-pass (soundRows l) (eqb (length (l .leaves)) 1) (allOf (noBox d) (l .leaves)) h in
+    record { rows = g .0; one = eqb-true (length (l .leaves)) 1 (g .1); boxes = all-pass-each (noBox d) (l .leaves) (g .2) }
+
+pub fine-level : (d : ℕ) (l m : Level) (ls : List Level) → soundLevels d (l ∷ m ∷ ls) ≡ true → FineLevel d l m ls
+unfolding soundLevels properPart
+fine-level d l m ls h =
+    let a = length (l .points) in
+    let b = length (m .points) in
+    let fine = soundRows l && not (eqb (length (l .leaves)) 1) && allOf (soundBox d) (l .leaves) in
+    let g = three-pass fine (properPart (m .points) (l .points)) (soundLevels d (m ∷ ls)) h in
+    let r = three-pass (soundRows l) (not (eqb (length (l .leaves)) 1)) (allOf (soundBox d) (l .leaves)) (g .0) in
+    let p = three-pass (ltb 0 b) (ltb b a) (allOf (λ i. member i (l .points)) (m .points)) (g .1) in
+    record {
+      rows = r .0;
+      more = not-true (eqb (length (l .leaves)) 1) (r .1);
+      boxes = all-pass-each (soundBox d) (l .leaves) (r .2);
+      some = ltb-true 0 b (p .0);
+      fewer-rows = ltb-true b a (p .1);
+      inside = all-pass-each (λ i. member i (l .points)) (m .points) (p .2);
+      later = g .2;
+    }
+
+pub sound-rows-first : (d : ℕ) (l : Level) (ls : List Level) → soundLevels d (l ∷ ls) ≡ true → soundRows l ≡ true
+sound-rows-first d l [] h = coarse-level d l h .rows
+sound-rows-first d l (m ∷ ls) h = fine-level d l m ls h .rows
+
+pub sound-rows-ascend : (l : Level) → soundRows l ≡ true → Ascends (l .points)
+unfolding soundRows
+sound-rows-ascend l h =
+    ascending-ascends (l .points) (three-pass (ascending (l .points)) (partitioned l) (allOf (soundLeaf (l .points)) (l .leaves)) h .0)
