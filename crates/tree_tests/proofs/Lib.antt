@@ -12,3 +12,5 @@ pub mod AllRows
 pub mod Levels
 pub mod SoundLevels
 pub mod SoundInTurn
+pub mod Passed
+pub mod Limits

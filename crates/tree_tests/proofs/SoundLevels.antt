@@ -1,9 +1,11 @@
 -- What holds of a level that is sound, and of those behind it. Assumes nothing.
--- Holds: CoarseLevel, FineLevel, coarse-level, fine-level, sound-rows-first, sound-rows-ascend
+-- Holds: CoarseLevel, FineLevel, coarse-level, fine-level, sound-rows-first, sound-rows-ascend, sound-rows-each, rows-most
 use mathlib.Core.Path.{_≡_}
-use Prim.Native.Nat.{ℕ, _<_}
+use Prim.Native.Nat.{ℕ, _≤_, _<_}
+use native.Mathlib.Nat.{le-refl}
+use native.Mathlib.Omega.{arith}
 use mathlib.Core.Bool.{true, false, not, _&&_}
-use mathlib.Core.List.{List, [], _∷_, List·Memᴰ}
+use mathlib.Core.List.{List, [], _∷_, List·Memᴰ, List·Memᴰ·head, List·Memᴰ·tail, List·Memᴰ·not-nil}
 use lib.ListN.{length}
 use lib.Dec.{ltb, eqb}
 use borrow.Author.Tests.{not-true, ltb-true, eqb-true}
@@ -63,3 +65,17 @@ pub sound-rows-ascend : (l : Level) → soundRows l ≡ true → Ascends (l .poi
 unfolding soundRows
 sound-rows-ascend l h =
     ascending-ascends (l .points) (three-pass (ascending (l .points)) (partitioned l) (allOf (soundLeaf (l .points)) (l .leaves)) h .0)
+
+-- ---- each level of a tree
+pub sound-rows-each : (d : ℕ) (ls : List Level) → soundLevels d ls ≡ true → (m : Level) → List·Memᴰ m ls → soundRows m ≡ true
+sound-rows-each d (l ∷ ls) h m (List·Memᴰ·head e) = rw e (sound-rows-first d l ls h)
+sound-rows-each d (l ∷ []) h m (List·Memᴰ·tail k) = absurd (List·Memᴰ·not-nil k)
+sound-rows-each d (l ∷ t ∷ ls) h m (List·Memᴰ·tail k) = sound-rows-each d (t ∷ ls) (fine-level d l t ls h .later) m k
+
+-- has no more rows than the first
+pub rows-most : (d : ℕ) (l : Level) (ls : List Level) → soundLevels d (l ∷ ls) ≡ true → (m : Level) → List·Memᴰ m (l ∷ ls) → length (m .points) ≤ length (l .points)
+rows-most d l ls h m (List·Memᴰ·head e) = rw e (le-refl (length (l .points)))
+rows-most d l [] h m (List·Memᴰ·tail k) = absurd (List·Memᴰ·not-nil k)
+rows-most d l (t ∷ ls) h m (List·Memᴰ·tail k) =
+    let g = fine-level d l t ls h in
+    omega (arith, g .fewer-rows, rows-most d t ls (g .later) m k)

@@ -5,7 +5,6 @@ use mathlib.Core.Bool.{Bool, true, false, _&&_, cond}
 use mathlib.Core.List.{List}
 use lib.ListN.{length, drop}
 use lib.Dec.{eqb}
-use Rattle.definition.specs.Tree.{Settings}
 use Rattle.formats.specs.Bytes.{whole}
 use Rattle.formats.specs.Stream.{policyFits, settingsIn, pointSize}
 use Rattle.stored.specs.File.{headMark, filePointMark, levelMark, domainMark}
