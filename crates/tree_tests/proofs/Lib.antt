@@ -14,3 +14,5 @@ pub mod SoundLevels
 pub mod SoundInTurn
 pub mod Passed
 pub mod Limits
+pub mod Lengths
+pub mod FileLength

@@ -1,0 +1,86 @@
+-- The lengths of a file's records. Assumes nothing.
+-- Holds: length-records, length-numbers, length-floats, length-settings, length-head, length-point, length-front, length-level,
+--   length-domain, ownIn, borrowedIn, length-domains-in
+use mathlib.Core.Path.{_≡_, refl, ap, _∙_}
+use Prim.Native.Nat.{ℕ, _+_, _*_}
+use native.Mathlib.Nat.{mul-comm}
+use native.Mathlib.Omega.{arith}
+use mathlib.Core.List.{List, [], _∷_, map, List·Memᴰ, List·Memᴰ·head, List·Memᴰ·tail}
+use lib.ListN.{length, length-append, length-map}
+use lib.Ieee.{Float, binary64, toBits}
+use Rattle.lists.specs.Lists.{total, from, joined}
+use Rattle.lists.proofs.All.{all-map, all-of}
+use Rattle.lists.proofs.From.{length-from}
+use Rattle.lists.proofs.Joined.{joined-even}
+use Rattle.definition.specs.Levels.{Policy, auto, fixed}
+use Rattle.definition.specs.Tree.{Settings, Leaf, Level, pointCount}
+use Rattle.formats.specs.Bytes.{markSize, numberSize, numberBytes, numbersBytes, floatSize, floatBytes, floatsBytes}
+use Rattle.formats.specs.Stream.{policyField, thresholdField, settingsBytes, policyBytes, settingsSize, pointSize}
+use Rattle.bytes_out.proofs.Bytes.{length-bytes}
+use Rattle.stored.specs.File.{headBytes, pointBytes, frontBytes, levelBytes, domainBytes}
+use Rattle.stored.specs.Stored.{headSize, countsSize}
+
+-- ---- records of one size
+pub length-records : {A : Type 0} (w : ℕ) (f : A → List ℕ) (l : List A) → ((x : A) → length (f x) ≡ w) → length (joined (map f l)) ≡ w * length l
+length-records w f l h =
+    joined-even w (map f l) (all-map (λ r. length r ≡ w) f l (all-of (λ x. length (f x) ≡ w) l (λ x m. h x)))
+    ∙ ap (λ (n : ℕ). w * n) (length-map l f)
+
+pub length-numbers : (ns : List ℕ) → length (numbersBytes ns) ≡ numberSize * length ns
+unfolding numbersBytes
+length-numbers ns = length-records numberSize numberBytes ns (length-bytes numberSize)
+
+pub length-floats : (xs : List Float) → length (floatsBytes xs) ≡ floatSize * length xs
+unfolding floatsBytes
+length-floats xs = length-records floatSize floatBytes xs (λ x. length-bytes floatSize (toBits binary64 x))
+
+-- ---- head and points
+length-policy : (p : Policy) → length (policyBytes p) ≡ policyField .width + thresholdField .width
+length-policy auto = simp (length-append, length-bytes)
+length-policy (fixed c) = simp (length-append, length-bytes)
+
+pub length-settings : (s : Settings) → markSize + length (settingsBytes s) ≡ settingsSize
+unfolding settingsBytes
+length-settings s = simp (length-append, length-bytes, length-policy)
+
+pub length-head : (s : Settings) (n : ℕ) → length (headBytes s n) ≡ headSize
+unfolding headBytes
+length-head s n = simp (length-append, length-bytes) (omega (arith, length-settings s))
+
+pub length-point : (d : ℕ) (cs : List Float) (i : ℕ) → length (pointBytes d cs i) ≡ pointSize d
+unfolding pointBytes
+length-point d cs i = simp (length-floats, length-map, length-from) (omega arith)
+
+pub length-front : (s : Settings) (cs : List Float) → length (frontBytes s cs) ≡ headSize + pointCount (s .dimension) cs * pointSize (s .dimension)
+unfolding frontBytes
+length-front s cs =
+    let d = s .dimension in
+    let n = pointCount d cs in
+    length-append (headBytes s n) (joined (map (pointBytes d cs) (from 0 n)))
+    ∙ omega (arith, length-head s n, length-records (pointSize d) (pointBytes d cs) (from 0 n) (length-point d cs), length-from 0 n, ap (λ (k : ℕ). pointSize d * k) (length-from 0 n), mul-comm n (pointSize d))
+
+-- ---- levels and domains
+pub length-level : (l : Level) → length (levelBytes l) ≡ countsSize + numberSize * length (l .points)
+unfolding levelBytes
+length-level l = simp (length-append, length-bytes, length-numbers) (omega arith)
+
+pub length-domain : (bounds : List Float) (f : Leaf)
+    → length (domainBytes bounds f) ≡ countsSize + numberSize * (length (f .own) + length (f .borrowed)) + floatSize * length bounds
+unfolding domainBytes
+length-domain bounds f = simp (length-append, length-bytes, length-numbers, length-floats) (omega arith)
+
+-- the own rows, and the borrowed rows, of leaves
+abbrev pub ownIn : List Leaf → ℕ
+ownIn fs = total (map (λ f. length (f .own)) fs)
+
+abbrev pub borrowedIn : List Leaf → ℕ
+borrowedIn fs = total (map (λ f. length (f .borrowed)) fs)
+
+-- domains one after the other, with w bounds each
+pub length-domains-in : (bounds : Leaf → List Float) (w : ℕ) (fs : List Leaf) → ((f : Leaf) → List·Memᴰ f fs → length (bounds f) ≡ w)
+    → length (joined (map (λ f. domainBytes (bounds f) f) fs)) ≡ (countsSize + floatSize * w) * length fs + numberSize * (ownIn fs + borrowedIn fs)
+unfolding joined total
+length-domains-in bounds w [] h = omega arith
+length-domains-in bounds w (f ∷ fs) h =
+    length-append (domainBytes (bounds f) f) (joined (map (λ f. domainBytes (bounds f) f) fs))
+    ∙ omega (arith, length-domain (bounds f) f, h f (List·Memᴰ·head refl), length-domains-in bounds w fs (λ g m. h g (List·Memᴰ·tail m)))
