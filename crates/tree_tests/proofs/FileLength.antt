@@ -24,7 +24,7 @@ use Rattle.tree_tests.specs.InTurn.{levelsPass}
 use Rattle.tree_tests.specs.Size.{fileSize}
 use Rattle.tree_tests.proofs.SoundLevels.{coarse-level, fine-level}
 use Rattle.tree_tests.proofs.Passed.{passed-is, own-length}
-use Rattle.tree_tests.proofs.Lengths.{borrowedIn, length-front, length-level, length-domains-in}
+use Rattle.tree_tests.proofs.Lengths.{borrowedTotal, length-front, length-level, length-domains-in}
 
 -- ---- level rows, domains and borrowed rows of levels
 abbrev rowsOf : List Level → ℕ
@@ -34,7 +34,7 @@ abbrev domainsOf : List Level → ℕ
 domainsOf ls = total (map (λ (l : Level). length (l .leaves)) ls)
 
 abbrev borrowedOf : List Level → ℕ
-borrowedOf ls = total (map (λ (l : Level). borrowedIn (l .leaves)) ls)
+borrowedOf ls = total (map (λ (l : Level). borrowedTotal (l .leaves)) ls)
 
 -- ---- the records of the levels. The coarse domain's box is counted on both sides, so that nothing is taken away.
 abbrev Records : ℕ → List Level → Type 0

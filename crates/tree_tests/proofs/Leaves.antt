@@ -1,5 +1,6 @@
 -- The leaves of a level tested one after the other: internals a partition, each leaf sound, each box as it is to be. Assumes nothing.
--- Holds: leaf-passes-same, leaves-pass-same, leaf-passes-is, sound-leaf-ascends, leaves-pass-is, leaves-in-turn
+-- Holds: leaves-pass-nil, leaves-pass-cons, leaf-passes-same, leaves-pass-same, leaf-passes-is, sound-leaf-ascends,
+--   leaves-pass-is, leaves-in-turn
 use mathlib.Core.Path.{_≡_, refl, sym, ap, _∙_}
 use Prim.Native.Nat.{ℕ, _+_, _-_, _≤_}
 use native.Mathlib.Omega.{arith}
@@ -22,6 +23,16 @@ use Rattle.tree_tests.proofs.Several.{three-pass, four-pass}
 use Rattle.tree_tests.proofs.AllPass.{all-pass-cons, all-pass-each, each-all-pass, ascending-ascends}
 use Rattle.tree_tests.proofs.Rows.{in-order-is, in-order-same}
 use Rattle.tree_tests.proofs.Partition.{ownRows, divided, divided-times, times-divided, othersOf, others-among, inside-times, others-once, others-times, others-length}
+
+-- ---- leaf by leaf
+pub leaves-pass-nil : (boxed : Leaf → Bool) (listed left : ℕ → Bool) (k : ℕ) → leavesPass boxed listed left k [] ≡ eqb k 0
+unfolding leavesPass
+leaves-pass-nil boxed listed left k = refl
+
+pub leaves-pass-cons : (boxed : Leaf → Bool) (listed left : ℕ → Bool) (k : ℕ) (f : Leaf) (fs : List Leaf)
+    → leavesPass boxed listed left k (f ∷ fs) ≡ leafPasses boxed listed left k f && leavesPass boxed listed (without (f .own) left) (k - length (f .own)) fs
+unfolding leavesPass
+leaves-pass-cons boxed listed left k f fs = refl
 
 -- ---- sets that agree give the same answer
 pub leaf-passes-same : (boxed : Leaf → Bool) (listed listed′ left left′ : ℕ → Bool) (k : ℕ) (f : Leaf) → ((i : ℕ) → listed i ≡ listed′ i)

@@ -1,6 +1,6 @@
 -- The lengths of a file's records. Assumes nothing.
 -- Holds: length-records, length-numbers, length-floats, length-settings, length-head, length-point, length-front, length-level,
---   length-domain, ownIn, borrowedIn, length-domains-in
+--   length-domain, ownTotal, borrowedTotal, length-domains-in
 use mathlib.Core.Path.{_≡_, refl, ap, _∙_}
 use Prim.Native.Nat.{ℕ, _+_, _*_}
 use native.Mathlib.Nat.{mul-comm}
@@ -70,15 +70,15 @@ unfolding domainBytes
 length-domain bounds f = simp (length-append, length-bytes, length-numbers, length-floats) (omega arith)
 
 -- the own rows, and the borrowed rows, of leaves
-abbrev pub ownIn : List Leaf → ℕ
-ownIn fs = total (map (λ f. length (f .own)) fs)
+abbrev pub ownTotal : List Leaf → ℕ
+ownTotal fs = total (map (λ f. length (f .own)) fs)
 
-abbrev pub borrowedIn : List Leaf → ℕ
-borrowedIn fs = total (map (λ f. length (f .borrowed)) fs)
+abbrev pub borrowedTotal : List Leaf → ℕ
+borrowedTotal fs = total (map (λ f. length (f .borrowed)) fs)
 
 -- domains one after the other, with w bounds each
 pub length-domains-in : (bounds : Leaf → List Float) (w : ℕ) (fs : List Leaf) → ((f : Leaf) → List·Memᴰ f fs → length (bounds f) ≡ w)
-    → length (joined (map (λ f. domainBytes (bounds f) f) fs)) ≡ (countsSize + floatSize * w) * length fs + numberSize * (ownIn fs + borrowedIn fs)
+    → length (joined (map (λ f. domainBytes (bounds f) f) fs)) ≡ (countsSize + floatSize * w) * length fs + numberSize * (ownTotal fs + borrowedTotal fs)
 unfolding joined total
 length-domains-in bounds w [] h = omega arith
 length-domains-in bounds w (f ∷ fs) h =

@@ -1,10 +1,10 @@
--- Sets of rows: without the rows of a list, one row less or more, and the rows put back. Assumes nothing.
--- Holds: member-nil, without-nil, without-other, without-mem, without-inside, put-back, without-more, with-more, without-all,
---   with-all, with-none
+-- Sets of rows without the rows of a list: one row after the other taken out, and the rows put back. Assumes nothing.
+-- Holds: member-nil, without-nil, without-other, without-mem, without-in, without-inside, put-back, member-more, without-more,
+--   without-all
 use mathlib.Core.Path.{_≡_, refl, sym, _∙_}
 use Prim.Native.Nat.{ℕ, _+_, _≤_, _<_}
 use native.Mathlib.Numerals.{add-one}
-use mathlib.Core.Bool.{Bool, true, false, not, _&&_, _||_, and-true, and-false, or-false, or-true, or-assoc}
+use mathlib.Core.Bool.{Bool, true, false, not, _&&_, _||_, and-true, and-false, or-false, or-true}
 use mathlib.Core.List.{List, [], List·Memᴰ}
 use lib.ListN.{length, getD, take}
 use lib.Seq.{take-suc, take-all}
@@ -30,7 +30,10 @@ without-other rows p j h = rw h (and-true (p j))
 pub without-mem : (rows : List ℕ) (p : ℕ → Bool) (j : ℕ) → List·Memᴰ j rows → without rows p j ≡ false
 without-mem rows p j m = rw (mem-member rows j m) (and-false (p j))
 
--- a set inside another one stays inside it
+-- what is left was in the set, and a set inside another one stays inside it
+pub without-in : (rows : List ℕ) (p : ℕ → Bool) (j : ℕ) → without rows p j ≡ true → p j ≡ true
+without-in rows p j e = and-fst (p j) (not (member j rows)) e
+
 pub without-inside : (rows : List ℕ) (p q : ℕ → Bool) → ((j : ℕ) → p j ≡ true → q j ≡ true) → (j : ℕ) → without rows p j ≡ true → without rows q j ≡ true
 without-inside rows p q h j e =
     and-of (h j (and-fst (p j) (not (member j rows)) e)) (and-snd (p j) (not (member j rows)) e)
@@ -45,7 +48,7 @@ put-back rows p h j = go (member j rows) refl
 
 -- ---- the rows of a list up to one of them
 module _ (rows : List ℕ) (i x : ℕ) (h : i < length rows) (e : x ≡ getD rows i 0) where
-  member-more : (j : ℕ) → member j (take (i + 1) rows) ≡ member j (take i rows) || eqb j x
+  pub member-more : (j : ℕ) → member j (take (i + 1) rows) ≡ member j (take i rows) || eqb j x
   member-more j = rw (add-one i, take-suc rows i 0 h, ← e, eqb-comm j x) (member-snoc j (take i rows) x)
 
   -- one row more is taken out of the set
@@ -57,16 +60,6 @@ module _ (rows : List ℕ) (i x : ℕ) (h : i < length rows) (e : x ≡ getD row
       go true true c = refl
       go true false c = refl
 
-  -- or put into it
-  pub with-more : (p : ℕ → Bool) (j : ℕ) → p j || member j (take i rows) || eqb j x ≡ p j || member j (take (i + 1) rows)
-  with-more p j = rw (member-more j) (or-assoc (p j) (member j (take i rows)) (eqb j x))
-
-module _ (rows : List ℕ) (i : ℕ) (h : length rows ≤ i) where
-  pub without-all : (p : ℕ → Bool) (j : ℕ) → without (take i rows) p j ≡ without rows p j
-  without-all p j = rw (take-all i rows h)
-
-  pub with-all : (p : ℕ → Bool) (j : ℕ) → p j || member j (take i rows) ≡ p j || member j rows
-  with-all p j = rw (take-all i rows h)
-
-pub with-none : (p : ℕ → Bool) (j : ℕ) → p j || member j [] ≡ p j
-with-none p j = rw (member-nil j) (or-false (p j))
+-- all of them are
+pub without-all : (rows : List ℕ) (i : ℕ) → length rows ≤ i → (p : ℕ → Bool) (j : ℕ) → without (take i rows) p j ≡ without rows p j
+without-all rows i h p j = rw (take-all i rows h)
