@@ -130,10 +130,12 @@ module _ (s : Settings) (cs : List Float) (first : List ℕ) (pos : 0 < s .dimen
       ap (λ (x : Level). getD (x .leaves) 0 noLeaf) (last .0) in
       record {
         few = omega (arith, ap length (listed-at l), last .1);
-        one-domain = one;
-        holds-all = handed-own (s .dimension) ls h packs l 0 z ∙ ap (λ (f : Leaf). f .own) leaf ∙ sym (listed-at l);
-        borrows-none = handed-borrowed (s .dimension) ls h packs l 0 z ∙ ap (λ (f : Leaf). f .borrowed) leaf;
-        no-box = handed-box (s .dimension) ls h packs l 0 z ∙ ap (λ (f : Leaf). f .box) leaf;
+        single = record {
+          one-domain = one;
+          holds-all = handed-own (s .dimension) ls h packs l 0 z ∙ ap (λ (f : Leaf). f .own) leaf ∙ sym (listed-at l);
+          borrows-none = handed-borrowed (s .dimension) ls h packs l 0 z ∙ ap (λ (f : Leaf). f .borrowed) leaf;
+          no-box = handed-box (s .dimension) ls h packs l 0 z ∙ ap (λ (f : Leaf). f .box) leaf;
+        };
       }
 
   beyond : (l : ℕ) → levelCount h ≤ l → levelAt l ≡ noLevel

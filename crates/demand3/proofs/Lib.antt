@@ -5,3 +5,4 @@ pub mod Levels
 pub mod Fine
 pub mod Answered
 pub mod Demand
+pub mod Loaded

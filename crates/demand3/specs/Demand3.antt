@@ -45,6 +45,13 @@ module _ (h : Handed) (l : ℕ) where
     pub of-own : (i : ℕ) → i < leavesOn h l → length (ownOf h l i) ≡ domainRow h l i .ownCount
     pub of-borrowed : (i : ℕ) → i < leavesOn h l → length (borrowedOf h l i) ≡ domainRow h l i .borrowedCount
 
+-- a level on d axes with a single domain, which holds all its rows, without overlaps and with +0 for a box
+pub record SingleDomain (d : ℕ) (h : Handed) (l : ℕ) : Type 0 where
+  pub one-domain : leavesOn h l ≡ 1
+  pub holds-all : ownOf h l 0 ≡ listed h l
+  pub borrows-none : borrowedOf h l 0 ≡ []
+  pub no-box : boxOf d h l 0 ≡ replicate (boxWidth d) plusZero
+
 -- ---- document 01's numbers, for n rows: c, k, and the size S of the level after level l, which has a active rows
 
 abbrev pub coarseAt : Settings → ℕ → ℕ
@@ -130,13 +137,10 @@ module _ (s : Settings) (cs : List Float) (n : ℕ) (h : Handed) (l : ℕ) where
     pub boxes-are : leafBoxes (s .dimension) h l ≡ map (λ q. q .box) (leavesOf (s .dimension) cs (s .leaf) (listed h l))
     pub borrowed-are : (i : ℕ) → i < leavesOn h l → borrowedOf h l i ≡ borrowedBy (s .dimension) cs (s .neighbours) (listed h l) (ownOf h l i)
 
-  -- ---- the coarse level: at most c rows, in a single domain that holds them all, without overlaps and with +0 for a box
+  -- ---- the coarse level: at most c rows, in a single domain
   pub record CoarseLevel : Type 0 where
     pub few : length (listed h l) ≤ coarseAt s n
-    pub one-domain : leavesOn h l ≡ 1
-    pub holds-all : ownOf h l 0 ≡ listed h l
-    pub borrows-none : borrowedOf h l 0 ≡ []
-    pub no-box : boxOf (s .dimension) h l 0 ≡ replicate (boxWidth (s .dimension)) plusZero
+    pub single : SingleDomain (s .dimension) h l
 
 -- ---- the demand, for a build over a first active list
 

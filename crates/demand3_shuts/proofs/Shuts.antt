@@ -191,20 +191,20 @@ not-renumbered h = let e : _≡_ {A = ℕ} 2 1 = ap (λ (x : List (List ℕ)). g
 -- the coarse level has two domains; its domain borrows a row; it has a box
 pub not-two-coarse : Demand3 set four (level-points-but level-points (counts 2 (4 ∷ 2 ∷ 0 ∷ 0 ∷ []) (4 ∷ 2 ∷ 0 ∷ 0 ∷ []))) → ⊥
 unfolding all-open
-not-two-coarse h = let e : _≡_ {A = ℕ} 2 1 = h .last-coarse .one-domain in omega arith
+not-two-coarse h = let e : _≡_ {A = ℕ} 2 1 = h .last-coarse .single .one-domain in omega arith
 
 pub not-coarse-borrowing : Demand3 set four (domains-but (0 ∷ 1 ∷ 0 ∷ 1 ∷ 1 ∷ 1 ∷ 1 ∷ 2 ∷ 2 ∷ 1 ∷ 3 ∷ 2 ∷ 3 ∷ 1 ∷ 5 ∷ 1 ∷ 4 ∷ 2 ∷ 5 ∷ 1 ∷ [])) → ⊥
 unfolding all-open
-not-coarse-borrowing h = let e : _≡_ {A = ℕ} 1 0 = ap length (h .last-coarse .borrows-none) in omega arith
+not-coarse-borrowing h = let e : _≡_ {A = ℕ} 1 0 = ap length (h .last-coarse .single .borrows-none) in omega arith
 
 pub not-coarse-boxed : Demand3 set four (boxes-but (0 ∷ 1 ∷ 1 ∷ 3 ∷ 3 ∷ 7 ∷ 7 ∷ 7 ∷ 0 ∷ 1 ∷ [])) → ⊥
 unfolding all-open
-not-coarse-boxed h = let e : _≡_ {A = ℕ} 0x3ff0000000000000 0 = ap (λ (x : List Float). toBits binary64 (getD x 1 nan)) (h .last-coarse .no-box) in omega arith
+not-coarse-boxed h = let e : _≡_ {A = ℕ} 0x3ff0000000000000 0 = ap (λ (x : List Float). toBits binary64 (getD x 1 nan)) (h .last-coarse .single .no-box) in omega arith
 
 -- the coarse domain repeats a row
 pub not-below : Demand3 set four (internals-but (0 ∷ 1 ∷ 2 ∷ 3 ∷ 0 ∷ 0 ∷ [])) → ⊥
 unfolding all-open
-not-below h = let e : _≡_ {A = ℕ} 0 1 = ap (λ (x : List ℕ). getD x 1 9) (h .last-coarse .holds-all) in omega arith
+not-below h = let e : _≡_ {A = ℕ} 0 1 = ap (λ (x : List ℕ). getD x 1 9) (h .last-coarse .single .holds-all) in omega arith
 
 -- a leaf borrows its own row; one borrows a row twice; one borrows a row that it should not
 pub not-own : Demand3 set four (borrowed-but (0 ∷ 0 ∷ 2 ∷ 1 ∷ 3 ∷ 2 ∷ [])) → ⊥
