@@ -6,7 +6,7 @@ use mathlib.Core.List.{List, [], map}
 use Prim.Native.Nat.{ℕ, suc, _+_, _-_, _*_, _^_, _≤_, _<_}
 use native.Mathlib.Omega.{arith}
 use native.Mathlib.Nat.{zero-add, pow-zero, mul-one}
-use lib.ListN.{length, getD, drop, replicate, length-map, List·getD-eq-default}
+use lib.ListN.{length, getD, drop, replicate, length-map}
 use lib.Ieee.{Float}
 use Rattle.lists.specs.Lists.{from}
 use Rattle.lists.specs.Ascends.{All}
@@ -27,10 +27,10 @@ use Rattle.definition.proofs.Steps.{fineLeaf, fineOf, nextOf}
 use Rattle.definition.proofs.Next.{noDomain}
 use Rattle.definition.proofs.Sizes.{reductions-few, reductions-reach}
 use Rattle.demand3.specs.Handed.{Handed, handed, levelCount, rowsOn, leavesOn, HasNext, listed}
-use Rattle.demand3.specs.Demand3.{Counted, coarseAt, reductionCount, CoarseLevel, Demand3Over, Demand3, handedBack}
+use Rattle.demand3.specs.Demand3.{coarseAt, reductionCount, CoarseLevel, Demand3Over, Demand3, handedBack}
 use Rattle.packed.proofs.Counts.{noLevel}
 use Rattle.packed.proofs.Unpacked.{noLeaf}
-use Rattle.demand3.proofs.Unpack.{PackedIn, handed-levels, handed-rows, handed-leaves, handed-listed, handed-own-count, handed-borrowed-count, handed-own, handed-borrowed, handed-box}
+use Rattle.demand3.proofs.Unpack.{PackedIn, handed-levels, handed-rows, handed-leaves, handed-listed, handed-own, handed-borrowed, handed-box, handed-counted, handed-beyond}
 use Rattle.demand3.proofs.Levels.{Levelled, levelled, IsFine, first-active, some-levels, fine-at, coarse-at}
 use Rattle.demand3.proofs.Answered.{answered-zero}
 use Rattle.demand3.proofs.Fine.{IsLevel, fine-level}
@@ -74,13 +74,6 @@ module _ (s : Settings) (cs : List Float) (first : List ℕ) (pos : 0 < s .dimen
 
   leaves-at : (l : ℕ) → leavesOn h l ≡ length (levelAt l .leaves)
   leaves-at l = handed-leaves (s .dimension) ls h packs l
-
-  is-counted : (l : ℕ) → Counted h l
-  is-counted l = record {
-    of-level = ap length (listed-at l) ∙ sym (rows-at l);
-    of-own = λ i m. let z : i < length (levelAt l .leaves) = omega (arith, leaves-at l) in ap length (handed-own (s .dimension) ls h packs l i z) ∙ sym (handed-own-count (s .dimension) ls h packs l i z);
-    of-borrowed = λ i m. let z : i < length (levelAt l .leaves) = omega (arith, leaves-at l) in ap length (handed-borrowed (s .dimension) ls h packs l i z) ∙ sym (handed-borrowed-count (s .dimension) ls h packs l i z);
-  }
 
   -- ---- a level that has a next one
   module _ (l : ℕ) (m : HasNext h l) where
@@ -138,15 +131,12 @@ module _ (s : Settings) (cs : List Float) (first : List ℕ) (pos : 0 < s .dimen
         };
       }
 
-  beyond : (l : ℕ) → levelCount h ≤ l → levelAt l ≡ noLevel
-  beyond l m = List·getD-eq-default ls noLevel (omega (arith, handed-levels (s .dimension) ls h packs))
-
   outnumbering : (l : ℕ) → c < rowsOn h l → HasNext h l
   outnumbering l m =
       ⊎-elim
       (λ (past : levelCount h ≤ suc l).
       ⊎-elim
-      (λ (gone : levelCount h ≤ l). let e = rows-at l ∙ ap (λ (x : Level). length (x .points)) (beyond l gone) in absurd (omega arith))
+      (λ (gone : levelCount h ≤ l). absurd (omega (arith, handed-beyond (s .dimension) ls h packs l gone .0)))
       (λ (at : l < levelCount h).
       absurd (omega (arith, rows-at l, coarse-at s cs c k the-levels l (omega (arith, handed-levels (s .dimension) ls h packs)) .1)))
       (le-or-lt (levelCount h) l))
@@ -162,8 +152,8 @@ module _ (s : Settings) (cs : List Float) (first : List ℕ) (pos : 0 < s .dimen
     some-level = count-some;
     few-levels = omega (arith, handed-levels (s .dimension) ls h packs, packs .few);
     last-coarse = is-coarse;
-    counted = is-counted;
-    none-beyond = λ l m. (rows-at l ∙ ap (λ (x : Level). length (x .points)) (beyond l m), leaves-at l ∙ ap (λ (x : Level). length (x .leaves)) (beyond l m));
+    counted = handed-counted (s .dimension) ls h packs;
+    none-beyond = handed-beyond (s .dimension) ls h packs;
   }
 
 -- ---- an accepted call

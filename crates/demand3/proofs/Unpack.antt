@@ -1,9 +1,10 @@
 -- The tree in what a build hands back: the reading's laws in the demand's words. Assumes nothing.
 -- Holds: leafLists, PackedIn, handed-levels, handed-rows, handed-leaves, handed-listed, handed-own-count, handed-borrowed-count,
---   handed-own, handed-borrowed, handed-box
-use mathlib.Core.Path.{_≡_, ap, _∙_}
-use Prim.Native.Nat.{ℕ, _<_}
-use lib.ListN.{length, getD}
+--   handed-own, handed-borrowed, handed-box, handed-counted, handed-beyond
+use mathlib.Core.Path.{_≡_, sym, ap, _∙_}
+use Prim.Native.Nat.{ℕ, _≤_, _<_}
+use native.Mathlib.Omega.{arith}
+use lib.ListN.{length, getD, List·getD-eq-default}
 use mathlib.Core.List.{List}
 use Rattle.definition.specs.Tree.{Leaf, Level}
 use Rattle.definition.specs.Packed.{leavesIn}
@@ -12,6 +13,7 @@ use Rattle.packed.proofs.Counts.{noLevel}
 use Rattle.packed.proofs.Unpacked as tree
 use Rattle.packed.proofs.Unpacked.{Packs, noLeaf}
 use Rattle.demand3.specs.Handed.{Handed, levelCount, rowsOn, leavesOn, listed, rowNumber, domainRow, ownOf, borrowedOf, boxOf}
+use Rattle.demand3.specs.Demand3.{Counted}
 
 -- the lists that hold the leaves, on d axes
 abbrev pub leafLists : ℕ → Handed → Packed
@@ -63,3 +65,16 @@ module _ (d : ℕ) (ls : List Level) (h : Handed) (k : PackedIn d ls h) where
     pub handed-box : boxOf d h l i ≡ getD (getD ls l noLevel .leaves) i noLeaf .box
     unfolding boxOf
     handed-box = tree.box-is ls (leafLists d h) (h .lists .level-points) (h .counts) k (rowNumber h l i) there ∙ ap (λ (f : Leaf). f .box) is
+
+  -- ---- counts
+  pub handed-counted : (l : ℕ) → Counted h l
+  handed-counted l = record {
+    of-level = ap length (handed-listed l) ∙ sym (handed-rows l);
+    of-own = λ i m. let z : i < length (getD ls l noLevel .leaves) = omega (arith, handed-leaves l) in ap length (handed-own l i z) ∙ sym (handed-own-count l i z);
+    of-borrowed = λ i m. let z : i < length (getD ls l noLevel .leaves) = omega (arith, handed-leaves l) in ap length (handed-borrowed l i z) ∙ sym (handed-borrowed-count l i z);
+  }
+
+  pub handed-beyond : (l : ℕ) → levelCount h ≤ l → (rowsOn h l ≡ 0) × (leavesOn h l ≡ 0)
+  handed-beyond l m =
+      let none : getD ls l noLevel ≡ noLevel = List·getD-eq-default ls noLevel (omega (arith, handed-levels)) in
+      (handed-rows l ∙ ap (λ (x : Level). length (x .points)) none, handed-leaves l ∙ ap (λ (x : Level). length (x .leaves)) none)

@@ -1,0 +1,8 @@
+-- A tree that passes the tests, and the rules of a loaded tree.
+pub mod Passed
+pub mod LevelRows
+pub mod Bits
+pub mod LastLevel
+pub mod SoundTree
+pub mod LoadedRules
+pub mod FileRules

@@ -1,0 +1,1 @@
+-- The laws need no definitions of their own.
