@@ -1,2 +1,4 @@
 -- Right and wrong lists.
+pub mod RightLists
 pub mod Shuts
+pub mod LoadedShuts

@@ -1,12 +1,11 @@
 -- What demand 3 shuts out: for each of its fields lists that are wrong in one thing, and that this field refuses. The right lists have
--- it: those of document 01's example (points 0, 1, 3, 7 on a line; leaf 2, one neighbour, factor 2, Fixed 2), and those of a tree with
--- two fine levels. Each is computed. No lists can break `sends-within` and `empty-sends-none`: what a leaf sends up is the definition's
+-- it: those of document 01's example, and those of a tree with two fine levels. Each is computed. No lists can break `sends-within` and `empty-sends-none`: what a leaf sends up is the definition's
 -- sampling of the rows that the lists name, whatever these are. Assumes nothing.
--- Holds: right-has-it, not-empty, not-unwritten, not-many, not-after-coarse, not-coarse, not-ended, not-repeated, not-dropped,
---   not-unsent, not-elsewhere, not-one-more, not-all-again, not-counted, not-own-counted, not-borrowed-counted,
---   not-leaves-beyond, not-beyond, not-shared, not-left-out, not-foreign, not-renumbered, not-two-coarse, not-coarse-borrowing,
---   not-coarse-boxed, not-below, not-own, not-twice, not-far, not-measured, six-has-it, not-out-of-order, not-uneven,
---   not-sent-by-none, not-shared-out, not-one-too-few, not-two-more, not-more-than-whole, shares
+-- Holds: not-empty, not-unwritten, not-many, not-after-coarse, not-coarse, not-ended, not-repeated, not-dropped, not-unsent,
+--   not-elsewhere, not-one-more, not-all-again, not-counted, not-own-counted, not-borrowed-counted, not-leaves-beyond,
+--   not-beyond, not-shared, not-left-out, not-foreign, not-renumbered, not-two-coarse, not-coarse-borrowing, not-coarse-boxed,
+--   not-below, not-own, not-twice, not-far, not-measured, six-has-it, not-out-of-order, not-uneven, not-sent-by-none,
+--   not-shared-out, not-one-too-few, not-two-more, not-more-than-whole, shares
 use Prim.Native.Nat.{ℕ, _+_, _*_, _≤_, _<_}
 use mathlib.Core.Path.{_≡_, refl, ap, subst}
 use mathlib.Core.List.{List, [], _∷_, _++_}
@@ -14,88 +13,11 @@ use mathlib.Core.Logic.{_⊎_, ⊎-elim}
 use native.Mathlib.Omega.{arith}
 use lib.ListN.{length, getD, replicate}
 use lib.Ieee.{Float, nan, binary64, toBits}
-use Rattle.definition.specs.Packed.{Counts}
-use Rattle.definition.specs.Tree.{Settings}
-use Rattle.definition.proofs.WorkedSamples.{opened, line, onLine, nines, floatRoom, wholeRoom}
-use Rattle.demand3.specs.Handed.{Handed, listed, rowNumber, domainRow, ownOf, borrowedOf, boxOf, ownLists, leafSizes, leafBoxes}
-use Rattle.demand3.specs.Demand3.{shareOf, WholePart, OneMore, sentOf, sentUp, Demand3, handedBack}
+use Rattle.definition.proofs.WorkedSamples.{line, onLine, nines, floatRoom, wholeRoom}
+use Rattle.demand3.specs.Handed.{Handed}
+use Rattle.demand3.specs.Demand3.{shareOf, WholePart, OneMore, Demand3, handedBack}
 use Rattle.demand3.proofs.Demand.{demand-3}
-
--- To unfold this is to unfold every definition that its line names.
-all-open : ℕ
-unfolding opened listed rowNumber domainRow ownOf borrowedOf boxOf ownLists leafSizes leafBoxes shareOf sentOf sentUp
-all-open = 0
-
-abbrev four : List Float
-four = line (0 ∷ 1 ∷ 3 ∷ 7 ∷ [])
-
-abbrev set : Settings
-set = onLine 2 2
-
--- lists that held nines, with these at their fronts
-abbrev inLists : List ℕ → List ℕ → List ℕ → List ℕ → List ℕ → Counts → Handed
-inLists level-points internals domains boxes borrowed counts =
-    record {
-      lists = record {
-        level-points = level-points ++ replicate 10 9;
-        internals = internals ++ replicate 10 9;
-        domains = domains ++ replicate 80 9;
-        boxes = line (boxes ++ replicate 40 9);
-        borrowed = borrowed ++ replicate 42 9;
-      };
-      counts = counts;
-    }
-
-abbrev counts : ℕ → List ℕ → List ℕ → Counts
-counts levels rows domains = record { levels = levels; rows = rows; domains = domains }
-
--- ---- the right lists
-abbrev level-points : List ℕ
-level-points = 0 ∷ 1 ∷ 2 ∷ 3 ∷ 0 ∷ 1 ∷ []
-
-abbrev internals : List ℕ
-internals = 0 ∷ 1 ∷ 2 ∷ 3 ∷ 0 ∷ 1 ∷ []
-
-abbrev domains : List ℕ
-domains = 0 ∷ 1 ∷ 0 ∷ 1 ∷ 1 ∷ 1 ∷ 1 ∷ 2 ∷ 2 ∷ 1 ∷ 3 ∷ 2 ∷ 3 ∷ 1 ∷ 5 ∷ 1 ∷ 4 ∷ 2 ∷ 6 ∷ 0 ∷ []
-
-abbrev boxes : List ℕ
-boxes = 0 ∷ 1 ∷ 1 ∷ 3 ∷ 3 ∷ 7 ∷ 7 ∷ 7 ∷ 0 ∷ 0 ∷ []
-
-abbrev borrowed : List ℕ
-borrowed = 1 ∷ 0 ∷ 2 ∷ 1 ∷ 3 ∷ 2 ∷ []
-
-abbrev two : Counts
-two = counts 2 (4 ∷ 2 ∷ 0 ∷ 0 ∷ []) (4 ∷ 1 ∷ 0 ∷ 0 ∷ [])
-
-abbrev right : Handed
-right = inLists level-points internals domains boxes borrowed two
-
--- a build hands them back
-is-right : handedBack set four (nines 4) (floatRoom 4) (wholeRoom 4) ≡ right
-unfolding all-open
-is-right = refl
-
--- the call is accepted, so they have demand 3
-pub right-has-it : Demand3 set four right
-unfolding all-open
-right-has-it = subst (Demand3 set four) is-right (demand-3 set four (nines 4) (floatRoom 4) (wholeRoom 4) refl)
-
--- ---- wrong in one thing
-abbrev level-points-but : List ℕ → Counts → Handed
-level-points-but p c = inLists p internals domains boxes borrowed c
-
-abbrev internals-but : List ℕ → Handed
-internals-but i = inLists level-points i domains boxes borrowed two
-
-abbrev domains-but : List ℕ → Handed
-domains-but d = inLists level-points internals d boxes borrowed two
-
-abbrev boxes-but : List ℕ → Handed
-boxes-but b = inLists level-points internals domains b borrowed two
-
-abbrev borrowed-but : List ℕ → Handed
-borrowed-but b = inLists level-points internals domains boxes b two
+use Rattle.demand3_shuts.proofs.RightLists.{all-open, four, set, inLists, counts, level-points, two, level-points-but, internals-but, domains-but, boxes-but, borrowed-but}
 
 -- nothing written and nothing counted; nothing written, though the counts are right
 pub not-empty : Demand3 set four (inLists [] [] [] [] [] (counts 0 (replicate 4 0) (replicate 4 0))) → ⊥
