@@ -1,6 +1,7 @@
 -- What demand 3 shuts out: for each of its fields lists that are wrong in one thing, and that this field refuses. The right lists have
--- it: those of document 01's example, and those of a tree with two fine levels. Each is computed. No lists can break `sends-within` and `empty-sends-none`: what a leaf sends up is the definition's
--- sampling of the rows that the lists name, whatever these are. Assumes nothing.
+-- it: those of document 01's example, and those of a tree with two fine levels. Each is computed. No lists can break `sends-within` and
+-- `empty-sends-none`: what a leaf sends up is the definition's sampling of the rows that the lists name, whatever these are. Assumes
+-- nothing.
 -- Holds: not-empty, not-unwritten, not-many, not-after-coarse, not-coarse, not-ended, not-repeated, not-dropped, not-unsent,
 --   not-elsewhere, not-one-more, not-all-again, not-counted, not-own-counted, not-borrowed-counted, not-leaves-beyond,
 --   not-beyond, not-shared, not-left-out, not-foreign, not-renumbered, not-two-coarse, not-coarse-borrowing, not-coarse-boxed,
