@@ -1,68 +1,61 @@
--- Numbers and floats of bytes. Assumes nothing.
--- Holds: none-read, more-read, eight-bytes, four-bytes, low-is-no-nan, high-is-nan, mark-same, mark-other
-use mathlib.Core.Path.{_≡_, refl, sym, ap, _∙_, subst}
-use mathlib.Core.Bool.{true, false, not}
-use Prim.Native.Nat.{ℕ, zero, suc, _+_, _-_, _*_, _^_, _%_, _≤_, _<_}
-use native.Mathlib.Nat.{add-zero, pow-succ', pow-le-pow-right}
-use native.Mathlib.Numerals.{add-one}
+-- Numbers and marks of bytes: a field by its parts, and when a record stands whole. Assumes nothing.
+-- Holds: byte-is, field-add, four-bytes, two-halves, record-cut, record-first, record-other, record-room
+use mathlib.Core.Path.{_≡_, refl, sym, ap, _∙_}
+use mathlib.Core.Bool.{true, false}
+use Prim.Native.Nat.{ℕ, zero, suc, _+_, _-_, _*_, _^_, _≤_, _<_}
+use native.Mathlib.Nat.{zero-add, add-zero, suc-add, pow-zero, pow-succ', one-mul, mul-zero, mul-assoc}
 use native.Mathlib.Omega.{arith}
-use mathlib.Core.List.{List}
-use lib.ListN.{length, getD, drop}
-use lib.Seq.{drop-cons, getD-drop}
-use lib.Dec.{T, eqb}
-use lib.Ieee.{Float, nan, inf, fin, isNan, nanBits, ofBits, div, binary64}
-use lib.Ieee.Bits.{nanBits-above, nanBits-is}
-use borrow.Author.Tests.{le-ltb, lt-ltb, eq-eqb, ne-eqb}
-use Rattle.formats.specs.Bytes.{little, field, markedBy, markOf}
+use mathlib.Core.List.{List, [], _∷_}
+use lib.ListN.{length, getD, drop, length-drop}
+use lib.Seq.{drop-cons, drop-drop, getD-drop}
+use lib.Dec.{leb, eqb}
+use borrow.Author.Tests.{le-leb, lt-leb, leb-true, eq-eqb, ne-eqb}
+use Rattle.lists.proofs.Tests.{and-fst}
+use Rattle.formats.specs.Bytes.{little, field, Mark, markOf, markedBy, whole}
 
--- ---- a number of k bytes
-pub none-read : (k at : ℕ) (bs : List ℕ) → k ≡ 0 → (0 ≡ field k at bs) × (0 < 256 ^ k)
+-- ---- a field
+pub byte-is : (bs : List ℕ) (at : ℕ) → at < length bs → getD bs at 0 ≡ field 1 at bs
 unfolding little
-none-read k at bs e = rw e (refl, omega arith)
+byte-is bs at h = rw (drop-cons bs at 0 h) (omega arith)
 
-one-read : (k at : ℕ) (bs : List ℕ) → at < length bs → little (suc k) (drop at bs) ≡ getD bs at 0 + 256 * little k (drop (suc at) bs)
+little-nil : (k : ℕ) → little k [] ≡ 0
 unfolding little
-one-read k at bs h = rw (drop-cons bs at 0 h)
+little-nil zero = refl
+little-nil (suc k) = refl
 
-pub more-read : (k at r : ℕ) (bs : List ℕ) → (k ≡ 0 → ⊥) → at < length bs → getD bs at 0 < 256 → (r ≡ field (k - 1) (at + 1) bs) × (r < 256 ^ (k - 1))
-    → (getD bs at 0 + 256 * r ≡ field k at bs) × (getD bs at 0 + 256 * r < 256 ^ k)
-more-read zero at r bs h g b w = absurd (h refl)
-more-read (suc k) at r bs h g b w =
-    let e : suc k - 1 ≡ k = omega arith in
-    let f : little (suc k - 1) (drop (at + 1) bs) ≡ little k (drop (suc at) bs) = rw (e, add-one) in
-    let p : r < 256 ^ k = rw e at (w .1) in
-    (ap (λ (x : ℕ). getD bs at 0 + 256 * x) (w .0 ∙ f) ∙ sym (one-read k at bs g), rw pow-succ' (omega arith))
+little-add : (i k : ℕ) (bs : List ℕ) → little (i + k) bs ≡ little i bs + 256 ^ i * little k (drop i bs)
+unfolding little
+little-add zero k bs = rw (zero-add k, pow-zero, one-mul, zero-add)
+little-add (suc i) k [] = rw (suc-add, little-nil k, mul-zero)
+little-add (suc i) k (b ∷ bs) =
+    rw (suc-add, pow-succ', mul-assoc)
+    (omega (arith, little-add i k bs))
 
--- eight bytes at most fit a word
-pub eight-bytes : (k : ℕ) → k ≤ 8 → 256 ^ k ≤ 2 ^ 64
-eight-bytes k h = pow-le-pow-right {n = 256} (omega arith) h
+-- its first i bytes, and the k after them
+pub field-add : (i k at : ℕ) (bs : List ℕ) → field (i + k) at bs ≡ field i at bs + 256 ^ i * field k (at + i) bs
+field-add i k at bs = little-add i k (drop at bs) ∙ ap (λ (l : List ℕ). little i (drop at bs) + 256 ^ i * little k l) (drop-drop i at bs)
 
--- four bytes at most fit half a word
-pub four-bytes : (k : ℕ) → k ≤ 4 → 256 ^ k ≤ 2 ^ 32
-four-bytes k h = pow-le-pow-right {n = 256} (omega arith) h
+module _ (at : ℕ) (bs : List ℕ) where
+  pub four-bytes : field 1 at bs + 256 * (field 1 (at + 1) bs + 256 * (field 1 (at + 2) bs + 256 * field 1 (at + 3) bs)) ≡ field 4 at bs
+  four-bytes = omega (arith, field-add 1 1 at bs, field-add 2 1 at bs, field-add 3 1 at bs)
 
--- ---- floats
-pub low-is-no-nan : (b : ℕ) → b % 9223372036854775808 ≤ 9218868437227405312 → T (not (nanBits binary64 b))
-low-is-no-nan b h = rw (nanBits-above binary64 b, le-ltb 9218868437227405312 (b % 9223372036854775808) h) tt
+  pub two-halves : field 4 at bs + 0x1_0000_0000 * field 4 (at + 4) bs ≡ field 8 at bs
+  two-halves = sym (field-add 4 4 at bs)
 
-is-nan : (x : Float) → isNan x ≡ true → x ≡ nan
-unfolding isNan
-is-nan nan e = refl
-is-nan (inf s) e = absurd (subst T (sym e) tt)
-is-nan (fin s m x) e = absurd (subst T (sym e) tt)
+-- ---- a record
+module _ (at size a b : ℕ) (bs : List ℕ) where
+  pub record-cut : length bs - at < size → false ≡ whole (markOf a b) size (drop at bs)
+  record-cut h = rw (length-drop at bs, lt-leb size (length bs - at) h)
 
-zero-by-zero : div binary64 (ofBits binary64 0) (ofBits binary64 0) ≡ nan
-unfolding div ofBits
-zero-by-zero = refl
+  module _ (h : size ≤ length bs - at) where
+    pub record-first : getD bs at 0 ≡ a → eqb (getD bs (at + 1) 0) b ≡ whole (markOf a b) size (drop at bs)
+    record-first e =
+        rw (length-drop at bs, le-leb size (length bs - at) h, getD-drop at bs 0 0, getD-drop at bs 1 0, add-zero at, eq-eqb (getD bs at 0) a e)
 
-pub high-is-nan : (b : ℕ) → 9218868437227405312 < b % 9223372036854775808 → div binary64 (ofBits binary64 0) (ofBits binary64 0) ≡ ofBits binary64 b
-high-is-nan b h =
-    zero-by-zero ∙ sym (is-nan (ofBits binary64 b) (sym (nanBits-is binary64 b) ∙ nanBits-above binary64 b ∙ lt-ltb 9218868437227405312 (b % 9223372036854775808) h))
+    pub record-other : (getD bs at 0 ≡ a → ⊥) → false ≡ whole (markOf a b) size (drop at bs)
+    record-other e = rw (length-drop at bs, le-leb size (length bs - at) h, getD-drop at bs 0 0, add-zero at, ne-eqb (getD bs at 0) a e)
 
--- ---- a record's mark
-pub mark-same : (at a b : ℕ) (bs : List ℕ) → getD bs at 0 ≡ a → eqb (getD bs (at + 1) 0) b ≡ markedBy (markOf a b) (drop at bs)
-mark-same at a b bs e =
-    rw (getD-drop at bs 0 0, getD-drop at bs 1 0, add-zero at, eq-eqb (getD bs at 0) a e)
-
-pub mark-other : (at a b : ℕ) (bs : List ℕ) → (getD bs at 0 ≡ a → ⊥) → false ≡ markedBy (markOf a b) (drop at bs)
-mark-other at a b bs h = rw (getD-drop at bs 0 0, add-zero at, ne-eqb (getD bs at 0) a h)
+-- one that stands whole ends within the list
+pub record-room : (m : Mark) (size at : ℕ) (bs : List ℕ) → at ≤ length bs → whole m size (drop at bs) ≡ true → at + size ≤ length bs
+record-room m size at bs h e =
+    omega (arith, leb-true size (length (drop at bs)) (and-fst (leb size (length (drop at bs))) (markedBy m (drop at bs)) e), length-drop at bs)

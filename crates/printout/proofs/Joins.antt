@@ -32,10 +32,11 @@ use Rattle.print_texts.specs.Wrote.{Wrote, TextRoom, refusalOf}
 use Rattle.packed.specs.Reading.{Packed, packed, Stands, readLevels}
 use Rattle.packed.proofs.Counts.{noLevel}
 use Rattle.packed.proofs.Unpacked.{Packs, levels-are, tree-back, tree-stands}
-use Rattle.stream_reader.specs.declared.Settings.{Settings}
+use Rattle.settings_record.specs.declared.Settings.{Settings}
 use Rattle.stream_reader.specs.declared.Read.{Read}
 use Rattle.stream_reader.specs.declared.Read.the-variants.{Whole, Broken}
-use Rattle.stream_reader.specs.Reading.{settingsAre, jobOf, Within}
+use Rattle.settings_record.specs.Reading.{settingsAre}
+use Rattle.stream_reader.specs.Reading.{jobOf, Within}
 use Rattle.printout.specs.Printing.{printCall, printAnswer, printOutput}
 
 -- ---- lists that are long enough

@@ -1,13 +1,13 @@
 // What the program prints for a job stream, as a function on lists: bytes in, bytes out, and the count of them back.
+use settings_record::Settings;
 use stream_reader::Read;
-use stream_reader::Settings;
 ghost use mathlib.Core.Path.{_≡_};
 ghost use Prim.Native.Nat.{_≤_};
 ghost use lib.ListN.{length};
 ghost use Rattle.formats.specs.Stream.{job};
 ghost use Rattle.formats.specs.Printout.{jobText, printout as printed};
 ghost use Rattle.stream_laws.specs.Sizes.{JobLimits, mostBytes};
-ghost use Rattle.stream_reader.specs.Reading.{settingsAre};
+ghost use Rattle.settings_record.specs.Reading.{settingsAre};
 ghost use Rattle.print_texts.specs.Wrote.{Wrote};
 ghost use Rattle.printout.specs.Printing.{printAnswer, printOutput, printedAnswer};
 

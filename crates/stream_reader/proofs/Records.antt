@@ -1,71 +1,38 @@
--- The records one after the other: what the definition says at each step of the reading. `point-none` and `point-step` store a point's
--- axes, `point-short`, `point-there` and `point-room` are its record's bytes, `job-broken`, `job-low` and `job-high` the settings, `Reading`
--- is the state between two records with its start (`begun`) and its steps (`reading-..`), `policy-..` the policy. Assumes nothing.
--- Holds: axis, point-none, point-step, point-short, point-there, point-room, whole-long, job-broken, job-low, job-high, Reading,
---   begun, spot, reading-cut, reading-full, reading-more, reading-over, reading-done
+-- The records one after the other: what the definition says at each step of the reading. `job-broken`, `job-low` and `job-high` are the
+-- settings, `Reading` is the state between two records with its start (`begun`) and its steps (`reading-..`). Assumes nothing.
+-- Holds: settingsWhole, whole-long, job-broken, job-low, job-high, Reading, begun, spot, reading-cut, reading-full, reading-more,
+--   reading-over, reading-done
 use mathlib.Core.Path.{_≡_, sym, ap, _∙_}
-use mathlib.Core.Bool.{Bool, true, false}
+use mathlib.Core.Bool.{Bool, true, false, _&&_}
 use Prim.Native.Nat.{ℕ, suc, _+_, _-_, _*_, _≤_, _<_}
-use native.Mathlib.Nat.{mul-le-mul, suc-mul, zero-mul}
+use native.Mathlib.Nat.{mul-le-mul, suc-mul, zero-mul, add-assoc}
 use native.Mathlib.Numerals.{add-one}
 use native.Mathlib.Omega.{arith}
-use mathlib.Core.List.{List, [], _∷_, _++_, map}
-use lib.ListN.{length, take, drop, set, length-drop}
+use mathlib.Core.List.{List, [], _++_}
+use lib.ListN.{length, take, drop, length-drop}
 use lib.Seq.{drop-drop}
-use lib.Dec.{leb}
 use lib.Ieee.{Float}
-use borrow.Author.Tests.{le-ltb, lt-ltb, le-leb, lt-leb, leb-true}
+use borrow.Author.Tests.{le-ltb, lt-ltb, le-leb, lt-leb}
 use Rattle.lists.specs.Lists.{put}
-use Rattle.lists.proofs.Put.{put-nil, put-snoc, take-put-end}
-use Rattle.lists.specs.Lists.{from}
-use Rattle.lists.proofs.From.{map-below-suc}
+use Rattle.lists.proofs.Put.{take-put-end}
 use Rattle.lists.proofs.Tests.{and-fst}
 use Rattle.definition.specs.Tree as tree
-use Rattle.formats.specs.Bytes.{floatsAt, markedBy, whole, markSize, floatSize, floatAt, valueAt}
-use Rattle.formats.specs.Stream.{settingsSize, dimensionField, settingsIn, pointMark, pointSize, job, broken, brokenAt, tooLarge, streamPoints, streamNeighbours, readPoints, held, jobIn}
+use Rattle.formats.specs.Bytes.{floatsAt, whole, markSize, valueAt}
+use Rattle.formats.specs.Stream.{settingsMark, settingsSize, policyFits, dimensionField, settingsIn, pointMark, pointSize, job, broken, brokenAt, tooLarge, streamPoints, streamNeighbours, readPoints, held, jobIn}
 use Rattle.stream_laws.proofs.Stream.{length-coordinates, stream-end, stream-cut, stream-full, stream-more}
-use Rattle.stream_reader.proofs.Whole.{settingsWhole}
+use Rattle.bytes_in.proofs.Bytes.{record-room}
 
--- ---- one point
-module _ (at : ℕ) (bs : List ℕ) where
-  pub axis : ℕ → Float
-  axis a = floatAt (at + (markSize + floatSize * a)) bs
+-- ---- a point's coordinates, by their place in the stream
+point-is : (d at : ℕ) (bs : List ℕ) → floatsAt d (at + markSize) bs ≡ floatsAt d markSize (drop at bs)
+unfolding floatsAt
+point-is d at bs = simp (drop-drop, add-assoc)
 
-  point-is : (d : ℕ) → floatsAt d markSize (drop at bs) ≡ map axis (from 0 d)
-  unfolding floatsAt axis
-  point-is d = simp (drop-drop)
+-- ---- the settings: the record is whole, and its policy is one of the two
+abbrev pub settingsWhole : List ℕ → Bool
+settingsWhole bs = whole settingsMark settingsSize bs && policyFits bs
 
-  pub point-none : (l : List Float) (k : ℕ) → l ≡ put l k (floatsAt 0 markSize (drop at bs))
-  unfolding floatsAt from
-  point-none l k = sym (put-nil l k)
-
-  point-more : (a : ℕ) → floatsAt (a + 1) markSize (drop at bs) ≡ floatsAt a markSize (drop at bs) ++ axis a ∷ []
-  point-more a =
-      point-is (a + 1) ∙ map-below-suc axis a ∙ ap (λ (l : List Float). l ++ axis a ∷ []) (sym (point-is a))
-
-  -- one axis more is stored
-  pub point-step : (l m : List Float) (k a : ℕ) (x : Float) → m ≡ put l k (floatsAt a markSize (drop at bs)) → k + a < length l
-      → x ≡ floatAt (at + (markSize + floatSize * a)) bs
-      → set m (k + a) x ≡ put l k (floatsAt (a + 1) markSize (drop at bs))
-  unfolding axis
-  point-step l m k a x e h g =
-      rw (e, g)
-      (put-snoc l k (floatsAt a markSize (drop at bs)) (axis a) (k + a) (omega (arith, length-coordinates a markSize (drop at bs))) h ∙ ap (put l k) (sym (point-more a)))
-
--- ---- a whole point record
-pub point-short : (d at : ℕ) (bs : List ℕ) → length bs - at < pointSize d → false ≡ whole pointMark (pointSize d) (drop at bs)
-point-short d at bs h = rw (length-drop at bs, lt-leb (pointSize d) (length bs - at) h)
-
-pub point-there : (d at : ℕ) (bs : List ℕ) (b : Bool) → pointSize d ≤ length bs - at → b ≡ markedBy pointMark (drop at bs) → b ≡ whole pointMark (pointSize d) (drop at bs)
-point-there d at bs b h e = rw (length-drop at bs, le-leb (pointSize d) (length bs - at) h) e
-
-pub point-room : (d at : ℕ) (bs : List ℕ) → at < length bs → whole pointMark (pointSize d) (drop at bs) ≡ true → at + pointSize d ≤ length bs
-point-room d at bs h e =
-    omega (arith, leb-true (pointSize d) (length (drop at bs)) (and-fst (leb (pointSize d) (length (drop at bs))) (markedBy pointMark (drop at bs)) e), length-drop at bs)
-
--- ---- the settings
 pub whole-long : (bs : List ℕ) → settingsWhole bs ≡ true → settingsSize ≤ length bs
-whole-long bs e = leb-true settingsSize (length bs) (and-fst (leb settingsSize (length bs)) _ (and-fst _ _ e))
+whole-long bs e = record-room settingsMark settingsSize 0 bs (omega arith) (and-fst (whole settingsMark settingsSize bs) (policyFits bs) e)
 
 module _ (bs : List ℕ) where
   pub job-broken : settingsWhole bs ≡ false → brokenAt 0 ≡ jobIn bs
@@ -133,7 +100,7 @@ module _ {s : tree.Settings} {bs : List ℕ} {cs : List Float} {at n : ℕ} (r :
       (stream-full s (drop at bs) (take (n * s .dimension) cs) at (left h) e))
 
   pub reading-more : at < length bs → whole pointMark (pointSize (s .dimension)) (drop at bs) ≡ true → (n ≡ streamPoints → ⊥) → (ds : List Float)
-      → ds ≡ put cs (n * s .dimension) (floatsAt (s .dimension) markSize (drop at bs))
+      → ds ≡ put cs (n * s .dimension) (floatsAt (s .dimension) (at + markSize) bs)
       → length ds ≡ length cs → Reading s bs ds (at + pointSize (s .dimension)) (n + 1)
   reading-more h e f ds p l =
       let d = s .dimension in
@@ -143,11 +110,11 @@ module _ {s : tree.Settings} {bs : List ℕ} {cs : List Float} {at n : ℕ} (r :
       let m : n < streamPoints = omega (arith, r .few) in
       let z : streamPoints - n ≡ suc (streamPoints - (n + 1)) = omega arith in
       let t : (n + 1) * d ≡ k + length x = omega (arith, ap (λ (i : ℕ). i * d) (add-one n), suc-mul n d, length-coordinates d markSize (drop at bs)) in
-      let c : take ((n + 1) * d) ds ≡ take k cs ++ x = rw (t, p) (take-put-end cs k x (omega (arith, spot n d m (r .flat), r .room))) in
+      let c : take ((n + 1) * d) ds ≡ take k cs ++ x = rw (t, p, point-is d at bs) (take-put-end cs k x (omega (arith, spot n d m (r .flat), r .room))) in
       record {
         few = m′ m;
         flat = r .flat;
-        within = point-room d at bs h e;
+        within = record-room pointMark size at bs (r .within) e;
         room = omega (arith, r .room);
         same =
             r .same

@@ -3,15 +3,10 @@ use Prim.Native.Nat.{_*_, _≤_}
 use mathlib.Core.List.{List}
 use lib.ListN.{take}
 use lib.Ieee.{Float}
-use Rattle.config.specs.Params.{settingsOf}
-use Rattle.definition.specs.Tree as tree
 use Rattle.formats.specs.Stream.{Job, job, broken, streamPoints}
-use Rattle.stream_reader.specs.declared.Settings.{Settings}
+use Rattle.settings_record.specs.Reading.{settingsAre}
 use Rattle.stream_reader.specs.declared.Read.{Read}
 use Rattle.stream_reader.specs.declared.Read.the-variants.{Whole, Broken}
-
-abbrev pub settingsAre : Settings → tree.Settings
-settingsAre s = settingsOf (s .dimensions) (s .params)
 
 -- the job that an answer stands for, the coordinates being at the front of cs
 abbrev pub jobOf : Read → List Float → Job

@@ -1,0 +1,2 @@
+-- What is said of a record that is fetched.
+pub mod Fetch

@@ -1,0 +1,2 @@
+-- What is asked of rows that are marked.
+pub mod Markable

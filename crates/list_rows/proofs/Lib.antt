@@ -1,0 +1,2 @@
+-- Laws of the order of rows in a list.
+pub mod Order

@@ -1,0 +1,2 @@
+-- The order of rows in a list.
+pub mod Order

@@ -1,0 +1,2 @@
+-- Rows marked, one bit each.
+pub mod Bits
