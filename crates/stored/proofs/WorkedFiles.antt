@@ -1,12 +1,13 @@
 -- The file of document 01's four points, byte for byte, and what the definitions make of it, of damaged copies, and of trees at the
 -- limits. Each row is computed. Assumes nothing.
--- Holds: fourFile, kept, Files, files
+-- Holds: fourFile, everything, Files, files
 use Prim.Native.Nat.{ℕ}
 use mathlib.Core.Bool.{Bool, true, false}
 use mathlib.Core.Path.{_≡_, refl}
-use mathlib.Core.List.{List, [], _∷_, _++_}
+use mathlib.Core.List.{List, [], _∷_, _++_, map}
 use lib.ListN.{set, getD, take, length, replicate}
 use lib.Ieee.{Float, binary64, ofBits}
+use Rattle.lists.specs.Lists.{joined}
 use Rattle.definition.specs.Levels.{Policy, auto, fixed}
 use Rattle.definition.specs.Tree.{Settings, Leaf, Level, levels}
 use Rattle.definition.specs.Packed.{Counts}
@@ -14,10 +15,12 @@ use Rattle.definition.specs.Outcome.{Answer, TreeLists, zeroCounts, buildLists}
 use Rattle.definition.proofs.WorkedSamples.{opened, line, onLine, nines, floatRoom, wholeRoom}
 use Rattle.packed.specs.Reading.{readLeaf, readLeaves, readLevel, readLevels}
 use Rattle.formats.specs.Bytes.{little, bytesOf, numbersAt, numbersBytes, floatsAt, floatsBytes}
-use Rattle.formats.specs.Stream.{settingsIn, settingsBytes}
+use Rattle.formats.specs.Stream.{settingsIn, settingsBytes, policyFits, readPoints, held, jobIn}
+use Rattle.formats.specs.Printout.{ascii, decimalOnto, decimal, hexOnto, rowsText, boxText, domainLine, fineLines, coarseLines, levelLine, levelsText, treeText, refusalText, builtText, jobText, printout}
 use Rattle.stored.specs.File.{headBytes, pointBytes, frontBytes, levelBytes, domainBytes, treeRecords, fileBytes}
 use Rattle.stored.specs.Sound.{same, ascending, partitioned, soundLeaf, soundBox, noBox, soundRows, properPart, soundLevels, firstAll, fits, sound}
 use Rattle.stored.specs.Stored.{leafIn, leafSize, leavesAt, afterLeaves, levelIn, afterLevel, levelsAt, pointsIn, treeIn, taken, buildable, wellFormed}
+use Rattle.stored.specs.Programs.{Kept, file, nothing, keptBy, keptJob, kept, blankLists, reloadedBy, reloadedFor, reloaded}
 use Rattle.stored.specs.Outcome.{listsShort, ownTests, loadVerdict, loadAnswer, loadLists, treeHeld, packs, writeVerdict, writeAnswer, writeOutput}
 
 -- head; four points; level 0 and its four domains; level 1 and the coarse domain
@@ -52,6 +55,11 @@ reports x = record { number = 0; place = 0; value = x }
 
 abbrev refuses : {A : Type 0} → ℕ → A → Answer A
 refuses k zeros = record { number = k; place = 0; value = zeros }
+
+-- the job stream of these settings and points
+unfoldable stream : ℕ → List ℕ
+stream threshold =
+    0x53 ∷ 0x54 ∷ settingsBytes (onLine 2 threshold) ++ joined (map (λ x. 0x50 ∷ 0x54 ∷ floatsBytes (x ∷ [])) place)
 
 -- ---- loading
 
@@ -124,9 +132,9 @@ abbrev passes : ℕ → List Leaf → Bool
 passes neighbours more = wellFormed (fileBytes (onPair neighbours) (line (0 ∷ 1 ∷ [])) (pair more))
 
 -- To unfold this is to unfold every definition that its line names.
-unfoldable pub kept : ℕ
-unfolding opened little bytesOf numbersAt numbersBytes floatsAt floatsBytes settingsIn settingsBytes readLeaf readLeaves readLevel readLevels headBytes pointBytes frontBytes levelBytes domainBytes treeRecords fileBytes same ascending partitioned soundLeaf soundBox noBox soundRows properPart soundLevels firstAll fits sound leafIn leafSize leavesAt afterLeaves levelIn afterLevel levelsAt pointsIn treeIn taken buildable wellFormed listsShort ownTests loadVerdict loadAnswer loadLists treeHeld packs writeVerdict writeAnswer writeOutput fourFile pair
-kept = 0
+unfoldable pub everything : ℕ
+unfolding opened little bytesOf numbersAt numbersBytes floatsAt floatsBytes settingsIn settingsBytes readLeaf readLeaves readLevel readLevels headBytes pointBytes frontBytes levelBytes domainBytes treeRecords fileBytes same ascending partitioned soundLeaf soundBox noBox soundRows properPart soundLevels firstAll fits sound leafIn leafSize leavesAt afterLeaves levelIn afterLevel levelsAt pointsIn treeIn taken buildable wellFormed listsShort ownTests loadVerdict loadAnswer loadLists treeHeld packs writeVerdict writeAnswer writeOutput fourFile pair policyFits readPoints held jobIn ascii decimalOnto decimal hexOnto rowsText boxText domainLine fineLines coarseLines levelLine levelsText treeText refusalText builtText jobText printout keptBy keptJob kept blankLists reloadedBy reloadedFor reloaded stream
+everything = 0
 
 pub record Files : Type 0 where
   -- a domain record: internal rows, then borrowed rows; lower bounds, then upper ones; the coarse domain has none
@@ -134,14 +142,14 @@ pub record Files : Type 0 where
   lower-first : domainBytes (line (0 ∷ 1 ∷ [])) (leaf (1 ∷ []) []) ≡ 0x54 ∷ 0x44 ∷ numbersBytes (1 ∷ 0 ∷ 1 ∷ 0 ∷ 0 ∷ 0 ∷ 0x3ff00000 ∷ [])
   coarse-bare : getD (treeRecords four) 6 [] ≡ 0x54 ∷ 0x44 ∷ numbersBytes (2 ∷ 0 ∷ 0 ∷ 1 ∷ [])
   -- the writer's bytes, 270 of them, and the tree read back
-  file : fileBytes (onLine 2 2) place four ≡ fourFile
+  whole-file : fileBytes (onLine 2 2) place four ≡ fourFile
   bytes : length fourFile ≡ 270
   tree : treeIn fourFile ≡ four
   -- loaded: the counts and lists of the build
   loaded : load fourFile ≡ reports fourCounts
   lists : loadLists (onLine 2 2) place fourFile (nines 4) ≡ fourLists
   -- nothing at all, one byte less, one byte more
-  nothing : load [] ≡ refuses 20 zeroCounts
+  no-bytes : load [] ≡ refuses 20 zeroCounts
   cut : load (take 269 fourFile) ≡ refuses 20 zeroCounts
   longer : load (fourFile ++ 0 ∷ []) ≡ refuses 20 zeroCounts
   -- a mark, a policy, a leaf threshold that the build refuses
@@ -180,6 +188,13 @@ pub record Files : Type 0 where
   past-list : write fourCounts (withDomain 17 64) 270 ≡ refuses 20 0
   -- a coarse box of -0; before that the room for the file does not count
   minus-zero : write fourCounts (withBound 9 (ofBits binary64 0x8000000000000000)) 0 ≡ refuses 20 0
+  -- the programs: a job's file, and its printout again; a refusal of the stream, of the build, and of the file
+  keeps : kept (stream 2) ≡ file fourFile
+  keeps-nothing : kept [] ≡ nothing (record { number = 16; place = 0 })
+  build-refuses : kept (stream 0) ≡ nothing (record { number = 4; place = 0 })
+  reloads : reloaded (stream 2) fourFile ≡ printout (stream 2)
+  reloads-nothing : reloaded (stream 3) fourFile ≡ ascii "refused 18 at 0\n"
+  stream-first : reloaded [] [] ≡ ascii "refused 16 at 0\n"
   -- 13 domains in all pass, and 14 don't; without neighbours 12 borrowed rows pass, and 13 don't
   domains-most : passes 1 (empty 10) ≡ true
   domains-more : passes 1 (empty 11) ≡ false
@@ -187,18 +202,18 @@ pub record Files : Type 0 where
   borrowed-more : passes 0 (borrowing 6 ++ leaf [] (0 ∷ []) ∷ empty 3) ≡ false
 
 pub files : Files
-unfolding kept
+unfolding everything
 files =
     record {
       internal-first = refl;
       lower-first = refl;
       coarse-bare = refl;
-      file = refl;
+      whole-file = refl;
       bytes = refl;
       tree = refl;
       loaded = refl;
       lists = refl;
-      nothing = refl;
+      no-bytes = refl;
       cut = refl;
       longer = refl;
       mark = refl;
@@ -227,6 +242,12 @@ files =
       elsewhere = refl;
       past-list = refl;
       minus-zero = refl;
+      keeps = refl;
+      keeps-nothing = refl;
+      build-refuses = refl;
+      reloads = refl;
+      reloads-nothing = refl;
+      stream-first = refl;
       domains-most = refl;
       domains-more = refl;
       borrowed-most = refl;

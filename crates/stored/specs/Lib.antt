@@ -3,3 +3,4 @@ pub mod File
 pub mod Sound
 pub mod Stored
 pub mod Outcome
+pub mod Programs
