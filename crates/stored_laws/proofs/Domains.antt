@@ -1,0 +1,131 @@
+-- A domain's record read back, its size, and what stands after it. Assumes nothing.
+-- Holds: Stowed, boundsOf, Boxed, length-domain, leaf-back, leaf-size, leaf-after
+use mathlib.Core.Path.{_≡_, refl, sym, ap, ap₂, _∙_}
+use Prim.Native.Nat.{ℕ, _+_, _*_}
+use native.Mathlib.Omega.{arith}
+use mathlib.Core.Bool.{Bool, true, false}
+use mathlib.Core.List.{List, [], _++_, append-assoc}
+use lib.ListN.{length, drop, replicate, length-append}
+use lib.Seq.{drop-at}
+use lib.Ieee.{Float}
+use Rattle.lists.specs.Ascends.{All}
+use Rattle.definition.specs.Number.{plusZero}
+use Rattle.definition.specs.Points.{boxWidth}
+use Rattle.definition.specs.Tree.{Leaf}
+use Rattle.formats.specs.Bytes.{markSize, markBytes, numberSize, numberBytes, numbersAt, numbersBytes, floatSize, floatsAt, floatsBytes}
+use Rattle.bytes_out.proofs.Bytes.{length-bytes}
+use Rattle.stored.specs.File.{domainMark, domainBytes}
+use Rattle.stored.specs.Stored.{countsSize, firstCount, secondCount, borrowedPlace, boundsPlace, leafIn, leafSize}
+use Rattle.stored_laws.specs.Writable.{NumberFits, FloatFits}
+use Rattle.stored_laws.proofs.Fields.{field-back, drop-on, length-numbers, numbers-back, length-floats, floats-back}
+
+-- ---- a leaf that its record holds
+pub record Stowed (f : Leaf) : Type 0 where
+  pub own-few : NumberFits (length (f .own))
+  pub borrowed-few : NumberFits (length (f .borrowed))
+  pub own-small : All NumberFits (f .own)
+  pub borrowed-small : All NumberFits (f .borrowed)
+
+-- the bounds that stand in the record, and the box that goes with them
+abbrev pub boundsOf : Bool → Leaf → List Float
+boundsOf true f = []
+boundsOf false f = f .box
+
+abbrev pub Boxed : ℕ → Bool → Leaf → Type 0
+Boxed d true f = f .box ≡ replicate (boxWidth d) plusZero
+Boxed d false f = (length (f .box) ≡ boxWidth d) × All FloatFits (f .box)
+
+-- ---- the record
+pub length-domain : (bounds : List Float) (f : Leaf)
+    → length (domainBytes bounds f) ≡ countsSize + numberSize * (length (f .own) + length (f .borrowed)) + floatSize * length bounds
+unfolding domainBytes
+length-domain bounds f = simp (length-append, length-bytes, length-numbers, length-floats) (omega arith)
+
+module _ (f : Leaf) (bounds : List Float) (bs rest : List ℕ) (k : Stowed f) (e : bs ≡ domainBytes bounds f ++ rest) where
+  abbrev o : ℕ
+  o = length (f .own)
+
+  abbrev b : ℕ
+  b = length (f .borrowed)
+
+  abbrev r4 : List ℕ
+  r4 = floatsBytes bounds ++ rest
+
+  abbrev r3 : List ℕ
+  r3 = numbersBytes (f .borrowed) ++ r4
+
+  abbrev r2 : List ℕ
+  r2 = numbersBytes (f .own) ++ r3
+
+  abbrev r1 : List ℕ
+  r1 = numberBytes b ++ r2
+
+  at-first : drop markSize bs ≡ numberBytes o ++ r1
+  unfolding domainBytes
+  at-first = ap (drop markSize) e ∙ simp append-assoc
+
+  at-second : drop (markSize + numberSize) bs ≡ r1
+  at-second = drop-on markSize numberSize bs (numberBytes o) r1 (length-bytes numberSize o) at-first
+
+  at-own : drop countsSize bs ≡ r2
+  at-own = drop-on (markSize + numberSize) numberSize bs (numberBytes b) r2 (length-bytes numberSize b) at-second
+
+  at-borrowed : drop (countsSize + numberSize * o) bs ≡ r3
+  at-borrowed = drop-on countsSize (numberSize * o) bs (numbersBytes (f .own)) r3 (length-numbers (f .own)) at-own
+
+  at-bounds : drop (countsSize + numberSize * (o + b)) bs ≡ r4
+  at-bounds =
+      let z : countsSize + numberSize * (o + b) ≡ countsSize + numberSize * o + numberSize * b = omega arith in
+      ap (λ (i : ℕ). drop i bs) z
+      ∙ drop-on (countsSize + numberSize * o) (numberSize * b) bs (numbersBytes (f .borrowed)) r4 (length-numbers (f .borrowed)) at-borrowed
+
+  own-count : firstCount bs ≡ o
+  own-count = field-back numberSize o markSize bs r1 (k .own-few) at-first
+
+  borrowed-count : secondCount bs ≡ b
+  borrowed-count = field-back numberSize b (markSize + numberSize) bs r2 (k .borrowed-few) at-second
+
+  own-back : numbersAt (firstCount bs) countsSize bs ≡ f .own
+  own-back = ap (λ (n : ℕ). numbersAt n countsSize bs) own-count ∙ numbers-back (f .own) countsSize bs r3 (k .own-small) at-own
+
+  borrowed-back : numbersAt (secondCount bs) (borrowedPlace bs) bs ≡ f .borrowed
+  borrowed-back =
+      ap₂ (λ (n m : ℕ). numbersAt n (countsSize + numberSize * m) bs) borrowed-count own-count
+      ∙ numbers-back (f .borrowed) (countsSize + numberSize * o) bs r4 (k .borrowed-small) at-borrowed
+
+  bounds-back : All FloatFits bounds → floatsAt (length bounds) (boundsPlace bs) bs ≡ bounds
+  bounds-back h =
+      ap₂ (λ (n m : ℕ). floatsAt (length bounds) (countsSize + numberSize * (n + m)) bs) own-count borrowed-count
+      ∙ floats-back bounds (countsSize + numberSize * (o + b)) bs rest h at-bounds
+
+  domain-size : boundsPlace bs + floatSize * length bounds ≡ length (domainBytes bounds f)
+  domain-size =
+      ap₂ (λ (n m : ℕ). countsSize + numberSize * (n + m) + floatSize * length bounds) own-count borrowed-count
+      ∙ sym (length-domain bounds f)
+
+-- ---- the leaf
+abbrev leaf : List ℕ → List ℕ → List Float → Leaf
+leaf own borrowed box = record { own = own; borrowed = borrowed; box = box }
+
+module _ (d : ℕ) where
+  pub leaf-back : (coarse : Bool) (f : Leaf) (bs rest : List ℕ) → Stowed f → Boxed d coarse f → bs ≡ domainBytes (boundsOf coarse f) f ++ rest → leafIn d coarse bs ≡ f
+  unfolding leafIn
+  leaf-back true f bs rest k x e =
+      ap (λ (own : List ℕ). leaf own (numbersAt (secondCount bs) (borrowedPlace bs) bs) (replicate (boxWidth d) plusZero)) (own-back f [] bs rest k e)
+      ∙ ap₂ (λ (borrowed : List ℕ) (box : List Float). leaf (f .own) borrowed box) (borrowed-back f [] bs rest k e) (sym x)
+  leaf-back false f bs rest k x e =
+      ap (λ (own : List ℕ). leaf own (numbersAt (secondCount bs) (borrowedPlace bs) bs) (floatsAt (boxWidth d) (boundsPlace bs) bs)) (own-back f (f .box) bs rest k e)
+      ∙ ap₂ (λ (borrowed : List ℕ) (box : List Float). leaf (f .own) borrowed box) (borrowed-back f (f .box) bs rest k e)
+      (ap (λ (n : ℕ). floatsAt n (boundsPlace bs) bs) (sym (x .0)) ∙ bounds-back f (f .box) bs rest k e (x .1))
+
+  pub leaf-size : (coarse : Bool) (f : Leaf) (bs rest : List ℕ) → Stowed f → Boxed d coarse f → bs ≡ domainBytes (boundsOf coarse f) f ++ rest
+      → leafSize d coarse bs ≡ length (domainBytes (boundsOf coarse f) f)
+  unfolding leafSize
+  leaf-size true f bs rest k x e = domain-size f [] bs rest k e
+  leaf-size false f bs rest k x e =
+      let z : floatSize * boxWidth d ≡ floatSize * length (f .box) = omega (arith, x .0) in
+      ap (λ (n : ℕ). boundsPlace bs + n) z ∙ domain-size f (f .box) bs rest k e
+
+  pub leaf-after : (coarse : Bool) (f : Leaf) (bs rest : List ℕ) → Stowed f → Boxed d coarse f → bs ≡ domainBytes (boundsOf coarse f) f ++ rest → drop (leafSize d coarse bs) bs ≡ rest
+  leaf-after coarse f bs rest k x e =
+      ap₂ drop (leaf-size coarse f bs rest k x e) e ∙ drop-at (domainBytes (boundsOf coarse f) f) rest (length (domainBytes (boundsOf coarse f) f)) refl

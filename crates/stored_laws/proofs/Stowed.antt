@@ -1,0 +1,177 @@
+-- A tree that passes the tests, over at most 1,048,576 rows and with bounds of the format, fits the fields of its file. Assumes nothing.
+use mathlib.Core.Path.{_≡_, sym, ap, ap₂, subst, _∙_, refl}
+use mathlib.Core.Logic.{⊎-elim}
+use Prim.Native.Nat.{ℕ, zero, suc, _*_, _≤_, _<_}
+use native.Mathlib.Omega.{arith}
+use mathlib.Core.Bool.{Bool, true, false, not, _&&_}
+use mathlib.Core.List.{List, [], _∷_, map}
+use lib.ListN.{length, replicate, length-append}
+use lib.Dec.{leb, ltb, eqb}
+use lib.Ieee.{Float, binary64, toBits, ofBits, isNan}
+use lib.Ieee.Bits.{ofBits-toBits, ofBits-fits}
+use borrow.Author.Tests.{ltb-true, leb-true, eqb-true, not-true}
+use Rattle.lists.specs.Lists.{anyOf, member, count, from, joined}
+use Rattle.lists.specs.Ascends.{All, Ascends}
+use Rattle.lists.specs.Times.{times}
+use Rattle.lists.proofs.Tests.{clash, and-fst, and-snd, le-or-lt}
+use Rattle.lists.proofs.All.{all-of, all-mem, joined-all}
+use Rattle.lists.proofs.From.{mem-from, all-from, length-from}
+use Rattle.lists.proofs.Members.{member-mem}
+use Rattle.lists.proofs.Times.{times-mem, mem-times, once-short}
+use Rattle.lists.proofs.Ascends.{ascends-from, ascends-once}
+use Rattle.definition.specs.Number.{plusZero}
+use Rattle.definition.specs.Points.{boxWidth}
+use Rattle.definition.specs.Tree.{Settings, Leaf, Level}
+use Rattle.definition.specs.Packed.{mostLevels, mostRows, rowNumbers, BuildSizes, buildStated, leavesIn, packedLevelPoints, packedInternals, packedDomains, packedBorrowed}
+use Rattle.definition.specs.Refusals.{mostPoints}
+use Rattle.definition_laws.proofs.Fit.{length-domains}
+use Rattle.stored.specs.Sound.{allOf, ascending, partitioned, soundLeaf, soundBox, noBox, soundRows, properPart, soundLevels, firstAll, fits, sound}
+use Rattle.stored_laws.specs.Writable.{NumberFits, FloatFits, BoxesFit}
+use Rattle.stored_laws.proofs.Tests.{three, four, five, same-is, all-pass, ascending-is}
+use Rattle.stored_laws.proofs.Domains.{Stowed, Boxed}
+use Rattle.stored_laws.proofs.Levels.{StowedLevel, StowedTree}
+
+-- ---- rows below n
+abbrev Below : ℕ → List ℕ → Type 0
+Below n l = All (λ i. i < n) l
+
+few : (n : ℕ) (l : List ℕ) → Ascends l → Below n l → length l ≤ n
+few n l a h =
+    omega (arith, once-short (from 0 n) l (ascends-once (from 0 n) (ascends-from 0 n)) within, length-from 0 n)
+  where
+    within : (r : ℕ) → times r l ≤ times r (from 0 n)
+    within r =
+        ⊎-elim
+        (λ (none : times r l ≤ 0). omega arith)
+        (λ (some : 0 < times r l).
+        let below = all-mem (λ i. i < n) l h r (times-mem l r some) in
+        omega (arith, ascends-once l a r, mem-times (from 0 n) r (mem-from 0 n (omega arith) (omega (arith, below)))))
+        (le-or-lt (times r l) 0)
+
+-- the property of each image is one of each element
+map-all : {A B : Type 0} (P : B → Type 0) (f : A → B) (l : List A) → All P (map f l) → All (λ x. P (f x)) l
+unfolding All
+map-all P f [] h = tt
+map-all P f (x ∷ l) h = (h .0, map-all P f l (h .1))
+
+small : (n : ℕ) (l : List ℕ) → n ≤ mostPoints → Below n l → All NumberFits l
+small n l h k = all-of NumberFits l (λ x m. omega (arith, all-mem (λ i. i < n) l k x m))
+
+-- ---- a leaf
+leaf-stowed : (n : ℕ) (active : List ℕ) (f : Leaf) → n ≤ mostPoints → Below n active → Below n (f .own) → soundLeaf active f ≡ true → Stowed f
+unfolding soundLeaf
+leaf-stowed n active f h k o e =
+    let p : ℕ → Bool = λ j. member j active && not (member j (f .own)) in
+    let g = three (ascending (f .own)) (ascending (f .borrowed)) (allOf p (f .borrowed)) e in
+    let b : Below n (f .borrowed) =
+    all-of (λ i. i < n) (f .borrowed)
+    (λ x m. all-mem (λ i. i < n) active k x (member-mem active x (and-fst (member x active) (not (member x (f .own))) (all-pass p (f .borrowed) (g .2) x m)))) in
+    let u = few n (f .own) (ascending-is (f .own) (g .0)) o in
+    let v = few n (f .borrowed) (ascending-is (f .borrowed) (g .1)) b in
+    record {
+      own-few = omega (arith, u, h);
+      borrowed-few = omega (arith, v, h);
+      own-small = small n (f .own) h o;
+      borrowed-small = small n (f .borrowed) h b;
+    }
+
+-- ---- boxes
+zeros-fit : (k : ℕ) → All FloatFits (replicate k plusZero)
+unfolding All
+zeros-fit zero = tt
+zeros-fit (suc k) = (ofBits-fits binary64 0, zeros-fit k)
+
+unbits : (xs : List Float) → All FloatFits xs → map (ofBits binary64) (map (toBits binary64) xs) ≡ xs
+unfolding All
+unbits [] h = refl
+unbits (x ∷ xs) h = ap₂ (λ (y : Float) (ys : List Float). y ∷ ys) (ofBits-toBits binary64 x (h .0)) (unbits xs (h .1))
+
+coarse-boxed : (d : ℕ) (f : Leaf) → All FloatFits (f .box) → noBox d f ≡ true → Boxed d true f
+unfolding noBox
+coarse-boxed d f h e =
+    let z = replicate (boxWidth d) plusZero in
+    sym (unbits (f .box) h)
+    ∙ ap (map (ofBits binary64)) (same-is (map (toBits binary64) (f .box)) (map (toBits binary64) z) e)
+    ∙ unbits z (zeros-fit (boxWidth d))
+
+fine-boxed : (d : ℕ) (f : Leaf) → All FloatFits (f .box) → soundBox d f ≡ true → Boxed d false f
+unfolding soundBox
+fine-boxed d f h e = (eqb-true (length (f .box)) (boxWidth d) (and-fst (eqb (length (f .box)) (boxWidth d)) (not (anyOf isNan (f .box))) e), h)
+
+-- ---- a level over rows below n
+abbrev Inside : ℕ → Level → Type 0
+Inside n l = (length (l .points) ≤ n) × Below n (l .points)
+
+leaves-stowed : (n : ℕ) (l : Level) → n ≤ mostPoints → Inside n l → soundRows l ≡ true → All Stowed (l .leaves)
+unfolding soundRows partitioned
+leaves-stowed n l h k e =
+    let own = joined (map (λ f. f .own) (l .leaves)) in
+    let p : ℕ → Bool = λ i. eqb (count (λ j. eqb j i) own) 1 in
+    let q : ℕ → Bool = λ i. member i (l .points) in
+    let g = three (ascending (l .points)) (allOf p (l .points) && allOf q own) (allOf (soundLeaf (l .points)) (l .leaves)) e in
+    let b : Below n own = all-of (λ i. i < n) own (λ x m. all-mem (λ i. i < n) (l .points) (k .1) x (member-mem (l .points) x (all-pass q own (and-snd (allOf p (l .points)) (allOf q own) (g .1)) x m))) in
+    let c : All (λ f. Below n (f .own)) (l .leaves) =
+    map-all (λ r. Below n r) (λ f. f .own) (l .leaves) (joined-all (λ i. i < n) (map (λ f. f .own) (l .leaves)) b) in
+    all-of Stowed (l .leaves)
+    (λ f m. leaf-stowed n (l .points) f h (k .1) (all-mem (λ x. Below n (x .own)) (l .leaves) c f m) (all-pass (soundLeaf (l .points)) (l .leaves) (g .2) f m))
+
+level-stowed : (d n : ℕ) (coarse : Bool) (l : Level) → n ≤ mostPoints → Inside n l → length (l .leaves) ≤ mostRows n → soundRows l ≡ true
+    → eqb (length (l .leaves)) 1 ≡ coarse → All (Boxed d coarse) (l .leaves) → StowedLevel d coarse l
+level-stowed d n coarse l h k m e o x =
+    record {
+      one = o;
+      rows-few = omega (arith, k .0, h);
+      leaves-few = omega (arith, m, h);
+      rows-small = small n (l .points) h (k .1);
+      stowed = leaves-stowed n l h k e;
+      boxed = x;
+    }
+
+next-inside : (n : ℕ) (l m : Level) → Inside n l → properPart (m .points) (l .points) ≡ true → Inside n m
+unfolding properPart
+next-inside n l m k e =
+    let p : ℕ → Bool = λ i. member i (l .points) in
+    let g = three (ltb 0 (length (m .points))) (ltb (length (m .points)) (length (l .points))) (allOf p (m .points)) e in
+    let s = ltb-true (length (m .points)) (length (l .points)) (g .1) in
+    (omega (arith, s, k .0), all-of (λ i. i < n) (m .points) (λ x u. all-mem (λ i. i < n) (l .points) (k .1) x (member-mem (l .points) x (all-pass p (m .points) (g .2) x u))))
+
+-- ---- the levels
+levels-stowed : (d n : ℕ) (l : Level) (ls : List Level) → n ≤ mostPoints → Inside n l → length (leavesIn (l ∷ ls)) ≤ mostRows n
+    → All BoxesFit (l ∷ ls) → soundLevels d (l ∷ ls) ≡ true → StowedTree d (l ∷ ls)
+unfolding soundLevels StowedTree leavesIn joined All
+levels-stowed d n l [] h k m b e =
+    let g = three (soundRows l) (eqb (length (l .leaves)) 1) (allOf (noBox d) (l .leaves)) e in
+    level-stowed d n true l h k (omega (arith, length-append (l .leaves) [], m)) (g .0) (g .1)
+    (all-of (Boxed d true) (l .leaves) (λ f u. coarse-boxed d f (all-mem (λ x. All FloatFits (x .box)) (l .leaves) (b .0) f u) (all-pass (noBox d) (l .leaves) (g .2) f u)))
+levels-stowed d n l (t ∷ ls) h k m b e =
+    let one = eqb (length (l .leaves)) 1 in
+    let g = five (soundRows l) (not one) (allOf (soundBox d) (l .leaves)) (properPart (t .points) (l .points)) (soundLevels d (t ∷ ls)) e in
+    let z = length-append (l .leaves) (leavesIn (t ∷ ls)) in (
+      level-stowed d n false l h k (omega (arith, z, m)) (g .0) (not-true one (g .1))
+          (all-of (Boxed d false) (l .leaves) (λ f u. fine-boxed d f (all-mem (λ x. All FloatFits (x .box)) (l .leaves) (b .0) f u) (all-pass (soundBox d) (l .leaves) (g .2) f u))),
+      levels-stowed d n t ls h (next-inside n l t k (g .3)) (omega (arith, z, m)) (b .1) (g .4),
+    )
+
+-- ---- the tree
+leaves-many : (d n k : ℕ) (ls : List Level) → fits d n k ls ≡ true → length (leavesIn ls) ≤ mostRows n
+unfolding fits buildStated
+leaves-many d n k ls e =
+    let stated = buildStated d n k in
+    let g = four (leb (length (packedLevelPoints ls)) (stated .level-points)) (leb (length (packedInternals ls)) (stated .internals)) (leb (length (packedDomains ls)) (stated .domains)) (leb (length (packedBorrowed ls)) (stated .borrowed)) e in
+    let m : length (packedDomains ls) ≤ rowNumbers * mostRows n = leb-true (length (packedDomains ls)) (stated .domains) (g .2) in
+    omega (arith, m, length-domains ls)
+
+pub sound-stowed : (s : Settings) (n : ℕ) (ls : List Level) → n ≤ mostPoints → All BoxesFit ls → sound s n ls ≡ true → (length ls ≤ mostLevels) × StowedTree (s .dimension) ls
+unfolding sound firstAll
+sound-stowed s n ls h b e =
+    let d = s .dimension in
+    let g = four (leb (length ls) mostLevels) (firstAll n ls) (soundLevels d ls) (fits d n (s .neighbours) ls) e in
+    (leb-true (length ls) mostLevels (g .0), go ls b (g .1) (g .2) (leaves-many d n (s .neighbours) ls (g .3)))
+  where
+    go : (ls : List Level) → All BoxesFit ls → firstAll n ls ≡ true → soundLevels (s .dimension) ls ≡ true → length (leavesIn ls) ≤ mostRows n → StowedTree (s .dimension) ls
+    go [] b f e m = clash f refl
+    go (l ∷ ls) b f e m =
+        let z = same-is (l .points) (from 0 n) f in
+        let i : Inside n l =
+        (omega (arith, ap length z, length-from 0 n), subst (λ (r : List ℕ). Below n r) (sym z) (all-from (λ j. j < n) 0 n (λ j u v. omega (arith, v)))) in
+        levels-stowed (s .dimension) n l ls h i m b e

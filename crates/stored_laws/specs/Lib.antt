@@ -1,0 +1,2 @@
+-- Definitions that the laws of the stored tree are stated with.
+pub mod Writable

@@ -1,0 +1,1 @@
+// Laws of the stored tree; there is no code of its own.
