@@ -1,5 +1,5 @@
 -- A domain's record read back, its size, and what stands after it. Assumes nothing.
--- Holds: Stowed, boundsOf, Boxed, length-domain, leaf-back, leaf-size, leaf-after
+-- Holds: Stowed, boundsOf, Boxed, length-domain, domain-parts, leaf-back, leaf-size, leaf-after
 use mathlib.Core.Path.{_≡_, refl, sym, ap, ap₂, _∙_}
 use Prim.Native.Nat.{ℕ, _+_, _*_}
 use native.Mathlib.Omega.{arith}
@@ -41,6 +41,13 @@ pub length-domain : (bounds : List Float) (f : Leaf)
 unfolding domainBytes
 length-domain bounds f = simp (length-append, length-bytes, length-numbers, length-floats) (omega arith)
 
+-- its fields, one after the other
+pub domain-parts : (bounds : List Float) (f : Leaf) (rest : List ℕ)
+    → domainBytes bounds f ++ rest
+    ≡ markBytes domainMark ++ (numberBytes (length (f .own)) ++ (numberBytes (length (f .borrowed)) ++ (numbersBytes (f .own) ++ (numbersBytes (f .borrowed) ++ (floatsBytes bounds ++ rest)))))
+unfolding domainBytes
+domain-parts bounds f rest = simp append-assoc
+
 module _ (f : Leaf) (bounds : List Float) (bs rest : List ℕ) (k : Stowed f) (e : bs ≡ domainBytes bounds f ++ rest) where
   abbrev o : ℕ
   o = length (f .own)
@@ -61,8 +68,7 @@ module _ (f : Leaf) (bounds : List Float) (bs rest : List ℕ) (k : Stowed f) (e
   r1 = numberBytes b ++ r2
 
   at-first : drop markSize bs ≡ numberBytes o ++ r1
-  unfolding domainBytes
-  at-first = ap (drop markSize) e ∙ simp append-assoc
+  at-first = ap (drop markSize) (e ∙ domain-parts bounds f rest)
 
   at-second : drop (markSize + numberSize) bs ≡ r1
   at-second = drop-on markSize numberSize bs (numberBytes o) r1 (length-bytes numberSize o) at-first

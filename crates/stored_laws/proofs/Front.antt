@@ -1,7 +1,7 @@
 -- Settings, point count, points and tree read back from bytes that begin with the head and the points, for numbers that the fields
 -- hold. Assumes nothing.
--- Holds: SmallSettings, policy-back, threshold-back, row, front-parts, points-stand, settings-read, count-read, points-read,
---   levels-stand, tree-read
+-- Holds: SmallSettings, head-parts, policy-back, threshold-back, pointRecord, row, points-written, front-parts, points-stand,
+--   settings-read, count-read, points-read, levels-stand, tree-read
 use mathlib.Core.Path.{_≡_, refl, sym, ap, ap₂, _∙_}
 use Prim.Native.Nat.{ℕ, zero, suc, _+_, _*_, _^_, _≤_, _<_}
 use native.Mathlib.Nat.{suc-mul, zero-mul, mul-comm}
@@ -22,7 +22,7 @@ use Rattle.definition.specs.Packed.{mostLevels}
 use Rattle.formats.specs.Bytes.{markSize, markBytes, bytesOf, valueAt, fieldEnd, numberSize, numberBytes, floatsAt, floatsBytes}
 use Rattle.formats.specs.Stream.{dimensionField, leafField, neighboursField, factorField, policyField, thresholdField, settingsSize, settingsIn, policyBytes, settingsBytes, pointSize}
 use Rattle.bytes_out.proofs.Bytes.{length-bytes}
-use Rattle.stored.specs.File.{filePointMark, headBytes, pointBytes, frontBytes, treeRecords}
+use Rattle.stored.specs.File.{headMark, filePointMark, headBytes, pointBytes, frontBytes, treeRecords}
 use Rattle.stored.specs.Stored.{headSize, countIn, pointsIn, levelsPlace, levelsAt, treeIn}
 use Rattle.stored_laws.specs.Writable.{NumberFits, FloatFits, SettingsFit, policyNumber, policyThreshold}
 use Rattle.stored_laws.proofs.Fields.{field-back, drop-on, length-floats, floats-back, length-each, read-each}
@@ -48,8 +48,12 @@ pub record SmallSettings (s : Settings) : Type 0 where
   pub neighbours-small : NumberFits (s .neighbours)
   pub others : SettingsFit s
 
-chain : (a b c d e f g x : List ℕ) → a ++ b ++ c ++ d ++ (e ++ f) ++ g ++ x ≡ a ++ (b ++ (c ++ (d ++ (e ++ (f ++ (g ++ x))))))
-chain a b c d e f g x = simp append-assoc
+-- the head's fields, one after the other
+pub head-parts : (s : Settings) (n : ℕ) (rest : List ℕ)
+    → headBytes s n ++ rest
+    ≡ markBytes headMark ++ (bytesOf 1 (s .dimension) ++ (numberBytes (s .leaf) ++ (numberBytes (s .neighbours) ++ (numberBytes (s .factor) ++ (policyBytes (s .policy) ++ (numberBytes n ++ rest))))))
+unfolding headBytes settingsBytes
+head-parts s n rest = simp append-assoc
 
 abbrev settings : ℕ → ℕ → ℕ → ℕ → Policy → Settings
 settings d l n f p = record { dimension = d; leaf = l; neighbours = n; factor = f; policy = p }
@@ -74,11 +78,10 @@ module _ (s : Settings) (n : ℕ) (bs rest : List ℕ) (k : SmallSettings s) (e 
   r1 = numberBytes (s .leaf) ++ r2
 
   at-dimension : drop markSize bs ≡ bytesOf 1 (s .dimension) ++ r1
-  unfolding headBytes settingsBytes
   at-dimension =
-      ap (drop markSize) e
-      ∙ ap (λ (p : List ℕ). bytesOf 1 (s .dimension) ++ numberBytes (s .leaf) ++ numberBytes (s .neighbours) ++ numberBytes (s .factor) ++ p ++ numberBytes n ++ rest) (policy-bytes (s .policy))
-      ∙ chain (bytesOf 1 (s .dimension)) (numberBytes (s .leaf)) (numberBytes (s .neighbours)) (numberBytes (s .factor)) (bytesOf 1 (policyNumber (s .policy))) (numberBytes (policyThreshold (s .policy))) (numberBytes n) rest
+      ap (drop markSize) (e ∙ head-parts s n rest)
+      ∙ ap (λ (p : List ℕ). bytesOf 1 (s .dimension) ++ (numberBytes (s .leaf) ++ (numberBytes (s .neighbours) ++ (numberBytes (s .factor) ++ p))))
+      (ap (λ (p : List ℕ). p ++ r6) (policy-bytes (s .policy)) ∙ append-assoc (bytesOf 1 (policyNumber (s .policy))) (numberBytes (policyThreshold (s .policy))) r6)
 
   at-leaf : drop (fieldEnd dimensionField) bs ≡ r1
   at-leaf = drop-on markSize 1 bs (bytesOf 1 (s .dimension)) r1 (length-bytes 1 (s .dimension)) at-dimension
@@ -129,6 +132,10 @@ getD-fits [] i h = tt
 getD-fits (x ∷ cs) zero h = h .0
 getD-fits (x ∷ cs) (suc i) h = getD-fits cs i (h .1)
 
+-- the record of a row's coordinates
+abbrev pub pointRecord : List Float → List ℕ
+pointRecord r = markBytes filePointMark ++ floatsBytes r
+
 module _ (d : ℕ) (cs : List Float) where
   -- the coordinates of row i
   abbrev pub row : ℕ → List Float
@@ -152,14 +159,11 @@ module _ (d : ℕ) (cs : List Float) where
   rows-joined : (n : ℕ) → length cs ≡ n * d → joined (map row (from 0 n)) ≡ cs
   rows-joined n e = rows-front n (omega arith) ∙ take-all (n * d) cs (omega arith)
 
-  -- a row of d coordinates of the format, and its record
+  -- a row of d coordinates of the format
   abbrev Row : List Float → Type 0
   Row r = (length r ≡ d) × All FloatFits r
 
-  abbrev recordOf : List Float → List ℕ
-  recordOf r = markBytes filePointMark ++ floatsBytes r
-
-  wide : (r : List Float) → Row r → length (recordOf r) ≡ pointSize d
+  wide : (r : List Float) → Row r → length (pointRecord r) ≡ pointSize d
   wide r h = omega (arith, length-floats r, h .0)
 
   rows-fit : (n : ℕ) → All FloatFits cs → All Row (map row (from 0 n))
@@ -167,20 +171,20 @@ module _ (d : ℕ) (cs : List Float) where
       all-map Row row (from 0 n)
       (all-from (λ i. Row (row i)) 0 n (λ i a b. (length-map-from (coordinate d cs i) 0 d, all-map FloatFits (coordinate d cs i) (from 0 d) (all-from (λ j. FloatFits (coordinate d cs i j)) 0 d (λ j u v. getD-fits cs (i * d + j) h)))))
 
-  points-written : (n : ℕ) → joined (map (pointBytes d cs) (from 0 n)) ≡ joined (map recordOf (map row (from 0 n)))
+  pub points-written : (n : ℕ) → joined (map (pointBytes d cs) (from 0 n)) ≡ joined (map pointRecord (map row (from 0 n)))
   unfolding pointBytes
-  points-written n = ap joined (sym (map-map recordOf row (from 0 n)))
+  points-written n = ap joined (sym (map-map pointRecord row (from 0 n)))
 
   points-length : (n : ℕ) → All FloatFits cs → length (joined (map (pointBytes d cs) (from 0 n))) ≡ pointSize d * n
   points-length n h =
-      ap length (points-written n) ∙ length-each Row (pointSize d) recordOf wide (map row (from 0 n)) (rows-fit n h)
+      ap length (points-written n) ∙ length-each Row (pointSize d) pointRecord wide (map row (from 0 n)) (rows-fit n h)
       ∙ ap (λ (m : ℕ). pointSize d * m) (length-map-from row 0 n)
 
   points-back : (n : ℕ) (bs rest : List ℕ) → All FloatFits cs → drop headSize bs ≡ joined (map (pointBytes d cs) (from 0 n)) ++ rest
       → map (λ i. floatsAt d (headSize + i * pointSize d + markSize) bs) (from 0 n) ≡ map row (from 0 n)
   points-back n bs rest h e =
       ap (λ (m : ℕ). map (λ i. floatsAt d (headSize + i * pointSize d + markSize) bs) (from 0 m)) (sym (length-map-from row 0 n))
-      ∙ read-each Row (pointSize d) recordOf wide (λ i. headSize + i * pointSize d) (λ i. floatsAt d (headSize + i * pointSize d + markSize) bs) bs
+      ∙ read-each Row (pointSize d) pointRecord wide (λ i. headSize + i * pointSize d) (λ i. floatsAt d (headSize + i * pointSize d + markSize) bs) bs
       (λ i. omega (arith, suc-mul i (pointSize d)))
       one
       (map row (from 0 n)) 0 rest (rows-fit n h) (ap (λ (m : ℕ). drop m bs) start ∙ e ∙ ap (λ (l : List ℕ). l ++ rest) (points-written n))
@@ -188,7 +192,7 @@ module _ (d : ℕ) (cs : List Float) where
       start : headSize + 0 * pointSize d ≡ headSize
       start = omega (arith, zero-mul (pointSize d))
 
-      one : (i : ℕ) (r : List Float) (more : List ℕ) → Row r → drop (headSize + i * pointSize d) bs ≡ recordOf r ++ more → floatsAt d (headSize + i * pointSize d + markSize) bs ≡ r
+      one : (i : ℕ) (r : List Float) (more : List ℕ) → Row r → drop (headSize + i * pointSize d) bs ≡ pointRecord r ++ more → floatsAt d (headSize + i * pointSize d + markSize) bs ≡ r
       one i r more g f =
           ap (λ (m : ℕ). floatsAt m (headSize + i * pointSize d + markSize) bs) (sym (g .0))
           ∙ floats-back r (headSize + i * pointSize d + markSize) bs more (g .1)

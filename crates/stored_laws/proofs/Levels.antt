@@ -1,6 +1,6 @@
 -- The domains of a level, a level, and the levels of a tree read back, and what stands after them. Assumes nothing.
--- Holds: domainsBytes, domains-next, StowedLevel, length-level, leaf-count, one-leaf, level-size, at-leaves, level-back,
---   level-after, StowedTree, records-last, records-more, levels-back
+-- Holds: domainsBytes, domains-next, StowedLevel, length-level, level-parts, leaf-count, one-leaf, level-size, at-leaves,
+--   level-back, level-after, StowedTree, records-last, records-more, levels-back
 use mathlib.Core.Path.{_≡_, refl, sym, ap, ap₂, _∙_}
 use Prim.Native.Nat.{ℕ, zero, suc, _+_, _*_, _≤_}
 use native.Mathlib.Omega.{arith}
@@ -13,9 +13,9 @@ use Rattle.lists.specs.Ascends.{All}
 use Rattle.lists.proofs.Joined.{joined-append}
 use Rattle.lists.proofs.Tests.{cond-true, cond-false}
 use Rattle.definition.specs.Tree.{Leaf, Level}
-use Rattle.formats.specs.Bytes.{markSize, numberSize, numberBytes, numbersAt, numbersBytes}
+use Rattle.formats.specs.Bytes.{markSize, markBytes, numberSize, numberBytes, numbersAt, numbersBytes}
 use Rattle.bytes_out.proofs.Bytes.{length-bytes}
-use Rattle.stored.specs.File.{levelBytes, domainBytes, treeRecords}
+use Rattle.stored.specs.File.{levelMark, levelBytes, domainBytes, treeRecords}
 use Rattle.stored.specs.Stored.{countsSize, firstCount, secondCount, oneDomain, domainsPlace, leafSize, leavesAt, afterLeaves, levelIn, afterLevel, levelsAt}
 use Rattle.stored_laws.specs.Writable.{NumberFits}
 use Rattle.stored_laws.proofs.Fields.{field-back, drop-on, length-numbers, numbers-back}
@@ -62,6 +62,12 @@ pub length-level : (l : Level) → length (levelBytes l) ≡ countsSize + number
 unfolding levelBytes
 length-level l = simp (length-append, length-bytes, length-numbers) (omega arith)
 
+-- its fields, one after the other
+pub level-parts : (l : Level) (rest : List ℕ)
+    → levelBytes l ++ rest ≡ markBytes levelMark ++ (numberBytes (length (l .points)) ++ (numberBytes (length (l .leaves)) ++ (numbersBytes (l .points) ++ rest)))
+unfolding levelBytes
+level-parts l rest = simp append-assoc
+
 module _ (d : ℕ) (coarse : Bool) (l : Level) (bs rest : List ℕ) (k : StowedLevel d coarse l) (e : bs ≡ levelBytes l ++ (domainsBytes coarse (l .leaves) ++ rest)) where
   abbrev a : ℕ
   a = length (l .points)
@@ -79,8 +85,7 @@ module _ (d : ℕ) (coarse : Bool) (l : Level) (bs rest : List ℕ) (k : StowedL
   r1 = numberBytes m ++ r2
 
   at-first : drop markSize bs ≡ numberBytes a ++ r1
-  unfolding levelBytes
-  at-first = ap (drop markSize) e ∙ simp append-assoc
+  at-first = ap (drop markSize) (e ∙ level-parts l r3)
 
   at-second : drop (markSize + numberSize) bs ≡ r1
   at-second = drop-on markSize numberSize bs (numberBytes a) r1 (length-bytes numberSize a) at-first

@@ -10,3 +10,8 @@ pub mod WorkedBack
 pub mod Verdicts
 pub mod Loaded
 pub mod Writes
+pub mod WrittenWhole
+pub mod FieldsAgain
+pub mod LevelsAgain
+pub mod FrontAgain
+pub mod FileIsWhole

@@ -76,7 +76,7 @@ leaf-stowed n active f h k o e =
     }
 
 -- ---- boxes
-zeros-fit : (k : ℕ) → All FloatFits (replicate k plusZero)
+pub zeros-fit : (k : ℕ) → All FloatFits (replicate k plusZero)
 unfolding All
 zeros-fit zero = tt
 zeros-fit (suc k) = (ofBits-fits binary64 0, zeros-fit k)
