@@ -15,3 +15,5 @@ pub mod FieldsAgain
 pub mod LevelsAgain
 pub mod FrontAgain
 pub mod FileIsWhole
+pub mod WrittenBytes
+pub mod WellFormed

@@ -11,6 +11,7 @@ use Rattle.definition.specs.Levels.{Policy, auto, fixed}
 use Rattle.definition.specs.Tree.{Settings, Level, pointCount}
 use Rattle.definition.specs.Refusals.{coordinatesMissing}
 use Rattle.formats.specs.Bytes.{numberSize}
+use Rattle.stored.specs.File.{fileBytes}
 use Rattle.stored.specs.Sound.{sound}
 use Rattle.stored.specs.Stored.{buildable}
 
@@ -57,3 +58,8 @@ pub record Writable (s : Settings) (cs : List Float) (ls : List Level) : Type 0 
   -- a tree that passes the tests, with bounds of the format
   pub passes : sound s (pointCount (s .dimension) cs) ls ≡ true
   pub boxes-fit : All BoxesFit ls
+
+-- the bytes are the file of these settings, points and tree, which can be written
+pub record Stores (bs : List ℕ) (s : Settings) (cs : List Float) (ls : List Level) : Type 0 where
+  pub writable : Writable s cs ls
+  pub file : fileBytes s cs ls ≡ bs
