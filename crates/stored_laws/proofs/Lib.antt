@@ -17,3 +17,5 @@ pub mod FrontAgain
 pub mod FileIsWhole
 pub mod WrittenBytes
 pub mod WellFormed
+pub mod Held
+pub mod RoundTrip

@@ -1,0 +1,170 @@
+-- Writing and loading undo each other, as whole calls: `load-of-write` and `write-of-load`. Assumes nothing.
+-- Holds: LoadsBack, written-file, load-of-write, WritesBack, loaded-counts, loaded-lists, write-of-load
+use mathlib.Core.Path.{_≡_, refl, sym, ap, ap₂, subst, _∙_}
+use Prim.Native.Nat.{ℕ, _+_, _≤_}
+use native.Mathlib.Omega.{arith}
+use mathlib.Core.Bool.{Bool, true, false, _&&_, _||_}
+use mathlib.Core.List.{List, [], _∷_, _++_}
+use lib.ListN.{length, take, drop, length-append, length-drop, length-replicate}
+use lib.Seq.{take-append-seam}
+use lib.Dec.{ltb}
+use lib.Ieee.{Float}
+use borrow.Author.Tests.{ltb-false, le-ltb}
+use Rattle.lists.specs.Lists.{joined}
+use Rattle.lists.specs.Ascends.{All}
+use Rattle.lists.proofs.Tests.{or-none}
+use Rattle.lists.proofs.All.{all-imp, all-append}
+use Rattle.definition.specs.Points.{boxWidth}
+use Rattle.definition.specs.Tree.{Settings, Leaf, Level, pointCount}
+use Rattle.definition.specs.Packed.{mostLevels, Counts, countsOf, BuildSizes, buildStated, leavesIn, packedLevelPoints, packedInternals, packedDomains, packedBoxes, packedBorrowed}
+use Rattle.definition.specs.Refusals.{Verdict, accepted, verdict}
+use Rattle.definition.specs.Outcome.{Answer, answered, valueOf, TreeLists, written, listAfter, treeListsAfter, zeroCounts}
+use Rattle.stored.specs.File.{fileBytes}
+use Rattle.stored.specs.Sound.{sound}
+use Rattle.stored.specs.Stored.{pointsIn, treeIn}
+use Rattle.formats.specs.Stream.{settingsIn}
+use Rattle.stored.specs.Outcome.{listsShort, ownTests, loadVerdict, loadAnswer, loadLists, treeHeld, packs, writeVerdict, writeAnswer, writeOutput}
+use Rattle.stored_laws.specs.Writable.{FloatFits, SettingsFit, Writable}
+use Rattle.stored_laws.specs.Fronts.{frontsOver}
+use Rattle.stored_laws.proofs.Domains.{Boxed}
+use Rattle.stored_laws.proofs.Levels.{StowedLevel, StowedTree}
+use Rattle.stored_laws.proofs.Verdicts.{own-whole, own-long, own-takes, own-accepts}
+use Rattle.stored_laws.proofs.Loaded.{load-accepts, load-answers, load-lists, loaded-own, loaded-well, loaded-settings, loaded-file, loaded-sound}
+use Rattle.stored_laws.proofs.Writes.{write-accepts, writes-own, writes-packs, writes}
+use Rattle.stored_laws.proofs.WellFormed.{well-formed-writable}
+use Rattle.stored_laws.proofs.ReadBack.{tree-stowed}
+use Rattle.stored_laws.proofs.Held.{boxes-held, packs-counts, packs-fronts, after-packs, after-held}
+
+-- ---- a load of what was written
+
+-- The load of an accepted write's bytes, with the same settings and points, into lists that are long enough: it is accepted, reports
+-- the counts that were written, and fills the lists from the fronts of those written, whatever stands past the tree in either.
+pub record LoadsBack (s : Settings) (cs : List Float) (c : Counts) (l : TreeLists) (bs : List ℕ) (old : TreeLists) : Type 0 where
+  pub answer : loadAnswer s cs bs old ≡ answered accepted c zeroCounts
+  pub lists : loadLists s cs bs old ≡ frontsOver (treeHeld (s .dimension) c l) l old
+
+module _ (s : Settings) (cs : List Float) (c : Counts) (l : TreeLists) (file : List ℕ) (ok : writeVerdict s cs c l file ≡ accepted) where
+  abbrev tree : List Level
+  tree = treeHeld (s .dimension) c l
+
+  abbrev bytesWritten : List ℕ
+  bytesWritten = take (length (fileBytes s cs tree)) (writeOutput s cs c l file)
+
+  -- the front of the file list is the file
+  pub written-file : bytesWritten ≡ fileBytes s cs tree
+  unfolding writeOutput listAfter written
+  written-file =
+      ap (λ (v : Verdict). take (length (fileBytes s cs tree)) (listAfter v (fileBytes s cs tree) file)) ok
+      ∙ take-append-seam (fileBytes s cs tree) (drop (length (fileBytes s cs tree)) file)
+
+  pub load-of-write : SettingsFit s → All FloatFits cs → All FloatFits (l .boxes) → (old : TreeLists)
+      → listsShort old (buildStated (s .dimension) (pointCount (s .dimension) cs) (s .neighbours)) ≡ false → LoadsBack s cs c l bytesWritten old
+  load-of-write fit held boxes old long =
+      let own = writes-own s cs c l file ok in
+      let w = writes s cs c l file ok fit held boxes in
+      let packed = writes-packs s cs c l file ok in
+      let opened = own-accepts s cs old (own-takes s cs l own) (own-whole s cs l own) long in
+      record {
+        answer =
+            ap (λ (bs : List ℕ). loadAnswer s cs bs old) written-file ∙ load-answers s cs tree old opened w
+            ∙ ap (λ (k : Counts). answered accepted k zeroCounts) (sym (packs-counts c l tree packed));
+        lists =
+            ap (λ (bs : List ℕ). loadLists s cs bs old) written-file ∙ load-lists s cs tree old opened w
+            ∙ packs-fronts c l tree packed (boxes-held (s .dimension) c l) old;
+      }
+
+-- ---- a write of what was loaded
+
+-- The write of an accepted load's counts and lists, with the same settings and points, into a file list that is long enough: it is
+-- accepted, reports the file's length, and writes the file to the front.
+pub record WritesBack (s : Settings) (cs : List Float) (c : Counts) (l : TreeLists) (bs file : List ℕ) : Type 0 where
+  pub answer : writeAnswer s cs c l file ≡ answered accepted (length bs) 0
+  pub output : writeOutput s cs c l file ≡ written bs file
+
+-- each box of a tree that its file holds is as wide as the dimension says
+boxes-wide : (d : ℕ) (ls : List Level) → StowedTree d ls → All (λ (f : Leaf). length (f .box) ≡ boxWidth d) (leavesIn ls)
+unfolding StowedTree leavesIn joined All
+boxes-wide d [] k = tt
+boxes-wide d (l ∷ []) k = all-append (λ (f : Leaf). length (f .box) ≡ boxWidth d) (l .leaves) [] (all-imp (Boxed d true) (λ (f : Leaf). length (f .box) ≡ boxWidth d) (l .leaves) (λ f e. ap length e ∙ simp length-replicate) (k .boxed)) tt
+boxes-wide d (l ∷ m ∷ ls) k =
+    all-append (λ (f : Leaf). length (f .box) ≡ boxWidth d) (l .leaves) (leavesIn (m ∷ ls)) (all-imp (Boxed d false) (λ (f : Leaf). length (f .box) ≡ boxWidth d) (l .leaves) (λ f e. e .0) (k .0 .boxed)) (boxes-wide d (m ∷ ls) (k .1))
+
+-- a list is no shorter after a write to it
+still-long : {A : Type 0} (xs old : List A) (k : ℕ) → ltb (length old) k ≡ false → ltb (length (written xs old)) k ≡ false
+unfolding written
+still-long xs old k h =
+    le-ltb (length (xs ++ drop (length xs) old)) k (omega (arith, ltb-false (length old) k h, length-append xs (drop (length xs) old), length-drop (length xs) old))
+
+lists-still-long : (ls : List Level) (old : TreeLists) (stated : BuildSizes) → listsShort old stated ≡ false → listsShort (treeListsAfter accepted ls old) stated ≡ false
+unfolding listsShort treeListsAfter listAfter
+lists-still-long ls old stated h =
+    let a = ltb (length (old .level-points)) (stated .level-points) in
+    let b = ltb (length (old .internals)) (stated .internals) in
+    let c = ltb (length (old .domains)) (stated .domains) in
+    let e = ltb (length (old .boxes)) (stated .boxes) in
+    let f = ltb (length (old .borrowed)) (stated .borrowed) in
+    let p4 = or-none (a || b || c || e) f h in
+    let p3 = or-none (a || b || c) e (p4 .0) in
+    let p2 = or-none (a || b) c (p3 .0) in
+    let p1 = or-none a b (p2 .0) in
+    rw (
+      still-long (packedLevelPoints ls) (old .level-points) (stated .level-points) (p1 .0),
+      still-long (packedInternals ls) (old .internals) (stated .internals) (p1 .1),
+      still-long (packedDomains ls) (old .domains) (stated .domains) (p2 .1),
+      still-long (packedBoxes ls) (old .boxes) (stated .boxes) (p3 .1),
+      still-long (packedBorrowed ls) (old .borrowed) (stated .borrowed) (p4 .1),
+    )
+
+module _ (s : Settings) (cs : List Float) (bs : List ℕ) (old : TreeLists) (fit : SettingsFit s) (held : All FloatFits cs) (ok : loadVerdict s cs bs old ≡ accepted) where
+  abbrev d : ℕ
+  d = s .dimension
+
+  abbrev ls : List Level
+  ls = treeIn bs
+
+  abbrev c : Counts
+  c = countsOf ls
+
+  abbrev l : TreeLists
+  l = treeListsAfter accepted ls old
+
+  -- what was loaded
+  pub loaded-counts : loadAnswer s cs bs old .value ≡ c
+  unfolding loadAnswer valueOf
+  loaded-counts = ap (λ (v : Verdict). valueOf v c zeroCounts) ok
+
+  pub loaded-lists : loadLists s cs bs old ≡ l
+  unfolding loadLists
+  loaded-lists = ap (λ (v : Verdict). treeListsAfter v ls old) ok
+
+  stowed : (length ls ≤ mostLevels) × StowedTree d ls
+  stowed =
+      let t = tree-stowed (settingsIn bs) (pointsIn bs) ls (well-formed-writable bs (loaded-well s cs bs old fit held ok)) in
+      (t .0, subst (λ (k : Settings). StowedTree (k .dimension) ls) (loaded-settings s cs bs old fit held ok) (t .1))
+
+  held-is : treeHeld d c l ≡ ls
+  held-is = after-held d ls old (stowed .0) (boxes-wide d ls (stowed .1))
+
+  file-is : fileBytes s cs (treeHeld d c l) ≡ bs
+  file-is = ap (fileBytes s cs) held-is ∙ sym (loaded-file s cs bs old fit held ok)
+
+  module _ (file : List ℕ) (room : length bs ≤ length file) where
+    write-accepted : writeVerdict s cs c l file ≡ accepted
+    write-accepted =
+        let own = loaded-own s cs bs old fit held ok in
+        write-accepts s cs c l file
+        (own-accepts s cs l (own-takes s cs old own) (own-whole s cs old own) (lists-still-long ls old (buildStated d (pointCount d cs) (s .neighbours)) (own-long s cs old own)))
+        (ap (packs c l) held-is ∙ after-packs d ls old)
+        (ap (sound s (pointCount d cs)) held-is ∙ loaded-sound s cs bs old fit held ok)
+        (le-ltb (length file) (length (fileBytes s cs (treeHeld d c l))) (omega (arith, room, ap length file-is)))
+
+    plain : WritesBack s cs c l bs file
+    unfolding writeAnswer writeOutput listAfter
+    plain =
+        record {
+          answer = ap₂ (λ (v : Verdict) (xs : List ℕ). answered v (length xs) 0) write-accepted file-is;
+          output = ap₂ (λ (v : Verdict) (xs : List ℕ). listAfter v xs file) write-accepted file-is;
+        }
+
+    pub write-of-load : WritesBack s cs (loadAnswer s cs bs old .value) (loadLists s cs bs old) bs file
+    write-of-load = subst (λ (k : Counts). WritesBack s cs k (loadLists s cs bs old) bs file) (sym loaded-counts) (subst (λ (k : TreeLists). WritesBack s cs c k bs file) (sym loaded-lists) plain)
