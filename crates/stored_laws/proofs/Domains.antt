@@ -1,11 +1,11 @@
 -- A domain's record read back, its size, and what stands after it. Assumes nothing.
--- Holds: Stowed, boundsOf, Boxed, length-domain, domain-parts, leaf-back, leaf-size, leaf-after
+-- Holds: Stowed, boundsOf, Boxed, domain-parts, leaf-back, leaf-size, leaf-after
 use mathlib.Core.Path.{_≡_, refl, sym, ap, ap₂, _∙_}
 use Prim.Native.Nat.{ℕ, _+_, _*_}
 use native.Mathlib.Omega.{arith}
 use mathlib.Core.Bool.{Bool, true, false}
 use mathlib.Core.List.{List, [], _++_, append-assoc}
-use lib.ListN.{length, drop, replicate, length-append}
+use lib.ListN.{length, drop, replicate}
 use lib.Seq.{drop-at}
 use lib.Ieee.{Float}
 use Rattle.lists.specs.Ascends.{All}
@@ -14,10 +14,11 @@ use Rattle.definition.specs.Points.{boxWidth}
 use Rattle.definition.specs.Tree.{Leaf}
 use Rattle.formats.specs.Bytes.{markSize, markBytes, numberSize, numberBytes, numbersAt, numbersBytes, floatSize, floatsAt, floatsBytes}
 use Rattle.bytes_out.proofs.Bytes.{length-bytes}
+use Rattle.tree_tests.proofs.Lengths.{length-numbers, length-domain}
 use Rattle.stored.specs.File.{domainMark, domainBytes}
 use Rattle.stored.specs.Stored.{countsSize, firstCount, secondCount, borrowedPlace, boundsPlace, leafIn, leafSize}
 use Rattle.stored_laws.specs.Writable.{NumberFits, FloatFits}
-use Rattle.stored_laws.proofs.Fields.{field-back, drop-on, length-numbers, numbers-back, length-floats, floats-back}
+use Rattle.stored_laws.proofs.Fields.{field-back, drop-on, numbers-back, floats-back}
 
 -- ---- a leaf that its record holds
 pub record Stowed (f : Leaf) : Type 0 where
@@ -36,11 +37,6 @@ Boxed d true f = f .box ≡ replicate (boxWidth d) plusZero
 Boxed d false f = (length (f .box) ≡ boxWidth d) × All FloatFits (f .box)
 
 -- ---- the record
-pub length-domain : (bounds : List Float) (f : Leaf)
-    → length (domainBytes bounds f) ≡ countsSize + numberSize * (length (f .own) + length (f .borrowed)) + floatSize * length bounds
-unfolding domainBytes
-length-domain bounds f = simp (length-append, length-bytes, length-numbers, length-floats) (omega arith)
-
 -- its fields, one after the other
 pub domain-parts : (bounds : List Float) (f : Leaf) (rest : List ℕ)
     → domainBytes bounds f ++ rest

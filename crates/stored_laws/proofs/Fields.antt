@@ -1,18 +1,16 @@
 -- Numbers and floats read back from the place at which their bytes stand, and what stands after them. Assumes nothing.
--- Holds: field-back, drop-on, length-each, read-each, length-numbers, numbers-back, length-floats, floats-back
+-- Holds: field-back, drop-on, read-each, numbers-back, floats-back
 use mathlib.Core.Path.{_≡_, refl, sym, ap, ap₂, _∙_}
-use Prim.Native.Nat.{ℕ, zero, suc, _+_, _*_, _^_, _<_}
+use Prim.Native.Nat.{ℕ, suc, _+_, _*_, _^_, _<_}
 use native.Mathlib.Nat.{mul-zero}
 use native.Mathlib.Omega.{arith}
 use mathlib.Core.List.{List, [], _∷_, _++_, map, append-assoc}
-use lib.ListN.{length, drop, length-map}
+use lib.ListN.{length, drop}
 use lib.Seq.{drop-at, drop-drop}
 use lib.Ieee.{Float, binary64, toBits, ofBits}
 use lib.Ieee.Bits.{ofBits-toBits, toBits-lt}
 use Rattle.lists.specs.Lists.{from, joined}
 use Rattle.lists.specs.Ascends.{All}
-use Rattle.lists.proofs.All.{all-map, all-of, all-imp}
-use Rattle.lists.proofs.Joined.{joined-even}
 use Rattle.formats.specs.Bytes.{little, field, bytesOf, numberSize, numberAt, numbersAt, numberBytes, numbersBytes, floatSize, floatAt, floatsAt, floatBytes, floatsBytes}
 use Rattle.bytes_out.proofs.Bytes.{length-bytes}
 use Rattle.bytes_out.proofs.Back.{little-back}
@@ -28,11 +26,6 @@ drop-on at m bs xs rest l e = sym (drop-drop m at bs) ∙ ap (drop m) e ∙ drop
 
 -- ---- records of one size, one after the other
 module _ {A : Type 0} (P : A → Type 0) (size : ℕ) (write : A → List ℕ) (wide : (x : A) → P x → length (write x) ≡ size) where
-  pub length-each : (xs : List A) → All P xs → length (joined (map write xs)) ≡ size * length xs
-  length-each xs h =
-      joined-even size (map write xs) (all-map (λ l. length l ≡ size) write xs (all-imp P (λ x. length (write x) ≡ size) xs wide h))
-      ∙ simp length-map
-
   pub read-each : (place : ℕ → ℕ) (read : ℕ → A) (bs : List ℕ)
       → ((i : ℕ) → place (suc i) ≡ place i + size)
       → ((i : ℕ) (x : A) (rest : List ℕ) → P x → drop (place i) bs ≡ write x ++ rest → read i ≡ x)
@@ -49,10 +42,6 @@ start : (k at : ℕ) → at + k * 0 ≡ at
 start k at = omega (arith, mul-zero k)
 
 -- ---- counts and rows
-pub length-numbers : (ns : List ℕ) → length (numbersBytes ns) ≡ numberSize * length ns
-unfolding numbersBytes
-length-numbers ns = length-each (λ n. Unit) numberSize numberBytes (λ n s. length-bytes numberSize n) ns (all-of (λ n. Unit) ns (λ n m. tt))
-
 pub numbers-back : (ns : List ℕ) (at : ℕ) (bs rest : List ℕ) → All NumberFits ns → drop at bs ≡ numbersBytes ns ++ rest → numbersAt (length ns) at bs ≡ ns
 unfolding numbersBytes numbersAt
 numbers-back ns at bs rest h e =
@@ -62,10 +51,6 @@ numbers-back ns at bs rest h e =
     ns 0 rest h (ap (λ (k : ℕ). drop k bs) (start numberSize at) ∙ e)
 
 -- ---- floats
-pub length-floats : (xs : List Float) → length (floatsBytes xs) ≡ floatSize * length xs
-unfolding floatsBytes
-length-floats xs = length-each (λ x. Unit) floatSize floatBytes (λ x s. length-bytes floatSize (toBits binary64 x)) xs (all-of (λ x. Unit) xs (λ x m. tt))
-
 float-read : (x : Float) (at : ℕ) (bs rest : List ℕ) → FloatFits x → drop at bs ≡ floatBytes x ++ rest → floatAt at bs ≡ x
 float-read x at bs rest h e = ap (ofBits binary64) (field-back floatSize (toBits binary64 x) at bs rest (toBits-lt binary64 x h) e) ∙ ofBits-toBits binary64 x h
 

@@ -1,13 +1,13 @@
 -- `file-is-whole`: where the build takes what stands in a file and its tree passes the tests, the bytes are the writer's exactly where
 -- each record stands whole at its place and nothing follows. And what stands there can be written (`read-writable`). Assumes nothing.
-use mathlib.Core.Path.{_≡_, refl, sym, ap, ap₂, subst, _∙_}
-use Prim.Native.Nat.{ℕ, zero, suc, _+_, _*_, _%_, _≤_, _<_}
+use mathlib.Core.Path.{_≡_, sym, ap, _∙_}
+use Prim.Native.Nat.{ℕ, zero, suc, _+_, _*_, _%_}
 use native.Mathlib.Nat.{mul-mod-right}
 use native.Mathlib.Omega.{arith}
 use mathlib.Core.Bool.{Bool, true, false, not, _&&_, cond}
-use mathlib.Core.List.{List, [], _∷_, _++_, map, append-assoc}
-use lib.ListN.{length, drop, replicate}
-use lib.Dec.{leb, eqb}
+use mathlib.Core.List.{List, [], _++_, map, append-assoc}
+use lib.ListN.{length, drop}
+use lib.Dec.{leb}
 use lib.Ieee.{Float, binary64}
 use lib.Ieee.Bits.{ofBits-fits}
 use lib.Ieee.Scale.{finite}
@@ -17,28 +17,28 @@ use Rattle.lists.specs.Ascends.{All}
 use Rattle.lists.proofs.Tests.{same-test, and-of, and-fst, and-snd}
 use Rattle.lists.proofs.All.{all-map, all-of, all-joined, all-drop}
 use Rattle.lists.proofs.Members.{none-any}
-use Rattle.definition.specs.Number.{plusZero}
 use Rattle.definition.specs.Points.{boxWidth}
 use Rattle.definition.specs.Levels.{policyFrom}
 use Rattle.definition.specs.Tree.{Settings, Leaf, Level, pointCount}
 use Rattle.definition.specs.Packed.{mostLevels}
-use Rattle.definition.specs.Refusals.{notFinite, coordinatesMissing}
+use Rattle.definition.specs.Refusals.{notFinite}
 use Rattle.definition.proofs.Cuts.{finite-known}
 use Rattle.definition_laws.proofs.Accepted.{Passed}
-use Rattle.formats.specs.Bytes.{markSize, whole, field, valueAt, fieldEnd, numberSize, floatSize, floatAt, floatsAt}
+use Rattle.formats.specs.Bytes.{markSize, whole, field, valueAt, numberSize, floatSize, floatAt, floatsAt}
 use Rattle.formats.specs.Stream.{leafField, factorField, policyField, thresholdField, settingsIn, policyFits}
-use Rattle.stored.specs.File.{headMark, headBytes, pointBytes, frontBytes, treeRecords, fileBytes}
+use Rattle.stored.specs.File.{headMark, headBytes, pointBytes, frontBytes, fileBytes}
 use Rattle.stored.specs.Sound.{same, firstAll, soundLevels, fits, sound}
 use Rattle.stored.specs.Stored.{headSize, boundsPlace, leafIn, leafSize, leavesAt, secondCount, oneDomain, domainsPlace, levelIn, afterLevel, levelsAt, countIn, pointsIn, levelsPlace, treeIn, buildable}
 use Rattle.tree_tests.specs.Whole.{pointsWhole, frontWhole, levelsWhole}
+use Rattle.tree_tests.proofs.Several.{three-pass, four-pass}
+use Rattle.tree_tests.proofs.AllRows.{same-is, same-self}
 use Rattle.stored_laws.specs.Writable.{NumberFits, FloatFits, IsByte, policyThreshold, BoxesFit, SettingsFit, Writable}
-use Rattle.stored_laws.proofs.Tests.{three, four, same-is, same-self}
 use Rattle.stored_laws.proofs.Stowed.{zeros-fit}
 use Rattle.stored_laws.proofs.ReadBack.{buildable-passed}
 use Rattle.stored_laws.proofs.WrittenWhole.{written-whole}
 use Rattle.stored_laws.proofs.FieldsAgain.{field-small, NoNan}
 use Rattle.stored_laws.proofs.LevelsAgain.{levels-again}
-use Rattle.stored_laws.proofs.FrontAgain.{head-again, points-are, length-points-in, count-is, points-again}
+use Rattle.stored_laws.proofs.FrontAgain.{head-again, length-points-in, count-is, points-again}
 
 -- ---- what is read is of the format: floats, boxes, settings
 floats-fit : (n at : ℕ) (bs : List ℕ) → All FloatFits (floatsAt n at bs)
@@ -126,13 +126,13 @@ module _ (bs : List ℕ) (bytes : All IsByte bs) (takes : buildable (settingsIn 
 
   levels-sound : soundLevels d (levelsAt d mostLevels (drop (levelsPlace bs) bs)) ≡ true
   unfolding sound treeIn
-  levels-sound = four (leb (length ls) mostLevels) (firstAll (countIn bs) ls) (soundLevels d ls) (fits d (countIn bs) (s .neighbours) ls) passes .2
+  levels-sound = four-pass (leb (length ls) mostLevels) (firstAll (countIn bs) ls) (soundLevels d ls) (fits d (countIn bs) (s .neighbours) ls) passes .2
 
   -- the records stand whole: the bytes are the writer's
   whole-is : frontWhole bs ≡ true → levelsWhole d mostLevels (drop (levelsPlace bs) bs) ≡ true → bs ≡ fileBytes s cs ls
   unfolding frontWhole fileBytes frontBytes treeIn
   whole-is h t =
-      let g = three (whole headMark headSize bs) (policyFits bs) (pointsWhole d (countIn bs) (drop headSize bs)) h in
+      let g = three-pass (whole headMark headSize bs) (policyFits bs) (pointsWhole d (countIn bs) (drop headSize bs)) h in
       let rest = drop (levelsPlace bs) bs in
       let points = joined (map (pointBytes d cs) (from 0 (countIn bs))) in
       head-again bs bytes (g .0) (g .1)

@@ -13,7 +13,7 @@ use lib.Ieee.{Float, nan, fits}
 use Rattle.lists.specs.Lists.{from, joined}
 use Rattle.lists.specs.Ascends.{All}
 use Rattle.lists.proofs.All.{all-map}
-use Rattle.lists.proofs.From.{all-from, length-map-from, list-below, below-snoc}
+use Rattle.lists.proofs.From.{all-from, length-from, length-map-from, list-below, below-snoc}
 use Rattle.lists.proofs.Joined.{joined-map-snoc}
 use Rattle.definition.specs.Points.{coordinate}
 use Rattle.definition.specs.Levels.{Policy, auto, fixed, policyFrom}
@@ -22,10 +22,11 @@ use Rattle.definition.specs.Packed.{mostLevels}
 use Rattle.formats.specs.Bytes.{markSize, markBytes, bytesOf, valueAt, fieldEnd, numberSize, numberBytes, floatsAt, floatsBytes}
 use Rattle.formats.specs.Stream.{dimensionField, leafField, neighboursField, factorField, policyField, thresholdField, settingsSize, settingsIn, policyBytes, settingsBytes, pointSize}
 use Rattle.bytes_out.proofs.Bytes.{length-bytes}
+use Rattle.tree_tests.proofs.Lengths.{length-records, length-floats, length-point}
 use Rattle.stored.specs.File.{headMark, filePointMark, headBytes, pointBytes, frontBytes, treeRecords}
 use Rattle.stored.specs.Stored.{headSize, countIn, pointsIn, levelsPlace, levelsAt, treeIn}
 use Rattle.stored_laws.specs.Writable.{NumberFits, FloatFits, SettingsFit, policyNumber, policyThreshold}
-use Rattle.stored_laws.proofs.Fields.{field-back, drop-on, length-floats, floats-back, length-each, read-each}
+use Rattle.stored_laws.proofs.Fields.{field-back, drop-on, floats-back, read-each}
 use Rattle.stored_laws.proofs.Levels.{StowedTree, levels-back}
 
 -- ---- policy
@@ -175,11 +176,6 @@ module _ (d : ℕ) (cs : List Float) where
   unfolding pointBytes
   points-written n = ap joined (sym (map-map pointRecord row (from 0 n)))
 
-  points-length : (n : ℕ) → All FloatFits cs → length (joined (map (pointBytes d cs) (from 0 n))) ≡ pointSize d * n
-  points-length n h =
-      ap length (points-written n) ∙ length-each Row (pointSize d) pointRecord wide (map row (from 0 n)) (rows-fit n h)
-      ∙ ap (λ (m : ℕ). pointSize d * m) (length-map-from row 0 n)
-
   points-back : (n : ℕ) (bs rest : List ℕ) → All FloatFits cs → drop headSize bs ≡ joined (map (pointBytes d cs) (from 0 n)) ++ rest
       → map (λ i. floatsAt d (headSize + i * pointSize d + markSize) bs) (from 0 n) ≡ map row (from 0 n)
   points-back n bs rest h e =
@@ -199,6 +195,9 @@ module _ (d : ℕ) (cs : List Float) where
           (drop-on (headSize + i * pointSize d) markSize bs (markBytes filePointMark) (floatsBytes r ++ more) refl f)
 
 -- ---- bytes that begin with the head and the points
+points-length : (d : ℕ) (cs : List Float) (n : ℕ) → length (joined (map (pointBytes d cs) (from 0 n))) ≡ pointSize d * n
+points-length d cs n = length-records (pointSize d) (pointBytes d cs) (from 0 n) (length-point d cs) ∙ ap (λ (k : ℕ). pointSize d * k) (length-from 0 n)
+
 module _ (s : Settings) (cs : List Float) (bs rest : List ℕ) (k : SmallSettings s) (h : All FloatFits cs) (e : bs ≡ frontBytes s cs ++ rest) where
   abbrev d : ℕ
   d = s .dimension
@@ -236,7 +235,7 @@ module _ (s : Settings) (cs : List Float) (bs rest : List ℕ) (k : SmallSetting
   levels-stand few =
       let z : headSize + n * pointSize d ≡ headSize + pointSize d * n = omega (arith, mul-comm n (pointSize d)) in
       ap₂ (λ (e m : ℕ). drop (headSize + m * pointSize e) bs) dimension-read (count-read few)
-      ∙ ap (λ (m : ℕ). drop m bs) z ∙ drop-on headSize (pointSize d * n) bs points rest (points-length d cs n h) points-stand
+      ∙ ap (λ (m : ℕ). drop m bs) z ∙ drop-on headSize (pointSize d * n) bs points rest (points-length d cs n) points-stand
 
   -- and go on with a tree
   pub tree-read : (ls : List Level) → NumberFits n → length ls ≤ mostLevels → StowedTree d ls → rest ≡ joined (treeRecords ls) → treeIn bs ≡ ls

@@ -2,11 +2,11 @@
 -- Holds: head-again, rows-of-joined, points-are, length-points-in, count-is, points-again
 use mathlib.Core.Path.{_≡_, refl, sym, ap, ap₂, _∙_}
 use mathlib.Core.Logic.{⊎-elim}
-use Prim.Native.Nat.{ℕ, zero, suc, _+_, _*_, _/_, _≤_, _<_}
+use Prim.Native.Nat.{ℕ, zero, suc, _+_, _*_, _≤_, _<_}
 use native.Mathlib.Nat.{suc-mul, zero-mul, zero-add, mul-comm, div-eq-of-eq-mul-right}
 use native.Mathlib.Omega.{arith}
-use mathlib.Core.Bool.{Bool, true, false, _&&_, _||_}
-use mathlib.Core.List.{List, [], _∷_, _++_, map, map-id, append-assoc}
+use mathlib.Core.Bool.{true, _&&_, _||_}
+use mathlib.Core.List.{List, [], _++_, map, map-id, append-assoc}
 use lib.ListN.{length, getD, take, drop, length-drop}
 use lib.Seq.{drop-drop}
 use lib.Dec.{leb, eqb}
@@ -20,13 +20,13 @@ use Rattle.lists.proofs.Members.{mem-map}
 use Rattle.lists.proofs.From.{all-from, mem-from, length-map-from, list-below, map-from-at}
 use Rattle.lists.proofs.Joined.{getD-joined, even-lengths, joined-even}
 use Rattle.definition.specs.Points.{coordinate}
-use Rattle.definition.specs.Levels.{Policy, policyFrom}
-use Rattle.definition.specs.Tree.{Settings, pointCount}
+use Rattle.definition.specs.Levels.{policyFrom}
+use Rattle.definition.specs.Tree.{pointCount}
 use Rattle.formats.specs.Bytes.{markSize, markBytes, markedBy, whole, bytesOf, fieldEnd, valueAt, numberSize, numberBytes, floatSize, floatAt, floatsAt, floatsBytes}
 use Rattle.formats.specs.Stream.{dimensionField, leafField, neighboursField, factorField, policyField, thresholdField, settingsSize, settingsIn, policyFits, policyBytes, pointSize}
 use Rattle.stored.specs.File.{headMark, filePointMark, headBytes, pointBytes}
 use Rattle.stored.specs.Stored.{headSize, countIn, pointsIn, levelsPlace}
-use Rattle.tree_tests.specs.Whole.{pointsWhole, frontWhole}
+use Rattle.tree_tests.specs.Whole.{pointsWhole}
 use Rattle.stored_laws.specs.Writable.{IsByte}
 use Rattle.stored_laws.proofs.Front.{head-parts, pointRecord, row, points-written}
 use Rattle.stored_laws.proofs.FieldsAgain.{field-again, each-again, NoNan, floats-again, mark-again}

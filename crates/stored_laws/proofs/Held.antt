@@ -1,34 +1,31 @@
--- The tree that stands in lists, and the lists that a tree was written to: each is the other's. Assumes nothing.
--- Holds: boxes-held, packs-counts, packs-fronts, after-packs, after-held
+-- What `packs` says of the counts and of the fronts of the lists, and that the boxes of the tree in the lists are their front. Assumes
+-- nothing.
 use mathlib.Core.Path.{_≡_, refl, sym, ap, ap₂, _∙_}
 use mathlib.Core.Logic.{⊎-elim}
 use Prim.Native.Nat.{ℕ, zero, suc, _+_, _*_, _≤_, _<_}
 use native.Mathlib.Nat.{mul-zero, mul-suc, zero-add}
 use native.Mathlib.Omega.{arith}
 use mathlib.Core.Bool.{Bool, true, _&&_}
-use mathlib.Core.List.{List, [], _∷_, _++_, map, map-map, map-append}
-use lib.ListN.{length, getD, take, drop}
-use lib.Seq.{take-add, take-all, take-append-seam, length-take-le}
+use mathlib.Core.List.{List, _++_, map, map-map, map-append}
+use lib.ListN.{length, getD, take}
+use lib.Seq.{take-add, take-all, length-take-le}
 use lib.Dec.{eqb}
-use lib.Ieee.{Float}
-use borrow.Author.Tests.{eqb-true, eq-eqb}
+use borrow.Author.Tests.{eqb-true}
 use Rattle.lists.specs.Lists.{from, joined, part, total}
-use Rattle.lists.specs.Ascends.{All}
-use Rattle.lists.proofs.Tests.{and-of, and-fst, and-snd, le-or-lt}
+use Rattle.lists.proofs.Tests.{and-fst, and-snd, le-or-lt}
 use Rattle.lists.proofs.Sums.{total-more}
 use Rattle.lists.proofs.From.{below-snoc, from-append}
 use Rattle.lists.proofs.Joined.{joined-map-snoc}
 use Rattle.definition.specs.Points.{boxWidth}
 use Rattle.definition.specs.Tree.{Leaf, Level}
-use Rattle.definition.specs.Packed.{mostLevels, rowFloats, Counts, countsOf, leavesIn, packedLevelPoints, packedInternals, packedDomains, packedBoxes, packedBorrowed}
+use Rattle.definition.specs.Packed.{Counts, countsOf, leavesIn, packedLevelPoints, packedInternals, packedDomains, packedBoxes, packedBorrowed}
 use Rattle.definition.specs.Refusals.{accepted}
 use Rattle.definition.specs.Outcome.{TreeLists, written, listAfter, treeListsAfter}
-use Rattle.packed.specs.Reading.{Packed, packed, boxAt, upTo, readLeaf, readLeaves, readLevel, readLevels}
-use Rattle.packed.proofs.Unpacked.{Packs, tree-back}
+use Rattle.packed.specs.Reading.{Packed, packed, upTo, readLeaf, readLeaves, readLevel, readLevels}
 use Rattle.stored.specs.Sound.{same}
 use Rattle.stored.specs.Outcome.{leads, treeHeld, packs}
-use Rattle.stored_laws.specs.Fronts.{frontOver, frontsOver}
-use Rattle.stored_laws.proofs.Tests.{same-is, same-self}
+use Rattle.tree_tests.proofs.AllRows.{same-is}
+use Rattle.stored_laws.specs.RoundTrip.{frontsOver}
 
 -- ---- the boxes of the tree in the lists are the front of the boxes
 
@@ -129,46 +126,3 @@ module _ (c : Counts) (l : TreeLists) (ls : List Level) where
         let domains = same-is (packedDomains ls) (take (length (packedDomains ls)) (l .domains)) (five-lead .1) in
         let borrowed = same-is (packedBorrowed ls) (take (length (packedBorrowed ls)) (l .borrowed)) (borrowed-leads .1) in
         cc
-
--- ---- the lists that a tree of at most four levels was written to, each box as wide as the dimension says
-module _ (d : ℕ) (ls : List Level) (old : TreeLists) where
-  abbrev now : TreeLists
-  now = treeListsAfter accepted ls old
-
-  leads-written : (xs old : List ℕ) → leads xs (written xs old) ≡ true
-  unfolding written
-  leads-written xs old = ap (same xs) (take-append-seam xs (drop (length xs) old)) ∙ same-self xs
-
-  -- they are those of the tree
-  pub after-packs : packs (countsOf ls) now ls ≡ true
-  unfolding packs treeListsAfter listAfter
-  after-packs =
-      let c = countsOf ls in
-      and-of
-      (and-of
-      (and-of
-      (and-of (and-of (and-of (eq-eqb (c .levels) (c .levels) refl) (same-self (c .rows))) (same-self (c .domains))) (leads-written (packedLevelPoints ls) (old .level-points)))
-      (leads-written (packedInternals ls) (old .internals)))
-      (leads-written (packedDomains ls) (old .domains)))
-      (leads-written (packedBorrowed ls) (old .borrowed))
-
-  -- and the tree stands in them
-  pub after-held : length ls ≤ mostLevels → All (λ (f : Leaf). length (f .box) ≡ boxWidth d) (leavesIn ls) → treeHeld d (countsOf ls) now ≡ ls
-  unfolding treeHeld treeListsAfter listAfter written countsOf
-  after-held few boxed =
-      tree-back ls (packed (now .internals) (now .domains) (now .boxes) (now .borrowed) d) (now .level-points) (countsOf ls)
-      (record {
-        few = few;
-        boxed = boxed;
-        counts = refl;
-        points-rest = drop (length (packedLevelPoints ls)) (old .level-points);
-        points-are = refl;
-        internals-rest = drop (length (packedInternals ls)) (old .internals);
-        internals = refl;
-        domains-rest = drop (length (packedDomains ls)) (old .domains);
-        domains = refl;
-        boxes-rest = drop (length (packedBoxes ls)) (old .boxes);
-        boxes = refl;
-        borrowed-rest = drop (length (packedBorrowed ls)) (old .borrowed);
-        borrowed = refl;
-      })

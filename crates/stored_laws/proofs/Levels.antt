@@ -1,12 +1,12 @@
 -- The domains of a level, a level, and the levels of a tree read back, and what stands after them. Assumes nothing.
--- Holds: domainsBytes, domains-next, StowedLevel, length-level, level-parts, leaf-count, one-leaf, level-size, at-leaves,
---   level-back, level-after, StowedTree, records-last, records-more, levels-back
+-- Holds: domainsBytes, domains-next, StowedLevel, level-parts, leaf-count, one-leaf, level-size, at-leaves, level-back,
+--   level-after, StowedTree, records-last, records-more, levels-back
 use mathlib.Core.Path.{_≡_, refl, sym, ap, ap₂, _∙_}
 use Prim.Native.Nat.{ℕ, zero, suc, _+_, _*_, _≤_}
 use native.Mathlib.Omega.{arith}
 use mathlib.Core.Bool.{Bool, true, false}
 use mathlib.Core.List.{List, [], _∷_, _++_, map, append-assoc, append-nil}
-use lib.ListN.{length, drop, length-append}
+use lib.ListN.{length, drop}
 use lib.Dec.{eqb}
 use Rattle.lists.specs.Lists.{joined}
 use Rattle.lists.specs.Ascends.{All}
@@ -15,10 +15,11 @@ use Rattle.lists.proofs.Tests.{cond-true, cond-false}
 use Rattle.definition.specs.Tree.{Leaf, Level}
 use Rattle.formats.specs.Bytes.{markSize, markBytes, numberSize, numberBytes, numbersAt, numbersBytes}
 use Rattle.bytes_out.proofs.Bytes.{length-bytes}
+use Rattle.tree_tests.proofs.Lengths.{length-numbers, length-level}
 use Rattle.stored.specs.File.{levelMark, levelBytes, domainBytes, treeRecords}
 use Rattle.stored.specs.Stored.{countsSize, firstCount, secondCount, oneDomain, domainsPlace, leafSize, leavesAt, afterLeaves, levelIn, afterLevel, levelsAt}
 use Rattle.stored_laws.specs.Writable.{NumberFits}
-use Rattle.stored_laws.proofs.Fields.{field-back, drop-on, length-numbers, numbers-back}
+use Rattle.stored_laws.proofs.Fields.{field-back, drop-on, numbers-back}
 use Rattle.stored_laws.proofs.Domains.{Stowed, Boxed, boundsOf, leaf-back, leaf-after}
 
 -- ---- domains one after the other
@@ -57,10 +58,6 @@ pub record StowedLevel (d : ℕ) (coarse : Bool) (l : Level) : Type 0 where
   pub rows-small : All NumberFits (l .points)
   pub stowed : All Stowed (l .leaves)
   pub boxed : All (Boxed d coarse) (l .leaves)
-
-pub length-level : (l : Level) → length (levelBytes l) ≡ countsSize + numberSize * length (l .points)
-unfolding levelBytes
-length-level l = simp (length-append, length-bytes, length-numbers) (omega arith)
 
 -- its fields, one after the other
 pub level-parts : (l : Level) (rest : List ℕ)

@@ -6,12 +6,12 @@ use mathlib.Core.Path.{_≡_, refl, sym, ap, ap₂, subst, _∙_}
 use Prim.Native.Nat.{ℕ, zero, suc, _+_, _*_, _≤_}
 use native.Mathlib.Omega.{arith}
 use mathlib.Core.Bool.{Bool, true, false, not, _&&_, cond}
-use mathlib.Core.List.{List, [], _∷_, _++_, map, append-assoc, List·Memᴰ}
+use mathlib.Core.List.{List, [], _∷_, _++_, append-assoc}
 use lib.ListN.{length, drop}
 use lib.Dec.{leb, eqb}
-use lib.Ieee.{Float, isNan}
+use lib.Ieee.{isNan}
 use borrow.Author.Tests.{leb-true, eqb-true, not-true}
-use Rattle.lists.specs.Lists.{anyOf, from, joined}
+use Rattle.lists.specs.Lists.{anyOf, joined}
 use Rattle.lists.specs.Ascends.{All}
 use Rattle.lists.proofs.Tests.{clash, and-fst, and-snd}
 use Rattle.lists.proofs.All.{all-of, all-drop}
@@ -19,13 +19,13 @@ use Rattle.lists.proofs.Members.{none-any}
 use Rattle.lists.proofs.From.{length-map-from}
 use Rattle.definition.specs.Points.{boxWidth}
 use Rattle.definition.specs.Tree.{Leaf, Level}
-use Rattle.formats.specs.Bytes.{Mark, markSize, markBytes, markedBy, whole, numberSize, numberAt, numberBytes, numbersAt, numbersBytes, floatSize, floatsAt, floatsBytes}
+use Rattle.formats.specs.Bytes.{Mark, markSize, markBytes, markedBy, whole, numberSize, numberAt, numberBytes, numbersAt, numbersBytes, floatsBytes}
 use Rattle.stored.specs.File.{levelMark, domainMark, levelBytes, domainBytes, treeRecords}
-use Rattle.stored.specs.Sound.{allOf, soundBox, soundRows, properPart, soundLevels}
+use Rattle.stored.specs.Sound.{soundBox, soundLevels}
 use Rattle.stored.specs.Stored.{countsSize, firstCount, secondCount, borrowedPlace, boundsPlace, leafIn, leafSize, leavesAt, afterLeaves, oneDomain, domainsPlace, levelIn, afterLevel, levelsAt}
 use Rattle.tree_tests.specs.Whole.{leavesWhole, levelWhole, levelsWhole}
+use Rattle.tree_tests.proofs.SoundLevels.{fine-level}
 use Rattle.stored_laws.specs.Writable.{IsByte}
-use Rattle.stored_laws.proofs.Tests.{five, all-pass}
 use Rattle.stored_laws.proofs.Domains.{boundsOf, domain-parts}
 use Rattle.stored_laws.proofs.Levels.{domainsBytes, level-parts, records-last, records-more}
 use Rattle.stored_laws.proofs.FieldsAgain.{field-again, NoNan, numbers-again, floats-again, mark-again}
@@ -151,9 +151,6 @@ box-clean d f h =
     let none = not-true (anyOf isNan (f .box)) (and-snd (eqb (length (f .box)) (boxWidth d)) (not (anyOf isNan (f .box))) h) in
     all-of NoNan (f .box) (λ x m. none-any isNan (f .box) none m)
 
-fine-clean : (d : ℕ) (fs : List Leaf) → allOf (soundBox d) fs ≡ true → All (Clean false) fs
-fine-clean d fs h = all-of (Clean false) fs (λ f m. box-clean d f (all-pass (soundBox d) fs h f m))
-
 nothing-left : (l : List ℕ) → eqb (length l) 0 ≡ true → l ≡ []
 nothing-left [] h = refl
 nothing-left (x ∷ l) h = let z = eqb-true (suc (length l)) 0 h in absurd (omega (arith, z))
@@ -173,16 +170,11 @@ module _ (d : ℕ) (bs : List ℕ) (bytes : All IsByte bs) where
 
   more-again : (m : Level) (ls : List Level) → oneDomain bs ≡ false → levelWhole d bs ≡ true → soundLevels d (l ∷ m ∷ ls) ≡ true → after ≡ joined (treeRecords (m ∷ ls))
       → bs ≡ joined (treeRecords (l ∷ m ∷ ls))
-  unfolding soundLevels
   more-again m ls one h s e =
-      let g = five (soundRows l) (not (eqb (length (l .leaves)) 1)) (allOf (soundBox d) (l .leaves)) (properPart (m .points) (l .points)) (soundLevels d (m ∷ ls)) s in
-      level-again d bs bytes h (subst (λ (b : Bool). All (Clean b) (l .leaves)) (sym one) (fine-clean d (l .leaves) (g .2)))
+      let g = fine-level d l m ls s in
+      level-again d bs bytes h (subst (λ (b : Bool). All (Clean b) (l .leaves)) (sym one) (all-of (Clean false) (l .leaves) (λ f u. box-clean d f (g .boxes f u))))
       ∙ ap₂ (λ (b : Bool) (r : List ℕ). levelBytes l ++ (domainsBytes b (l .leaves) ++ r)) one e
       ∙ sym (records-more l m ls)
-
-  sound-more : (m : Level) (ls : List Level) → soundLevels d (l ∷ m ∷ ls) ≡ true → soundLevels d (m ∷ ls) ≡ true
-  unfolding soundLevels
-  sound-more m ls s = five (soundRows l) (not (eqb (length (l .leaves)) 1)) (allOf (soundBox d) (l .leaves)) (properPart (m .points) (l .points)) (soundLevels d (m ∷ ls)) s .4
 
 pub levels-again : (d fuel : ℕ) (bs : List ℕ) → All IsByte bs → levelsWhole d fuel bs ≡ true → soundLevels d (levelsAt d fuel bs) ≡ true → bs ≡ joined (treeRecords (levelsAt d fuel bs))
 unfolding levelsWhole levelsAt
@@ -206,4 +198,4 @@ levels-again d (suc (suc fuel)) bs bytes h s = go (oneDomain bs) refl h s (level
         let m = levelIn d after in
         let ls = cond (oneDomain after) [] (levelsAt d fuel (afterLevel d after)) in
         more-again d bs bytes m ls one (and-fst (levelWhole d bs) (levelsWhole d (suc fuel) after) h) s
-        (rec (and-snd (levelWhole d bs) (levelsWhole d (suc fuel) after) h) (sound-more d bs bytes m ls s))
+        (rec (and-snd (levelWhole d bs) (levelsWhole d (suc fuel) after) h) (fine-level d (levelIn d bs) m ls s .later))

@@ -1,5 +1,4 @@
 -- The laws of the stored tree.
-pub mod Tests
 pub mod Fields
 pub mod Domains
 pub mod Levels

@@ -1,10 +1,10 @@
 -- The loader on a written file, and what an accepted load hands out. Assumes nothing.
 -- Holds: load-accepts, load-answers, load-lists, loaded-own, loaded-well, loaded-settings, loaded-count, loaded-points,
 --   loaded-file, loaded-sound
-use mathlib.Core.Path.{_≡_, refl, sym, ap, ap₂, _∙_}
+use mathlib.Core.Path.{_≡_, sym, ap, ap₂, _∙_}
 use Prim.Native.Nat.{ℕ}
 use native.Mathlib.Omega.{arith}
-use mathlib.Core.Bool.{Bool, true, false, not, _&&_}
+use mathlib.Core.Bool.{true, false, not}
 use mathlib.Core.List.{List, [], _∷_, _++_, map, append-assoc}
 use lib.ListN.{length, take, drop, take-append-drop}
 use lib.Seq.{take-append-seam}
@@ -12,11 +12,10 @@ use lib.Ieee.{Float}
 use borrow.Author.Tests.{not-false}
 use Rattle.lists.specs.Lists.{from, joined, part}
 use Rattle.lists.specs.Ascends.{All}
-use Rattle.lists.proofs.Tests.{and-fst, and-snd}
 use Rattle.definition.specs.Tree.{Settings, Level, pointCount}
 use Rattle.definition.specs.Packed.{countsOf}
 use Rattle.definition.specs.Refusals.{Test, on, Verdict, accepted, verdict, notFinite}
-use Rattle.definition.specs.Outcome.{TreeLists, Answer, answered, zeroCounts, treeListsAfter}
+use Rattle.definition.specs.Outcome.{TreeLists, answered, zeroCounts, treeListsAfter}
 use Rattle.formats.specs.Bytes.{markSize, numberBytes}
 use Rattle.formats.specs.Stream.{settingsIn, settingsBytes}
 use Rattle.definition_laws.proofs.Accepted.{accepted-iff, Passed, whole-points}
@@ -24,8 +23,9 @@ use Rattle.stored.specs.File.{headBytes, pointBytes, frontBytes, treeRecords, f
 use Rattle.stored.specs.Sound.{same, sound}
 use Rattle.stored.specs.Stored.{countIn, pointsIn, treeIn, buildable, wellFormed}
 use Rattle.stored.specs.Outcome.{ownTests, sameSettings, samePoints, loadVerdict, loadAnswer, loadLists}
+use Rattle.tree_tests.proofs.Several.{three-pass}
+use Rattle.tree_tests.proofs.AllRows.{same-is, same-self}
 use Rattle.stored_laws.specs.Writable.{NumberFits, FloatFits, SettingsFit, Writable}
-use Rattle.stored_laws.proofs.Tests.{three, same-is, same-self}
 use Rattle.stored_laws.proofs.Front.{SmallSettings, settings-read, count-read, points-read}
 use Rattle.stored_laws.proofs.ReadBack.{buildable-passed, passed-small, written-well, back-tree}
 use Rattle.stored_laws.proofs.Verdicts.{both-accept, first-accepts, second-accepts, own-whole, own-takes}
@@ -130,7 +130,7 @@ module _ (s : Settings) (cs : List Float) (bs : List ℕ) (old : TreeLists) (fit
   facts : (buildable (settingsIn bs) (pointsIn bs) ≡ true) × (sound (settingsIn bs) (countIn bs) (treeIn bs) ≡ true) × (same bs (fileBytes (settingsIn bs) (pointsIn bs) (treeIn bs)) ≡ true)
   unfolding wellFormed
   facts =
-      three (buildable (settingsIn bs) (pointsIn bs)) (sound (settingsIn bs) (countIn bs) (treeIn bs)) (same bs (fileBytes (settingsIn bs) (pointsIn bs) (treeIn bs))) loaded-well
+      three-pass (buildable (settingsIn bs) (pointsIn bs)) (sound (settingsIn bs) (countIn bs) (treeIn bs)) (same bs (fileBytes (settingsIn bs) (pointsIn bs) (treeIn bs))) loaded-well
 
   pub loaded-file : bs ≡ fileBytes s cs (treeIn bs)
   loaded-file =

@@ -5,7 +5,7 @@
 use mathlib.Core.Path.{_≡_, refl, sym, ap, ap₂, _∙_}
 use Prim.Native.Nat.{ℕ, _*_, _≤_}
 use native.Mathlib.Omega.{arith}
-use mathlib.Core.Bool.{Bool, true, false, _&&_}
+use mathlib.Core.Bool.{true, false}
 use mathlib.Core.List.{List, _++_}
 use lib.ListN.{length}
 use lib.Ieee.{Float}
@@ -19,8 +19,8 @@ use Rattle.definition_laws.proofs.Accepted.{Passed, passed, whole-points}
 use Rattle.stored.specs.File.{frontBytes, treeRecords, fileBytes}
 use Rattle.stored.specs.Sound.{same, sound}
 use Rattle.stored.specs.Stored.{countIn, pointsIn, treeIn, taken, buildable, wellFormed}
+use Rattle.tree_tests.proofs.AllRows.{same-self}
 use Rattle.stored_laws.specs.Writable.{NumberFits, SettingsFit, Writable}
-use Rattle.stored_laws.proofs.Tests.{same-self}
 use Rattle.stored_laws.proofs.Levels.{StowedTree}
 use Rattle.stored_laws.proofs.Front.{SmallSettings, settings-read, count-read, points-read, tree-read}
 use Rattle.stored_laws.proofs.Stowed.{sound-stowed}

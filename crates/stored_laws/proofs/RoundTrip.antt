@@ -1,9 +1,9 @@
 -- Writing and loading undo each other, as whole calls: `load-of-write` and `write-of-load`. Assumes nothing.
--- Holds: LoadsBack, written-file, load-of-write, WritesBack, loaded-counts, loaded-lists, write-of-load
-use mathlib.Core.Path.{_≡_, refl, sym, ap, ap₂, subst, _∙_}
+-- Holds: written-file, load-of-write, loaded-counts, loaded-lists, write-of-load
+use mathlib.Core.Path.{_≡_, sym, ap, subst, _∙_}
 use Prim.Native.Nat.{ℕ, _+_, _≤_}
 use native.Mathlib.Omega.{arith}
-use mathlib.Core.Bool.{Bool, true, false, _&&_, _||_}
+use mathlib.Core.Bool.{true, false, _||_}
 use mathlib.Core.List.{List, [], _∷_, _++_}
 use lib.ListN.{length, take, drop, length-append, length-drop, length-replicate}
 use lib.Seq.{take-append-seam}
@@ -17,31 +17,26 @@ use Rattle.lists.proofs.All.{all-imp, all-append}
 use Rattle.definition.specs.Points.{boxWidth}
 use Rattle.definition.specs.Tree.{Settings, Leaf, Level, pointCount}
 use Rattle.definition.specs.Packed.{mostLevels, Counts, countsOf, BuildSizes, buildStated, leavesIn, packedLevelPoints, packedInternals, packedDomains, packedBoxes, packedBorrowed}
-use Rattle.definition.specs.Refusals.{Verdict, accepted, verdict}
-use Rattle.definition.specs.Outcome.{Answer, answered, valueOf, TreeLists, written, listAfter, treeListsAfter, zeroCounts}
+use Rattle.definition.specs.Refusals.{Verdict, accepted}
+use Rattle.definition.specs.Outcome.{answered, numberOf, placeOf, valueOf, TreeLists, written, listAfter, treeListsAfter, zeroCounts}
 use Rattle.stored.specs.File.{fileBytes}
-use Rattle.stored.specs.Sound.{sound}
 use Rattle.stored.specs.Stored.{pointsIn, treeIn}
 use Rattle.formats.specs.Stream.{settingsIn}
-use Rattle.stored.specs.Outcome.{listsShort, ownTests, loadVerdict, loadAnswer, loadLists, treeHeld, packs, writeVerdict, writeAnswer, writeOutput}
-use Rattle.stored_laws.specs.Writable.{FloatFits, SettingsFit, Writable}
-use Rattle.stored_laws.specs.Fronts.{frontsOver}
+use Rattle.stored.specs.Outcome.{listsShort, loadVerdict, loadAnswer, loadLists, treeHeld, writeVerdict, writeOutput}
+use Rattle.stored_built.proofs.Held.{Holds, lists-hold}
+use Rattle.stored_built.proofs.Written.{write-passes, write-answers, write-fills}
+use Rattle.stored_laws.specs.Writable.{FloatFits, SettingsFit}
+use Rattle.stored_laws.specs.RoundTrip.{LoadsBack, WritesBack}
 use Rattle.stored_laws.proofs.Domains.{Boxed}
-use Rattle.stored_laws.proofs.Levels.{StowedLevel, StowedTree}
+use Rattle.stored_laws.proofs.Levels.{StowedTree}
 use Rattle.stored_laws.proofs.Verdicts.{own-whole, own-long, own-takes, own-accepts}
-use Rattle.stored_laws.proofs.Loaded.{load-accepts, load-answers, load-lists, loaded-own, loaded-well, loaded-settings, loaded-file, loaded-sound}
-use Rattle.stored_laws.proofs.Writes.{write-accepts, writes-own, writes-packs, writes}
+use Rattle.stored_laws.proofs.Loaded.{load-answers, load-lists, loaded-own, loaded-well, loaded-settings, loaded-file, loaded-sound}
+use Rattle.stored_laws.proofs.Writes.{writes-own, writes-packs, writes}
 use Rattle.stored_laws.proofs.WellFormed.{well-formed-writable}
 use Rattle.stored_laws.proofs.ReadBack.{tree-stowed}
-use Rattle.stored_laws.proofs.Held.{boxes-held, packs-counts, packs-fronts, after-packs, after-held}
+use Rattle.stored_laws.proofs.Held.{boxes-held, packs-counts, packs-fronts}
 
 -- ---- a load of what was written
-
--- The load of an accepted write's bytes, with the same settings and points, into lists that are long enough: it is accepted, reports
--- the counts that were written, and fills the lists from the fronts of those written, whatever stands past the tree in either.
-pub record LoadsBack (s : Settings) (cs : List Float) (c : Counts) (l : TreeLists) (bs : List ℕ) (old : TreeLists) : Type 0 where
-  pub answer : loadAnswer s cs bs old ≡ answered accepted c zeroCounts
-  pub lists : loadLists s cs bs old ≡ frontsOver (treeHeld (s .dimension) c l) l old
 
 module _ (s : Settings) (cs : List Float) (c : Counts) (l : TreeLists) (file : List ℕ) (ok : writeVerdict s cs c l file ≡ accepted) where
   abbrev tree : List Level
@@ -74,12 +69,6 @@ module _ (s : Settings) (cs : List Float) (c : Counts) (l : TreeLists) (file : L
       }
 
 -- ---- a write of what was loaded
-
--- The write of an accepted load's counts and lists, with the same settings and points, into a file list that is long enough: it is
--- accepted, reports the file's length, and writes the file to the front.
-pub record WritesBack (s : Settings) (cs : List Float) (c : Counts) (l : TreeLists) (bs file : List ℕ) : Type 0 where
-  pub answer : writeAnswer s cs c l file ≡ answered accepted (length bs) 0
-  pub output : writeOutput s cs c l file ≡ written bs file
 
 -- each box of a tree that its file holds is as wide as the dimension says
 boxes-wide : (d : ℕ) (ls : List Level) → StowedTree d ls → All (λ (f : Leaf). length (f .box) ≡ boxWidth d) (leavesIn ls)
@@ -142,28 +131,27 @@ module _ (s : Settings) (cs : List Float) (bs : List ℕ) (old : TreeLists) (fit
       let t = tree-stowed (settingsIn bs) (pointsIn bs) ls (well-formed-writable bs (loaded-well s cs bs old fit held ok)) in
       (t .0, subst (λ (k : Settings). StowedTree (k .dimension) ls) (loaded-settings s cs bs old fit held ok) (t .1))
 
-  held-is : treeHeld d c l ≡ ls
-  held-is = after-held d ls old (stowed .0) (boxes-wide d ls (stowed .1))
+  holds : Holds d c l ls
+  holds = lists-hold d ls old (stowed .0) (boxes-wide d ls (stowed .1))
 
-  file-is : fileBytes s cs (treeHeld d c l) ≡ bs
-  file-is = ap (fileBytes s cs) held-is ∙ sym (loaded-file s cs bs old fit held ok)
+  file-is : fileBytes s cs ls ≡ bs
+  file-is = sym (loaded-file s cs bs old fit held ok)
 
   module _ (file : List ℕ) (room : length bs ≤ length file) where
     write-accepted : writeVerdict s cs c l file ≡ accepted
     write-accepted =
         let own = loaded-own s cs bs old fit held ok in
-        write-accepts s cs c l file
+        write-passes s cs c l file ls holds
         (own-accepts s cs l (own-takes s cs old own) (own-whole s cs old own) (lists-still-long ls old (buildStated d (pointCount d cs) (s .neighbours)) (own-long s cs old own)))
-        (ap (packs c l) held-is ∙ after-packs d ls old)
-        (ap (sound s (pointCount d cs)) held-is ∙ loaded-sound s cs bs old fit held ok)
-        (le-ltb (length file) (length (fileBytes s cs (treeHeld d c l))) (omega (arith, room, ap length file-is)))
+        (loaded-sound s cs bs old fit held ok)
+        (omega (arith, room, ap length file-is))
 
     plain : WritesBack s cs c l bs file
-    unfolding writeAnswer writeOutput listAfter
+    unfolding numberOf placeOf valueOf written
     plain =
         record {
-          answer = ap₂ (λ (v : Verdict) (xs : List ℕ). answered v (length xs) 0) write-accepted file-is;
-          output = ap₂ (λ (v : Verdict) (xs : List ℕ). listAfter v xs file) write-accepted file-is;
+          answer = write-answers s cs c l file ls holds write-accepted ∙ ap (λ (xs : List ℕ). answered accepted (length xs) 0) file-is;
+          output = write-fills s cs c l file ls holds write-accepted ∙ ap (λ (xs : List ℕ). xs ++ drop (length xs) file) file-is;
         }
 
     pub write-of-load : WritesBack s cs (loadAnswer s cs bs old .value) (loadLists s cs bs old) bs file

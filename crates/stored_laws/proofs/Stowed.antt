@@ -6,10 +6,10 @@ use native.Mathlib.Omega.{arith}
 use mathlib.Core.Bool.{Bool, true, false, not, _&&_}
 use mathlib.Core.List.{List, [], _∷_, map}
 use lib.ListN.{length, replicate, length-append}
-use lib.Dec.{leb, ltb, eqb}
+use lib.Dec.{leb, eqb}
 use lib.Ieee.{Float, binary64, toBits, ofBits, isNan}
 use lib.Ieee.Bits.{ofBits-toBits, ofBits-fits}
-use borrow.Author.Tests.{ltb-true, leb-true, eqb-true, not-true}
+use borrow.Author.Tests.{leb-true, eqb-true, eq-eqb}
 use Rattle.lists.specs.Lists.{anyOf, member, count, from, joined}
 use Rattle.lists.specs.Ascends.{All, Ascends}
 use Rattle.lists.specs.Times.{times}
@@ -22,12 +22,15 @@ use Rattle.lists.proofs.Ascends.{ascends-from, ascends-once}
 use Rattle.definition.specs.Number.{plusZero}
 use Rattle.definition.specs.Points.{boxWidth}
 use Rattle.definition.specs.Tree.{Settings, Leaf, Level}
-use Rattle.definition.specs.Packed.{mostLevels, mostRows, rowNumbers, BuildSizes, buildStated, leavesIn, packedLevelPoints, packedInternals, packedDomains, packedBorrowed}
+use Rattle.definition.specs.Packed.{mostLevels, mostRows, rowNumbers, buildStated, leavesIn, packedLevelPoints, packedInternals, packedDomains, packedBorrowed}
 use Rattle.definition.specs.Refusals.{mostPoints}
 use Rattle.definition_laws.proofs.Fit.{length-domains}
-use Rattle.stored.specs.Sound.{allOf, ascending, partitioned, soundLeaf, soundBox, noBox, soundRows, properPart, soundLevels, firstAll, fits, sound}
+use Rattle.tree_tests.proofs.Several.{three-pass, four-pass}
+use Rattle.tree_tests.proofs.AllPass.{all-pass-each, ascending-ascends}
+use Rattle.tree_tests.proofs.AllRows.{same-is}
+use Rattle.tree_tests.proofs.SoundLevels.{coarse-level, fine-level}
+use Rattle.stored.specs.Sound.{allOf, ascending, partitioned, soundLeaf, soundBox, noBox, soundRows, soundLevels, firstAll, fits, sound}
 use Rattle.stored_laws.specs.Writable.{NumberFits, FloatFits, BoxesFit}
-use Rattle.stored_laws.proofs.Tests.{three, four, five, same-is, all-pass, ascending-is}
 use Rattle.stored_laws.proofs.Domains.{Stowed, Boxed}
 use Rattle.stored_laws.proofs.Levels.{StowedLevel, StowedTree}
 
@@ -62,12 +65,12 @@ leaf-stowed : (n : ℕ) (active : List ℕ) (f : Leaf) → n ≤ mostPoints → 
 unfolding soundLeaf
 leaf-stowed n active f h k o e =
     let p : ℕ → Bool = λ j. member j active && not (member j (f .own)) in
-    let g = three (ascending (f .own)) (ascending (f .borrowed)) (allOf p (f .borrowed)) e in
+    let g = three-pass (ascending (f .own)) (ascending (f .borrowed)) (allOf p (f .borrowed)) e in
     let b : Below n (f .borrowed) =
     all-of (λ i. i < n) (f .borrowed)
-    (λ x m. all-mem (λ i. i < n) active k x (member-mem active x (and-fst (member x active) (not (member x (f .own))) (all-pass p (f .borrowed) (g .2) x m)))) in
-    let u = few n (f .own) (ascending-is (f .own) (g .0)) o in
-    let v = few n (f .borrowed) (ascending-is (f .borrowed) (g .1)) b in
+    (λ x m. all-mem (λ i. i < n) active k x (member-mem active x (and-fst (member x active) (not (member x (f .own))) (all-pass-each p (f .borrowed) (g .2) x m)))) in
+    let u = few n (f .own) (ascending-ascends (f .own) (g .0)) o in
+    let v = few n (f .borrowed) (ascending-ascends (f .borrowed) (g .1)) b in
     record {
       own-few = omega (arith, u, h);
       borrowed-few = omega (arith, v, h);
@@ -108,12 +111,12 @@ leaves-stowed n l h k e =
     let own = joined (map (λ f. f .own) (l .leaves)) in
     let p : ℕ → Bool = λ i. eqb (count (λ j. eqb j i) own) 1 in
     let q : ℕ → Bool = λ i. member i (l .points) in
-    let g = three (ascending (l .points)) (allOf p (l .points) && allOf q own) (allOf (soundLeaf (l .points)) (l .leaves)) e in
-    let b : Below n own = all-of (λ i. i < n) own (λ x m. all-mem (λ i. i < n) (l .points) (k .1) x (member-mem (l .points) x (all-pass q own (and-snd (allOf p (l .points)) (allOf q own) (g .1)) x m))) in
+    let g = three-pass (ascending (l .points)) (allOf p (l .points) && allOf q own) (allOf (soundLeaf (l .points)) (l .leaves)) e in
+    let b : Below n own = all-of (λ i. i < n) own (λ x m. all-mem (λ i. i < n) (l .points) (k .1) x (member-mem (l .points) x (all-pass-each q own (and-snd (allOf p (l .points)) (allOf q own) (g .1)) x m))) in
     let c : All (λ f. Below n (f .own)) (l .leaves) =
     map-all (λ r. Below n r) (λ f. f .own) (l .leaves) (joined-all (λ i. i < n) (map (λ f. f .own) (l .leaves)) b) in
     all-of Stowed (l .leaves)
-    (λ f m. leaf-stowed n (l .points) f h (k .1) (all-mem (λ x. Below n (x .own)) (l .leaves) c f m) (all-pass (soundLeaf (l .points)) (l .leaves) (g .2) f m))
+    (λ f m. leaf-stowed n (l .points) f h (k .1) (all-mem (λ x. Below n (x .own)) (l .leaves) c f m) (all-pass-each (soundLeaf (l .points)) (l .leaves) (g .2) f m))
 
 level-stowed : (d n : ℕ) (coarse : Bool) (l : Level) → n ≤ mostPoints → Inside n l → length (l .leaves) ≤ mostRows n → soundRows l ≡ true
     → eqb (length (l .leaves)) 1 ≡ coarse → All (Boxed d coarse) (l .leaves) → StowedLevel d coarse l
@@ -127,29 +130,25 @@ level-stowed d n coarse l h k m e o x =
       boxed = x;
     }
 
-next-inside : (n : ℕ) (l m : Level) → Inside n l → properPart (m .points) (l .points) ≡ true → Inside n m
-unfolding properPart
-next-inside n l m k e =
-    let p : ℕ → Bool = λ i. member i (l .points) in
-    let g = three (ltb 0 (length (m .points))) (ltb (length (m .points)) (length (l .points))) (allOf p (m .points)) e in
-    let s = ltb-true (length (m .points)) (length (l .points)) (g .1) in
-    (omega (arith, s, k .0), all-of (λ i. i < n) (m .points) (λ x u. all-mem (λ i. i < n) (l .points) (k .1) x (member-mem (l .points) x (all-pass p (m .points) (g .2) x u))))
+next-inside : (d n : ℕ) (l m : Level) (ls : List Level) → Inside n l → soundLevels d (l ∷ m ∷ ls) ≡ true → Inside n m
+next-inside d n l m ls k e =
+    let g = fine-level d l m ls e in
+    (omega (arith, g .fewer-rows, k .0), all-of (λ i. i < n) (m .points) (λ x u. all-mem (λ i. i < n) (l .points) (k .1) x (member-mem (l .points) x (g .inside x u))))
 
 -- ---- the levels
 levels-stowed : (d n : ℕ) (l : Level) (ls : List Level) → n ≤ mostPoints → Inside n l → length (leavesIn (l ∷ ls)) ≤ mostRows n
     → All BoxesFit (l ∷ ls) → soundLevels d (l ∷ ls) ≡ true → StowedTree d (l ∷ ls)
-unfolding soundLevels StowedTree leavesIn joined All
+unfolding StowedTree leavesIn joined All
 levels-stowed d n l [] h k m b e =
-    let g = three (soundRows l) (eqb (length (l .leaves)) 1) (allOf (noBox d) (l .leaves)) e in
-    level-stowed d n true l h k (omega (arith, length-append (l .leaves) [], m)) (g .0) (g .1)
-    (all-of (Boxed d true) (l .leaves) (λ f u. coarse-boxed d f (all-mem (λ x. All FloatFits (x .box)) (l .leaves) (b .0) f u) (all-pass (noBox d) (l .leaves) (g .2) f u)))
+    let g = coarse-level d l e in
+    level-stowed d n true l h k (omega (arith, length-append (l .leaves) [], m)) (g .rows) (eq-eqb (length (l .leaves)) 1 (g .one))
+    (all-of (Boxed d true) (l .leaves) (λ f u. coarse-boxed d f (all-mem (λ x. All FloatFits (x .box)) (l .leaves) (b .0) f u) (g .boxes f u)))
 levels-stowed d n l (t ∷ ls) h k m b e =
-    let one = eqb (length (l .leaves)) 1 in
-    let g = five (soundRows l) (not one) (allOf (soundBox d) (l .leaves)) (properPart (t .points) (l .points)) (soundLevels d (t ∷ ls)) e in
+    let g = fine-level d l t ls e in
     let z = length-append (l .leaves) (leavesIn (t ∷ ls)) in (
-      level-stowed d n false l h k (omega (arith, z, m)) (g .0) (not-true one (g .1))
-          (all-of (Boxed d false) (l .leaves) (λ f u. fine-boxed d f (all-mem (λ x. All FloatFits (x .box)) (l .leaves) (b .0) f u) (all-pass (soundBox d) (l .leaves) (g .2) f u))),
-      levels-stowed d n t ls h (next-inside n l t k (g .3)) (omega (arith, z, m)) (b .1) (g .4),
+      level-stowed d n false l h k (omega (arith, z, m)) (g .rows) (g .more)
+          (all-of (Boxed d false) (l .leaves) (λ f u. fine-boxed d f (all-mem (λ x. All FloatFits (x .box)) (l .leaves) (b .0) f u) (g .boxes f u))),
+      levels-stowed d n t ls h (next-inside d n l t ls k e) (omega (arith, z, m)) (b .1) (g .later),
     )
 
 -- ---- the tree
@@ -157,7 +156,7 @@ leaves-many : (d n k : ℕ) (ls : List Level) → fits d n k ls ≡ true → len
 unfolding fits buildStated
 leaves-many d n k ls e =
     let stated = buildStated d n k in
-    let g = four (leb (length (packedLevelPoints ls)) (stated .level-points)) (leb (length (packedInternals ls)) (stated .internals)) (leb (length (packedDomains ls)) (stated .domains)) (leb (length (packedBorrowed ls)) (stated .borrowed)) e in
+    let g = four-pass (leb (length (packedLevelPoints ls)) (stated .level-points)) (leb (length (packedInternals ls)) (stated .internals)) (leb (length (packedDomains ls)) (stated .domains)) (leb (length (packedBorrowed ls)) (stated .borrowed)) e in
     let m : length (packedDomains ls) ≤ rowNumbers * mostRows n = leb-true (length (packedDomains ls)) (stated .domains) (g .2) in
     omega (arith, m, length-domains ls)
 
@@ -165,7 +164,7 @@ pub sound-stowed : (s : Settings) (n : ℕ) (ls : List Level) → n ≤ mostPoin
 unfolding sound firstAll
 sound-stowed s n ls h b e =
     let d = s .dimension in
-    let g = four (leb (length ls) mostLevels) (firstAll n ls) (soundLevels d ls) (fits d n (s .neighbours) ls) e in
+    let g = four-pass (leb (length ls) mostLevels) (firstAll n ls) (soundLevels d ls) (fits d n (s .neighbours) ls) e in
     (leb-true (length ls) mostLevels (g .0), go ls b (g .1) (g .2) (leaves-many d n (s .neighbours) ls (g .3)))
   where
     go : (ls : List Level) → All BoxesFit ls → firstAll n ls ≡ true → soundLevels (s .dimension) ls ≡ true → length (leavesIn ls) ≤ mostRows n → StowedTree (s .dimension) ls

@@ -4,7 +4,6 @@ use mathlib.Core.Path.{_≡_, refl, sym, ap, ap₂, _∙_}
 use mathlib.Core.Bool.{Bool, true, false}
 use mathlib.Core.List.{List, _++_}
 use lib.Ieee.{Float}
-use Rattle.lists.specs.Ascends.{All}
 use Rattle.lists.proofs.All.{all-append, all-left, all-right}
 use Rattle.definition.specs.Tree.{Settings, pointCount}
 use Rattle.definition.specs.Packed.{buildStated}

@@ -18,8 +18,9 @@ use Rattle.stored.specs.File.{fileBytes}
 use Rattle.stored.specs.Sound.{same, sound}
 use Rattle.stored.specs.Stored.{countIn, pointsIn, levelsPlace, treeIn, buildable, wellFormed}
 use Rattle.tree_tests.specs.Whole.{frontWhole, levelsWhole}
+use Rattle.tree_tests.proofs.Several.{three-pass}
+use Rattle.tree_tests.proofs.AllRows.{same-is}
 use Rattle.stored_laws.specs.Writable.{IsByte, Writable, Stores}
-use Rattle.stored_laws.proofs.Tests.{three, same-is}
 use Rattle.stored_laws.proofs.ReadBack.{back-settings, back-points, back-tree, written-well}
 use Rattle.stored_laws.proofs.WrittenBytes.{file-bytes}
 use Rattle.stored_laws.proofs.FileIsWhole.{read-writable, file-is-whole}
@@ -29,7 +30,7 @@ module _ (bs : List ℕ) (h : wellFormed bs ≡ true) where
   facts : (buildable (settingsIn bs) (pointsIn bs) ≡ true) × (sound (settingsIn bs) (countIn bs) (treeIn bs) ≡ true) × (same bs (fileBytes (settingsIn bs) (pointsIn bs) (treeIn bs)) ≡ true)
   unfolding wellFormed
   facts =
-      three (buildable (settingsIn bs) (pointsIn bs)) (sound (settingsIn bs) (countIn bs) (treeIn bs)) (same bs (fileBytes (settingsIn bs) (pointsIn bs) (treeIn bs))) h
+      three-pass (buildable (settingsIn bs) (pointsIn bs)) (sound (settingsIn bs) (countIn bs) (treeIn bs)) (same bs (fileBytes (settingsIn bs) (pointsIn bs) (treeIn bs))) h
 
   pub well-formed-file : bs ≡ fileBytes (settingsIn bs) (pointsIn bs) (treeIn bs)
   well-formed-file = same-is bs (fileBytes (settingsIn bs) (pointsIn bs) (treeIn bs)) (facts .2)

@@ -1,7 +1,6 @@
 -- The tree of document 01's four points is one that `read-back` speaks of. Computed. Assumes nothing.
 use mathlib.Core.Path.{refl}
 use native.Mathlib.Omega.{arith}
-use Prim.Native.Nat.{ℕ}
 use mathlib.Core.List.{[], _∷_}
 use lib.Ieee.{fits}
 use Rattle.lists.specs.Ascends.{All}

@@ -1,29 +1,29 @@
 -- What the writer accepts can be read back: its bytes load again, as the tree that stands in the lists. Assumes nothing.
--- Holds: write-accepts, writes-own, writes-packs, writes-sound, writes
-use mathlib.Core.Path.{_≡_, refl, sym, ap}
+-- Holds: writes-own, writes-packs, writes-sound, writes
+use mathlib.Core.Path.{_≡_}
 use Prim.Native.Nat.{ℕ, _*_}
 use mathlib.Core.Bool.{Bool, true, false, not, _&&_}
 use mathlib.Core.List.{List, [], _∷_}
-use lib.ListN.{length, take, drop, getD}
+use lib.ListN.{length, drop, getD}
 use lib.Dec.{ltb}
 use lib.Ieee.{Float}
 use borrow.Author.Tests.{not-false}
 use Rattle.lists.specs.Lists.{from, part}
 use Rattle.lists.specs.Ascends.{All}
 use Rattle.lists.proofs.All.{all-map, all-of, all-take, all-drop}
-use Rattle.lists.proofs.Tests.{and-of, and-fst, and-snd}
+use Rattle.lists.proofs.Tests.{and-fst, and-snd}
 use Rattle.definition.specs.Points.{boxWidth}
 use Rattle.definition.specs.Tree.{Settings, Level, pointCount}
 use Rattle.definition.specs.Packed.{Counts, rowFloats}
 use Rattle.definition.specs.Refusals.{Test, on, accepted, verdict}
 use Rattle.definition.specs.Outcome.{TreeLists}
-use Rattle.packed.specs.Reading.{Packed, packed, upTo, readLeaf, readLeaves, readLevel, readLevels}
+use Rattle.packed.specs.Reading.{packed, upTo, readLeaf, readLeaves, readLevel, readLevels}
 use Rattle.definition_laws.proofs.Accepted.{accepted-iff}
 use Rattle.stored.specs.File.{fileBytes}
 use Rattle.stored.specs.Sound.{sound}
 use Rattle.stored.specs.Outcome.{ownTests, treeHeld, packs, writeVerdict}
 use Rattle.stored_laws.specs.Writable.{FloatFits, SettingsFit, BoxesFit, Writable}
-use Rattle.stored_laws.proofs.Verdicts.{both-accept, first-accepts, second-accepts, own-takes, own-whole}
+use Rattle.stored_laws.proofs.Verdicts.{first-accepts, second-accepts, own-takes, own-whole}
 
 -- ---- the bounds in the lists are the bounds of the tree
 held-boxes : (d : ℕ) (c : Counts) (l : TreeLists) → All FloatFits (l .boxes) → All BoxesFit (treeHeld d c l)
@@ -49,10 +49,6 @@ module _ (s : Settings) (cs : List Float) (c : Counts) (l : TreeLists) (file : L
 
   abbrev treeTests : List Test
   treeTests = on (not good) 20 ∷ on short 11 ∷ []
-
-  pub write-accepts : verdict (ownTests s cs l) ≡ accepted → packs c l tree ≡ true → sound s (pointCount (s .dimension) cs) tree ≡ true → short ≡ false → writeVerdict s cs c l file ≡ accepted
-  unfolding writeVerdict All
-  write-accepts own a b e = both-accept (ownTests s cs l) treeTests own (accepted-iff treeTests .1 (ap not (and-of a b), (e, tt)))
 
   -- ---- an accepted writer
   module _ (ok : writeVerdict s cs c l file ≡ accepted) where

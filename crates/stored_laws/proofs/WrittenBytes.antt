@@ -1,6 +1,5 @@
 -- The bytes of a file are bytes. Assumes nothing.
-use mathlib.Core.Path.{_≡_}
-use Prim.Native.Nat.{ℕ, zero, suc, _%_, _/_, _<_}
+use Prim.Native.Nat.{ℕ, zero, suc, _/_, _<_}
 use native.Mathlib.Omega.{arith}
 use mathlib.Core.List.{List, [], _∷_, _++_, map}
 use lib.ListN.{length}

@@ -1,31 +1,28 @@
 -- Bytes that begin with the records of a tree hold them whole, each at its place: a domain, a level, a tree, the head and the points,
 -- and so a written file (`written-whole`). Assumes nothing.
 use mathlib.Core.Path.{_≡_, refl, sym, ap, ap₂, _∙_}
-use Prim.Native.Nat.{ℕ, zero, suc, _+_, _*_, _≤_, _<_}
+use Prim.Native.Nat.{ℕ, zero, suc, _+_, _≤_}
 use native.Mathlib.Omega.{arith}
-use mathlib.Core.Bool.{Bool, true, false, _&&_, _||_, cond}
+use mathlib.Core.Bool.{Bool, true, false, _&&_, _||_}
 use mathlib.Core.List.{List, [], _∷_, _++_, map, append-assoc}
 use lib.ListN.{length, getD, drop, length-append}
 use lib.Seq.{drop-at}
-use lib.Dec.{leb, eqb}
+use lib.Dec.{eqb}
 use lib.Ieee.{Float}
 use borrow.Author.Tests.{le-leb, eq-eqb}
 use Rattle.lists.specs.Lists.{from, joined}
 use Rattle.lists.specs.Ascends.{All}
 use Rattle.lists.proofs.Tests.{and-of, cond-true, cond-false}
-use Rattle.lists.proofs.From.{length-map-from}
-use Rattle.definition.specs.Points.{coordinate}
 use Rattle.definition.specs.Levels.{Policy, auto, fixed}
 use Rattle.definition.specs.Tree.{Settings, Leaf, Level, pointCount}
 use Rattle.definition.specs.Packed.{mostLevels}
-use Rattle.formats.specs.Bytes.{Mark, markedBy, whole, bytesOf, valueAt, numberBytes, floatsBytes}
-use Rattle.formats.specs.Stream.{policyField, thresholdField, policyFits, settingsIn, policyBytes, settingsBytes, pointSize}
-use Rattle.bytes_out.proofs.Bytes.{length-bytes}
+use Rattle.formats.specs.Bytes.{Mark, whole, valueAt}
+use Rattle.formats.specs.Stream.{policyField, thresholdField, policyFits, pointSize}
+use Rattle.tree_tests.proofs.Lengths.{length-head, length-point}
 use Rattle.stored.specs.File.{headMark, filePointMark, levelMark, domainMark, headBytes, pointBytes, frontBytes, levelBytes, domainBytes, treeRecords, fileBytes}
-use Rattle.stored.specs.Stored.{headSize, countIn, oneDomain, secondCount, domainsPlace, levelsPlace, leafSize, afterLevel}
+use Rattle.stored.specs.Stored.{headSize, oneDomain, domainsPlace, levelsPlace, leafSize, afterLevel}
 use Rattle.tree_tests.specs.Whole.{pointsWhole, frontWhole, leavesWhole, levelWhole, levelsWhole}
 use Rattle.stored_laws.specs.Writable.{NumberFits, FloatFits, policyNumber, policyThreshold, Writable}
-use Rattle.stored_laws.proofs.Fields.{length-floats}
 use Rattle.stored_laws.proofs.Domains.{Stowed, Boxed, boundsOf, leaf-size, leaf-after}
 use Rattle.stored_laws.proofs.Levels.{domainsBytes, domains-next, StowedLevel, leaf-count, one-leaf, level-size, at-leaves, level-after, StowedTree, records-last, records-more}
 use Rattle.stored_laws.proofs.Front.{SmallSettings, policy-back, threshold-back, front-parts, points-stand, settings-read, count-read, levels-stand}
@@ -79,10 +76,6 @@ levels-whole d (suc fuel) (l ∷ m ∷ ls) bs h k e =
     ∙ levels-whole d fuel (m ∷ ls) (afterLevel d bs) (omega arith) (k .1) (level-after d false l bs more (k .0) f))
 
 -- ---- points
-length-point : (d : ℕ) (cs : List Float) (i : ℕ) → length (pointBytes d cs i) ≡ pointSize d
-unfolding pointBytes
-length-point d cs i = omega (arith, length-floats (map (coordinate d cs i) (from 0 d)), length-map-from (coordinate d cs i) 0 d)
-
 point-whole : (d : ℕ) (cs : List Float) (i : ℕ) (bs rest : List ℕ) → bs ≡ pointBytes d cs i ++ rest → whole filePointMark (pointSize d) bs ≡ true
 unfolding pointBytes
 point-whole d cs i bs rest e = whole-of filePointMark (pointSize d) bs (pointBytes d cs i) rest e (sym (length-point d cs i)) refl refl
@@ -97,18 +90,6 @@ points-whole d cs i (suc n) bs rest e =
     (points-whole d cs (suc i) n (drop (pointSize d) bs) rest (ap (drop (pointSize d)) f ∙ drop-at (pointBytes d cs i) more (pointSize d) (length-point d cs i)))
 
 -- ---- the head
-length-settings : (s : Settings) → length (settingsBytes s) ≡ 18
-unfolding settingsBytes bytesOf
-length-settings s = go (s .policy)
-  where
-    go : (p : Policy) → length (bytesOf 1 (s .dimension) ++ numberBytes (s .leaf) ++ numberBytes (s .neighbours) ++ numberBytes (s .factor) ++ policyBytes p) ≡ 18
-    go auto = refl
-    go (fixed c) = refl
-
-length-head : (s : Settings) (n : ℕ) → length (headBytes s n) ≡ headSize
-unfolding headBytes
-length-head s n = simp (length-append, length-bytes, length-settings) (omega arith)
-
 policy-fits : (p : Policy) (kind limit : ℕ) → kind ≡ policyNumber p → limit ≡ policyThreshold p → eqb kind 1 || (eqb kind 0 && eqb limit 0) ≡ true
 policy-fits auto kind limit a b = rw (a, b)
 policy-fits (fixed c) kind limit a b = rw a

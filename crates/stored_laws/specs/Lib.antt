@@ -1,3 +1,3 @@
 -- Definitions that the laws of the stored tree are stated with.
 pub mod Writable
-pub mod Fronts
+pub mod RoundTrip
