@@ -21,13 +21,13 @@ use Rattle.formats.specs.Stream.{settingsIn, settingsBytes}
 use Rattle.definition_laws.proofs.Accepted.{accepted-iff, Passed, whole-points}
 use Rattle.stored.specs.File.{headBytes, pointBytes, frontBytes, treeRecords, fileBytes}
 use Rattle.stored.specs.Sound.{same, sound}
-use Rattle.stored.specs.Stored.{countIn, pointsIn, treeIn, buildable, wellFormed}
+use Rattle.stored.specs.Stored.{countIn, pointsIn, treeIn, wellFormed}
 use Rattle.stored.specs.Outcome.{ownTests, sameSettings, samePoints, loadVerdict, loadAnswer, loadLists}
-use Rattle.tree_tests.proofs.Several.{three-pass}
 use Rattle.tree_tests.proofs.AllRows.{same-is, same-self}
 use Rattle.stored_laws.specs.Writable.{NumberFits, FloatFits, SettingsFit, Writable}
 use Rattle.stored_laws.proofs.Front.{SmallSettings, settings-read, count-read, points-read}
 use Rattle.stored_laws.proofs.ReadBack.{buildable-passed, passed-small, written-well, back-tree}
+use Rattle.stored_laws.proofs.WellFormed.{well-formed-file, well-formed-sound}
 use Rattle.stored_laws.proofs.Verdicts.{both-accept, first-accepts, second-accepts, own-whole, own-takes}
 
 -- ---- the loader's own tests
@@ -127,15 +127,10 @@ module _ (s : Settings) (cs : List Float) (bs : List ℕ) (old : TreeLists) (fit
   pub loaded-points : pointsIn bs ≡ cs
   loaded-points = points-read s cs bs rest small held front few (whole-points d cs (own-whole s cs old loaded-own))
 
-  facts : (buildable (settingsIn bs) (pointsIn bs) ≡ true) × (sound (settingsIn bs) (countIn bs) (treeIn bs) ≡ true) × (same bs (fileBytes (settingsIn bs) (pointsIn bs) (treeIn bs)) ≡ true)
-  unfolding wellFormed
-  facts =
-      three-pass (buildable (settingsIn bs) (pointsIn bs)) (sound (settingsIn bs) (countIn bs) (treeIn bs)) (same bs (fileBytes (settingsIn bs) (pointsIn bs) (treeIn bs))) loaded-well
-
   pub loaded-file : bs ≡ fileBytes s cs (treeIn bs)
   loaded-file =
-      same-is bs (fileBytes (settingsIn bs) (pointsIn bs) (treeIn bs)) (facts .2)
+      well-formed-file bs loaded-well
       ∙ ap₂ (λ (t : Settings) (c : List Float). fileBytes t c (treeIn bs)) loaded-settings loaded-points
 
   pub loaded-sound : sound s n (treeIn bs) ≡ true
-  loaded-sound = sym (ap₂ (λ (t : Settings) (m : ℕ). sound t m (treeIn bs)) loaded-settings loaded-count) ∙ facts .1
+  loaded-sound = sym (ap₂ (λ (t : Settings) (m : ℕ). sound t m (treeIn bs)) loaded-settings loaded-count) ∙ well-formed-sound bs loaded-well

@@ -34,10 +34,9 @@ use Rattle.stored_laws.proofs.Loaded.{load-answers, load-lists, loaded-
 use Rattle.stored_laws.proofs.Writes.{writes-own, writes-packs, writes}
 use Rattle.stored_laws.proofs.WellFormed.{well-formed-writable}
 use Rattle.stored_laws.proofs.ReadBack.{tree-stowed}
-use Rattle.stored_laws.proofs.Held.{boxes-held, packs-counts, packs-fronts}
+use Rattle.stored_laws.proofs.Fronts.{boxes-held, packs-counts, packs-fronts}
 
 -- ---- a load of what was written
-
 module _ (s : Settings) (cs : List Float) (c : Counts) (l : TreeLists) (file : List ℕ) (ok : writeVerdict s cs c l file ≡ accepted) where
   abbrev tree : List Level
   tree = treeHeld (s .dimension) c l
@@ -71,12 +70,15 @@ module _ (s : Settings) (cs : List Float) (c : Counts) (l : TreeLists) (file : L
 -- ---- a write of what was loaded
 
 -- each box of a tree that its file holds is as wide as the dimension says
-boxes-wide : (d : ℕ) (ls : List Level) → StowedTree d ls → All (λ (f : Leaf). length (f .box) ≡ boxWidth d) (leavesIn ls)
+abbrev Wide : ℕ → Leaf → Type 0
+Wide d f = length (f .box) ≡ boxWidth d
+
+boxes-wide : (d : ℕ) (ls : List Level) → StowedTree d ls → All (Wide d) (leavesIn ls)
 unfolding StowedTree leavesIn joined All
 boxes-wide d [] k = tt
-boxes-wide d (l ∷ []) k = all-append (λ (f : Leaf). length (f .box) ≡ boxWidth d) (l .leaves) [] (all-imp (Boxed d true) (λ (f : Leaf). length (f .box) ≡ boxWidth d) (l .leaves) (λ f e. ap length e ∙ simp length-replicate) (k .boxed)) tt
+boxes-wide d (l ∷ []) k = all-append (Wide d) (l .leaves) [] (all-imp (Boxed d true) (Wide d) (l .leaves) (λ f e. ap length e ∙ simp length-replicate) (k .boxed)) tt
 boxes-wide d (l ∷ m ∷ ls) k =
-    all-append (λ (f : Leaf). length (f .box) ≡ boxWidth d) (l .leaves) (leavesIn (m ∷ ls)) (all-imp (Boxed d false) (λ (f : Leaf). length (f .box) ≡ boxWidth d) (l .leaves) (λ f e. e .0) (k .0 .boxed)) (boxes-wide d (m ∷ ls) (k .1))
+    all-append (Wide d) (l .leaves) (leavesIn (m ∷ ls)) (all-imp (Boxed d false) (Wide d) (l .leaves) (λ f e. e .0) (k .0 .boxed)) (boxes-wide d (m ∷ ls) (k .1))
 
 -- a list is no shorter after a write to it
 still-long : {A : Type 0} (xs old : List A) (k : ℕ) → ltb (length old) k ≡ false → ltb (length (written xs old)) k ≡ false

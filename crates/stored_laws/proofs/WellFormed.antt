@@ -1,7 +1,7 @@
 -- Which bytes are well-formed: exactly the files of settings, points and trees that can be written (`well-formed-iff`), and each of
 -- one only (`stored-once`); record by record, in the order in which a reader meets them (`well-formed-in-turn`). Assumes nothing.
--- Holds: well-formed-file, well-formed-bytes, well-formed-writable, well-formed-has, well-formed-of, well-formed-iff,
---   stored-once, well-formed-in-turn
+-- Holds: well-formed-file, well-formed-sound, well-formed-bytes, well-formed-writable, well-formed-has, well-formed-of,
+--   well-formed-iff, stored-once, well-formed-in-turn
 use mathlib.Core.Path.{_≡_, refl, sym, ap, subst, _∙_}
 use mathlib.Core.Logic.{_↔_}
 use Prim.Native.Nat.{ℕ}
@@ -35,11 +35,14 @@ module _ (bs : List ℕ) (h : wellFormed bs ≡ true) where
   pub well-formed-file : bs ≡ fileBytes (settingsIn bs) (pointsIn bs) (treeIn bs)
   well-formed-file = same-is bs (fileBytes (settingsIn bs) (pointsIn bs) (treeIn bs)) (facts .2)
 
+  pub well-formed-sound : sound (settingsIn bs) (countIn bs) (treeIn bs) ≡ true
+  well-formed-sound = facts .1
+
   pub well-formed-bytes : All IsByte bs
   well-formed-bytes = subst (All IsByte) (sym well-formed-file) (file-bytes (settingsIn bs) (pointsIn bs) (treeIn bs))
 
   pub well-formed-writable : Writable (settingsIn bs) (pointsIn bs) (treeIn bs)
-  well-formed-writable = read-writable bs well-formed-bytes (facts .0) (facts .1)
+  well-formed-writable = read-writable bs well-formed-bytes (facts .0) well-formed-sound
 
 -- ---- in two directions
 pub well-formed-has : (bs : List ℕ) → wellFormed bs ≡ true → Stores bs (settingsIn bs) (pointsIn bs) (treeIn bs)

@@ -1,5 +1,5 @@
--- What `packs` says of the counts and of the fronts of the lists, and that the boxes of the tree in the lists are their front. Assumes
--- nothing.
+-- Lists that pack a tree: its counts, and the fronts of the lists, are the tree's; so are the boxes of the tree that stands in them.
+-- Assumes nothing.
 use mathlib.Core.Path.{_≡_, refl, sym, ap, ap₂, _∙_}
 use mathlib.Core.Logic.{⊎-elim}
 use Prim.Native.Nat.{ℕ, zero, suc, _+_, _*_, _≤_, _<_}
@@ -12,7 +12,7 @@ use lib.Seq.{take-add, take-all, length-take-le}
 use lib.Dec.{eqb}
 use borrow.Author.Tests.{eqb-true}
 use Rattle.lists.specs.Lists.{from, joined, part, total}
-use Rattle.lists.proofs.Tests.{and-fst, and-snd, le-or-lt}
+use Rattle.lists.proofs.Tests.{le-or-lt}
 use Rattle.lists.proofs.Sums.{total-more}
 use Rattle.lists.proofs.From.{below-snoc, from-append}
 use Rattle.lists.proofs.Joined.{joined-map-snoc}
@@ -24,6 +24,7 @@ use Rattle.definition.specs.Outcome.{TreeLists, written, listAfter, treeListsAf
 use Rattle.packed.specs.Reading.{Packed, packed, upTo, readLeaf, readLeaves, readLevel, readLevels}
 use Rattle.stored.specs.Sound.{same}
 use Rattle.stored.specs.Outcome.{leads, treeHeld, packs}
+use Rattle.tree_tests.proofs.Several.{four-pass}
 use Rattle.tree_tests.proofs.AllRows.{same-is}
 use Rattle.stored_laws.specs.RoundTrip.{frontsOver}
 
@@ -73,56 +74,39 @@ boxes-held d c l =
     ∙ parts-front (l .boxes) (boxWidth d) m)
 
 -- ---- lists and counts that are those of the tree
+seven-pass : (a b c d e f g : Bool) → a && b && c && d && e && f && g ≡ true
+    → (a ≡ true) × (b ≡ true) × (c ≡ true) × (d ≡ true) × (e ≡ true) × (f ≡ true) × (g ≡ true)
+seven-pass a b c d e f g h =
+    let u = four-pass (a && b && c && d) e f g h in
+    let v = four-pass a b c d (u .0) in
+    (v .0, v .1, v .2, v .3, u .1, u .2, u .3)
+
 abbrev counts : ℕ → List ℕ → List ℕ → Counts
 counts levels rows domains = record { levels = levels; rows = rows; domains = domains }
 
 module _ (c : Counts) (l : TreeLists) (ls : List Level) where
-  abbrev a1 : Bool
-  a1 = eqb (c .levels) (countsOf ls .levels)
-
-  abbrev a2 : Bool
-  a2 = a1 && same (c .rows) (countsOf ls .rows)
-
-  abbrev a3 : Bool
-  a3 = a2 && same (c .domains) (countsOf ls .domains)
-
-  abbrev a4 : Bool
-  a4 = a3 && leads (packedLevelPoints ls) (l .level-points)
-
-  abbrev a5 : Bool
-  a5 = a4 && leads (packedInternals ls) (l .internals)
-
-  abbrev a6 : Bool
-  a6 = a5 && leads (packedDomains ls) (l .domains)
-
   module _ (h : packs c l ls ≡ true) where
-    borrowed-leads : (a6 ≡ true) × (leads (packedBorrowed ls) (l .borrowed) ≡ true)
+    parts : (eqb (c .levels) (countsOf ls .levels) ≡ true) × (same (c .rows) (countsOf ls .rows) ≡ true) × (same (c .domains) (countsOf ls .domains) ≡ true)
+        × (leads (packedLevelPoints ls) (l .level-points) ≡ true) × (leads (packedInternals ls) (l .internals) ≡ true) × (leads (packedDomains ls) (l .domains) ≡ true)
+        × (leads (packedBorrowed ls) (l .borrowed) ≡ true)
     unfolding packs
-    borrowed-leads = (and-fst a6 (leads (packedBorrowed ls) (l .borrowed)) h, and-snd a6 (leads (packedBorrowed ls) (l .borrowed)) h)
-
-    five-lead : (a5 ≡ true) × (leads (packedDomains ls) (l .domains) ≡ true)
-    five-lead = (and-fst a5 (leads (packedDomains ls) (l .domains)) (borrowed-leads .0), and-snd a5 (leads (packedDomains ls) (l .domains)) (borrowed-leads .0))
-
-    four-lead : (a4 ≡ true) × (leads (packedInternals ls) (l .internals) ≡ true)
-    four-lead = (and-fst a4 (leads (packedInternals ls) (l .internals)) (five-lead .0), and-snd a4 (leads (packedInternals ls) (l .internals)) (five-lead .0))
-
-    three-lead : (a3 ≡ true) × (leads (packedLevelPoints ls) (l .level-points) ≡ true)
-    three-lead = (and-fst a3 (leads (packedLevelPoints ls) (l .level-points)) (four-lead .0), and-snd a3 (leads (packedLevelPoints ls) (l .level-points)) (four-lead .0))
+    parts =
+        seven-pass (eqb (c .levels) (countsOf ls .levels)) (same (c .rows) (countsOf ls .rows)) (same (c .domains) (countsOf ls .domains))
+        (leads (packedLevelPoints ls) (l .level-points)) (leads (packedInternals ls) (l .internals)) (leads (packedDomains ls) (l .domains)) (leads (packedBorrowed ls) (l .borrowed)) h
 
     pub packs-counts : c ≡ countsOf ls
     packs-counts =
-        let two = and-fst a2 (same (c .domains) (countsOf ls .domains)) (three-lead .0) in
-        let levels = eqb-true (c .levels) (countsOf ls .levels) (and-fst a1 (same (c .rows) (countsOf ls .rows)) two) in
-        let rows = same-is (c .rows) (countsOf ls .rows) (and-snd a1 (same (c .rows) (countsOf ls .rows)) two) in
-        let domains = same-is (c .domains) (countsOf ls .domains) (and-snd a2 (same (c .domains) (countsOf ls .domains)) (three-lead .0)) in
+        let levels = eqb-true (c .levels) (countsOf ls .levels) (parts .0) in
+        let rows = same-is (c .rows) (countsOf ls .rows) (parts .1) in
+        let domains = same-is (c .domains) (countsOf ls .domains) (parts .2) in
         ap (λ (n : ℕ). counts n (c .rows) (c .domains)) levels ∙ ap₂ (λ (r d : List ℕ). counts (countsOf ls .levels) r d) rows domains
 
     -- so the lists after a write of the tree have their fronts from these, if the boxes do
     pub packs-fronts : packedBoxes ls ≡ take (length (packedBoxes ls)) (l .boxes) → (old : TreeLists) → treeListsAfter accepted ls old ≡ frontsOver ls l old
     unfolding treeListsAfter listAfter written frontsOver
     packs-fronts boxes old =
-        let points = same-is (packedLevelPoints ls) (take (length (packedLevelPoints ls)) (l .level-points)) (three-lead .1) in
-        let internals = same-is (packedInternals ls) (take (length (packedInternals ls)) (l .internals)) (four-lead .1) in
-        let domains = same-is (packedDomains ls) (take (length (packedDomains ls)) (l .domains)) (five-lead .1) in
-        let borrowed = same-is (packedBorrowed ls) (take (length (packedBorrowed ls)) (l .borrowed)) (borrowed-leads .1) in
+        let points = same-is (packedLevelPoints ls) (take (length (packedLevelPoints ls)) (l .level-points)) (parts .3) in
+        let internals = same-is (packedInternals ls) (take (length (packedInternals ls)) (l .internals)) (parts .4) in
+        let domains = same-is (packedDomains ls) (take (length (packedDomains ls)) (l .domains)) (parts .5) in
+        let borrowed = same-is (packedBorrowed ls) (take (length (packedBorrowed ls)) (l .borrowed)) (parts .6) in
         cc
