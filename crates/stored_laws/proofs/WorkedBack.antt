@@ -6,11 +6,11 @@ use lib.Ieee.{fits}
 use Rattle.lists.specs.Ascends.{All}
 use Rattle.definition.specs.Tree.{levels}
 use Rattle.definition.proofs.WorkedSamples.{line, onLine}
-use Rattle.stored.proofs.WorkedFiles.{kept}
+use Rattle.stored.proofs.WorkedFiles.{everything}
 use Rattle.stored_laws.specs.Writable.{Writable}
 
 pub four-writable : Writable (onLine 2 2) (line (0 ∷ 1 ∷ 3 ∷ 7 ∷ [])) (levels (onLine 2 2) (line (0 ∷ 1 ∷ 3 ∷ 7 ∷ [])))
-unfolding kept All fits
+unfolding everything All fits
 four-writable =
     record {
       settings-fit = record { leaf = omega arith; factor = omega arith; threshold = omega arith };
