@@ -1,0 +1,2 @@
+-- What the contracts of the records cite beside the format.
+pub mod Records

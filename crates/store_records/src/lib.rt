@@ -1,0 +1,138 @@
+// The records of a stored tree, each written to a lent list of bytes from an offset on. Each function answers with the offset after
+// what it wrote.
+ghost use Prim.Native.Nat.{_+_, _*_, _≤_};
+ghost use lib.ListN.{length};
+ghost use Rattle.lists.specs.Lists.{part};
+ghost use Rattle.definition.specs.Points.{boxWidth};
+ghost use Rattle.definition.specs.Packed.{rowFloats};
+ghost use Rattle.formats.specs.Bytes.{markOf, numbersBytes, floatsBytes};
+ghost use Rattle.print_texts.specs.Wrote.{Wrote, TextRoom};
+ghost use Rattle.packed.specs.Reading.{packed, RowFits, boxAt, readLeaf};
+ghost use Rattle.stored.specs.File.{pointBytes};
+ghost use Rattle.store_records.specs.Records.{countsBytes, levelRecord, boundsGiven, domainRecord};
+
+// The first byte of every mark, and the second one of a point's, a level's and a domain's.
+const TREE: u8 = 0x54;
+
+const POINT: u8 = 0x50;
+
+const LEVEL: u8 = 0x4c;
+
+const DOMAIN: u8 = 0x44;
+
+// The bytes of a mark, of a number and of a float.
+const MARK: usize = 2;
+
+const NUMBER: usize = 4;
+
+const FLOAT: usize = 8;
+
+// ---- parts of records
+
+// The rows of a list from `start` on.
+fn put_rows(rows: &[usize], start: usize, count: usize, out: &mut [u8], at: usize) -> usize
+    requires { ⌜ start + count ≤ length (now rows) ⌝ }
+    requires { ⌜ TextRoom (now out) at (numbersBytes (part (now rows) start count)) ⌝ }
+    ensures { λ r. ⌜ Wrote (now (out .entry)) at (numbersBytes (part (now (rows .entry)) start count)) r (now (out .exit)) ⌝ }
+{
+    bytes_out::put_numbers(rows, start, count, out, at);
+    at + NUMBER * count
+}
+
+// The floats of a list from `start` on.
+fn put_reals(xs: &[f64], start: usize, count: usize, out: &mut [u8], at: usize) -> usize
+    requires { ⌜ start + count ≤ length (now xs) ⌝ }
+    requires { ⌜ TextRoom (now out) at (floatsBytes (part (now xs) start count)) ⌝ }
+    ensures { λ r. ⌜ Wrote (now (out .entry)) at (floatsBytes (part (now (xs .entry)) start count)) r (now (out .exit)) ⌝ }
+{
+    bytes_out::put_floats(xs, start, count, out, at);
+    at + FLOAT * count
+}
+
+// The mark of a kind of record, and two counts.
+fn put_counts(kind: u8, first: usize, second: usize, out: &mut [u8], at: usize) -> usize
+    requires { ⌜ TextRoom (now out) at (countsBytes (markOf 0x54 kind) first second) ⌝ }
+    ensures { λ r. ⌜ Wrote (now (out .entry)) at (countsBytes (markOf 0x54 kind) first second) r (now (out .exit)) ⌝ }
+{
+    bytes_out::put_mark(TREE, kind, out, at);
+    let next = at + MARK;
+    bytes_out::put_short(first, out, next);
+    let last = next + NUMBER;
+    bytes_out::put_short(second, out, last);
+    last + NUMBER
+}
+
+// The box of the domain row number j; nothing for the coarse domain.
+fn put_bounds(
+    boxes: &[f64],
+    dimensions: usize,
+    j: usize,
+    coarse: bool,
+    out: &mut [u8],
+    at: usize,
+) -> usize
+    requires { ⌜ (dimensions ≤ 3) × (rowFloats dimensions * j + boxWidth dimensions ≤ length (now boxes)) ⌝ }
+    requires { ⌜ TextRoom (now out) at (floatsBytes (boundsGiven coarse (boxAt dimensions (now boxes) j))) ⌝ }
+    ensures { λ r. ⌜ Wrote (now (out .entry)) at (floatsBytes (boundsGiven coarse (boxAt dimensions (now (boxes .entry)) j))) r (now (out .exit)) ⌝ }
+{
+    if coarse {
+        return at;
+    }
+    let start = packed::floats_before(dimensions, j);
+    let width = packed::row_floats(dimensions);
+    put_reals(boxes, start, width, out, at)
+}
+
+// ---- records
+
+// The point of row i.
+pub fn put_point(points: &[f64], dimensions: usize, i: usize, out: &mut [u8], at: usize) -> usize
+    requires { ⌜ i * dimensions + dimensions ≤ length (now points) ⌝ }
+    requires { ⌜ TextRoom (now out) at (pointBytes dimensions (now points) i) ⌝ }
+    ensures { λ r. ⌜ Wrote (now (out .entry)) at (pointBytes dimensions (now (points .entry)) i) r (now (out .exit)) ⌝ }
+{
+    bytes_out::put_mark(TREE, POINT, out, at);
+    put_reals(points, i * dimensions, dimensions, out, at + MARK)
+}
+
+// A level: its rows stand in the level points from `start` on.
+pub fn put_level(
+    level_points: &[usize],
+    start: usize,
+    count: usize,
+    domain_count: usize,
+    out: &mut [u8],
+    at: usize,
+) -> usize
+    requires { ⌜ start + count ≤ length (now «level_points») ⌝ }
+    requires { ⌜ TextRoom (now out) at (levelRecord (part (now «level_points») start count) «domain_count») ⌝ }
+    ensures { λ r. ⌜ Wrote (now (out .entry)) at (levelRecord (part (now («level_points» .entry)) start count) «domain_count») r (now (out .exit)) ⌝ }
+{
+    let listed = put_counts(LEVEL, count, domain_count, out, at);
+    put_rows(level_points, start, count, out, listed)
+}
+
+// The domain of the domain row number j.
+pub fn put_domain(
+    internals: &[usize],
+    domains: &[usize],
+    boxes: &[f64],
+    borrowed: &[usize],
+    dimensions: usize,
+    j: usize,
+    coarse: bool,
+    out: &mut [u8],
+    at: usize,
+) -> usize
+    requires { ⌜ RowFits (packed (now internals) (now domains) (now boxes) (now borrowed) dimensions) j ⌝ }
+    requires { ⌜ TextRoom (now out) at (domainRecord coarse (readLeaf (packed (now internals) (now domains) (now boxes) (now borrowed) dimensions) j)) ⌝ }
+    ensures { λ r. ⌜ Wrote (now (out .entry)) at (domainRecord coarse (readLeaf (packed (now (internals .entry)) (now (domains .entry)) (now (boxes .entry)) (now (borrowed .entry)) dimensions) j)) r (now (out .exit)) ⌝ }
+{
+    let row = packed::read_row(domains, j);
+    let own = row.internal_count;
+    let lent = row.borrowed_count;
+    let counted = put_counts(DOMAIN, own, lent, out, at);
+    let owned = put_rows(internals, row.internal_start, own, out, counted);
+    let listed = put_rows(borrowed, row.borrowed_start, lent, out, owned);
+    put_bounds(boxes, dimensions, j, coarse, out, listed)
+}
