@@ -1,0 +1,2 @@
+-- What the contracts of the writer cite beside the format.
+pub mod Runs
