@@ -1,54 +1,33 @@
--- The parts of a stored tree's records, as the code writes them. Assumes nothing.
--- Holds: numbers-long, floats-long, mark-wrote, number-wrote, number-room, counts-parts, point-parts, level-parts, bounds-none,
---   bounds-all, domainParts, domain-parts
-use mathlib.Core.Path.{_≡_, refl, sym, ap, ap₂, _∙_}
+-- The records of a stored tree as the parts that the code writes one after the other. Assumes nothing.
+-- Holds: counts-parts, head-parts, point-parts, level-parts, bounds-none, bounds-all, domainParts, domain-parts
+use mathlib.Core.Path.{_≡_, sym, ap₂, _∙_}
 use Prim.Native.Nat.{ℕ, _+_, _*_, _≤_}
-use native.Mathlib.Omega.{arith}
 use mathlib.Core.Bool.{Bool, true, false}
 use mathlib.Core.List.{List, [], _∷_, _++_, map, append-assoc, append-nil}
 use lib.ListN.{length}
-use lib.Ieee.{Float, nan, toBits, binary64}
-use Rattle.lists.specs.Lists.{joined, part, put, from}
+use lib.Ieee.{Float, nan}
+use Rattle.lists.specs.Lists.{joined, part, from}
 use Rattle.lists.proofs.Put.{length-part, getD-part}
 use Rattle.lists.proofs.From.{list-below}
 use Rattle.definition.specs.Points.{coordinate, boxWidth}
+use Rattle.definition.specs.Tree.{Settings}
 use Rattle.definition.specs.Packed.{rowFloats}
-use Rattle.formats.specs.Bytes.{Mark, markBytes, markSize, bytesOf, numberBytes, numbersBytes, floatBytes, floatsBytes, numberSize, floatSize}
-use Rattle.bytes_out.proofs.Bytes.{length-bytes}
-use Rattle.bytes_out.proofs.Turns.{length-fields}
+use Rattle.formats.specs.Bytes.{Mark, markBytes, numberBytes, numbersBytes, floatsBytes}
+use Rattle.formats.specs.Stream.{settingsBytes}
 use Rattle.packed.specs.declared.DomainRow.{DomainRow}
 use Rattle.packed.specs.Reading.{Packed, readLeaf, ownAt, borrowedAt, boxAt, RowFits, ownStart, ownCount, borrowedStart, borrowedCount}
 use Rattle.packed.specs.Rows.{IsRow}
-use Rattle.print_texts.specs.Wrote.{Wrote, TextRoom}
-use Rattle.stored.specs.File.{filePointMark, levelMark, domainMark, pointBytes, domainBytes}
+use Rattle.stored.specs.File.{headMark, filePointMark, levelMark, domainMark, headBytes, pointBytes, domainBytes}
 use Rattle.store_records.specs.Records.{countsBytes, levelRecord, boundsGiven, domainRecord}
 
--- ---- how many bytes
-pub numbers-long : (rows : List ℕ) (start count : ℕ) → start + count ≤ length rows → length (numbersBytes (part rows start count)) ≡ numberSize * count
-unfolding numbersBytes
-numbers-long rows start count h =
-    length-fields numberBytes numberSize (length-bytes numberSize) (part rows start count) ∙ ap (λ (k : ℕ). numberSize * k) (length-part rows start count h)
-
-pub floats-long : (xs : List Float) (start count : ℕ) → start + count ≤ length xs → length (floatsBytes (part xs start count)) ≡ floatSize * count
-unfolding floatsBytes
-floats-long xs start count h =
-    length-fields floatBytes floatSize (λ x. length-bytes floatSize (toBits binary64 x)) (part xs start count) ∙ ap (λ (k : ℕ). floatSize * k) (length-part xs start count h)
-
--- ---- a mark and a number, written by an inner function
-module _ {l : List ℕ} {at : ℕ} where
-  pub mark-wrote : {m : Mark} {n : List ℕ} → n ≡ put l at (markBytes m) → Wrote l at (markBytes m) (at + markSize) n
-  mark-wrote e = record { place = refl; same = e }
-
-  pub number-wrote : (k : ℕ) {n : List ℕ} → n ≡ put l at (numberBytes k) → Wrote l at (numberBytes k) (at + numberSize) n
-  number-wrote k e = record { place = ap (λ (i : ℕ). at + i) (sym (length-bytes numberSize k)); same = e }
-
-  pub number-room : (k : ℕ) → TextRoom l at (numberBytes k) → at + numberSize ≤ length l
-  number-room k h = omega (arith, h .fits, length-bytes numberSize k)
-
--- ---- the parts
+-- ---- records with a number of parts that is fixed
 pub counts-parts : (m : Mark) (a b : ℕ) → countsBytes m a b ≡ joined (markBytes m ∷ numberBytes a ∷ numberBytes b ∷ [])
 unfolding countsBytes joined
 counts-parts m a b = simp (append-assoc, append-nil)
+
+pub head-parts : (s : Settings) (n : ℕ) → headBytes s n ≡ joined (markBytes headMark ∷ settingsBytes s ∷ numberBytes n ∷ [])
+unfolding headBytes joined
+head-parts s n = simp (append-assoc, append-nil)
 
 pub point-parts : (d : ℕ) (cs : List Float) (i : ℕ) → i * d + d ≤ length cs
     → pointBytes d cs i ≡ joined (markBytes filePointMark ∷ floatsBytes (part cs (i * d) d) ∷ [])
@@ -63,7 +42,7 @@ pub level-parts : (rows : List ℕ) (start count m : ℕ) → start + count ≤ 
 unfolding levelRecord joined
 level-parts rows start count m h = rw (length-part rows start count h, append-nil)
 
--- the box, found at x with w bounds
+-- ---- the box, found at x with w bounds
 module _ (coarse : Bool) (d : ℕ) (boxes : List Float) (j : ℕ) where
   pub bounds-none : coarse ≡ true → [] ≡ floatsBytes (boundsGiven coarse (boxAt d boxes j))
   unfolding boundsGiven floatsBytes joined
@@ -74,7 +53,7 @@ module _ (coarse : Bool) (d : ℕ) (boxes : List Float) (j : ℕ) where
   unfolding boundsGiven
   bounds-all x w e ex ew = rw (e, ex, ew)
 
--- a domain's record, by the row r that was read
+-- ---- a domain's record, by the row r that was read
 six-parts : (a b c d e f : List ℕ) → a ++ b ++ c ++ d ++ e ++ f ≡ joined ((a ++ b ++ c) ∷ d ∷ e ∷ f ∷ [])
 unfolding joined
 six-parts a b c d e f = simp (append-assoc, append-nil)

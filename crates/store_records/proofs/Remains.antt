@@ -1,10 +1,10 @@
 -- Bytes that are written part by part: what still has to be written. Assumes nothing.
 -- Holds: Remains, begin, restated, room-now, part-written, done
-use mathlib.Core.Path.{_≡_, refl, sym, ap, _∙_}
+use mathlib.Core.Path.{_≡_, sym, ap, _∙_}
 use Prim.Native.Nat.{ℕ, _+_, _≤_}
 use native.Mathlib.Nat.{add-zero}
 use native.Mathlib.Omega.{arith}
-use mathlib.Core.List.{List, [], _∷_, _++_}
+use mathlib.Core.List.{List, [], _∷_}
 use lib.ListN.{length, length-append}
 use Rattle.lists.specs.Lists.{joined, put}
 use Rattle.lists.proofs.Put.{put-nil, put-next-at, length-put}

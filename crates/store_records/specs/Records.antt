@@ -5,8 +5,8 @@ use mathlib.Core.List.{List, [], _++_}
 use lib.ListN.{length}
 use lib.Ieee.{Float}
 use Rattle.definition.specs.Tree.{Leaf}
-use Rattle.formats.specs.Bytes.{Mark, markBytes, numberBytes, numbersBytes, floatsBytes}
-use Rattle.stored.specs.File.{levelMark, domainMark, domainBytes}
+use Rattle.formats.specs.Bytes.{Mark, markBytes, numberBytes, numbersBytes}
+use Rattle.stored.specs.File.{levelMark, domainBytes}
 
 -- how a level's record, and a domain's, begins: its mark and two counts
 unfoldable pub countsBytes : Mark → ℕ → ℕ → List ℕ

@@ -1,31 +1,31 @@
 // The records of a stored tree, each written to a lent list of bytes from an offset on. Each function answers with the offset after
 // what it wrote.
-ghost use Prim.Native.Nat.{_+_, _*_, _≤_};
+use bytes_in::FLOAT;
+use bytes_in::MARK;
+use bytes_in::NUMBER;
+use config::DDMParams;
+ghost use Prim.Native.Nat.{_+_, _*_, _≤_, _<_};
 ghost use lib.ListN.{length};
 ghost use Rattle.lists.specs.Lists.{part};
 ghost use Rattle.definition.specs.Points.{boxWidth};
 ghost use Rattle.definition.specs.Packed.{rowFloats};
 ghost use Rattle.formats.specs.Bytes.{markOf, numbersBytes, floatsBytes};
+ghost use Rattle.config.specs.Params.{settingsOf};
 ghost use Rattle.print_texts.specs.Wrote.{Wrote, TextRoom};
 ghost use Rattle.packed.specs.Reading.{packed, RowFits, boxAt, readLeaf};
-ghost use Rattle.stored.specs.File.{pointBytes};
+ghost use Rattle.stored.specs.File.{headBytes, pointBytes};
 ghost use Rattle.store_records.specs.Records.{countsBytes, levelRecord, boundsGiven, domainRecord};
 
-// The first byte of every mark, and the second one of a point's, a level's and a domain's.
+// The first byte of every mark, and the second one of the head's, a point's, a level's and a domain's.
 const TREE: u8 = 0x54;
+
+const HEAD: u8 = 0x48;
 
 const POINT: u8 = 0x50;
 
 const LEVEL: u8 = 0x4c;
 
 const DOMAIN: u8 = 0x44;
-
-// The bytes of a mark, of a number and of a float.
-const MARK: usize = 2;
-
-const NUMBER: usize = 4;
-
-const FLOAT: usize = 8;
 
 // ---- parts of records
 
@@ -84,6 +84,18 @@ fn put_bounds(
 }
 
 // ---- records
+
+// The head, which the bytes begin with: the settings, and the number of points.
+pub fn put_head(dimensions: usize, params: DDMParams, n: usize, out: &mut [u8]) -> usize
+    requires { ⌜ dimensions < 256 ⌝ }
+    requires { ⌜ TextRoom (now out) 0 (headBytes (settingsOf dimensions params) n) ⌝ }
+    ensures { λ r. ⌜ Wrote (now (out .entry)) 0 (headBytes (settingsOf dimensions params) n) r (now (out .exit)) ⌝ }
+{
+    bytes_out::put_mark(TREE, HEAD, out, 0);
+    settings_record::put_settings(dimensions, params, out, MARK);
+    bytes_out::put_short(n, out, settings_record::SIZE);
+    settings_record::SIZE + NUMBER
+}
 
 // The point of row i.
 pub fn put_point(points: &[f64], dimensions: usize, i: usize, out: &mut [u8], at: usize) -> usize

@@ -1,6 +1,7 @@
 -- `store_records::put_counts` meets its contract. Assumes nothing.
 use Rattle.store_records.proofs.Remains.{begin, room-now, part-written, done}
-use Rattle.store_records.proofs.Parts.{counts-parts, mark-wrote, number-wrote, number-room}
+use Rattle.store_records.proofs.Fields.{mark-wrote, number-wrote, number-room}
+use Rattle.store_records.proofs.Parts.{counts-parts}
 use Rattle.formats.specs.Bytes.{markOf, markBytes, numberBytes}
 use mathlib.Core.List.{[], _∷_}
 use borrow.Author.Needs.{needs}

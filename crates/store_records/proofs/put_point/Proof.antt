@@ -1,6 +1,7 @@
 -- `store_records::put_point` meets its contract. Assumes nothing.
 use Rattle.store_records.proofs.Remains.{begin, room-now, part-written, done}
-use Rattle.store_records.proofs.Parts.{point-parts, mark-wrote}
+use Rattle.store_records.proofs.Fields.{mark-wrote}
+use Rattle.store_records.proofs.Parts.{point-parts}
 use Rattle.lists.specs.Lists.{part}
 use Rattle.formats.specs.Bytes.{markBytes, floatsBytes}
 use Rattle.stored.specs.File.{filePointMark}

@@ -1,5 +1,5 @@
 -- `store_records::put_reals` meets its contract. Assumes nothing.
-use Rattle.store_records.proofs.Parts.{floats-long}
+use Rattle.store_records.proofs.Fields.{floats-long}
 use mathlib.Core.Path.{sym, ap}
 use Prim.Native.Nat.{ℕ, _+_}
 use native.Mathlib.Omega.{arith}
