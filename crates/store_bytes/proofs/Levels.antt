@@ -1,7 +1,7 @@
 -- The records of levels, from the packed lists and the counts: a level's own, then those of the levels after it. Assumes nothing.
 -- Holds: no-level, levels-all, turn-here, rows-inside, row-fits, domains-inside
-use mathlib.Core.Path.{_≡_, refl, sym, ap, ap₂, _∙_}
-use mathlib.Core.Bool.{Bool, true, false}
+use mathlib.Core.Path.{_≡_, refl, sym, ap, _∙_}
+use mathlib.Core.Bool.{true, false}
 use Prim.Native.Nat.{ℕ, zero, suc, _+_, _-_, _≤_, _<_}
 use native.Mathlib.Numerals.{add-one}
 use native.Mathlib.Omega.{arith}

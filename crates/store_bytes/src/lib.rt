@@ -1,12 +1,18 @@
 // The bytes of a stored tree, from the points, the counts and the packed lists: records one after the other, written to a lent list of
 // bytes. Each function answers with the offset after what it wrote.
+use config::DDMParams;
+use tree_answer::TreeCounts;
+ghost use mathlib.Core.Path.{_≡_};
 ghost use Prim.Native.Nat.{ℕ, _+_, _*_, _≤_, _<_};
 ghost use mathlib.Core.List.{map};
 ghost use lib.ListN.{length};
-ghost use Rattle.lists.specs.Lists.{joined, from, part};
+ghost use Rattle.lists.specs.Lists.{joined, from, part, put};
+ghost use Rattle.config.specs.Params.{settingsOf};
+ghost use Rattle.tree_answer.specs.Answers.{countsGiven, listsOf};
 ghost use Rattle.print_texts.specs.Wrote.{Wrote, TextRoom};
 ghost use Rattle.packed.specs.Reading.{packed, RowFits, readLeaves, Stands, readLevels};
-ghost use Rattle.stored.specs.File.{pointBytes, treeRecords};
+ghost use Rattle.stored.specs.File.{pointBytes, frontBytes, treeRecords, fileBytes};
+ghost use Rattle.stored.specs.Outcome.{treeHeld};
 ghost use Rattle.store_bytes.specs.Runs.{domainRecords, levelOf, levelRecords};
 
 // The first n points.
@@ -22,6 +28,17 @@ fn put_points(points: &[f64], dimensions: usize, n: usize, out: &mut [u8], at: u
         i += 1;
     }
     next
+}
+
+// The head and the points.
+fn put_front(points: &[f64], dimensions: usize, params: DDMParams, out: &mut [u8]) -> usize
+    requires { ⌜ (1 ≤ dimensions) × (dimensions ≤ 3) ⌝ }
+    requires { ⌜ TextRoom (now out) 0 (frontBytes (settingsOf dimensions params) (now points)) ⌝ }
+    ensures { λ r. ⌜ Wrote (now (out .entry)) 0 (frontBytes (settingsOf dimensions params) (now (points .entry))) r (now (out .exit)) ⌝ }
+{
+    let n = points.len() / dimensions;
+    let next = store_records::put_head(dimensions, params, n, out);
+    put_points(points, dimensions, n, out, next)
 }
 
 // The domains of m domain rows from the row number j on.
@@ -143,4 +160,42 @@ fn put_levels(
         t += 1;
     }
     next
+}
+
+// The whole file of the tree that stands in the lists with these counts. The answer is the number of its bytes.
+pub fn put_file(
+    points: &[f64],
+    dimensions: usize,
+    params: DDMParams,
+    counts: TreeCounts,
+    level_points: &[usize],
+    internals: &[usize],
+    domains: &[usize],
+    boxes: &[f64],
+    borrowed: &[usize],
+    out: &mut [u8],
+) -> usize
+    requires { ⌜ (1 ≤ dimensions) × (dimensions ≤ 3) ⌝ }
+    requires { ⌜ Stands (packed (now internals) (now domains) (now boxes) (now borrowed) dimensions) (now «level_points») (counts .rows) (counts .domains) (counts .levels) ⌝ }
+    requires { ⌜ length (fileBytes (settingsOf dimensions params) (now points) (treeHeld dimensions (countsGiven counts) (listsOf (now «level_points») (now internals) (now domains) (now boxes) (now borrowed)))) ≤ length (now out) ⌝ }
+    ensures answer { λ r. ⌜ r ≡ length (fileBytes (settingsOf dimensions params) (now (points .entry)) (treeHeld dimensions (countsGiven counts) (listsOf (now («level_points» .entry)) (now (internals .entry)) (now (domains .entry)) (now (boxes .entry)) (now (borrowed .entry))))) ⌝ }
+    ensures file { λ _. ⌜ now (out .exit) ≡ put (now (out .entry)) 0 (fileBytes (settingsOf dimensions params) (now (points .entry)) (treeHeld dimensions (countsGiven counts) (listsOf (now («level_points» .entry)) (now (internals .entry)) (now (domains .entry)) (now (boxes .entry)) (now (borrowed .entry))))) ⌝ }
+{
+    let next = put_front(points, dimensions, params, out);
+    let levels = counts.levels;
+    let rows = counts.rows;
+    let domain_counts = counts.domains;
+    put_levels(
+        levels,
+        &rows,
+        &domain_counts,
+        level_points,
+        internals,
+        domains,
+        boxes,
+        borrowed,
+        dimensions,
+        out,
+        next,
+    )
 }

@@ -1,6 +1,7 @@
 -- `store_bytes::put_domains` meets its contract. Assumes nothing.
 use Rattle.store_records.proofs.Remains.{Remains, begin, restated, room-now, part-written, done}
-use Rattle.store_bytes.proofs.Turns.{domainAt, domain-run, turn, no-turn}
+use Rattle.store_bytes.proofs.Turns.{turn, no-turn}
+use Rattle.store_bytes.proofs.Runs.{domainAt, domain-run}
 use Rattle.lists.specs.Lists.{joined, from}
 use Rattle.packed.specs.Reading.{packed, readLeaves}
 use Rattle.store_bytes.specs.Runs.{domainRecords}

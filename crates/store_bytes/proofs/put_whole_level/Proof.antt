@@ -1,6 +1,6 @@
 -- `store_bytes::put_whole_level` meets its contract. Assumes nothing.
 use Rattle.store_records.proofs.Remains.{begin, room-now, part-written, done}
-use Rattle.store_bytes.proofs.Turns.{level-run}
+use Rattle.store_bytes.proofs.Runs.{level-run}
 use Rattle.lists.specs.Lists.{part}
 use Rattle.packed.specs.Reading.{packed, readLeaves}
 use Rattle.store_records.specs.Records.{levelRecord}
