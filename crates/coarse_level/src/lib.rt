@@ -9,7 +9,7 @@ ghost use Rattle.definition.specs.Points.{boxWidth};
 ghost use Rattle.definition.specs.Packed.{rowNumbers, rowFloats};
 
 // Writes `count` zeros to the box list, from `at` on.
-fn put_zeros(boxes: &mut [f64], at: usize, count: usize)
+pub fn put_zeros(boxes: &mut [f64], at: usize, count: usize)
     requires { ⌜ at + count ≤ length (now boxes) ⌝ }
     ensures { λ _. ⌜ now (boxes .exit) ≡ put (now (boxes .entry)) at (replicate count plusZero) ⌝ }
 {

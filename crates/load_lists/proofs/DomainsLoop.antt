@@ -1,0 +1,149 @@
+-- The loop over the domains of a level: those before the cursor are written. Assumes nothing.
+use mathlib.Core.Path.{_≡_, refl, sym, ap, _∙_}
+use mathlib.Core.Bool.{Bool, true, false, _&&_, cond}
+use mathlib.Core.List.{List, [], _∷_, _++_, append-assoc, append-nil}
+use Prim.Native.Nat.{ℕ, zero, suc, _+_, _-_, _*_, _<_}
+use native.Mathlib.Omega.{arith}
+use native.Mathlib.Nat.{mul-zero}
+use lib.ListN.{length, drop, replicate, length-replicate}
+use lib.Seq.{drop-drop}
+use Rattle.lists.specs.Lists.{joined}
+use Rattle.lists.proofs.Tests.{and-fst, and-snd}
+use Rattle.lists.proofs.Joined.{joined-one}
+use Rattle.definition.specs.Number.{plusZero}
+use Rattle.definition.specs.Points.{boxWidth}
+use Rattle.definition.specs.Tree.{Leaf}
+use Rattle.definition.specs.Packed.{rowFloats}
+use Rattle.packed.specs.Reading.{Packed}
+use Rattle.formats.specs.Bytes.{whole, floatsAt}
+use Rattle.stored.specs.File.{domainMark}
+use Rattle.stored.specs.Stored.{leafIn, leafSize, leavesAt, afterLeaves, boundsPlace}
+use Rattle.tree_tests.specs.Whole.{leavesWhole}
+use Rattle.fine_level.specs.Fine.{boxesIn}
+use Rattle.load_lists.specs.declared.Cursor.{Cursor}
+use Rattle.load_lists.specs.Places.{ahead, domainAt, domainsAt, Room, Written}
+use Rattle.load_lists.proofs.Domain.{length-floats}
+use Rattle.load_lists.proofs.Writing.{Wide, wide-append, written-none, room-front, Long, written-long, room-after, written-append}
+
+-- ---- domains in bytes
+module _ (d : ℕ) (coarse : Bool) where
+  box-wide : (bs : List ℕ) → length (leafIn d coarse bs .box) ≡ boxWidth d
+  unfolding leafIn
+  box-wide bs = go coarse
+    where
+      go : (b : Bool) → length (cond b (replicate (boxWidth d) plusZero) (floatsAt (boxWidth d) (boundsPlace bs) bs)) ≡ boxWidth d
+      go true = length-replicate (boxWidth d) plusZero
+      go false = length-floats (boxWidth d) (boundsPlace bs) bs
+
+  one-wide : (bs : List ℕ) → Wide d (leafIn d coarse bs ∷ [])
+  one-wide bs = ap length (joined-one (leafIn d coarse bs .box)) ∙ box-wide bs ∙ omega arith
+
+  pub leaves-wide : (m : ℕ) (bs : List ℕ) → Wide d (leavesAt d coarse m bs)
+  unfolding leavesAt joined
+  leaves-wide zero bs = sym (mul-zero (rowFloats d))
+  leaves-wide (suc m) bs =
+      let rest = drop (leafSize d coarse bs) bs in
+      wide-append d (leafIn d coarse bs ∷ []) (leavesAt d coarse m rest) (one-wide bs) (leaves-wide m rest)
+
+  pub leaves-many : (m : ℕ) (bs : List ℕ) → length (leavesAt d coarse m bs) ≡ m
+  unfolding leavesAt
+  leaves-many zero bs = refl
+  leaves-many (suc m) bs = ap suc (leaves-many m (drop (leafSize d coarse bs) bs))
+
+  -- the first of them, and what comes after it
+  leaves-first : (m : ℕ) (bs : List ℕ) → 0 < m → leavesAt d coarse m bs ≡ leafIn d coarse bs ∷ leavesAt d coarse (m - 1) (drop (leafSize d coarse bs) bs)
+  unfolding leavesAt
+  leaves-first zero bs h = absurd (omega arith)
+  leaves-first (suc m) bs h = let e : suc m - 1 ≡ m = omega arith in rw e
+
+  whole-first : (m : ℕ) (bs : List ℕ) → 0 < m → leavesWhole d coarse m bs ≡ (whole domainMark (leafSize d coarse bs) bs && leavesWhole d coarse (m - 1) (drop (leafSize d coarse bs) bs))
+  unfolding leavesWhole
+  whole-first zero bs h = absurd (omega arith)
+  whole-first (suc m) bs h = let e : suc m - 1 ≡ m = omega arith in rw e
+
+  after-first : (m : ℕ) (bs : List ℕ) → 0 < m → afterLeaves d coarse m bs ≡ afterLeaves d coarse (m - 1) (drop (leafSize d coarse bs) bs)
+  unfolding afterLeaves
+  after-first zero bs h = absurd (omega arith)
+  after-first (suc m) bs h = let e : suc m - 1 ≡ m = omega arith in rw e
+
+-- ---- THE INVARIANT: c₀ and p are the cursor and the lists before the loop, c and q are now, and `left` domains stand ahead
+pub record Inv (d : ℕ) (coarse : Bool) (m : ℕ) (file : List ℕ) (c₀ c : Cursor) (p q : Packed) (left : ℕ) : Type 0 where
+  pub done : List Leaf
+  pub all : done ++ domainsAt d coarse left c file ≡ domainsAt d coarse m c₀ file
+  pub wide : Wide d done
+  pub written : Written done c₀ c p q
+  pub stand : leavesWhole d coarse left (ahead c file) ≡ true
+  pub after : afterLeaves d coarse left (ahead c file) ≡ afterLeaves d coarse m (ahead c₀ file)
+  pub points : c .points ≡ c₀ .points
+
+pub domains-start : (d : ℕ) (coarse : Bool) (m : ℕ) (file : List ℕ) (c : Cursor) (p : Packed) → leavesWhole d coarse m (ahead c file) ≡ true → Inv d coarse m file c c p p m
+unfolding joined
+domains-start d coarse m file c p h = record {
+  done = [];
+  all = refl;
+  wide = sym (mul-zero (rowFloats d));
+  written = written-none c p;
+  stand = h;
+  after = refl;
+  points = refl;
+}
+
+module _ {d : ℕ} {coarse : Bool} {m : ℕ} {file : List ℕ} {c₀ c : Cursor} {p q : Packed} {left : ℕ} (v : Inv d coarse m file c₀ c p q left) where
+  -- ---- none is left
+  none-left : (n : ℕ) → n ≡ 0 → left ≡ n → (v .done ≡ domainsAt d coarse m c₀ file) × (ahead c file ≡ afterLeaves d coarse m (ahead c₀ file))
+  unfolding leavesAt afterLeaves
+  none-left n z e = (sym (append-nil (v .done)) ∙ rw (e, z) at (v .all), rw (e, z) at (v .after))
+
+  pub domains-end : left ≡ 0 → (ahead c file ≡ afterLeaves d coarse m (ahead c₀ file)) × (c .points ≡ c₀ .points)
+  domains-end e = (none-left 0 refl e .1, v .points)
+
+  pub domains-written : left ≡ 0 → Written (domainsAt d coarse m c₀ file) c₀ c p q
+  domains-written e = rw (← none-left 0 refl e .0) (v .written)
+
+  -- ---- the lists stay as long as they are
+  pub domains-long : p .dimension ≡ d → Room (domainsAt d coarse m c₀ file) c₀ p → Long p q
+  domains-long axes room = written-long (v .done) (rw axes (v .wide)) (room-front (v .done) (domainsAt d coarse left c file) (rw (v .all) room)) (v .written)
+
+  -- ---- one more
+  module _ (same : q .dimension ≡ p .dimension) (axes : p .dimension ≡ d) (room : Room (domainsAt d coarse m c₀ file) c₀ p) (some : 0 < left) where
+    abbrev this : Leaf
+    this = domainAt d coarse c file
+
+    abbrev rest : List Leaf
+    rest = leavesAt d coarse (left - 1) (drop (leafSize d coarse (ahead c file)) (ahead c file))
+
+    whole-both : (whole domainMark (leafSize d coarse (ahead c file)) (ahead c file) && leavesWhole d coarse (left - 1) (drop (leafSize d coarse (ahead c file)) (ahead c file))) ≡ true
+    whole-both = sym (whole-first d coarse left (ahead c file) some) ∙ v .stand
+
+    pub domain-stands : whole domainMark (leafSize d coarse (ahead c file)) (ahead c file) ≡ true
+    domain-stands = and-fst (whole domainMark (leafSize d coarse (ahead c file)) (ahead c file)) (leavesWhole d coarse (left - 1) (drop (leafSize d coarse (ahead c file)) (ahead c file))) whole-both
+
+    all-now : v .done ++ this ∷ rest ≡ domainsAt d coarse m c₀ file
+    all-now = ap (λ (fs : List Leaf). v .done ++ fs) (sym (leaves-first d coarse left (ahead c file) some)) ∙ v .all
+
+    all-next : (v .done ++ this ∷ []) ++ rest ≡ domainsAt d coarse m c₀ file
+    all-next = append-assoc (v .done) (this ∷ []) rest ∙ all-now
+
+    wide : Wide (p .dimension) (v .done)
+    wide = rw axes (v .wide)
+
+    room-now : Room (this ∷ rest) c q
+    room-now = room-after (v .done) (this ∷ rest) same wide (rw all-now room) (v .written)
+
+    pub domain-room : Room (domainAt d coarse c file ∷ []) c q
+    domain-room = room-front (this ∷ []) rest room-now
+
+    pub domains-next : (r : Cursor) (t : Packed) → r .at ≡ c .at + leafSize d coarse (ahead c file) → r .points ≡ c .points → Written (domainAt d coarse c file ∷ []) c r q t
+        → Inv d coarse m file c₀ r p t (left - 1)
+    domains-next r t at points w =
+        let there : ahead r file ≡ drop (leafSize d coarse (ahead c file)) (ahead c file) =
+        ap (λ (n : ℕ). drop n file) at ∙ sym (drop-drop (leafSize d coarse (ahead c file)) (c .at) file) in
+        record {
+          done = v .done ++ this ∷ [];
+          all = rw there all-next;
+          wide = wide-append d (v .done) (this ∷ []) (v .wide) (one-wide d coarse (ahead c file));
+          written = written-append (v .done) (this ∷ []) same wide (room-front (v .done ++ this ∷ []) rest (rw all-next room)) (v .written) w;
+          stand = rw there (and-snd (whole domainMark (leafSize d coarse (ahead c file)) (ahead c file)) (leavesWhole d coarse (left - 1) (drop (leafSize d coarse (ahead c file)) (ahead c file))) whole-both);
+          after = rw there (sym (after-first d coarse left (ahead c file) some)) ∙ v .after;
+          points = points ∙ v .points;
+        }

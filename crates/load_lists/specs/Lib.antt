@@ -1,0 +1,2 @@
+-- What the contracts of the second pass cite.
+pub mod Places

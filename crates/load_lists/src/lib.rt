@@ -1,0 +1,141 @@
+// The tree that stands in the bytes of a file, written to the fronts of the lists that the caller lends. The records are known to be
+// whole, and the lists to be long enough.
+ghost use mathlib.Core.Path.{_≡_};
+ghost use mathlib.Core.Bool.{true, cond};
+ghost use mathlib.Core.List.{[], _∷_};
+ghost use Prim.Native.Nat.{_+_, _*_, _≤_};
+ghost use lib.ListN.{length, drop, replicate};
+ghost use Rattle.lists.specs.Lists.{put};
+ghost use Rattle.definition.specs.Number.{plusZero};
+ghost use Rattle.definition.specs.Points.{boxWidth};
+ghost use Rattle.packed.specs.Reading.{packed};
+ghost use Rattle.formats.specs.Bytes.{floatsAt, whole};
+ghost use Rattle.stored.specs.File.{domainMark};
+ghost use Rattle.stored.specs.Stored.{leafIn, leafSize, leavesAt, afterLeaves};
+ghost use Rattle.tree_tests.specs.Whole.{leavesWhole};
+ghost use Rattle.load_lists.specs.Places.{ahead, domainAt, domainsAt, boxBytes, Room, Written};
+
+// The bytes of a float.
+const FLOAT: usize = 8;
+
+// Where the next record starts in the file, and where its parts go in the lists: level points, internals, borrowed rows and domain
+// row.
+pub struct Cursor {
+    pub at: usize,
+    pub points: usize,
+    pub own: usize,
+    pub borrowed: usize,
+    pub row: usize,
+}
+
+// ---- a domain
+
+// How many bytes a domain's box has: the coarse domain has no box.
+fn box_bytes(dimensions: usize, coarse: bool) -> usize
+    requires { ⌜ dimensions ≤ 3 ⌝ }
+    ensures { λ r. ⌜ r ≡ boxBytes dimensions coarse ⌝ }
+{
+    if coarse {
+        0
+    } else {
+        FLOAT * boxes::box_width(dimensions)
+    }
+}
+
+// Writes a domain's box, which stands at `at`, to the boxes from k on; +0 for each bound of the box that the coarse domain does not
+// have.
+fn put_box(bytes: &[u8], at: usize, dimensions: usize, coarse: bool, boxes: &mut [f64], k: usize)
+    requires { ⌜ (dimensions ≤ 3) × (at + boxBytes dimensions coarse ≤ length (now bytes)) × (k + boxWidth dimensions ≤ length (now boxes)) ⌝ }
+    ensures { λ _. ⌜ now (boxes .exit) ≡ put (now (boxes .entry)) k (cond coarse (replicate (boxWidth dimensions) plusZero) (floatsAt (boxWidth dimensions) at (now (bytes .entry)))) ⌝ }
+{
+    let width = boxes::box_width(dimensions);
+    if coarse {
+        coarse_level::put_zeros(boxes, k, width);
+    } else {
+        bytes_in::read_floats(bytes, at, width, boxes, k);
+    }
+}
+
+// Writes the domain at the cursor: its rows, its domain row and its box. Answers with the cursor after it.
+fn put_domain(
+    bytes: &[u8],
+    dimensions: usize,
+    coarse: bool,
+    c: Cursor,
+    internals: &mut [usize],
+    domains: &mut [usize],
+    boxes: &mut [f64],
+    borrowed: &mut [usize],
+) -> Cursor
+    requires { ⌜ (dimensions ≤ 3) × (whole domainMark (leafSize dimensions coarse (ahead c (now bytes))) (ahead c (now bytes)) ≡ true) ⌝ }
+    requires { ⌜ Room (domainAt dimensions coarse c (now bytes) ∷ []) c (packed (now internals) (now domains) (now boxes) (now borrowed) dimensions) ⌝ }
+    ensures next { λ r. ⌜ (r .at ≡ c .at + leafSize dimensions coarse (ahead c (now (bytes .entry)))) × (r .points ≡ c .points) ⌝ }
+    ensures written { λ r. ⌜ Written (domainAt dimensions coarse c (now (bytes .entry)) ∷ []) c r
+        (packed (now (internals .entry)) (now (domains .entry)) (now (boxes .entry)) (now (borrowed .entry)) dimensions)
+        (packed (now (internals .exit)) (now (domains .exit)) (now (boxes .exit)) (now (borrowed .exit)) dimensions) ⌝ }
+{
+    let found = file_reader::fetch_domain(bytes, c.at, box_bytes(dimensions, coarse));
+    bytes_in::read_numbers(bytes, found.own_at, found.own, internals, c.own);
+    bytes_in::read_numbers(
+        bytes,
+        found.borrowed_at,
+        found.borrowed,
+        borrowed,
+        c.borrowed,
+    );
+    let row = packed::DomainRow {
+        internal_start: c.own,
+        internal_count: found.own,
+        borrowed_start: c.borrowed,
+        borrowed_count: found.borrowed,
+    };
+    packed::put_row(domains, c.row, row);
+    let box_at = packed::floats_before(dimensions, c.row);
+    put_box(bytes, found.bounds_at, dimensions, coarse, boxes, box_at);
+    Cursor {
+        at: found.next,
+        points: c.points,
+        own: c.own + found.own,
+        borrowed: c.borrowed + found.borrowed,
+        row: c.row + 1,
+    }
+}
+
+// ---- domains one after another
+
+// Writes m domains from the cursor on. Answers with the cursor after them.
+fn put_domains(
+    bytes: &[u8],
+    dimensions: usize,
+    coarse: bool,
+    m: usize,
+    c: Cursor,
+    internals: &mut [usize],
+    domains: &mut [usize],
+    boxes: &mut [f64],
+    borrowed: &mut [usize],
+) -> Cursor
+    requires { ⌜ (dimensions ≤ 3) × (leavesWhole dimensions coarse m (ahead c (now bytes)) ≡ true) ⌝ }
+    requires { ⌜ Room (domainsAt dimensions coarse m c (now bytes)) c (packed (now internals) (now domains) (now boxes) (now borrowed) dimensions) ⌝ }
+    ensures next { λ r. ⌜ (ahead r (now (bytes .entry)) ≡ afterLeaves dimensions coarse m (ahead c (now (bytes .entry)))) × (r .points ≡ c .points) ⌝ }
+    ensures written { λ r. ⌜ Written (domainsAt dimensions coarse m c (now (bytes .entry))) c r
+        (packed (now (internals .entry)) (now (domains .entry)) (now (boxes .entry)) (now (borrowed .entry)) dimensions)
+        (packed (now (internals .exit)) (now (domains .exit)) (now (boxes .exit)) (now (borrowed .exit)) dimensions) ⌝ }
+{
+    let mut next = c;
+    let mut left = m;
+    while 0 < left {
+        next = put_domain(
+            bytes,
+            dimensions,
+            coarse,
+            next,
+            internals,
+            domains,
+            boxes,
+            borrowed,
+        );
+        left -= 1;
+    }
+    next
+}
