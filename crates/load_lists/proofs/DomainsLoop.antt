@@ -22,49 +22,8 @@ use Rattle.tree_tests.specs.Whole.{leavesWhole}
 use Rattle.fine_level.specs.Fine.{boxesIn}
 use Rattle.load_lists.specs.declared.Cursor.{Cursor}
 use Rattle.load_lists.specs.Places.{ahead, domainAt, domainsAt, Room, Written}
-use Rattle.load_lists.proofs.Domain.{length-floats}
+use Rattle.load_lists.proofs.Ahead.{one-wide, leaves-first, whole-first, after-first}
 use Rattle.load_lists.proofs.Writing.{Wide, wide-append, written-none, room-front, Long, written-long, room-after, written-append}
-
--- ---- domains in bytes
-module _ (d : ℕ) (coarse : Bool) where
-  box-wide : (bs : List ℕ) → length (leafIn d coarse bs .box) ≡ boxWidth d
-  unfolding leafIn
-  box-wide bs = go coarse
-    where
-      go : (b : Bool) → length (cond b (replicate (boxWidth d) plusZero) (floatsAt (boxWidth d) (boundsPlace bs) bs)) ≡ boxWidth d
-      go true = length-replicate (boxWidth d) plusZero
-      go false = length-floats (boxWidth d) (boundsPlace bs) bs
-
-  one-wide : (bs : List ℕ) → Wide d (leafIn d coarse bs ∷ [])
-  one-wide bs = ap length (joined-one (leafIn d coarse bs .box)) ∙ box-wide bs ∙ omega arith
-
-  pub leaves-wide : (m : ℕ) (bs : List ℕ) → Wide d (leavesAt d coarse m bs)
-  unfolding leavesAt joined
-  leaves-wide zero bs = sym (mul-zero (rowFloats d))
-  leaves-wide (suc m) bs =
-      let rest = drop (leafSize d coarse bs) bs in
-      wide-append d (leafIn d coarse bs ∷ []) (leavesAt d coarse m rest) (one-wide bs) (leaves-wide m rest)
-
-  pub leaves-many : (m : ℕ) (bs : List ℕ) → length (leavesAt d coarse m bs) ≡ m
-  unfolding leavesAt
-  leaves-many zero bs = refl
-  leaves-many (suc m) bs = ap suc (leaves-many m (drop (leafSize d coarse bs) bs))
-
-  -- the first of them, and what comes after it
-  leaves-first : (m : ℕ) (bs : List ℕ) → 0 < m → leavesAt d coarse m bs ≡ leafIn d coarse bs ∷ leavesAt d coarse (m - 1) (drop (leafSize d coarse bs) bs)
-  unfolding leavesAt
-  leaves-first zero bs h = absurd (omega arith)
-  leaves-first (suc m) bs h = let e : suc m - 1 ≡ m = omega arith in rw e
-
-  whole-first : (m : ℕ) (bs : List ℕ) → 0 < m → leavesWhole d coarse m bs ≡ (whole domainMark (leafSize d coarse bs) bs && leavesWhole d coarse (m - 1) (drop (leafSize d coarse bs) bs))
-  unfolding leavesWhole
-  whole-first zero bs h = absurd (omega arith)
-  whole-first (suc m) bs h = let e : suc m - 1 ≡ m = omega arith in rw e
-
-  after-first : (m : ℕ) (bs : List ℕ) → 0 < m → afterLeaves d coarse m bs ≡ afterLeaves d coarse (m - 1) (drop (leafSize d coarse bs) bs)
-  unfolding afterLeaves
-  after-first zero bs h = absurd (omega arith)
-  after-first (suc m) bs h = let e : suc m - 1 ≡ m = omega arith in rw e
 
 -- ---- THE INVARIANT: c₀ and p are the cursor and the lists before the loop, c and q are now, and `left` domains stand ahead
 pub record Inv (d : ℕ) (coarse : Bool) (m : ℕ) (file : List ℕ) (c₀ c : Cursor) (p q : Packed) (left : ℕ) : Type 0 where

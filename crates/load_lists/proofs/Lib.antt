@@ -1,4 +1,7 @@
 -- Laws of the second pass.
 pub mod Domain
 pub mod Writing
+pub mod Ahead
 pub mod DomainsLoop
+pub mod Level
+pub mod LevelsLoop

@@ -10,7 +10,7 @@ use Rattle.definition.specs.Tree.{Leaf, Level}
 use Rattle.definition.specs.Packed.{rowNumbers, rowFloats, stretches, packedLevelPoints, packedInternals, packedDomains, packedBoxes, packedBorrowed}
 use Rattle.packed.specs.Reading.{Packed}
 use Rattle.formats.specs.Bytes.{floatSize}
-use Rattle.stored.specs.Stored.{leafIn, leavesAt}
+use Rattle.stored.specs.Stored.{leafIn, leavesAt, levelIn}
 use Rattle.fine_level.specs.Fine.{ownIn, borrowedIn, boxesIn}
 use Rattle.load_lists.specs.declared.Cursor.{Cursor}
 
@@ -25,6 +25,10 @@ domainAt d coarse c bs = leafIn d coarse (ahead c bs)
 
 abbrev pub domainsAt : ℕ → Bool → ℕ → Cursor → List ℕ → List Leaf
 domainsAt d coarse m c bs = leavesAt d coarse m (ahead c bs)
+
+-- a level
+abbrev pub levelAt : ℕ → Cursor → List ℕ → Level
+levelAt d c bs = levelIn d (ahead c bs)
 
 -- the bytes of a domain's box
 abbrev pub boxBytes : ℕ → Bool → ℕ

@@ -3,20 +3,38 @@
 ghost use mathlib.Core.Path.{_≡_};
 ghost use mathlib.Core.Bool.{true, cond};
 ghost use mathlib.Core.List.{[], _∷_};
-ghost use Prim.Native.Nat.{_+_, _*_, _≤_};
+ghost use Prim.Native.Nat.{_+_, _-_, _≤_};
+ghost use lib.Dec.{eqb};
 ghost use lib.ListN.{length, drop, replicate};
 ghost use Rattle.lists.specs.Lists.{put};
 ghost use Rattle.definition.specs.Number.{plusZero};
 ghost use Rattle.definition.specs.Points.{boxWidth};
+ghost use Rattle.definition.specs.Packed.{mostLevels, countsOf, packedLevelPoints, packedInternals, packedDomains, packedBoxes, packedBorrowed};
 ghost use Rattle.packed.specs.Reading.{packed};
 ghost use Rattle.formats.specs.Bytes.{floatsAt, whole};
 ghost use Rattle.stored.specs.File.{domainMark};
-ghost use Rattle.stored.specs.Stored.{leafIn, leafSize, leavesAt, afterLeaves};
-ghost use Rattle.tree_tests.specs.Whole.{leavesWhole};
-ghost use Rattle.load_lists.specs.Places.{ahead, domainAt, domainsAt, boxBytes, Room, Written};
+ghost use Rattle.stored.specs.Stored.{leafSize, afterLeaves, afterLevel, levelsAt};
+ghost use Rattle.tree_tests.specs.Whole.{leavesWhole, levelWhole, levelsWhole};
+ghost use Rattle.tree_answer.specs.Answers.{treeAnswer};
+ghost use Rattle.load_lists.specs.Places.{ahead, domainAt, domainsAt, levelAt, boxBytes, Room, Written, CanHold};
+use tree_answer::DDMTree;
 
-// The bytes of a float.
+// The bytes of a record's mark, of a count or a row, and of a float.
+const MARK: usize = 2;
+
+const NUMBER: usize = 4;
+
 const FLOAT: usize = 8;
+
+// Where a level's row count and its domain count stand, and where its rows begin.
+const ROWS: usize = MARK;
+
+const DOMAINS: usize = ROWS + NUMBER;
+
+const LISTED: usize = DOMAINS + NUMBER;
+
+// The most levels of a tree.
+const MOST_LEVELS: usize = 4;
 
 // Where the next record starts in the file, and where its parts go in the lists: level points, internals, borrowed rows and domain
 // row.
@@ -138,4 +156,116 @@ fn put_domains(
         left -= 1;
     }
     next
+}
+
+// ---- levels
+
+// Writes the level at the cursor: its rows, and its domains. Answers with the cursor after it.
+fn put_level(
+    bytes: &[u8],
+    dimensions: usize,
+    c: Cursor,
+    level_points: &mut [usize],
+    internals: &mut [usize],
+    domains: &mut [usize],
+    boxes: &mut [f64],
+    borrowed: &mut [usize],
+) -> Cursor
+    requires { ⌜ (dimensions ≤ 3) × (levelWhole dimensions (ahead c (now bytes)) ≡ true) ⌝ }
+    requires { ⌜ (c .points + length (levelAt dimensions c (now bytes) .points) ≤ length (now «level_points»))
+        × Room (levelAt dimensions c (now bytes) .leaves) c (packed (now internals) (now domains) (now boxes) (now borrowed) dimensions) ⌝ }
+    ensures next { λ r. ⌜ (ahead r (now (bytes .entry)) ≡ afterLevel dimensions (ahead c (now (bytes .entry)))) × (r .points ≡ c .points + length (levelAt dimensions c (now (bytes .entry)) .points)) ⌝ }
+    ensures level_points { λ _. ⌜ now («level_points» .exit) ≡ put (now («level_points» .entry)) (c .points) (levelAt dimensions c (now (bytes .entry)) .points) ⌝ }
+    ensures written { λ r. ⌜ Written (levelAt dimensions c (now (bytes .entry)) .leaves) c r
+        (packed (now (internals .entry)) (now (domains .entry)) (now (boxes .entry)) (now (borrowed .entry)) dimensions)
+        (packed (now (internals .exit)) (now (domains .exit)) (now (boxes .exit)) (now (borrowed .exit)) dimensions) ⌝ }
+{
+    let rows = bytes_in::number_at(bytes, c.at + ROWS);
+    let count = bytes_in::number_at(bytes, c.at + DOMAINS);
+    let listed = c.at + LISTED;
+    bytes_in::read_numbers(bytes, listed, rows, level_points, c.points);
+    let inside = Cursor {
+        at: listed + NUMBER * rows,
+        points: c.points + rows,
+        own: c.own,
+        borrowed: c.borrowed,
+        row: c.row,
+    };
+    put_domains(
+        bytes,
+        dimensions,
+        count == 1,
+        count,
+        inside,
+        internals,
+        domains,
+        boxes,
+        borrowed,
+    )
+}
+
+// How many more levels there can be after one with so many domains: none after the coarse one, which alone has a single domain.
+fn still_left(left: usize, count: usize) -> usize
+    requires { ⌜ 1 ≤ left ⌝ }
+    ensures { λ r. ⌜ r ≡ cond (eqb count 1) 0 (left - 1) ⌝ }
+{
+    if count == 1 { 0 } else { left - 1 }
+}
+
+// Writes the tree whose levels begin at `at` to the fronts of the lists, and answers with its counts.
+pub fn put_levels(
+    bytes: &[u8],
+    at: usize,
+    dimensions: usize,
+    level_points: &mut [usize],
+    internals: &mut [usize],
+    domains: &mut [usize],
+    boxes: &mut [f64],
+    borrowed: &mut [usize],
+) -> DDMTree
+    requires { ⌜ (dimensions ≤ 3) × (levelsWhole dimensions mostLevels (drop at (now bytes)) ≡ true) ⌝ }
+    requires { ⌜ CanHold (levelsAt dimensions mostLevels (drop at (now bytes))) (now «level_points») (packed (now internals) (now domains) (now boxes) (now borrowed) dimensions) ⌝ }
+    ensures counts { λ r. ⌜ treeAnswer r ≡ record { number = 0; place = 0; value = countsOf (levelsAt dimensions mostLevels (drop at (now (bytes .entry)))) } ⌝ }
+    ensures level_points { λ _. ⌜ now («level_points» .exit) ≡ put (now («level_points» .entry)) 0 (packedLevelPoints (levelsAt dimensions mostLevels (drop at (now (bytes .entry))))) ⌝ }
+    ensures internals { λ _. ⌜ now (internals .exit) ≡ put (now (internals .entry)) 0 (packedInternals (levelsAt dimensions mostLevels (drop at (now (bytes .entry))))) ⌝ }
+    ensures domains { λ _. ⌜ now (domains .exit) ≡ put (now (domains .entry)) 0 (packedDomains (levelsAt dimensions mostLevels (drop at (now (bytes .entry))))) ⌝ }
+    ensures boxes { λ _. ⌜ now (boxes .exit) ≡ put (now (boxes .entry)) 0 (packedBoxes (levelsAt dimensions mostLevels (drop at (now (bytes .entry))))) ⌝ }
+    ensures borrowed { λ _. ⌜ now (borrowed .exit) ≡ put (now (borrowed .entry)) 0 (packedBorrowed (levelsAt dimensions mostLevels (drop at (now (bytes .entry))))) ⌝ }
+{
+    let mut next = Cursor {
+        at: at,
+        points: 0,
+        own: 0,
+        borrowed: 0,
+        row: 0,
+    };
+    let mut rows = [0; 4];
+    let mut counts = [0; 4];
+    let mut levels: usize = 0;
+    let mut left = MOST_LEVELS;
+    while 0 < left {
+        let c = next;
+        next = put_level(
+            bytes,
+            dimensions,
+            c,
+            level_points,
+            internals,
+            domains,
+            boxes,
+            borrowed,
+        );
+        let count = next.row - c.row;
+        rows[levels] = next.points - c.points;
+        counts[levels] = count;
+        levels += 1;
+        left = still_left(left, count);
+    }
+    DDMTree {
+        number: 0,
+        place: 0,
+        levels: levels,
+        rows: rows,
+        domains: counts,
+    }
 }
