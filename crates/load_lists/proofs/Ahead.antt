@@ -1,5 +1,7 @@
 -- Domains and levels one after another in bytes: how many they are, that each domain has all its bounds, the first of them, and what comes
 -- after it. Assumes nothing.
+-- Holds: one-wide, leaves-wide, leaves-many, leaves-first, whole-first, after-first, level-wide, level-many, levels-wide,
+--   levels-first, level-first, wholes-next
 use mathlib.Core.Path.{_≡_, refl, sym, ap, _∙_}
 use mathlib.Core.Bool.{Bool, true, false, _&&_, cond}
 use mathlib.Core.List.{List, [], _∷_}

@@ -1,4 +1,6 @@
 -- A whole domain record that is fetched at a place of a file: what stands in it, and where. Assumes nothing.
+-- Holds: length-numbers, length-floats, numbers-here, floats-here, Found, found, own-fits, borrowed-fits, box-fits,
+--   domain-written
 use mathlib.Core.Path.{_≡_, refl, sym, ap, _∙_}
 use mathlib.Core.Bool.{Bool, true, cond}
 use mathlib.Core.List.{List, [], _∷_}
@@ -14,7 +16,7 @@ use Rattle.lists.proofs.From.{length-map-from, map-below-same}
 use Rattle.definition.specs.Number.{plusZero}
 use Rattle.definition.specs.Points.{boxWidth}
 use Rattle.definition.specs.Tree.{Leaf}
-use Rattle.definition.specs.Packed.{rowNumbers, rowFloats, stretches}
+use Rattle.definition.specs.Packed.{rowFloats, stretches}
 use Rattle.packed.specs.Reading.{Packed, packed}
 use Rattle.packed.specs.Rows.{putRow}
 use Rattle.formats.specs.Bytes.{little, numberSize, numberAt, numbersAt, floatSize, floatAt, floatsAt, whole}
@@ -106,9 +108,9 @@ module _ {d : ℕ} {coarse : Bool} {file : List ℕ} {c : Cursor} {r : Fetched} 
       (packed I D B L d) (packed I₁ D₁ B₁ L₁ d)
   unfolding stretches
   domain-written I D B L I₁ D₁ B₁ L₁ k ek eI eL eD eB = record {
-    own = rw (joined-one (this .own), h .own-many);
-    row = refl;
-    lent = rw (joined-one (this .borrowed), h .borrowed-many);
+    own-end = rw (joined-one (this .own), h .own-many);
+    row-end = refl;
+    borrowed-end = rw (joined-one (this .borrowed), h .borrowed-many);
     internals = rw (joined-one (this .own), ← h .own) eI;
     domains = rw (← h .own-many, ← h .borrowed-many) eD;
     boxes = rw (joined-one (this .box), ← h .box, ← ek) eB;

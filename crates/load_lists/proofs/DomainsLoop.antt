@@ -1,25 +1,21 @@
 -- The loop over the domains of a level: those before the cursor are written. Assumes nothing.
+-- Holds: Inv, domains-start, domains-end, domains-written, domains-long, domain-stands, domain-room, domains-next
 use mathlib.Core.Path.{_≡_, refl, sym, ap, _∙_}
-use mathlib.Core.Bool.{Bool, true, false, _&&_, cond}
+use mathlib.Core.Bool.{Bool, true, _&&_}
 use mathlib.Core.List.{List, [], _∷_, _++_, append-assoc, append-nil}
-use Prim.Native.Nat.{ℕ, zero, suc, _+_, _-_, _*_, _<_}
-use native.Mathlib.Omega.{arith}
+use Prim.Native.Nat.{ℕ, _+_, _-_, _<_}
 use native.Mathlib.Nat.{mul-zero}
-use lib.ListN.{length, drop, replicate, length-replicate}
+use lib.ListN.{drop}
 use lib.Seq.{drop-drop}
 use Rattle.lists.specs.Lists.{joined}
 use Rattle.lists.proofs.Tests.{and-fst, and-snd}
-use Rattle.lists.proofs.Joined.{joined-one}
-use Rattle.definition.specs.Number.{plusZero}
-use Rattle.definition.specs.Points.{boxWidth}
 use Rattle.definition.specs.Tree.{Leaf}
 use Rattle.definition.specs.Packed.{rowFloats}
 use Rattle.packed.specs.Reading.{Packed}
-use Rattle.formats.specs.Bytes.{whole, floatsAt}
+use Rattle.formats.specs.Bytes.{whole}
 use Rattle.stored.specs.File.{domainMark}
-use Rattle.stored.specs.Stored.{leafIn, leafSize, leavesAt, afterLeaves, boundsPlace}
+use Rattle.stored.specs.Stored.{leafSize, leavesAt, afterLeaves}
 use Rattle.tree_tests.specs.Whole.{leavesWhole}
-use Rattle.fine_level.specs.Fine.{boxesIn}
 use Rattle.load_lists.specs.declared.Cursor.{Cursor}
 use Rattle.load_lists.specs.Places.{ahead, domainAt, domainsAt, Room, Written}
 use Rattle.load_lists.proofs.Ahead.{one-wide, leaves-first, whole-first, after-first}
@@ -49,15 +45,15 @@ domains-start d coarse m file c p h = record {
 
 module _ {d : ℕ} {coarse : Bool} {m : ℕ} {file : List ℕ} {c₀ c : Cursor} {p q : Packed} {left : ℕ} (v : Inv d coarse m file c₀ c p q left) where
   -- ---- none is left
-  none-left : (n : ℕ) → n ≡ 0 → left ≡ n → (v .done ≡ domainsAt d coarse m c₀ file) × (ahead c file ≡ afterLeaves d coarse m (ahead c₀ file))
+  none-left : left ≡ 0 → (v .done ≡ domainsAt d coarse m c₀ file) × (ahead c file ≡ afterLeaves d coarse m (ahead c₀ file))
   unfolding leavesAt afterLeaves
-  none-left n z e = (sym (append-nil (v .done)) ∙ rw (e, z) at (v .all), rw (e, z) at (v .after))
+  none-left e = (sym (append-nil (v .done)) ∙ rw e at (v .all), rw e at (v .after))
 
   pub domains-end : left ≡ 0 → (ahead c file ≡ afterLeaves d coarse m (ahead c₀ file)) × (c .points ≡ c₀ .points)
-  domains-end e = (none-left 0 refl e .1, v .points)
+  domains-end e = (none-left e .1, v .points)
 
   pub domains-written : left ≡ 0 → Written (domainsAt d coarse m c₀ file) c₀ c p q
-  domains-written e = rw (← none-left 0 refl e .0) (v .written)
+  domains-written e = rw (← none-left e .0) (v .written)
 
   -- ---- the lists stay as long as they are
   pub domains-long : p .dimension ≡ d → Room (domainsAt d coarse m c₀ file) c₀ p → Long p q

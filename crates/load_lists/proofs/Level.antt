@@ -1,6 +1,7 @@
 -- A level at a place of a file: its rows, and where its domains stand. Assumes nothing.
+-- Holds: inside, level-within, rows-many, rows-read, rows-within, domains-stand, domains-after, domains-room, level-written
 use mathlib.Core.Path.{_≡_, sym, ap, _∙_}
-use mathlib.Core.Bool.{Bool, true, _&&_}
+use mathlib.Core.Bool.{true, _&&_}
 use mathlib.Core.List.{List}
 use Prim.Native.Nat.{ℕ, _+_, _*_, _≤_}
 use native.Mathlib.Omega.{arith}
@@ -12,7 +13,7 @@ use Rattle.lists.proofs.Tests.{and-fst, and-snd}
 use Rattle.packed.specs.Reading.{Packed}
 use Rattle.formats.specs.Bytes.{markSize, numberSize, numberAt, numbersAt, markedBy, whole}
 use Rattle.stored.specs.File.{levelMark}
-use Rattle.stored.specs.Stored.{countsSize, firstCount, secondCount, oneDomain, domainsPlace, levelIn, leavesAt, afterLeaves, afterLevel}
+use Rattle.stored.specs.Stored.{countsSize, firstCount, secondCount, oneDomain, domainsPlace, levelIn, afterLeaves, afterLevel}
 use Rattle.tree_tests.specs.Whole.{leavesWhole, levelWhole}
 use Rattle.file_reader.proofs.Fetches.{number-here}
 use Rattle.load_lists.specs.declared.Cursor.{Cursor}
@@ -48,7 +49,7 @@ module _ (d : ℕ) (file : List ℕ) (c : Cursor) (h : levelWhole d (ahead c fil
     rows-first : rows ≡ firstCount here
     rows-first = eRows ∙ number-here (c .at) file markSize
 
-    pub count-second : count ≡ secondCount (drop (c .at) file)
+    count-second : count ≡ secondCount (drop (c .at) file)
     count-second = eCount ∙ number-here (c .at) file (markSize + numberSize)
 
     pub rows-many : rows ≡ length (levelAt d c file .points)
@@ -86,4 +87,4 @@ module _ (d : ℕ) (file : List ℕ) (c : Cursor) (h : levelWhole d (ahead c fil
     pub level-written : {r : Cursor} {p q : Packed} → Written (domainsAt d (eqb count 1) count (inside c rows) file) (inside c rows) r p q → Written (levelAt d c file .leaves) c r p q
     level-written w₀ =
         let w = rw domains-are at w₀ in
-        record { own = w .own; row = w .row; lent = w .lent; internals = w .internals; domains = w .domains; boxes = w .boxes; borrowed = w .borrowed }
+        record { own-end = w .own-end; row-end = w .row-end; borrowed-end = w .borrowed-end; internals = w .internals; domains = w .domains; boxes = w .boxes; borrowed = w .borrowed }

@@ -1,28 +1,29 @@
 -- The loop over the levels: those before the cursor are written and counted. Assumes nothing.
+-- Holds: rowCount, domainCount, left-less, start, tree-room, Inv, levels-start, levels-long, points-long, rows-slots,
+--   counts-many, end-points, end-internals, end-domains, end-boxes, end-borrowed, end-counts, level-stands, levels-below,
+--   points-room, level-room, levels-next
 use mathlib.Core.Path.{_≡_, refl, sym, ap, _∙_}
-use mathlib.Core.Bool.{Bool, true, false, _&&_, cond}
+use mathlib.Core.Bool.{Bool, true, false, cond}
 use mathlib.Core.List.{List, [], _∷_, _++_, map, append-assoc, append-nil}
-use Prim.Native.Nat.{ℕ, zero, suc, _+_, _-_, _*_, _≤_, _<_}
+use Prim.Native.Nat.{ℕ, _+_, _-_, _*_, _≤_, _<_}
 use native.Mathlib.Omega.{arith}
 use native.Mathlib.Nat.{mul-zero, zero-add}
 use lib.Dec.{eqb}
-use lib.ListN.{length, drop, set, replicate, length-append, length-map, length-set}
-use lib.Ieee.{Float}
+use lib.ListN.{length, drop, set, replicate, length-append, length-map}
 use Rattle.lists.specs.Lists.{put, joined}
-use Rattle.lists.proofs.Tests.{and-fst, and-snd}
 use Rattle.lists.proofs.Map.{map-snoc}
 use Rattle.lists.proofs.Put.{put-nil, put-next-at, put-snoc, length-put}
 use Rattle.lists.proofs.Joined.{joined-map-append, joined-map-snoc}
-use Rattle.definition.specs.Tree.{Leaf, Level, mostFine}
-use Rattle.definition.specs.Packed.{rowNumbers, rowFloats, mostLevels, leavesIn, packedLevelPoints, packedInternals, packedDomains, packedBoxes, packedBorrowed, perLevel, countsOf}
+use Rattle.definition.specs.Tree.{Level}
+use Rattle.definition.specs.Packed.{rowFloats, mostLevels, leavesIn, packedLevelPoints, packedInternals, packedDomains, packedBoxes, packedBorrowed, countsOf}
 use Rattle.definition_laws.proofs.Fit.{length-domains}
-use Rattle.packed.specs.Reading.{Packed, packed}
+use Rattle.packed.specs.Reading.{Packed}
 use Rattle.packed.proofs.Counts.{counts-put}
-use Rattle.stored.specs.Stored.{secondCount, oneDomain, domainsPlace, levelIn, leavesAt, afterLevel, levelsAt}
+use Rattle.stored.specs.Stored.{secondCount, oneDomain, afterLevel, levelsAt}
 use Rattle.tree_tests.specs.Whole.{levelWhole, levelsWhole}
 use Rattle.levels_loop.proofs.Packing.{points-cons}
 use Rattle.load_lists.specs.declared.Cursor.{Cursor}
-use Rattle.load_lists.specs.Places.{ahead, levelAt, Room, Written, CanHold}
+use Rattle.load_lists.specs.Places.{ahead, levelAt, Room, Written, treeFrom, CanHold}
 use Rattle.load_lists.proofs.Writing.{Wide, wide-append, written-none, room-front, Long, written-long, room-after, written-append}
 use Rattle.load_lists.proofs.Ahead.{level-wide, level-many, levels-wide, levels-first, level-first, wholes-next}
 
@@ -95,7 +96,7 @@ tree-room at ls P p wide h = record {
 -- ---- THE INVARIANT: P and p are the lists before the loop, P₁ and q are now; `done` levels are before the cursor, and at most `left` ahead
 pub record Inv (d : ℕ) (file : List ℕ) (at : ℕ) (c : Cursor) (P P₁ : List ℕ) (p q : Packed) (rows counts : List ℕ) (levels left : ℕ) : Type 0 where
   pub done : List Level
-  pub all : done ++ levelsAt d left (ahead c file) ≡ levelsAt d mostLevels (drop at file)
+  pub all : done ++ levelsAt d left (ahead c file) ≡ treeFrom d at file
   pub wide : Wide d (leavesIn done)
   pub written : Written (leavesIn done) (start at) c p q
   pub points : c .points ≡ length (packedLevelPoints done)
@@ -125,9 +126,9 @@ levels-start d file at P p h = record {
 
 module _ {d : ℕ} {file : List ℕ} {at : ℕ} {c : Cursor} {P P₁ : List ℕ} {p q : Packed} {rows counts : List ℕ} {levels left : ℕ}
     (v : Inv d file at c P P₁ p q rows counts levels left) (same : q .dimension ≡ p .dimension) (axes : p .dimension ≡ d)
-    (h : CanHold (levelsAt d mostLevels (drop at file)) P p) where
+    (h : CanHold (treeFrom d at file) P p) where
   abbrev tree : List Level
-  tree = levelsAt d mostLevels (drop at file)
+  tree = treeFrom d at file
 
   abbrev done : List Level
   done = v .done
@@ -175,26 +176,26 @@ module _ {d : ℕ} {file : List ℕ} {at : ℕ} {c : Cursor} {P P₁ : List ℕ}
     all-done : done ≡ tree
     all-done = sym (append-nil done) ∙ ap (λ (ls : List Level). done ++ ls) nothing ∙ v .all
 
-    pub end-points : P₁ ≡ put P 0 (packedLevelPoints (levelsAt d mostLevels (drop at file)))
+    pub end-points : P₁ ≡ put P 0 (packedLevelPoints (treeFrom d at file))
     end-points = rw (← all-done) (v .level-points)
 
-    pub end-internals : q .internals ≡ put (p .internals) 0 (packedInternals (levelsAt d mostLevels (drop at file)))
+    pub end-internals : q .internals ≡ put (p .internals) 0 (packedInternals (treeFrom d at file))
     unfolding packedInternals
     end-internals = rw (← all-done) (v .written .internals)
 
-    pub end-domains : q .domains ≡ put (p .domains) 0 (packedDomains (levelsAt d mostLevels (drop at file)))
+    pub end-domains : q .domains ≡ put (p .domains) 0 (packedDomains (treeFrom d at file))
     unfolding packedDomains
     end-domains = rw (← all-done) (v .written .domains)
 
-    pub end-boxes : q .boxes ≡ put (p .boxes) 0 (packedBoxes (levelsAt d mostLevels (drop at file)))
+    pub end-boxes : q .boxes ≡ put (p .boxes) 0 (packedBoxes (treeFrom d at file))
     unfolding packedBoxes
     end-boxes = rw (← all-done, ← mul-zero (rowFloats (p .dimension))) (v .written .boxes)
 
-    pub end-borrowed : q .borrowed ≡ put (p .borrowed) 0 (packedBorrowed (levelsAt d mostLevels (drop at file)))
+    pub end-borrowed : q .borrowed ≡ put (p .borrowed) 0 (packedBorrowed (treeFrom d at file))
     unfolding packedBorrowed
     end-borrowed = rw (← all-done) (v .written .borrowed)
 
-    pub end-counts : record { levels = levels; rows = rows; domains = counts } ≡ countsOf (levelsAt d mostLevels (drop at file))
+    pub end-counts : record { levels = levels; rows = rows; domains = counts } ≡ countsOf (treeFrom d at file)
     end-counts = counts-are done (v .number) (v .row-counts) (v .domain-counts) (omega (arith, v .few, v .number)) ∙ ap countsOf all-done
 
   -- ---- one more
@@ -242,7 +243,7 @@ module _ {d : ℕ} {file : List ℕ} {at : ℕ} {c : Cursor} {P P₁ : List ℕ}
     module _ {r : Cursor} {P₂ : List ℕ} {t : Packed} (after : ahead r file ≡ afterLevel d (ahead c file)) (points : r .points ≡ c .points + length (levelAt d c file .points))
         (eP : P₂ ≡ put P₁ (c .points) (levelAt d c file .points)) (w : Written (levelAt d c file .leaves) c r q t) where
       domains-many : r .row - c .row ≡ secondCount (ahead c file)
-      domains-many = omega (arith, w .row, level-many d (ahead c file))
+      domains-many = omega (arith, w .row-end, level-many d (ahead c file))
 
       pub levels-next : {left₁ : ℕ} → left₁ ≡ cond (eqb (r .row - c .row) 1) 0 (left - 1)
           → Inv d file at r P P₂ p t (set rows levels (r .points - c .points)) (set counts levels (r .row - c .row)) (levels + 1) left₁
@@ -257,7 +258,7 @@ module _ {d : ℕ} {file : List ℕ} {at : ℕ} {c : Cursor} {P P₁ : List ℕ}
             level-points = points-next done this P (v .level-points) (v .points) eP;
             row-counts = counts-next rowCount done (v .row-counts) this levels (r .points - c .points) (v .number) levels-below (omega (arith, points));
             domain-counts =
-                counts-next domainCount done (v .domain-counts) this levels (r .row - c .row) (v .number) levels-below (omega (arith, w .row));
+                counts-next domainCount done (v .domain-counts) this levels (r .row - c .row) (v .number) levels-below (omega (arith, w .row-end));
             number = omega (arith, v .number, length-append done (this ∷ []));
             few = rw l (fewer (oneDomain (ahead c file)));
             stand = rw (l, after) (λ s. wholes-next d left (ahead c file) (v .stand some) s);

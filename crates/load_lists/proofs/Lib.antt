@@ -5,3 +5,4 @@ pub mod Ahead
 pub mod DomainsLoop
 pub mod Level
 pub mod LevelsLoop
+pub mod Fitted

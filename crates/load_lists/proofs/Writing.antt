@@ -1,11 +1,12 @@
 -- Domains written to the lists one after another. Assumes nothing.
-use mathlib.Core.Path.{_≡_, refl, sym, ap, _∙_}
-use mathlib.Core.List.{List, [], _++_, map}
+-- Holds: Wide, wide-append, room-front, written-none, Long, written-long, room-after, written-append
+use mathlib.Core.Path.{_≡_, sym, ap, _∙_}
+use mathlib.Core.List.{List, [], _++_}
 use Prim.Native.Nat.{ℕ, _+_, _*_, _≤_}
 use native.Mathlib.Omega.{arith}
 use native.Mathlib.Nat.{mul-add, mul-le-mul-left}
 use lib.ListN.{length, length-append}
-use Rattle.lists.specs.Lists.{put, joined}
+use Rattle.lists.specs.Lists.{joined}
 use Rattle.lists.proofs.Put.{put-nil, put-next-at, length-put}
 use Rattle.lists.proofs.Joined.{joined-map-append}
 use Rattle.definition.specs.Tree.{Leaf}
@@ -28,7 +29,7 @@ module _ (xs ys : List Leaf) where
   boxes-both : length (boxesIn (xs ++ ys)) ≡ length (boxesIn xs) + length (boxesIn ys)
   boxes-both = ap length (joined-map-append (λ (f : Leaf). f .box) xs ys) ∙ length-append (boxesIn xs) (boxesIn ys)
 
--- each has a box of all its bounds
+-- their boxes have all their bounds
 abbrev pub Wide : ℕ → List Leaf → Type 0
 Wide d fs = length (boxesIn fs) ≡ rowFloats d * length fs
 
@@ -53,9 +54,9 @@ room-front xs ys {c} {p} m =
 pub written-none : (c : Cursor) (p : Packed) → Written [] c c p p
 unfolding joined stretches
 written-none c p = record {
-  own = omega arith;
-  row = omega arith;
-  lent = omega arith;
+  own-end = omega arith;
+  row-end = omega arith;
+  borrowed-end = omega arith;
   internals = sym (put-nil (p .internals) (c .own));
   domains = sym (put-nil (p .domains) (rowNumbers * c .row));
   boxes = sym (put-nil (p .boxes) (rowFloats (p .dimension) * c .row));
@@ -90,12 +91,12 @@ module _ (xs ys : List Leaf) {c r : Cursor} {p q : Packed} (e : q .dimension ≡
   room-after =
       let l = written-long xs wide (room-front xs ys m) w in
       let few = length-append xs ys in
-      let row : r .row + length ys ≡ c .row + length (xs ++ ys) = omega (arith, w .row) in
+      let row : r .row + length ys ≡ c .row + length (xs ++ ys) = omega (arith, w .row-end) in
       record {
-        internals = omega (arith, l .internals, w .own, m .internals, own-both xs ys);
+        internals = omega (arith, l .internals, w .own-end, m .internals, own-both xs ys);
         domains = omega (arith, l .domains, row, m .domains);
         boxes = rw (e, row, l .boxes) (m .boxes);
-        borrowed = omega (arith, l .borrowed, w .lent, m .borrowed, borrowed-both xs ys);
+        borrowed = omega (arith, l .borrowed, w .borrowed-end, m .borrowed, borrowed-both xs ys);
       }
 
   pub written-append : {s : Cursor} {t : Packed} → Written ys r s q t → Written (xs ++ ys) c s p t
@@ -103,21 +104,21 @@ module _ (xs ys : List Leaf) {c r : Cursor} {p q : Packed} (e : q .dimension ≡
       let d = p .dimension in
       let few = length-append xs ys in
       record {
-        own = omega (arith, v .own, w .own, own-both xs ys);
-        row = omega (arith, v .row, w .row);
-        lent = omega (arith, v .lent, w .lent, borrowed-both xs ys);
+        own-end = omega (arith, v .own-end, w .own-end, own-both xs ys);
+        row-end = omega (arith, v .row-end, w .row-end);
+        borrowed-end = omega (arith, v .borrowed-end, w .borrowed-end, borrowed-both xs ys);
         internals =
             v .internals ∙ rw (w .internals, joined-map-append (λ (f : Leaf). f .own) xs ys)
-            (put-next-at (p .internals) (c .own) (ownIn xs) (ownIn ys) (r .own) (omega (arith, m .internals)) (sym (w .own)));
+            (put-next-at (p .internals) (c .own) (ownIn xs) (ownIn ys) (r .own) (omega (arith, m .internals)) (sym (w .own-end)));
         domains =
-            v .domains ∙ rw (w .domains, stretches-append (c .own) (c .borrowed) xs ys, ← w .own, ← w .lent)
+            v .domains ∙ rw (w .domains, stretches-append (c .own) (c .borrowed) xs ys, ← w .own-end, ← w .borrowed-end)
             (put-next-at (p .domains) (rowNumbers * c .row) (stretches (c .own) (c .borrowed) xs) (stretches (r .own) (r .borrowed) ys) (rowNumbers * r .row)
-            (omega (arith, m .domains)) (omega (arith, w .row, length-stretches (c .own) (c .borrowed) xs)));
+            (omega (arith, m .domains)) (omega (arith, w .row-end, length-stretches (c .own) (c .borrowed) xs)));
         boxes =
             v .boxes ∙ rw (e, w .boxes, joined-map-append (λ (f : Leaf). f .box) xs ys)
             (put-next-at (p .boxes) (rowFloats d * c .row) (boxesIn xs) (boxesIn ys) (rowFloats d * r .row)
-            (omega (arith, m .boxes, mul-add (rowFloats d) (c .row) (length (xs ++ ys)))) (rw (w .row) (omega (arith, wide, mul-add (rowFloats d) (c .row) (length xs)))));
+            (omega (arith, m .boxes, mul-add (rowFloats d) (c .row) (length (xs ++ ys)))) (rw (w .row-end) (omega (arith, wide, mul-add (rowFloats d) (c .row) (length xs)))));
         borrowed =
             v .borrowed ∙ rw (w .borrowed, joined-map-append (λ (f : Leaf). f .borrowed) xs ys)
-            (put-next-at (p .borrowed) (c .borrowed) (borrowedIn xs) (borrowedIn ys) (r .borrowed) (omega (arith, m .borrowed)) (sym (w .lent)));
+            (put-next-at (p .borrowed) (c .borrowed) (borrowedIn xs) (borrowedIn ys) (r .borrowed) (omega (arith, m .borrowed)) (sym (w .borrowed-end)));
       }

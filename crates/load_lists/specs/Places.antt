@@ -7,10 +7,10 @@ use lib.ListN.{length, drop}
 use Rattle.lists.specs.Lists.{put}
 use Rattle.definition.specs.Points.{boxWidth}
 use Rattle.definition.specs.Tree.{Leaf, Level}
-use Rattle.definition.specs.Packed.{rowNumbers, rowFloats, stretches, packedLevelPoints, packedInternals, packedDomains, packedBoxes, packedBorrowed}
+use Rattle.definition.specs.Packed.{rowNumbers, rowFloats, mostLevels, stretches, packedLevelPoints, packedInternals, packedDomains, packedBoxes, packedBorrowed}
 use Rattle.packed.specs.Reading.{Packed}
 use Rattle.formats.specs.Bytes.{floatSize}
-use Rattle.stored.specs.Stored.{leafIn, leavesAt, levelIn}
+use Rattle.stored.specs.Stored.{leafIn, leavesAt, levelIn, levelsAt}
 use Rattle.fine_level.specs.Fine.{ownIn, borrowedIn, boxesIn}
 use Rattle.load_lists.specs.declared.Cursor.{Cursor}
 
@@ -45,15 +45,21 @@ pub record Room (fs : List Leaf) (c : Cursor) (p : Packed) : Type 0 where
 
 -- they are written to the lists p, which gives the lists q, and the cursor r stands behind them
 pub record Written (fs : List Leaf) (c r : Cursor) (p q : Packed) : Type 0 where
-  pub own : r .own ≡ c .own + length (ownIn fs)
-  pub row : r .row ≡ c .row + length fs
-  pub lent : r .borrowed ≡ c .borrowed + length (borrowedIn fs)
+  pub own-end : r .own ≡ c .own + length (ownIn fs)
+  pub row-end : r .row ≡ c .row + length fs
+  pub borrowed-end : r .borrowed ≡ c .borrowed + length (borrowedIn fs)
   pub internals : q .internals ≡ put (p .internals) (c .own) (ownIn fs)
   pub domains : q .domains ≡ put (p .domains) (rowNumbers * c .row) (stretches (c .own) (c .borrowed) fs)
   pub boxes : q .boxes ≡ put (p .boxes) (rowFloats (p .dimension) * c .row) (boxesIn fs)
   pub borrowed : q .borrowed ≡ put (p .borrowed) (c .borrowed) (borrowedIn fs)
 
--- ---- a tree: the lists can hold it
+-- ---- a tree
+
+-- the one whose levels begin at a place of the file
+abbrev pub treeFrom : ℕ → ℕ → List ℕ → List Level
+treeFrom d at bs = levelsAt d mostLevels (drop at bs)
+
+-- the lists can hold it
 pub record CanHold (ls : List Level) (level-points : List ℕ) (p : Packed) : Type 0 where
   pub points : length (packedLevelPoints ls) ≤ length level-points
   pub internals : length (packedInternals ls) ≤ length (p .internals)

@@ -13,10 +13,10 @@ ghost use Rattle.definition.specs.Packed.{mostLevels, countsOf, packedLevelPoin
 ghost use Rattle.packed.specs.Reading.{packed};
 ghost use Rattle.formats.specs.Bytes.{floatsAt, whole};
 ghost use Rattle.stored.specs.File.{domainMark};
-ghost use Rattle.stored.specs.Stored.{leafSize, afterLeaves, afterLevel, levelsAt};
+ghost use Rattle.stored.specs.Stored.{leafSize, afterLeaves, afterLevel};
 ghost use Rattle.tree_tests.specs.Whole.{leavesWhole, levelWhole, levelsWhole};
 ghost use Rattle.tree_answer.specs.Answers.{treeAnswer};
-ghost use Rattle.load_lists.specs.Places.{ahead, domainAt, domainsAt, levelAt, boxBytes, Room, Written, CanHold};
+ghost use Rattle.load_lists.specs.Places.{ahead, domainAt, domainsAt, levelAt, boxBytes, Room, Written, treeFrom, CanHold};
 use tree_answer::DDMTree;
 
 // The bytes of a record's mark, of a count or a row, and of a float.
@@ -38,7 +38,7 @@ const MOST_LEVELS: usize = 4;
 
 // Where the next record starts in the file, and where its parts go in the lists: level points, internals, borrowed rows and domain
 // row.
-pub struct Cursor {
+struct Cursor {
     pub at: usize,
     pub points: usize,
     pub own: usize,
@@ -224,13 +224,13 @@ pub fn put_levels(
     borrowed: &mut [usize],
 ) -> DDMTree
     requires { ⌜ (dimensions ≤ 3) × (levelsWhole dimensions mostLevels (drop at (now bytes)) ≡ true) ⌝ }
-    requires { ⌜ CanHold (levelsAt dimensions mostLevels (drop at (now bytes))) (now «level_points») (packed (now internals) (now domains) (now boxes) (now borrowed) dimensions) ⌝ }
-    ensures counts { λ r. ⌜ treeAnswer r ≡ record { number = 0; place = 0; value = countsOf (levelsAt dimensions mostLevels (drop at (now (bytes .entry)))) } ⌝ }
-    ensures level_points { λ _. ⌜ now («level_points» .exit) ≡ put (now («level_points» .entry)) 0 (packedLevelPoints (levelsAt dimensions mostLevels (drop at (now (bytes .entry))))) ⌝ }
-    ensures internals { λ _. ⌜ now (internals .exit) ≡ put (now (internals .entry)) 0 (packedInternals (levelsAt dimensions mostLevels (drop at (now (bytes .entry))))) ⌝ }
-    ensures domains { λ _. ⌜ now (domains .exit) ≡ put (now (domains .entry)) 0 (packedDomains (levelsAt dimensions mostLevels (drop at (now (bytes .entry))))) ⌝ }
-    ensures boxes { λ _. ⌜ now (boxes .exit) ≡ put (now (boxes .entry)) 0 (packedBoxes (levelsAt dimensions mostLevels (drop at (now (bytes .entry))))) ⌝ }
-    ensures borrowed { λ _. ⌜ now (borrowed .exit) ≡ put (now (borrowed .entry)) 0 (packedBorrowed (levelsAt dimensions mostLevels (drop at (now (bytes .entry))))) ⌝ }
+    requires { ⌜ CanHold (treeFrom dimensions at (now bytes)) (now «level_points») (packed (now internals) (now domains) (now boxes) (now borrowed) dimensions) ⌝ }
+    ensures counts { λ r. ⌜ treeAnswer r ≡ record { number = 0; place = 0; value = countsOf (treeFrom dimensions at (now (bytes .entry))) } ⌝ }
+    ensures level_points { λ _. ⌜ now («level_points» .exit) ≡ put (now («level_points» .entry)) 0 (packedLevelPoints (treeFrom dimensions at (now (bytes .entry)))) ⌝ }
+    ensures internals { λ _. ⌜ now (internals .exit) ≡ put (now (internals .entry)) 0 (packedInternals (treeFrom dimensions at (now (bytes .entry)))) ⌝ }
+    ensures domains { λ _. ⌜ now (domains .exit) ≡ put (now (domains .entry)) 0 (packedDomains (treeFrom dimensions at (now (bytes .entry)))) ⌝ }
+    ensures boxes { λ _. ⌜ now (boxes .exit) ≡ put (now (boxes .entry)) 0 (packedBoxes (treeFrom dimensions at (now (bytes .entry)))) ⌝ }
+    ensures borrowed { λ _. ⌜ now (borrowed .exit) ≡ put (now (borrowed .entry)) 0 (packedBorrowed (treeFrom dimensions at (now (bytes .entry)))) ⌝ }
 {
     let mut next = Cursor {
         at: at,

@@ -2,11 +2,6 @@
 use borrow.Author.Needs.{needs}
 use Rattle.load_lists.proofs.put_box.Statement.{statement}
 use Rattle.load_lists.proofs.put_box.Tie as tie
-use Rattle.load_lists.proofs.put_box.Reads as reads
-use Rattle.load_lists.proofs.put_box.Lts as lts
-use Rattle.boxes.proofs.box_width.Reads as box-width-reads
-use Rattle.bytes_in.proofs.read_floats.Reads as read-floats-reads
-use Rattle.coarse_level.proofs.put_zeros.Reads as put-zeros-reads
 
 box-width-requires : tie.Need-box-width-requires
 box-width-requires c κs = search needs

@@ -1,19 +1,10 @@
 -- `load_lists::put_domain` meets its contract. Assumes nothing.
 use mathlib.Core.Path.{refl}
 use native.Mathlib.Omega.{arith}
-use native.Mathlib.Nat.{mul-add}
 use borrow.Author.Needs.{needs}
-use Rattle.load_lists.proofs.Domain.{Found, found, own-fits, borrowed-fits, box-fits, domain-written}
+use Rattle.load_lists.proofs.Domain.{found, own-fits, borrowed-fits, box-fits, domain-written}
 use Rattle.load_lists.proofs.put_domain.Statement.{statement}
 use Rattle.load_lists.proofs.put_domain.Tie as tie
-use Rattle.load_lists.proofs.put_domain.Reads as reads
-use Rattle.load_lists.proofs.put_domain.Lts as lts
-use Rattle.bytes_in.proofs.read_numbers.Reads as read-numbers-reads
-use Rattle.file_reader.proofs.fetch_domain.Reads as fetch-domain-reads
-use Rattle.load_lists.proofs.box_bytes.Reads as box-bytes-reads
-use Rattle.load_lists.proofs.put_box.Reads as put-box-reads
-use Rattle.packed.proofs.floats_before.Reads as floats-before-reads
-use Rattle.packed.proofs.put_row.Reads as put-row-reads
 
 box-bytes-requires : tie.Need-box-bytes-requires
 box-bytes-requires c κs = search needs

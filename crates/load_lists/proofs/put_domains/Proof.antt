@@ -7,9 +7,6 @@ use Rattle.packed.specs.Reading.{packed}
 use Rattle.load_lists.proofs.DomainsLoop.{Inv, domains-start, domains-end, domains-written, domains-long, domain-stands, domain-room, domains-next}
 use Rattle.load_lists.proofs.put_domains.Statement.{statement}
 use Rattle.load_lists.proofs.put_domains.Tie as tie
-use Rattle.load_lists.proofs.put_domains.Reads as reads
-use Rattle.load_lists.proofs.put_domains.Lts as lts
-use Rattle.load_lists.proofs.put_domain.Reads as put-domain-reads
 
 abbrev Inv-loop : tie.InvT-loop
 Inv-loop bytes dimensions coarse m internals₀ domains₀ boxes₀ borrowed₀ next₀ left₀ internals domains boxes borrowed next left =

@@ -6,11 +6,6 @@ use Rattle.lists.specs.Lists.{put}
 use Rattle.load_lists.proofs.Level.{level-within, rows-many, rows-read, rows-within, domains-stand, domains-after, domains-room, level-written}
 use Rattle.load_lists.proofs.put_level.Statement.{statement}
 use Rattle.load_lists.proofs.put_level.Tie as tie
-use Rattle.load_lists.proofs.put_level.Reads as reads
-use Rattle.load_lists.proofs.put_level.Lts as lts
-use Rattle.bytes_in.proofs.number_at.Reads as number-at-reads
-use Rattle.bytes_in.proofs.read_numbers.Reads as read-numbers-reads
-use Rattle.load_lists.proofs.put_domains.Reads as put-domains-reads
 
 add-number-at : tie.Need-add-number-at
 add-number-at c =

@@ -4,16 +4,11 @@ use mathlib.Core.Path.{_≡_, refl, ap}
 use Prim.Native.Nat.{_-_}
 use native.Mathlib.Omega.{arith}
 use lib.Dec.{eqb}
-use borrow.Author.Needs.{needs}
 use Rattle.definition.specs.Packed.{Counts}
 use Rattle.packed.specs.Reading.{packed}
 use Rattle.load_lists.proofs.LevelsLoop.{Inv, levels-start, levels-long, points-long, rows-slots, counts-many, levels-below, left-less, level-stands, points-room, level-room, levels-next, end-points, end-internals, end-domains, end-boxes, end-borrowed, end-counts}
 use Rattle.load_lists.proofs.put_levels.Statement.{statement}
 use Rattle.load_lists.proofs.put_levels.Tie as tie
-use Rattle.load_lists.proofs.put_levels.Reads as reads
-use Rattle.load_lists.proofs.put_levels.Lts as lts
-use Rattle.load_lists.proofs.put_level.Reads as put-level-reads
-use Rattle.load_lists.proofs.still_left.Reads as still-left-reads
 
 abbrev Inv-loop : tie.InvT-loop
 Inv-loop bytes at dimensions level-points₀ internals₀ domains₀ boxes₀ borrowed₀ next₀ rows₀ counts₀ levels₀ left₀ level-points internals domains boxes borrowed next rows counts levels left =
@@ -37,7 +32,7 @@ put-level-requires c κs =
     ((s .pre .0 .0, level-stands v refl refl (s .pre .1) some), (points-room v refl refl (s .pre .1) some, level-room v refl refl (s .pre .1) some))
 
 sub-count : tie.Need-sub-count Inv-loop μ-loop
-sub-count c = omega (arith, c .before .before .before .before .before .before .before .before .before .before .before .before .put-level .ensures .1 .1 .row)
+sub-count c = omega (arith, c .before .before .before .before .before .before .before .before .before .before .before .before .put-level .ensures .1 .1 .row-end)
 
 sub-rows : tie.Need-sub-rows Inv-loop μ-loop
 sub-rows c = omega (arith, c .before .before .before .before .before .before .before .before .before .before .before .before .before .before .put-level .ensures .0 .1)
