@@ -1,4 +1,4 @@
--- Laws of the second pass.
+-- Laws of writing a stored tree to the lists.
 pub mod Domain
 pub mod Writing
 pub mod Ahead

@@ -1,2 +1,2 @@
--- What the contracts of the second pass cite.
+-- What the contracts of writing a stored tree to the lists cite.
 pub mod Places
