@@ -1,2 +1,2 @@
 -- What the contracts of the program cite.
-pub mod Input
+pub mod Output

@@ -2,7 +2,7 @@
 use mathlib.Core.Path.{sym}
 use native.Mathlib.Omega.{arith}
 use lib.Seq.{length-take-le}
-use Rattle.ddm_tree.proofs.Fronts.{reply-text}
+use Rattle.ddm_tree.proofs.Printed.{reply-text}
 use borrow.Author.Needs.{needs}
 use Rattle.ddm_tree.proofs.main.Statement.{statement}
 use Rattle.ddm_tree.proofs.main.Tie as tie

@@ -1,5 +1,5 @@
 -- `ddm_tree::print_bytes` meets its contract. Assumes nothing.
-use Rattle.ddm_tree.proofs.Fronts.{text-fits, text-printed}
+use Rattle.ddm_tree.proofs.Printed.{text-fits, text-printed}
 use borrow.Author.Needs.{needs}
 use Rattle.ddm_tree.proofs.print_bytes.Statement.{statement}
 use Rattle.ddm_tree.proofs.print_bytes.Tie as tie

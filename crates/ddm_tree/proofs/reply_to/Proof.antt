@@ -1,7 +1,8 @@
 -- `ddm_tree::reply_to` meets its contract. Assumes nothing.
 use mathlib.Core.Path.{sym}
 use lib.Seq.{length-take-le}
-use Rattle.ddm_tree.proofs.Fronts.{open-within, ended-within, open-printed, ended-printed}
+use Rattle.program_input.proofs.Fronts.{open-within, ended-within}
+use Rattle.ddm_tree.proofs.Printed.{open-printed, ended-printed}
 use borrow.Author.Needs.{needs}
 use Rattle.ddm_tree.proofs.reply_to.Statement.{statement}
 use Rattle.ddm_tree.proofs.reply_to.Tie as tie

@@ -1,14 +1,11 @@
--- What reading the input came to, and what is printed for it. Definitions only.
+-- What reading an input came to, and which streams it may be then. Definitions only.
 use mathlib.Core.Path.{_≡_}
 use Prim.Native.Nat.{ℕ, zero, suc, _+_, _≤_}
 use mathlib.Core.List.{List}
-use lib.ListN.{length, take}
+use lib.ListN.{take}
 use lib.IntN.{ℤ, pos, negsuc}
-use Rattle.formats.specs.Printout.{printout}
-use Rattle.ddm_tree.specs.declared.Front.{Front}
-use Rattle.ddm_tree.specs.declared.Front.the-variants.{Open, Ended, Failed}
-use Rattle.ddm_tree.specs.declared.Reply.{Reply}
-use Rattle.ddm_tree.specs.declared.Reply.the-variants.{Text, Unread}
+use Rattle.program_input.specs.declared.Front.{Front}
+use Rattle.program_input.specs.declared.Front.the-variants.{Open, Ended, Failed}
 
 -- where reading stands after a read that answered `got`, n bytes having been read before: -1 says that it failed, 0 that the input ended
 abbrev pub frontAfter : ℕ → ℤ → Front
@@ -28,12 +25,3 @@ abbrev pub MayBe : Front → List ℕ → List ℕ → Type 0
 MayBe (Open n) input stream = take n stream ≡ take n input
 MayBe (Ended n) input stream = stream ≡ take n input
 MayBe Failed input stream = Unit {0}
-
--- the text is the printout, whichever of them it is
-abbrev pub PrintoutFor : Front → List ℕ → List ℕ → Type 0
-PrintoutFor front input text = (stream : List ℕ) → MayBe front input stream → text ≡ printout stream
-
--- the reply is the printout, at the front of `text`, or none where a read failed
-abbrev pub Replies : Front → List ℕ → List ℕ → Reply → Type 0
-Replies front input text (Text k) = (k ≤ length text) × PrintoutFor front input (take k text)
-Replies front input text Unread = front ≡ Failed

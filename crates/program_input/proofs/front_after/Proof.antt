@@ -1,8 +1,8 @@
--- `ddm_tree::front_after` meets its contract. Assumes nothing.
+-- `program_input::front_after` meets its contract. Assumes nothing.
 use native.Mathlib.Omega.{arith}
-use Rattle.ddm_tree.proofs.Answers.{after-failed, after-ended, after-open, count-known, count-most}
-use Rattle.ddm_tree.proofs.front_after.Statement.{statement}
-use Rattle.ddm_tree.proofs.front_after.Tie as tie
+use Rattle.program_input.proofs.Answers.{after-failed, after-ended, after-open, count-known, count-most}
+use Rattle.program_input.proofs.front_after.Statement.{statement}
+use Rattle.program_input.proofs.front_after.Tie as tie
 
 returns : tie.Need-returns
 returns c = after-failed _ _ (c .before .fits .got) (c .if1 .taken)

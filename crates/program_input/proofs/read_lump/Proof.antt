@@ -1,11 +1,11 @@
--- `ddm_tree::read_lump` meets its contract. Assumes nothing.
+-- `program_input::read_lump` meets its contract. Assumes nothing.
 use Prim.Native.Nat.{_-_}
 use lib.ListN.{length}
 use borrow.Author.Needs.{needs}
 use borrow.Rule.Slice.PartMut.{take-put}
-use Rattle.ddm_tree.proofs.Answers.{moved-back, room-from}
-use Rattle.ddm_tree.proofs.read_lump.Statement.{statement}
-use Rattle.ddm_tree.proofs.read_lump.Tie as tie
+use Rattle.program_input.proofs.Answers.{moved-back, room-from}
+use Rattle.program_input.proofs.read_lump.Statement.{statement}
+use Rattle.program_input.proofs.read_lump.Tie as tie
 
 sub-read : tie.Need-sub-read
 sub-read c = search needs

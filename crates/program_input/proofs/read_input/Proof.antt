@@ -1,4 +1,4 @@
--- `ddm_tree::read_input` meets its contract. Assumes nothing.
+-- `program_input::read_input` meets its contract. Assumes nothing.
 use borrow.Author.Needs.{needs}
 use Prim.Native.Nat.{_≤_, _-_}
 use mathlib.Core.Path.{_≡_}
@@ -6,16 +6,16 @@ use lib.ListN.{length}
 use mir.Syntax.{w64}
 use mir.Val.{toZ, ofZ}
 use native.Mathlib.Omega.{arith}
-use Rattle.ddm_tree.proofs.Answers.{moved-back}
-use Rattle.ddm_tree.proofs.Fronts.{goes-on, stops}
-use Rattle.ddm_tree.proofs.read_input.Statement.{statement}
-use Rattle.ddm_tree.proofs.read_input.Tie as tie
+use Rattle.program_input.proofs.Answers.{moved-back}
+use Rattle.program_input.proofs.Fronts.{goes-on, stops}
+use Rattle.program_input.proofs.read_input.Statement.{statement}
+use Rattle.program_input.proofs.read_input.Tie as tie
 
 abbrev Inv-loop : tie.InvT-loop
-Inv-loop input₀ done₀ input done = (done ≤ length input) × (length input ≡ length input₀)
+Inv-loop fd input₀ done₀ input done = (done ≤ length input) × (length input ≡ length input₀)
 
 abbrev μ-loop : tie.MeasureT-loop
-μ-loop input₀ done₀ input done = length input - done
+μ-loop fd input₀ done₀ input done = length input - done
 
 loop-holds : tie.Need-loop-holds Inv-loop μ-loop
 loop-holds c = search needs
@@ -39,7 +39,7 @@ returns c =
     let after = c .before .front-after in
     let lump = c .before .before .before .before .before .read-lump in
     let done = c .before .before .before .before .before .before .before .before .loop .done in
-    stops (after .result) done (length (lump .last .0)) (toZ w64 (ofZ w64 (lump .result))) (after .ensures) (search needs) (c .match .keys2)
+    stops (after .result) done (length (lump .last .1 .0)) (toZ w64 (ofZ w64 (lump .result))) (after .ensures) (search needs) (c .match .keys2)
 
 loop-less : tie.Need-loop-less Inv-loop μ-loop
 loop-less c =
@@ -47,8 +47,8 @@ loop-less c =
     let lump = c .before .before .before .before .before .before .before .read-lump in
     let done = c .before .before .before .before .before .before .before .before .before .before .loop .done in
     let z = toZ w64 (ofZ w64 (lump .result)) in
-    let moved = moved-back _ (length (lump .last .0) - done) (lump .result) (record { sfits = lump .ok }) (search needs) (lump .ensures .0) in
-    let more = goes-on (after .result) done (length (lump .last .0)) z (after .ensures) (search needs) _ (c .before .front .given .1) moved in
+    let moved = moved-back _ (length (lump .last .1 .0) - done) (lump .result) (record { sfits = lump .ok }) (search needs) (lump .ensures .0) in
+    let more = goes-on (after .result) done (length (lump .last .1 .0)) z (after .ensures) (search needs) _ (c .before .front .given .1) moved in
     omega (arith, more)
 
 loop-again : tie.Need-loop-again Inv-loop μ-loop
@@ -57,8 +57,8 @@ loop-again c =
     let lump = c .before .before .before .before .before .before .before .read-lump in
     let done = c .before .before .before .before .before .before .before .before .before .before .loop .done in
     let z = toZ w64 (ofZ w64 (lump .result)) in
-    let moved = moved-back _ (length (lump .last .0) - done) (lump .result) (record { sfits = lump .ok }) (search needs) (lump .ensures .0) in
-    let more = goes-on (after .result) done (length (lump .last .0)) z (after .ensures) (search needs) _ (c .before .front .given .1) moved in
+    let moved = moved-back _ (length (lump .last .1 .0) - done) (lump .result) (record { sfits = lump .ok }) (search needs) (lump .ensures .0) in
+    let more = goes-on (after .result) done (length (lump .last .1 .0)) z (after .ensures) (search needs) _ (c .before .front .given .1) moved in
     (more .1, search needs)
 
 same-length-2 : tie.Need-same-length-2 Inv-loop μ-loop

@@ -17,8 +17,8 @@ use mir.Syntax.{w64}
 use mir.Val.{Fits, SFits, toZ, ofZ}
 use mir.ValLaws.{toZ-ofZ}
 use Rattle.libc.specs.Io.{Moved}
-use Rattle.ddm_tree.specs.declared.Front.the-variants.{Open, Ended, Failed}
-use Rattle.ddm_tree.specs.Input.{frontAfter}
+use Rattle.program_input.specs.declared.Front.the-variants.{Open, Ended, Failed}
+use Rattle.program_input.specs.Input.{frontAfter}
 
 -- ---- of the number
 failed-is : (n : ℕ) (z : ℤ) → ltZ z (pos 0) ≡ true → Failed ≡ frontAfter n z

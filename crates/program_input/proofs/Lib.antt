@@ -1,0 +1,3 @@
+-- What a read's answer says, and where reading stands.
+pub mod Answers
+pub mod Fronts

@@ -1,0 +1,2 @@
+-- What the contracts of reading cite.
+pub mod Input
