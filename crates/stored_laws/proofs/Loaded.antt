@@ -1,6 +1,6 @@
 -- The loader on a written file, and what an accepted load hands out. Assumes nothing.
--- Holds: load-accepts, load-answers, load-lists, loaded-own, loaded-well, loaded-settings, loaded-count, loaded-points,
---   loaded-file, loaded-sound
+-- Holds: fileTests, tests-passed, load-accepts, load-answers, load-lists, loaded-own, loaded-well, loaded-settings, loaded-count,
+--   loaded-points, loaded-file, loaded-sound
 use mathlib.Core.Path.{_≡_, sym, ap, ap₂, _∙_}
 use Prim.Native.Nat.{ℕ}
 use native.Mathlib.Omega.{arith}
@@ -31,7 +31,7 @@ use Rattle.stored_laws.proofs.WellFormed.{well-formed-file, well-formed
 use Rattle.stored_laws.proofs.Verdicts.{both-accept, first-accepts, second-accepts, own-whole, own-takes}
 
 -- ---- the loader's own tests
-abbrev fileTests : Settings → List Float → List ℕ → List Test
+abbrev pub fileTests : Settings → List Float → List ℕ → List Test
 fileTests s cs bs = on (not (wellFormed bs)) 20 ∷ on (not (sameSettings s bs)) 18 ∷ on (not (samePoints s cs bs)) 19 ∷ []
 
 module _ (s : Settings) (cs : List Float) (bs : List ℕ) where
@@ -39,7 +39,7 @@ module _ (s : Settings) (cs : List Float) (bs : List ℕ) where
   unfolding All
   tests-pass a b c = accepted-iff (fileTests s cs bs) .1 (ap not a, (ap not b, (ap not c, tt)))
 
-  tests-passed : verdict (fileTests s cs bs) ≡ accepted → (wellFormed bs ≡ true) × (sameSettings s bs ≡ true) × (samePoints s cs bs ≡ true)
+  pub tests-passed : verdict (fileTests s cs bs) ≡ accepted → (wellFormed bs ≡ true) × (sameSettings s bs ≡ true) × (samePoints s cs bs ≡ true)
   unfolding All
   tests-passed e =
       let g = accepted-iff (fileTests s cs bs) .0 e in

@@ -1,12 +1,13 @@
 -- How long a printout can be. A stream has at most 32 points, so each row has at most two digits; a level has at most four leaves for
 -- each row, and three levels at most are fine. `decimal-long` and `refusal-long` bound a number and a refusal, `job-long` the text of a
 -- job, `printout-long` every printout. Assumes nothing.
--- Holds: decimal-long, FewRows, refusal-long, job-long, printout-long
+-- Holds: decimal-long, each-long, FewRows, few-from, Brief, domain-long, level-long, fine-long, dash-long, refusal-long,
+--   job-long, printout-long
 use mathlib.Core.Path.{_≡_, refl, ap, _∙_}
 use mathlib.Core.Bool.{Bool, true, false, cond}
 use mathlib.Core.Logic.{⊎-elim}
 use Prim.Native.Nat.{ℕ, zero, suc, _+_, _*_, _/_, _%_, _^_, _≤_, _<_}
-use native.Mathlib.Nat.{pow-succ', div-le-of-le-mul, mul-comm}
+use native.Mathlib.Nat.{pow-succ'}
 use native.Mathlib.Omega.{arith}
 use mathlib.Core.List.{List, [], _∷_, _++_, map, map-map}
 use lib.ListN.{length, replicate, length-append, length-map}
@@ -36,7 +37,7 @@ use Rattle.definition.proofs.Steps.{fineLeaf, fineOf, nextOf, queue-wait, queue
 use Rattle.definition_laws.proofs.Shape.{leaves-boxes}
 use Rattle.stream_laws.proofs.Shape.{levels-shaped}
 use Rattle.stream_laws.specs.Sizes.{JobLimits, WithinLimits, mostBytes}
-use Rattle.stream_laws.proofs.Stream.{job-limits}
+use Rattle.stream_laws.proofs.Stream.{job-limits, job-points}
 
 -- ---- numbers
 onto-long : (k n : ℕ) (after : List ℕ) → length (decimalOnto k n after) ≤ suc k + length after
@@ -75,7 +76,7 @@ hex-long zero n after = omega arith
 hex-long (suc k) n after = hex-long k (n / 16) (digitOf (n % 16) ∷ after) ∙ (omega arith)
 
 -- ---- a text for each element: no longer than the longest of them for each
-each-long : {A : Type 0} (f : A → List ℕ) (most : ℕ) (P : A → Type 0) → ((x : A) → P x → length (f x) ≤ most)
+pub each-long : {A : Type 0} (f : A → List ℕ) (most : ℕ) (P : A → Type 0) → ((x : A) → P x → length (f x) ≤ most)
     → (xs : List A) → All P xs → length (joined (map f xs)) ≤ length xs * most
 each-long f most P h xs a =
     omega (
@@ -96,7 +97,7 @@ few-keep p rows s =
       few = omega (arith, s .few, length-keep p rows, count-len p rows);
     }
 
-few-from : (n : ℕ) → n ≤ streamPoints → FewRows (from 0 n)
+pub few-from : (n : ℕ) → n ≤ streamPoints → FewRows (from 0 n)
 few-from n h = record { below = all-from (λ (i : ℕ). i < streamPoints) 0 n (λ i a b. omega arith); few = omega (arith, length-from 0 n) }
 
 few-none : FewRows []
@@ -146,20 +147,20 @@ box-long (x ∷ b) =
     omega (arith, box-long b, hex-long 16 (toBits binary64 x) [], length-append (32 ∷ hexOnto 16 (toBits binary64 x) []) (boxText b))
 
 -- a leaf whose line is not long
-record Brief (f : Leaf) : Type 0 where
-  own : FewRows (f .own)
-  borrowed : FewRows (f .borrowed)
-  box : length (f .box) ≤ 6
+pub record Brief (f : Leaf) : Type 0 where
+  pub own : FewRows (f .own)
+  pub borrowed : FewRows (f .borrowed)
+  pub box : length (f .box) ≤ 6
 
-domain-long : (i : ℕ) (f : Leaf) (box : List ℕ) → FewRows (f .own) → FewRows (f .borrowed) → i < 1000 → length (domainLine i f box) ≤ 224 + length box
+pub domain-long : (i : ℕ) (f : Leaf) (box : List ℕ) → FewRows (f .own) → FewRows (f .borrowed) → i < 1000 → length (domainLine i f box) ≤ 224 + length box
 unfolding domainLine ascii
 domain-long i f box h g small = simp length-append (omega (arith, decimal-short 2 i small, rows-long (f .own) h, rows-long (f .borrowed) g))
 
-level-long : (t : ℕ) (l : Level) → FewRows (l .points) → length (levelLine t l) ≤ 130
+pub level-long : (t : ℕ) (l : Level) → FewRows (l .points) → length (levelLine t l) ≤ 130
 unfolding levelLine ascii
 level-long t l s = simp length-append (omega (arith, decimal-long t, rows-long (l .points) s))
 
-fine-long : (i : ℕ) (fs : List Leaf) → i + length fs ≤ 1000 → All Brief fs → length (fineLines i fs) ≤ 326 * length fs
+pub fine-long : (i : ℕ) (fs : List Leaf) → i + length fs ≤ 1000 → All Brief fs → length (fineLines i fs) ≤ 326 * length fs
 unfolding fineLines All
 fine-long i [] h a = omega arith
 fine-long i (f ∷ fs) h a =
@@ -173,7 +174,7 @@ fine-long i (f ∷ fs) h a =
     )
 
 -- ---- levels
-dash-long : length (ascii " -") ≡ 2
+pub dash-long : length (ascii " -") ≡ 2
 unfolding ascii
 dash-long = refl
 
@@ -249,11 +250,10 @@ module _ (s : Settings) (cs : List Float) (limits : JobLimits s cs) where
       let active = from 0 (pointCount (s .dimension) cs) in
       let c = threshold (s .policy) (length active) in
       let k = reductions (length active) c (s .factor) in
-      let few : pointCount (s .dimension) cs ≤ streamPoints = div-le-of-le-mul (s .dimension) (rw mul-comm at (limits .points-few)) in
       simp length-append
       (omega (
         arith,
-        levels-long s cs (limits .axes-few) c k mostFine 0 0 active (few-from (pointCount (s .dimension) cs) few),
+        levels-long s cs (limits .axes-few) c k mostFine 0 0 active (few-from (pointCount (s .dimension) cs) (job-points s cs limits)),
         decimal-long (length (levelsFrom s cs c k mostFine 0 active)),
       ))
 

@@ -1,10 +1,11 @@
 -- The job stream, one record after the other: `stream-end`, `stream-cut`, `stream-full` and `stream-more` say what the next bytes come
--- to, `job-limits` what holds of every job that is read, `length-coordinates` how many a point has. Assumes nothing.
--- Holds: length-coordinates, stream-end, stream-cut, stream-full, stream-more, job-limits
+-- to, `job-limits` what holds of every job that is read, `job-points` how many points it has at most, `length-coordinates` how many
+-- coordinates a point has. Assumes nothing.
+-- Holds: length-coordinates, stream-end, stream-cut, stream-full, stream-more, job-limits, job-points
 use mathlib.Core.Path.{_≡_, refl}
 use mathlib.Core.Bool.{Bool, true, false, _&&_, cond}
 use Prim.Native.Nat.{ℕ, zero, suc, _+_, _*_, _≤_, _<_}
-use native.Mathlib.Nat.{suc-mul, zero-mul}
+use native.Mathlib.Nat.{suc-mul, zero-mul, div-le-of-le-mul, mul-comm}
 use native.Mathlib.Omega.{arith}
 use mathlib.Core.List.{List, [], _∷_, _++_}
 use lib.ListN.{length, drop, length-append}
@@ -12,9 +13,9 @@ use lib.Dec.{ltb}
 use lib.Ieee.{Float}
 use borrow.Author.Tests.{ltb-false}
 use Rattle.lists.proofs.From.{length-map-from}
-use Rattle.definition.specs.Tree.{Settings}
+use Rattle.definition.specs.Tree.{Settings, pointCount}
 use Rattle.definition.specs.Refusals.{wrongDimension}
-use Rattle.stream_laws.specs.Sizes.{WithinLimits}
+use Rattle.stream_laws.specs.Sizes.{JobLimits, WithinLimits}
 use Rattle.formats.specs.Bytes.{floatsAt, whole, markSize, valueAt}
 use Rattle.formats.specs.Stream.{Job, job, broken, brokenAt, tooLarge, pointMark, pointSize, settingsMark, settingsSize, dimensionField, policyFits, settingsIn, streamPoints, streamNeighbours, readPoints, held, jobIn}
 use Rattle.definition_laws.proofs.Accepted.{right-dimension}
@@ -117,3 +118,7 @@ job-limits bs = go (whole settingsMark settingsSize bs && policyFits bs)
     go : (b : Bool) → WithinLimits (cond b (cond (wrongDimension (valueAt dimensionField bs)) (broken (record { number = 1; place = 0 })) points) (brokenAt 0))
     go true = right (wrongDimension (valueAt dimensionField bs)) refl
     go false = tt
+
+-- so a job has at most 32 points
+pub job-points : (s : Settings) (cs : List Float) → JobLimits s cs → pointCount (s .dimension) cs ≤ streamPoints
+job-points s cs limits = div-le-of-le-mul (s .dimension) (rw mul-comm at (limits .points-few))

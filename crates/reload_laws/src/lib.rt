@@ -1,0 +1,1 @@
+// Laws of what the programs keep and reload; there is no code of its own.
