@@ -2,3 +2,4 @@
 pub mod SoundRows
 pub mod SoundLong
 pub mod ReloadedLong
+pub mod KeptFits

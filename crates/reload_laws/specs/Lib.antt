@@ -1,0 +1,2 @@
+-- The sizes that suffice for every file.
+pub mod Sizes
