@@ -3,3 +3,4 @@ pub mod SoundRows
 pub mod SoundLong
 pub mod ReloadedLong
 pub mod KeptFits
+pub mod FrontDecides
