@@ -31,7 +31,7 @@ fn zero_threshold(policy: SizePolicy) -> bool
 }
 
 // The settings: the number of the first of 1 to 5 whose condition is met, or 0.
-fn settings_fault(dimensions: usize, params: DDMParams) -> usize
+pub fn settings_fault(dimensions: usize, params: DDMParams) -> usize
     ensures number { λ r. ⌜ numberedVerdict r ≡ verdict (settingsTests (settingsOf dimensions params)) ⌝ }
     ensures fine { λ r. ⌜ (r ≡ 0 → (1 ≤ dimensions) × (dimensions ≤ 3) × (2 ≤ params .«coarse_reduction_factor») × (params .«overlap_knn» ≤ 64)) ⌝ }
 {
@@ -58,7 +58,7 @@ fn settings_fault(dimensions: usize, params: DDMParams) -> usize
 }
 
 // The points, of `count` coordinates: the number of the first of 6 to 9 whose condition is met, or 0.
-fn points_fault(count: usize, dimensions: usize, params: DDMParams) -> usize
+pub fn points_fault(count: usize, dimensions: usize, params: DDMParams) -> usize
     requires { ⌜ (1 ≤ dimensions) × (2 ≤ params .«coarse_reduction_factor») ⌝ }
     ensures number { λ r. ⌜ numberedVerdict r ≡ verdict (pointsTests (settingsOf dimensions params) (count / dimensions) (not (eqb (count % dimensions) 0))) ⌝ }
     ensures fine { λ r. ⌜ (r ≡ 0 → count / dimensions ≤ mostPoints) ⌝ }
