@@ -1,0 +1,2 @@
+-- Laws on the head and the points of a file.
+pub mod Points

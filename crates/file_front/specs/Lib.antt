@@ -1,0 +1,2 @@
+-- What the contracts of the front cite beside the definition.
+pub mod Fronts
