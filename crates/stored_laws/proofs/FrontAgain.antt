@@ -64,7 +64,7 @@ module _ (bs : List ℕ) (bytes : All IsByte bs) where
 -- ---- the points
 
 -- each of them stands whole
-point-stands : (d n i : ℕ) (bs : List ℕ) → pointsWhole d n bs ≡ true → i < n → whole filePointMark (pointSize d) (drop (i * pointSize d) bs) ≡ true
+pub point-stands : (d n i : ℕ) (bs : List ℕ) → pointsWhole d n bs ≡ true → i < n → whole filePointMark (pointSize d) (drop (i * pointSize d) bs) ≡ true
 unfolding pointsWhole
 point-stands d zero i bs h l = absurd (omega arith)
 point-stands d (suc n) zero bs h l =
