@@ -1,2 +1,4 @@
 -- Laws on the head and the points of a file.
 pub mod Points
+pub mod Takes
+pub mod Tested

@@ -1,2 +1,3 @@
 -- What the contracts of the front cite beside the definition.
 pub mod Fronts
+pub mod Reading

@@ -1,17 +1,30 @@
 // The head and the points of a stored tree, tested where they stand in the caller's bytes, and compared with the present points.
+use config::DDMParams;
+use config::SizePolicy;
+use settings_record::Settings;
 ghost use mathlib.Core.Path.{_≡_};
-ghost use mathlib.Core.Bool.{not, _&&_};
+ghost use mathlib.Core.Bool.{true, false, not, _&&_};
 ghost use Prim.Native.Nat.{_^_, _≤_, _<_};
 ghost use lib.ListN.{length, drop};
 ghost use lib.Ieee.Scale.{finite};
 ghost use Rattle.lists.specs.Lists.{anyOf};
-ghost use Rattle.formats.specs.Stream.{pointSize};
-ghost use Rattle.stored.specs.Stored.{headSize};
-ghost use Rattle.tree_tests.specs.Whole.{pointsWhole};
-ghost use Rattle.file_front.specs.Fronts.{pointsAt};
+ghost use Rattle.formats.specs.Stream.{settingsIn, pointSize};
+ghost use Rattle.stored.specs.Stored.{headSize, pointsIn, buildable};
+ghost use Rattle.tree_tests.specs.Whole.{pointsWhole, frontWhole};
+ghost use Rattle.settings_record.specs.Reading.{settingsAre};
+ghost use Rattle.file_front.specs.Fronts.{pointsAt, headTaken};
+ghost use Rattle.file_front.specs.Reading.{FrontRead};
 
 // The head's bytes: the settings record's, and the point count's.
 const HEAD: usize = settings_record::SIZE + bytes_in::NUMBER;
+
+// Whether the head and the points of a file pass; where they do, the settings and the point count in it, and where the levels begin.
+pub struct Front {
+    pub good: bool,
+    pub settings: Settings,
+    pub n: usize,
+    pub next: usize,
+}
 
 // ---- tested
 
@@ -42,4 +55,65 @@ pub fn points_pass(bytes: &[u8], n: usize, dimensions: usize) -> bool
         i += 1;
     }
     true
+}
+
+// Whether the build takes the settings with n points, whatever their coordinates are.
+fn head_passes(settings: Settings, n: usize) -> bool
+    requires { ⌜ n < 2 ^ 32 ⌝ }
+    ensures { λ r. ⌜ r ≡ headTaken (settingsAre settings) n ⌝ }
+{
+    let dimensions = settings.dimensions;
+    let params = settings.params;
+    if 0 < build_checks::settings_fault(dimensions, params) {
+        return false;
+    }
+    build_checks::points_fault(n * dimensions, dimensions, params) == 0
+}
+
+// A front that does not pass.
+fn no_front() -> Front
+    ensures { λ r. ⌜ r .good ≡ false ⌝ }
+{
+    let params = DDMParams {
+        leaf_threshold: 0,
+        overlap_knn: 0,
+        coarse_reduction_factor: 0,
+        coarse_threshold: SizePolicy::Auto,
+    };
+    Front {
+        good: false,
+        settings: Settings {
+            dimensions: 0,
+            params,
+        },
+        n: 0,
+        next: 0,
+    }
+}
+
+// Tests the head and the points of a file: each record stands whole at its place, and the build takes what stands in them.
+pub fn check_front(bytes: &[u8]) -> Front
+    ensures good { λ r. ⌜ r .good ≡ frontWhole (now (bytes .entry)) && buildable (settingsIn (now (bytes .entry))) (pointsIn (now (bytes .entry))) ⌝ }
+    ensures read { λ r. ⌜ (r .good ≡ true → FrontRead r (now (bytes .entry))) ⌝ }
+{
+    if !bytes_in::record_at(bytes, 0, HEAD, 0x54, 0x48) {
+        return no_front();
+    }
+    if !settings_record::policy_fits(bytes) {
+        return no_front();
+    }
+    let settings = settings_record::settings_of(bytes);
+    let n = bytes_in::number_at(bytes, settings_record::SIZE);
+    if !head_passes(settings, n) {
+        return no_front();
+    }
+    let dimensions = settings.dimensions;
+    let good = points_pass(bytes, n, dimensions);
+    let next = HEAD + n * point_size(dimensions);
+    Front {
+        good,
+        settings,
+        n,
+        next,
+    }
 }
