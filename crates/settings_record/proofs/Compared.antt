@@ -53,7 +53,7 @@ same-append (x ∷ xs) (u ∷ us) ys vs e =
     ap (λ (t : Bool). eqb x u && t) (same-append xs us ys vs (omega arith)) ∙ sym (and-assoc (eqb x u) (same xs us) (same ys vs))
 
 module _ (bs : List ℕ) where
-  parts-same : (xs ys : List ℕ) (at m n : ℕ) → length xs ≡ m → at + m ≤ length bs → same (xs ++ ys) (part bs at (m + n)) ≡ same xs (part bs at m) && same ys (part bs (at + m) n)
+  pub parts-same : (xs ys : List ℕ) (at m n : ℕ) → length xs ≡ m → at + m ≤ length bs → same (xs ++ ys) (part bs at (m + n)) ≡ same xs (part bs at m) && same ys (part bs (at + m) n)
   parts-same xs ys at m n e h = rw (← part-append bs at m n) (same-append xs (part bs at m) ys (part bs (at + m) n) (e ∙ sym (length-part bs at m h)))
 
   -- policy and threshold
