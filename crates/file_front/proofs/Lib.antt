@@ -2,3 +2,5 @@
 pub mod Points
 pub mod Takes
 pub mod Tested
+pub mod Compared
+pub mod PresentPoints

@@ -4,11 +4,17 @@ use config::SizePolicy;
 use settings_record::Settings;
 ghost use mathlib.Core.Path.{_≡_};
 ghost use mathlib.Core.Bool.{true, false, not, _&&_};
-ghost use Prim.Native.Nat.{_^_, _≤_, _<_};
+ghost use Prim.Native.Nat.{_+_, _*_, _^_, _≤_, _<_};
 ghost use lib.ListN.{length, drop};
 ghost use lib.Ieee.Scale.{finite};
-ghost use Rattle.lists.specs.Lists.{anyOf};
+ghost use Rattle.lists.specs.Lists.{anyOf, part};
+ghost use Rattle.definition.specs.Tree.{pointCount};
+ghost use Rattle.definition.specs.Tree as tree;
+ghost use Rattle.definition.specs.Refusals.{mostPoints};
+ghost use Rattle.formats.specs.Bytes.{floatSize, floatsBytes};
 ghost use Rattle.formats.specs.Stream.{settingsIn, pointSize};
+ghost use Rattle.stored.specs.Sound.{same};
+ghost use Rattle.stored.specs.Outcome.{sameSettings, samePoints};
 ghost use Rattle.stored.specs.Stored.{headSize, pointsIn, buildable};
 ghost use Rattle.tree_tests.specs.Whole.{pointsWhole, frontWhole};
 ghost use Rattle.settings_record.specs.Reading.{settingsAre};
@@ -116,4 +122,53 @@ pub fn check_front(bytes: &[u8]) -> Front
         n,
         next,
     }
+}
+
+// ---- compared
+
+// Whether `count` floats of a list, those from `start` on, have the bits in the bytes from `at` on.
+fn floats_are(xs: &[f64], start: usize, count: usize, bytes: &[u8], at: usize) -> bool
+    requires { ⌜ (start + count ≤ length (now xs)) × (at + floatSize * count ≤ length (now bytes)) ⌝ }
+    ensures { λ r. ⌜ r ≡ same (floatsBytes (part (now (xs .entry)) start count)) (part (now (bytes .entry)) at (floatSize * count)) ⌝ }
+{
+    let mut i = 0;
+    while i < count {
+        let bits = bytes_out::bits_of(xs[start + i]);
+        if bits != bytes_in::bits_at(bytes, at + bytes_in::FLOAT * i) {
+            return false;
+        }
+        i += 1;
+    }
+    true
+}
+
+// Whether the present points are those of a file whose head and points stand whole and whose settings are the present ones: as many,
+// and bit for bit.
+pub fn same_points(points: &[f64], dimensions: usize, bytes: &[u8]) -> bool
+    requires { ⌜ (frontWhole (now bytes) ≡ true) × (settingsIn (now bytes) .dimension ≡ dimensions) × (1 ≤ dimensions) × (dimensions ≤ 3)
+        × (pointCount dimensions (now points) ≤ mostPoints) ⌝ }
+    ensures { λ r. ⌜ ((s : tree.Settings) → s .dimension ≡ dimensions → sameSettings s (now (bytes .entry)) ≡ true
+        → r ≡ samePoints s (now (points .entry)) (now (bytes .entry))) ⌝ }
+{
+    let n = bytes_in::number_at(bytes, settings_record::SIZE);
+    if points.len() / dimensions != n {
+        return false;
+    }
+    let size = point_size(dimensions);
+    let mut at = HEAD;
+    let mut i = 0;
+    while i < n {
+        if !floats_are(
+            points,
+            i * dimensions,
+            dimensions,
+            bytes,
+            at + bytes_in::MARK,
+        ) {
+            return false;
+        }
+        at += size;
+        i += 1;
+    }
+    true
 }
