@@ -1,5 +1,5 @@
 -- A record's bytes against those of settings: field by field, each as a number. Assumes nothing.
--- Holds: field-same, policy-same, length-settings, settings-same, dimension-differs, leaf-differs, neighbours-differ,
+-- Holds: field-same, parts-same, policy-same, length-settings, settings-same, dimension-differs, leaf-differs, neighbours-differ,
 --   factor-differs, policy-decides
 use mathlib.Core.Path.{_≡_, refl, sym, ap, _∙_}
 use mathlib.Core.Bool.{Bool, true, false, _&&_, and-assoc}

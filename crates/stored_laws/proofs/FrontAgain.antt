@@ -1,5 +1,5 @@
 -- Where the head and the points stand whole, their bytes are those of what is read from them, if no coordinate is a NaN. Assumes nothing.
--- Holds: head-again, rows-of-joined, points-are, length-points-in, count-is, points-again
+-- Holds: head-again, point-stands, rows-of-joined, points-are, length-points-in, count-is, points-again
 use mathlib.Core.Path.{_≡_, refl, sym, ap, ap₂, _∙_}
 use mathlib.Core.Logic.{⊎-elim}
 use Prim.Native.Nat.{ℕ, zero, suc, _+_, _*_, _≤_, _<_}
