@@ -1,15 +1,17 @@
 -- Records of bytes compared one after the other: floats, point records, and the front of a file. Assumes nothing.
+-- Holds: differs, records-same, floatAfter, floats-found, floats-end, float-differs, float-agrees, rowDiffers, row-same,
+--   count-differs, rows-decide
 use mathlib.Core.Path.{_≡_, refl, sym, ap, ap₂, _∙_}
 use mathlib.Core.Bool.{Bool, true, false, not, _&&_, _||_}
 use Prim.Native.Nat.{ℕ, zero, suc, _+_, _*_, _^_, _≤_, _<_}
-use native.Mathlib.Nat.{suc-mul, zero-mul, mul-comm}
+use native.Mathlib.Nat.{suc-mul, zero-mul}
 use native.Mathlib.Omega.{arith}
 use mathlib.Core.List.{List, [], _∷_, _++_, map, map-map}
-use lib.ListN.{length, getD, take, drop, length-append, length-drop}
+use lib.ListN.{length, getD, take, drop, length-append}
 use lib.Dec.{T, leb, eqb}
 use lib.Ieee.{Float, nan, binary64, fits, toBits}
 use lib.Ieee.Bits.{toBits-lt}
-use borrow.Author.Tests.{leb-true, eqb-true, eq-eqb, ne-eqb}
+use borrow.Author.Tests.{leb-true, eq-eqb, ne-eqb}
 use Rattle.lists.specs.Lists.{anyOf, from, joined, part}
 use Rattle.lists.proofs.Tests.{and-of, and-fst, and-snd, eqb-comm}
 use Rattle.lists.proofs.Put.{part-nil, length-part, getD-part}
@@ -18,7 +20,7 @@ use Rattle.definition.specs.Points.{coordinate}
 use Rattle.definition.specs.Tree.{Settings, pointCount}
 use Rattle.formats.specs.Bytes.{field, Mark, markSize, markBytes, markedBy, whole, numberSize, numberBytes, floatSize, floatBytes, floatsBytes}
 use Rattle.formats.specs.Stream.{settingsSize, settingsBytes, pointSize}
-use Rattle.bytes_in.proofs.Turns.{none-tested, none-more, one-found}
+use Rattle.bytes_in.proofs.Turns.{one-found}
 use Rattle.bytes_out.proofs.Bytes.{length-bytes}
 use Rattle.stored.specs.File.{headMark, filePointMark, headBytes, pointBytes, frontBytes}
 use Rattle.stored.specs.Sound.{same}

@@ -1,10 +1,12 @@
 -- Point records one after the other: all of them stand whole and are finite where each one is. Assumes nothing.
+-- Holds: bad, rowWhole, rowFinite, rowFails, points-pass, Passing, AllPass, passing-start, passing-end, passing-broken,
+--   passing-inside, passing-bad, passing-next
 use mathlib.Core.Path.{_≡_, refl, sym, ap, ap₂, _∙_}
 use mathlib.Core.Bool.{Bool, true, false, not, _&&_, _||_, and-false}
-use Prim.Native.Nat.{ℕ, zero, suc, _+_, _*_, _≤_, _<_}
-use native.Mathlib.Nat.{suc-mul, zero-mul, add-zero}
+use Prim.Native.Nat.{ℕ, zero, suc, _+_, _≤_, _<_}
+use native.Mathlib.Nat.{suc-mul, zero-mul}
 use native.Mathlib.Omega.{arith}
-use mathlib.Core.List.{List, [], _∷_, map}
+use mathlib.Core.List.{List, map}
 use lib.ListN.{length, drop, length-drop}
 use lib.Seq.{drop-drop}
 use lib.Dec.{leb}

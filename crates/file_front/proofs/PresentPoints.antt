@@ -1,6 +1,8 @@
 -- The present points against those of a file, row by row. Assumes nothing.
-use mathlib.Core.Path.{_≡_, refl, sym, ap, subst, _∙_}
-use mathlib.Core.Bool.{Bool, true, false, not}
+-- Holds: SaysSame, front-parts, same-dimension, other-count, Comparing, comparing-start, comparing-end, comparing-listed,
+--   comparing-inside, comparing-found, comparing-next
+use mathlib.Core.Path.{_≡_, sym, ap, subst, _∙_}
+use mathlib.Core.Bool.{Bool, true, false, not, _&&_}
 use Prim.Native.Nat.{ℕ, suc, _+_, _*_, _/_, _^_, _≤_, _<_}
 use native.Mathlib.Nat.{suc-mul, zero-mul, mul-le-mul-right, div-mul-le-self}
 use native.Mathlib.Omega.{arith}
@@ -9,9 +11,10 @@ use lib.ListN.{length, getD, drop}
 use lib.Ieee.{Float}
 use borrow.Author.Tests.{eqb-true}
 use Rattle.lists.specs.Lists.{anyOf, from, part}
+use Rattle.lists.proofs.Tests.{and-fst}
 use Rattle.definition.specs.Tree.{Settings, pointCount}
-use Rattle.formats.specs.Bytes.{markSize, whole, floatSize, floatsBytes}
-use Rattle.formats.specs.Stream.{settingsIn, policyFits, pointSize}
+use Rattle.formats.specs.Bytes.{field, markSize, whole, floatSize, floatsBytes}
+use Rattle.formats.specs.Stream.{settingsSize, settingsIn, policyFits, pointSize}
 use Rattle.stored.specs.File.{headMark}
 use Rattle.stored.specs.Sound.{same}
 use Rattle.stored.specs.Stored.{headSize, countIn}
@@ -19,8 +22,8 @@ use Rattle.stored.specs.Outcome.{sameSettings, samePoints}
 use Rattle.tree_tests.specs.Whole.{pointsWhole, frontWhole}
 use Rattle.tree_tests.proofs.Several.{three-pass}
 use Rattle.bytes_in.proofs.Turns.{none-tested, none-more, one-found}
+use Rattle.settings_record.proofs.Compared.{field-same, settings-same}
 use Rattle.file_front.specs.Fronts.{pointPlace}
-use Rattle.file_front.proofs.Points.{rowWhole}
 use Rattle.file_front.proofs.Tested.{head-inside, row-stands, rows-inside}
 use Rattle.file_front.proofs.Compared.{rowDiffers, row-same, count-differs, rows-decide}
 
@@ -34,6 +37,16 @@ unfolding frontWhole
 front-parts bs h =
     let g = three-pass (whole headMark headSize bs) (policyFits bs) (pointsWhole (settingsIn bs .dimension) (countIn bs) (drop headSize bs)) h in
     (g .0, g .2)
+
+-- settings that are those of the file have its dimension
+pub same-dimension : (s : Settings) (bs : List ℕ) → settingsSize ≤ length bs → s .dimension < 256 → ((k : ℕ) → getD bs k 0 < 256) → sameSettings s bs ≡ true → settingsIn bs .dimension ≡ s .dimension
+unfolding settingsIn
+same-dimension s bs long small bytes h =
+    let first = five-first _ _ _ _ _ (sym (settings-same s bs long) ∙ h) in
+    sym (eqb-true (s .dimension) (field 1 markSize bs) (field-same 1 (s .dimension) markSize bs small (omega arith) bytes ∙ first))
+  where
+    five-first : (a b c e f : Bool) → a && b && c && e && f ≡ true → a ≡ true
+    five-first a b c e f t = and-fst a b (and-fst (a && b) c (and-fst (a && b && c) e (and-fst (a && b && c && e) f t)))
 
 module _ (d : ℕ) (cs : List Float) (bs : List ℕ) (front : frontWhole bs ≡ true) (bytes : (i : ℕ) → getD bs i 0 < 256) (few : pointCount d cs < 2 ^ 32) where
   few-at : (s : Settings) → s .dimension ≡ d → pointCount (s .dimension) cs < 2 ^ 32

@@ -1,4 +1,5 @@
 -- What the build takes, group by group: the settings, the count of the points, and their coordinates. Assumes nothing.
+-- Holds: taken-numbered, settings-refused, head-is, head-axes, buildable-is
 use mathlib.Core.Path.{_≡_, refl, sym, ap, ap₂, _∙_}
 use mathlib.Core.Bool.{Bool, true, false, not, _&&_, cond}
 use Prim.Native.Nat.{ℕ, zero, suc, _*_, _/_, _%_, _≤_, _<_}

@@ -1,5 +1,7 @@
 -- The head and the points of a file, tested one after the other: what they come to, and what is known where they pass. Assumes nothing.
-use mathlib.Core.Path.{_≡_, refl, sym, ap, ap₂, _∙_}
+-- Holds: row-stands, rows-inside, FrontIs, head-broken, head-inside, policy-broken, head-refused, points-decide, FrontFacts,
+--   front-facts, front-read
+use mathlib.Core.Path.{_≡_, sym, ap, ap₂, _∙_}
 use mathlib.Core.Bool.{Bool, true, false, not, _&&_, and-false}
 use Prim.Native.Nat.{ℕ, zero, suc, _+_, _*_, _≤_, _<_}
 use native.Mathlib.Nat.{zero-mul, suc-mul}
