@@ -30,6 +30,7 @@ use Rattle.tree_tests.proofs.Lengths.{length-settings, length-head, length-poin
 use Rattle.settings_record.proofs.Compared.{field-same, parts-same}
 use Rattle.file_front.specs.Fronts.{pointPlace}
 use Rattle.file_front.proofs.Points.{rowWhole}
+use Rattle.file_front.proofs.Tested.{head-inside}
 
 -- ---- records of one size
 one-more : (a b c : Bool) → c ≡ not b → a && c ≡ not (not a || b)
@@ -146,7 +147,7 @@ module _ (d : ℕ) (cs : List Float) (bs : List ℕ) where
 -- ---- the front
 module _ (s : Settings) (bs : List ℕ) (stands : whole headMark headSize bs ≡ true) (told : sameSettings s bs ≡ true) (bytes : (i : ℕ) → getD bs i 0 < 256) where
   long : headSize ≤ length bs
-  long = leb-true headSize (length bs) (and-fst (leb headSize (length bs)) (markedBy headMark bs) stands)
+  long = head-inside bs stands
 
   -- the head's bytes are the same where the count is
   head-same : (n : ℕ) → n < 2 ^ 32 → same (headBytes s n) (part bs 0 headSize) ≡ eqb n (countIn bs)

@@ -1,6 +1,6 @@
 -- Point records one after the other: all of them stand whole and are finite where each one is. Assumes nothing.
--- Holds: bad, rowWhole, rowFinite, rowFails, points-pass, Passing, AllPass, passing-start, passing-end, passing-broken,
---   passing-inside, passing-bad, passing-next
+-- Holds: bad, whole-inside, rowWhole, rowFinite, rowFails, points-pass, Passing, AllPass, passing-start, passing-end,
+--   passing-broken, passing-inside, passing-bad, passing-next
 use mathlib.Core.Path.{_≡_, refl, sym, ap, ap₂, _∙_}
 use mathlib.Core.Bool.{Bool, true, false, not, _&&_, _||_, and-false}
 use Prim.Native.Nat.{ℕ, zero, suc, _+_, _≤_, _<_}
@@ -16,7 +16,7 @@ use borrow.Author.Tests.{leb-true}
 use Rattle.lists.specs.Lists.{anyOf, from, joined}
 use Rattle.lists.proofs.Tests.{and-fst}
 use Rattle.lists.proofs.Members.{any-append}
-use Rattle.formats.specs.Bytes.{markSize, markedBy, whole, floatsAt}
+use Rattle.formats.specs.Bytes.{Mark, markSize, markedBy, whole, floatsAt}
 use Rattle.formats.specs.Stream.{pointSize}
 use Rattle.stored.specs.File.{filePointMark}
 use Rattle.stored.specs.Stored.{headSize}
@@ -27,6 +27,12 @@ use Rattle.file_front.specs.Fronts.{pointPlace, rowAt, pointsAt}
 -- a coordinate that is infinite or not a number
 abbrev pub bad : Float → Bool
 bad x = not (finite x)
+
+-- a whole record ends inside the bytes
+pub whole-inside : (m : Mark) (size at : ℕ) (bs : List ℕ) → at ≤ length bs → whole m size (drop at bs) ≡ true → at + size ≤ length bs
+whole-inside m size at bs h w =
+    let g = leb-true size (length (drop at bs)) (and-fst (leb size (length (drop at bs))) (markedBy m (drop at bs)) w) in
+    omega (arith, length-drop at bs)
 
 -- one row and the rows after it
 row-more : (a p x y f : Bool) → p && not y ≡ not f → a && p && not (x || y) ≡ not (not (a && not x) || f)
@@ -92,9 +98,7 @@ module _ {d at i : ℕ} {bs : List ℕ} (s : Passing d bs at i) (size : ℕ) (e 
   module _ (t : stands ≡ true) where
     -- the record ends inside the bytes
     pub passing-inside : at + size ≤ length bs
-    passing-inside =
-        let g = leb-true size (length (drop at bs)) (and-fst (leb size (length (drop at bs))) (markedBy filePointMark (drop at bs)) (sym f ∙ t)) in
-        omega (arith, s .inside, length-drop at bs)
+    passing-inside = whole-inside filePointMark size at bs (s .inside) (sym f ∙ t)
 
     module _ (known : Bool) (g : known ≡ not (anyOf bad (floatsAt d (at + markSize) bs))) where
       known-is : known ≡ rowFinite d bs i

@@ -7,7 +7,7 @@ use Prim.Native.Nat.{ℕ, zero, suc, _+_, _*_, _≤_, _<_}
 use native.Mathlib.Nat.{zero-mul, suc-mul}
 use native.Mathlib.Omega.{arith}
 use mathlib.Core.List.{List}
-use lib.ListN.{length, drop, length-drop}
+use lib.ListN.{length, drop}
 use lib.Seq.{drop-drop}
 use lib.Dec.{leb}
 use lib.Ieee.{Float}
@@ -28,15 +28,10 @@ use Rattle.settings_record.specs.declared.Settings as read
 use Rattle.settings_record.specs.Reading.{settingsAre}
 use Rattle.file_front.specs.Reading.{FrontRead}
 use Rattle.file_front.specs.Fronts.{pointPlace, pointsAt, headTaken}
-use Rattle.file_front.proofs.Points.{bad, rowWhole}
+use Rattle.file_front.proofs.Points.{whole-inside, bad, rowWhole}
 use Rattle.file_front.proofs.Takes.{buildable-is}
 
 -- ---- points that stand whole
-whole-inside : (d : ℕ) (bs : List ℕ) (at : ℕ) → at ≤ length bs → whole filePointMark (pointSize d) (drop at bs) ≡ true → at + pointSize d ≤ length bs
-whole-inside d bs at h w =
-    let g = leb-true (pointSize d) (length (drop at bs)) (and-fst (leb (pointSize d) (length (drop at bs))) (markedBy filePointMark (drop at bs)) w) in
-    omega (arith, length-drop at bs)
-
 module _ (d n : ℕ) (bs : List ℕ) (h : pointsWhole d n (drop headSize bs) ≡ true) where
   -- the record of each row stands at its place
   pub row-stands : (i : ℕ) → i < n → rowWhole d bs i ≡ true
@@ -46,7 +41,7 @@ module _ (d n : ℕ) (bs : List ℕ) (h : pointsWhole d n (drop headSize bs) ≡
   rows-inside g zero l = omega (arith, zero-mul (pointSize d))
   rows-inside g (suc i) l =
       let before = rows-inside g i (omega arith) in
-      omega (arith, suc-mul i (pointSize d), whole-inside d bs (pointPlace d i) before (row-stands i l))
+      omega (arith, suc-mul i (pointSize d), whole-inside filePointMark (pointSize d) (pointPlace d i) bs before (row-stands i l))
 
 -- ---- the tests in the order in which they are made
 module _ (bs : List ℕ) where

@@ -1,4 +1,4 @@
--- The coordinates of point records by place and count. Definitions only.
+-- The points of a file by place and count, and what the build says of its head alone. Definitions only.
 use Prim.Native.Nat.{ℕ, _+_, _*_}
 use mathlib.Core.Bool.{Bool, false, _&&_}
 use mathlib.Core.List.{List, map}
