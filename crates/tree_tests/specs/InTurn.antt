@@ -1,7 +1,7 @@
 -- The tests of a tree in the order in which a reader meets its rows. Inner contracts cite them; `sound-in-turn` says that they come to
 -- `sound`. A set of rows is a test of a row. Definitions only.
 use Prim.Native.Nat.{ℕ, suc, _-_}
-use mathlib.Core.Bool.{Bool, true, false, not, _&&_}
+use mathlib.Core.Bool.{Bool, true, false, not, _&&_, cond}
 use mathlib.Core.List.{List, [], _∷_}
 use lib.ListN.{length}
 use lib.Dec.{leb, ltb, eqb}
@@ -23,6 +23,10 @@ without rows p i = p i && not (member i rows)
 unfoldable pub inOrder : ℕ → (ℕ → Bool) → List ℕ → Bool
 inOrder least p [] = true
 inOrder least p (x ∷ xs) = leb least x && p x && inOrder (suc x) p xs
+
+-- ---- the box of a leaf: the coarse level's domain has none
+abbrev pub boxed : ℕ → Bool → Leaf → Bool
+boxed d coarse = cond coarse (noBox d) (soundBox d)
 
 -- ---- leaves: `listed` are the rows of the level, `left` those that no leaf before has, k in number
 
