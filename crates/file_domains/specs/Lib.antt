@@ -1,0 +1,2 @@
+-- What is said of domain records that are tested.
+pub mod Domains
