@@ -1,6 +1,6 @@
 -- Sets of rows as bits: no row, one row more, one less, and sets that agree. Assumes nothing.
 -- Holds: bit-tells, marked-within, marked-bit, unmarked-bit, marked-same, mark-adds, unmark-takes, held, bits-marked,
---   marked-held, asked-bit, asked-within, marked-zeros, below-clear, below-start, below-marked, below-end
+--   marked-held, asked-bit, asked-within, marked-none, marked-zeros, below-clear, below-start, below-marked, below-end
 use mathlib.Core.Path.{_≡_, refl, sym, ap, _∙_}
 use mathlib.Core.Logic.{⊎-elim}
 use mathlib.Core.Bool.{Bool, true, false, not, _&&_, _||_, and-false}
@@ -122,12 +122,15 @@ pub asked-within : (ws : List ℕ) (i : ℕ) (r : Bool) → ((p : ℕ → Bool) 
 asked-within ws i r f e = marked-within (bits-marked ws) i (sym (f (held ws) (bits-marked ws)) ∙ e)
 
 -- ---- no row
-pub marked-zeros : (k : ℕ) → Marked (replicate k 0) (λ i. false)
+none-bit : (i : ℕ) → 0 / 2 ^ (i % 64) % 2 ≡ 0
+none-bit i = rw zero-div
+
+pub marked-none : (ws : List ℕ) → ((j : ℕ) → j < length ws → getD ws j 0 ≡ 0) → Marked ws (λ i. false)
 unfolding bitAt
-marked-zeros k = record { bit = λ i h. ap (λ (x : ℕ). x / 2 ^ (i % 64) % 2) (getD-replicate k (i / 64) 0 0 (omega (arith, length-replicate {A = ℕ} k 0))) ∙ none i; beyond = λ i h. refl }
-  where
-    none : (i : ℕ) → 0 / 2 ^ (i % 64) % 2 ≡ 0
-    none i = rw zero-div
+marked-none ws z = record { bit = λ i h. ap (λ (x : ℕ). x / 2 ^ (i % 64) % 2) (z (i / 64) (omega arith)) ∙ none-bit i; beyond = λ i h. refl }
+
+pub marked-zeros : (k : ℕ) → Marked (replicate k 0) (λ i. false)
+marked-zeros k = marked-none (replicate k 0) (λ j h. getD-replicate k j 0 0 (omega (arith, length-replicate {A = ℕ} k 0)))
 
 -- ---- the rows below n
 below-more : (i j : ℕ) → ltb j i || eqb j i ≡ ltb j (i + 1)

@@ -54,6 +54,17 @@ pub fn take_out(left: &mut [usize], listed: &mut [usize], i: usize) -> bool
     true
 }
 
+// Takes the mark of every row away.
+pub fn clear(words: &mut [usize])
+    ensures { λ _. ⌜ Marked (now (words .exit)) (λ i. false) ⌝ }
+{
+    let mut i = 0;
+    while i < words.len() {
+        words[i] = 0;
+        i += 1;
+    }
+}
+
 // Marks the rows below n, where none is marked yet.
 pub fn mark_below(words: &mut [usize], n: usize)
     requires { ⌜ Marked (now words) (λ i. false) × (n ≤ 64 * length (now words)) ⌝ }
