@@ -1,5 +1,5 @@
 -- Domain records tested one after the other: those before i passed, and the rest decides. Assumes nothing.
--- Holds: Tested, tested-start, tested-bad, tested-enough, tested-fits, tested-next, tested-left, tested-end
+-- Holds: and-apart, Tested, tested-start, tested-bad, tested-enough, tested-fits, tested-next, tested-left, tested-end
 use mathlib.Core.Path.{_≡_, refl, sym, ap, _∙_}
 use mathlib.Core.Bool.{Bool, true, false, _&&_, and-false}
 use Prim.Native.Nat.{ℕ, suc, _+_, _-_, _*_, _≤_, _<_}
@@ -34,17 +34,17 @@ answer d coarse q p k m bs = leavesWhole d coarse m bs && leavesPass (boxed d co
 abbrev first : ℕ → Bool → (ℕ → Bool) → (ℕ → Bool) → ℕ → List ℕ → Bool
 first d coarse q p k bs = whole domainMark (leafSize d coarse bs) bs && leafPasses (boxed d coarse) q p k (leafIn d coarse bs)
 
-apart : (w x l y : Bool) → (w && x) && (l && y) ≡ (w && l) && (x && y)
-apart false x l y = refl
-apart true x false y = and-false x
-apart true x true y = refl
+pub and-apart : (w x l y : Bool) → (w && x) && (l && y) ≡ (w && l) && (x && y)
+and-apart false x l y = refl
+and-apart true x false y = and-false x
+and-apart true x true y = refl
 
 first-and-rest : (d : ℕ) (coarse : Bool) (q p : ℕ → Bool) (k m : ℕ) (bs : List ℕ)
     → answer d coarse q p k (suc m) bs
     ≡ first d coarse q p k bs && answer d coarse q (without (leafIn d coarse bs .own) p) (k - length (leafIn d coarse bs .own)) m (drop (leafSize d coarse bs) bs)
 unfolding leavesWhole leavesAt leavesPass
 first-and-rest d coarse q p k m bs =
-    apart (whole domainMark (leafSize d coarse bs) bs) (leavesWhole d coarse m (drop (leafSize d coarse bs) bs)) (leafPasses (boxed d coarse) q p k (leafIn d coarse bs))
+    and-apart (whole domainMark (leafSize d coarse bs) bs) (leavesWhole d coarse m (drop (leafSize d coarse bs) bs)) (leafPasses (boxed d coarse) q p k (leafIn d coarse bs))
     (leavesPass (boxed d coarse) q (without (leafIn d coarse bs .own) p) (k - length (leafIn d coarse bs .own)) (leavesAt d coarse m (drop (leafSize d coarse bs) bs)))
 
 borrowed-first : (d : ℕ) (coarse : Bool) (m : ℕ) (bs : List ℕ)

@@ -1,0 +1,2 @@
+-- What is said of levels that are tested.
+pub mod Levels
