@@ -1,0 +1,3 @@
+-- Laws of leaves that stand in packed lists.
+pub mod AsPacked
+pub mod Held

@@ -1,0 +1,2 @@
+-- Leaves that stand in packed lists, tested in turn.
+pub mod InLists
