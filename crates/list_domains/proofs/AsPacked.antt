@@ -117,14 +117,14 @@ stretches-append (f ∷ xs) ys a b =
     (stretches-append xs ys (a + own) (b + more)
     ∙ ap₂ (λ (x y : ℕ). stretches (a + own) (b + more) xs ++ stretches x y ys) (add-assoc a own (ownTotal xs)) (add-assoc b more (borrowedTotal xs)))
 
+pub leaves-length : (p : Packed) (j m : ℕ) → length (readLeaves p j m) ≡ m
+unfolding readLeaves
+leaves-length p j m = length-map-from (readLeaf p) j m
+
 module _ (p : Packed) (j m k : ℕ) where
   pub leaves-append : readLeaves p j (m + k) ≡ readLeaves p j m ++ readLeaves p (j + m) k
   unfolding readLeaves
   leaves-append = ap (map (readLeaf p)) (from-append j m k) ∙ map-append (readLeaf p) (from j m) (from (j + m) k)
-
-  pub leaves-length : length (readLeaves p j m) ≡ m
-  unfolding readLeaves
-  leaves-length = length-map-from (readLeaf p) j m
 
   module _ (a b : ℕ) where
     abbrev more : ℕ
@@ -147,7 +147,7 @@ module _ (p : Packed) (j m k : ℕ) where
       whole = sym both ∙ h ∙ parts
 
       first-length : length (stretches a b (readLeaves p j m)) ≡ rowNumbers * m
-      first-length = length-stretches a b (readLeaves p j m) ∙ ap (λ (i : ℕ). rowNumbers * i) leaves-length
+      first-length = length-stretches a b (readLeaves p j m) ∙ ap (λ (i : ℕ). rowNumbers * i) (leaves-length p j m)
 
       part-length : length (part (p .domains) (rowNumbers * j) (rowNumbers * m)) ≡ rowNumbers * m
       part-length = length-part (p .domains) (rowNumbers * j) (rowNumbers * m) (omega arith)

@@ -1,0 +1,3 @@
+-- Laws of the levels of a tree that stands in lists.
+pub mod OneLevel
+pub mod Levels

@@ -1,0 +1,2 @@
+-- The levels of a tree that stands in lists, tested in turn.
+pub mod InLists
