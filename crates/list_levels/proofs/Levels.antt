@@ -37,7 +37,7 @@ countsFrom counts l k = total (map (λ i. getD counts i 0) (from l k))
 
 pub counts-from : (counts : List ℕ) (k l : ℕ) → upTo counts l + countsFrom counts l k ≡ upTo counts (l + k)
 unfolding countsFrom from total
-counts-from counts zero l = rw (add-zero, add-zero)
+counts-from counts zero l = add-zero (upTo counts l) ∙ ap (upTo counts) (sym (add-zero l))
 counts-from counts (suc k) l = rw (add-suc, ← suc-add l k) (omega (arith, counts-from counts k (suc l), total-more counts l))
 
 pub counts-more : (counts : List ℕ) (l k : ℕ) → countsFrom counts l (suc k) ≡ getD counts l 0 + countsFrom counts (suc l) k

@@ -1,3 +1,5 @@
 -- Laws of the levels of a tree that stands in lists.
 pub mod OneLevel
 pub mod Levels
+pub mod PerLevel
+pub mod Tree
