@@ -15,10 +15,10 @@ use Rattle.definition.specs.Tree.{Leaf}
 use Rattle.definition.specs.Packed.{rowNumbers, numbersOf, stretches}
 use Rattle.packed.specs.Reading.{Packed, ownStart, ownCount, borrowedStart, borrowedCount, rowAt, readLeaf, readLeaves}
 use Rattle.tree_tests.specs.InTurn.{without, inOrder, boxed, leafPasses, leavesPass}
-use Rattle.tree_tests.proofs.Several.{three-pass, four-pass}
+use Rattle.tree_tests.proofs.Several.{four-pass}
 use Rattle.tree_tests.proofs.Lengths.{ownTotal, borrowedTotal}
 use Rattle.tree_tests.proofs.Leaves.{leaves-pass-nil, leaves-pass-cons}
-use Rattle.list_domains.specs.InLists.{domainPasses, domainsPass}
+use Rattle.list_domains.specs.InLists.{stretchesFit, domainPasses, domainsPass}
 use Rattle.list_domains.proofs.AsPacked.{AsPacked, first-as-packed, packed-first}
 
 -- ---- what the tests come to, of m leaves from the domain row number j on
@@ -44,25 +44,24 @@ pub record RowHeld (coarse : Bool) (p : Packed) (most : ℕ) (listed left : ℕ 
 
 module _ (coarse : Bool) (p : Packed) (most : ℕ) (listed left : ℕ → Bool) (j a b k : ℕ) where
   pub row-held : domainPasses coarse p most listed left j a b k ≡ true → RowHeld coarse p most listed left j a b k
-  unfolding domainPasses
+  unfolding domainPasses stretchesFit
   row-held h =
       let t1 = eqb (ownStart (p .domains) j) a in
       let t2 = eqb (borrowedStart (p .domains) j) b in
       let t3 = leb (ownCount (p .domains) j) k in
       let t4 = leb (borrowedCount (p .domains) j) (most - b) in
       let t5 = leafPasses (boxed (p .dimension) coarse) listed left k (readLeaf p j) in
-      let g = three-pass (t1 && t2 && t3) t4 t5 h in
-      let f = three-pass t1 t2 t3 (g .0) in
+      let f = four-pass t1 t2 t3 t4 (and-fst (t1 && t2 && t3 && t4) t5 h) in
       record {
         own-start = eqb-true (ownStart (p .domains) j) a (f .0);
         borrowed-start = eqb-true (borrowedStart (p .domains) j) b (f .1);
         own-few = leb-true (ownCount (p .domains) j) k (f .2);
-        borrowed-few = leb-true (borrowedCount (p .domains) j) (most - b) (g .1);
-        pass = g .2;
+        borrowed-few = leb-true (borrowedCount (p .domains) j) (most - b) (f .3);
+        pass = and-snd (t1 && t2 && t3 && t4) t5 h;
       }
 
   pub held-row : RowHeld coarse p most listed left j a b k → domainPasses coarse p most listed left j a b k ≡ true
-  unfolding domainPasses
+  unfolding domainPasses stretchesFit
   held-row h =
       and-of
       (and-of

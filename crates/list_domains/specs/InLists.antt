@@ -4,15 +4,19 @@ use Prim.Native.Nat.{ℕ, zero, suc, _+_, _-_}
 use mathlib.Core.Bool.{Bool, _&&_}
 use mathlib.Core.List.{List}
 use lib.Dec.{leb, eqb}
-use Rattle.packed.specs.Reading.{Packed, ownStart, ownCount, borrowedStart, borrowedCount, readLeaf}
+use Rattle.definition.specs.Packed.{DomainRow}
+use Rattle.packed.specs.Reading.{Packed, ownCount, borrowedCount, rowAt, readLeaf}
 use Rattle.tree_tests.specs.InTurn.{without, boxed, leafPasses}
 
--- The domain row number j: its own rows start at a and are at most the k rows left, its borrowed rows start at b and end by `most`, and its
--- leaf passes.
+-- A domain row: its own rows start at a and are at most the k rows left, and its borrowed rows start at b and end by `most`.
+unfoldable pub stretchesFit : DomainRow → ℕ → ℕ → ℕ → ℕ → Bool
+stretchesFit r most a b k =
+    eqb (r .ownStart) a && eqb (r .borrowedStart) b && leb (r .ownCount) k && leb (r .borrowedCount) (most - b)
+
+-- the domain row number j, and its leaf
 unfoldable pub domainPasses : Bool → Packed → ℕ → (ℕ → Bool) → (ℕ → Bool) → ℕ → ℕ → ℕ → ℕ → Bool
 domainPasses coarse p most listed left j a b k =
-    eqb (ownStart (p .domains) j) a && eqb (borrowedStart (p .domains) j) b && leb (ownCount (p .domains) j) k
-    && leb (borrowedCount (p .domains) j) (most - b) && leafPasses (boxed (p .dimension) coarse) listed left k (readLeaf p j)
+    stretchesFit (rowAt (p .domains) j) most a b k && leafPasses (boxed (p .dimension) coarse) listed left k (readLeaf p j)
 
 -- m domain rows from the row number j on, each stretch starting where the last one of its list ended, and no row left after them
 unfoldable pub domainsPass : Bool → Packed → ℕ → (ℕ → Bool) → (ℕ → Bool) → ℕ → ℕ → ℕ → ℕ → ℕ → Bool

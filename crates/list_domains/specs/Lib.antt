@@ -1,2 +1,4 @@
 -- Leaves that stand in packed lists, tested in turn.
+pub mod Boxes
 pub mod InLists
+pub mod Passed

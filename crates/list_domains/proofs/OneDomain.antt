@@ -1,0 +1,107 @@
+-- One domain row: what is known of it once its stretches fit, and what its tests come to at each end of `check_domain`. Assumes nothing.
+use mathlib.Core.Path.{_≡_, refl, sym, ap, ap₂, subst, _∙_}
+use mathlib.Core.Bool.{Bool, true, false, _&&_, and-false}
+use mathlib.Core.List.{List}
+use Prim.Native.Nat.{ℕ, _+_, _-_, _*_, _≤_}
+use native.Mathlib.Nat.{mul-add, mul-one}
+use native.Mathlib.Omega.{arith}
+use borrow.Author.Tests.{leb-true, eqb-true, le-leb}
+use lib.Dec.{leb, eqb}
+use lib.ListN.{length}
+use Rattle.lists.specs.Lists.{part}
+use Rattle.lists.proofs.Tests.{clash, and-true}
+use Rattle.lists.proofs.Put.{length-part}
+use Rattle.definition.specs.Packed.{rowFloats}
+use Rattle.packed.specs.Reading.{Packed, ownStart, ownCount, borrowedStart, borrowedCount, rowAt, boxAt, readLeaf}
+use Rattle.packed.specs.Rows.{plainRow, IsRow}
+use Rattle.packed.specs.declared.DomainRow.{DomainRow}
+use Rattle.stored.specs.Sound.{allOf}
+use Rattle.tree_tests.specs.InTurn.{without, inOrder, boxed, leafPasses}
+use Rattle.tree_tests.proofs.Several.{four-pass}
+use Rattle.marks.specs.Bits.{Marked}
+use Rattle.list_domains.specs.Boxes.{boundFits}
+use Rattle.list_domains.specs.InLists.{stretchesFit, domainPasses}
+use Rattle.list_domains.specs.Passed.{Ready, RowsPassed, DomainPassed}
+use Rattle.list_domains.specs.declared.Passed.{Passed}
+use Rattle.list_domains.proofs.Boxes.{box-tests}
+use Rattle.list_domains.proofs.Starts.{row-read}
+
+module _ (coarse : Bool) (l : Packed) (most j a b k : ℕ) (left₀ listed₀ : List ℕ) (ready : Ready l most j 1 a b k left₀ listed₀) (row : DomainRow)
+    (is : IsRow row (l .domains) j) (t : Bool) (tells : t ≡ stretchesFit (plainRow row) most a b k) where
+  fits : t ≡ stretchesFit (rowAt (l .domains) j) most a b k
+  fits = tells ∙ ap (λ r. stretchesFit r most a b k) (row-read row (l .domains) j is)
+
+  -- what is said where the row does not pass: nothing of the sets
+  no-domain : (left listed : List ℕ) (own borrowed : ℕ) → ((p q : ℕ → Bool) → false ≡ domainPasses coarse l most q p j a b k)
+      → DomainPassed coarse l most j a b k left₀ listed₀ left listed (record { good = false; own = own; borrowed = borrowed })
+  no-domain left listed own borrowed h =
+      record {
+        passed = λ p q m n. h p q;
+        own = λ f. clash f refl;
+        borrowed = λ f. clash f refl;
+        left-out = λ p m f. clash f refl;
+        listed-as-was = λ q n f. clash f refl;
+      }
+
+  -- ---- the stretches do not fit
+  pub stretches-off : t ≡ false → (left listed : List ℕ) → DomainPassed coarse l most j a b k left₀ listed₀ left listed (record { good = false; own = 0; borrowed = 0 })
+  unfolding domainPasses
+  stretches-off f left listed = no-domain left listed 0 0 (λ p q. rw (← fits, f))
+
+  -- ---- they do
+  module _ (good : t ≡ true) where
+    tests : (ownStart (l .domains) j ≡ a) × (borrowedStart (l .domains) j ≡ b) × (ownCount (l .domains) j ≤ k) × (borrowedCount (l .domains) j ≤ most - b)
+    unfolding stretchesFit
+    tests =
+        let f = four-pass (eqb (ownStart (l .domains) j) a) (eqb (borrowedStart (l .domains) j) b) (leb (ownCount (l .domains) j) k) (leb (borrowedCount (l .domains) j) (most - b)) (sym fits ∙ good) in
+        (eqb-true (ownStart (l .domains) j) a (f .0), eqb-true (borrowedStart (l .domains) j) b (f .1), leb-true (ownCount (l .domains) j) k (f .2), leb-true (borrowedCount (l .domains) j) (most - b) (f .3))
+
+    -- the stretches lie inside their lists
+    pub own-within : a + row .«internal_count» ≤ length (l .internals)
+    own-within = omega (arith, is .own-count, tests .2, ready .own)
+
+    pub borrowed-within : b + row .«borrowed_count» ≤ length (l .borrowed)
+    borrowed-within = omega (arith, is .borrowed-count, tests .3, ready .end, ready .borrowed)
+
+    -- and are the leaf's rows
+    own-is : part (l .internals) a (row .«internal_count») ≡ readLeaf l j .own
+    unfolding readLeaf
+    own-is = ap₂ (λ (x y : ℕ). part (l .internals) x y) (sym (tests .0)) (is .own-count)
+
+    borrowed-is : part (l .borrowed) b (row .«borrowed_count») ≡ readLeaf l j .borrowed
+    unfolding readLeaf
+    borrowed-is = ap₂ (λ (x y : ℕ). part (l .borrowed) x y) (sym (tests .1)) (is .borrowed-count)
+
+    own-few : leb (length (readLeaf l j .own)) k ≡ true
+    own-few = le-leb (length (readLeaf l j .own)) k (omega (arith, ap length (sym own-is) ∙ length-part (l .internals) a (row .«internal_count») own-within, is .own-count, tests .2))
+
+    -- ---- the box
+    module _ (at width : ℕ) (at-is : at ≡ rowFloats (l .dimension) * j) (width-is : width ≡ rowFloats (l .dimension)) (x : Bool)
+        (bounds : x ≡ allOf (boundFits coarse) (part (l .boxes) at width)) where
+      box-is : x ≡ boxed (l .dimension) coarse (readLeaf l j)
+      unfolding readLeaf
+      box-is =
+          let w = rowFloats (l .dimension) in
+          bounds ∙ ap₂ (λ (y z : ℕ). allOf (boundFits coarse) (part (l .boxes) y z)) at-is width-is
+          ∙ box-tests (l .dimension) coarse (readLeaf l j) (length-part (l .boxes) (w * j) w (omega (arith, ready .boxes, mul-add w j 1, mul-one w)))
+
+      whole : (p q : ℕ → Bool) → domainPasses coarse l most q p j a b k
+          ≡ inOrder 0 p (readLeaf l j .own) && inOrder 0 (without (readLeaf l j .own) q) (readLeaf l j .borrowed) && x
+      unfolding domainPasses leafPasses
+      whole p q = rw (← fits, good, own-few, ← box-is)
+
+      pub box-off : x ≡ false → (left listed : List ℕ) → DomainPassed coarse l most j a b k left₀ listed₀ left listed (record { good = false; own = 0; borrowed = 0 })
+      box-off f left listed = no-domain left listed 0 0 (λ p q. sym (whole p q ∙ rw (f, and-false (inOrder 0 p (readLeaf l j .own) && inOrder 0 (without (readLeaf l j .own) q) (readLeaf l j .borrowed)))))
+
+      pub rows-tell : x ≡ true → (left listed : List ℕ) (r : Bool)
+          → RowsPassed (part (l .internals) a (row .«internal_count»)) (part (l .borrowed) b (row .«borrowed_count»)) left₀ listed₀ left listed r
+          → DomainPassed coarse l most j a b k left₀ listed₀ left listed (record { good = r; own = row .«internal_count»; borrowed = row .«borrowed_count» })
+      rows-tell f left listed r h =
+          let g : RowsPassed (readLeaf l j .own) (readLeaf l j .borrowed) left₀ listed₀ left listed r = rw (own-is, borrowed-is) at h in
+          record {
+            passed = λ p q m n. g .passed p q m n ∙ sym (whole p q ∙ rw (f, and-true (inOrder 0 p (readLeaf l j .own) && inOrder 0 (without (readLeaf l j .own) q) (readLeaf l j .borrowed))));
+            own = λ _. is .own-count;
+            borrowed = λ _. is .borrowed-count;
+            left-out = g .left-out;
+            listed-as-was = g .listed-as-was;
+          }
