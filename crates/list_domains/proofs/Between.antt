@@ -14,10 +14,11 @@ use Rattle.packed.specs.Reading.{Packed, ownCount, borrowedCount, readLeaf}
 use Rattle.tree_tests.specs.InTurn.{without}
 use Rattle.tree_tests.proofs.Sets.{without-in}
 use Rattle.marks.specs.Bits.{bitAt, Marked}
-use Rattle.marks.proofs.Marks.{marked-bit, held, bits-marked, marked-held}
+use Rattle.marks.proofs.Marks.{marked-bit, held, bits-marked}
 use Rattle.list_domains.specs.InLists.{domainPasses, domainsPass, borrowedEnd}
 use Rattle.list_domains.specs.Passed.{Ready, DomainPassed, DomainsPassed}
 use Rattle.list_domains.specs.declared.Passed.{Passed}
+use Rattle.list_domains.proofs.Sets.{bit-in}
 use Rattle.list_domains.proofs.Held.{RowHeld, row-held}
 
 -- ---- the row number j and those behind it
@@ -43,10 +44,6 @@ one-ends domains j b m = refl
 none-ends : (domains : List ℕ) (j b : ℕ) → borrowedEnd domains j b 0 ≡ b
 unfolding borrowedEnd
 none-ends domains j b = refl
-
--- ---- a row whose bit is 1 is in the set
-bit-in : {ws : List ℕ} {p : ℕ → Bool} → Marked ws p → (i : ℕ) → bitAt ws i ≡ 1 → p i ≡ true
-bit-in {ws} m i e = sym (marked-held m i) ∙ eq-eqb (bitAt ws i) 1 e
 
 -- ---- between two domain rows, with what is left of `left` and what the rest comes to
 pub record Rest (coarse : Bool) (l : Packed) (most j a b k m : ℕ) (left listed : List ℕ) (answer : Bool) (q : ℕ → Bool) : Type 0 where

@@ -1,16 +1,12 @@
--- The bounds of a box, one after the other: what the loop over them keeps, and that all of them come to the test of the leaf's box. Assumes
--- nothing.
-use mathlib.Core.Path.{_≡_, refl, sym, ap, ap₂, _∙_}
+-- The test of one bound of a box, and that the tests of all bounds come to the test of the leaf's box. Assumes nothing.
+use mathlib.Core.Path.{_≡_, refl, sym, ap, _∙_}
 use mathlib.Core.Bool.{Bool, true, false, not, _&&_, _||_}
 use mathlib.Core.List.{List, [], _∷_, map}
-use Prim.Native.Nat.{ℕ, zero, suc, _+_, _*_, _≤_, _<_}
-use native.Mathlib.Omega.{arith}
-use native.Mathlib.Numerals.{add-one}
+use Prim.Native.Nat.{ℕ}
 use borrow.Author.Tests.{eq-eqb}
 use lib.Dec.{eqb, T}
-use lib.ListN.{length, getD, drop, replicate, drop-of-length-le}
-use lib.Seq.{drop-cons}
-use lib.Ieee.{Float, nan, inf, fin, eq, binary64, toBits, ofBits, isNan}
+use lib.ListN.{length, replicate}
+use lib.Ieee.{Float, eq, binary64, toBits, ofBits, isNan}
 use Rattle.lists.specs.Lists.{anyOf}
 use Rattle.bytes_out.proofs.Nan.{equal-is-no-nan, unequal-is-nan}
 use Rattle.definition.specs.Number.{plusZero}
@@ -41,21 +37,6 @@ equal-tells x = go (eq x x) refl
 pub bound-fine : (b : Bool) (x : Float) → b ≡ false → eq x x ≡ boundFits b x
 unfolding boundFits
 bound-fine b x h = rw h (equal-tells x)
-
--- ---- the loop over bounds: those before i pass, and the rest decides
-module _ (p : Float → Bool) (xs : List Float) (i : ℕ) where
-  pub bounds-end : length xs ≤ i → allOf p xs ≡ allOf p (drop i xs) → true ≡ allOf p xs
-  bounds-end h e = sym (e ∙ rw (drop-of-length-le xs h) (all-pass-nil p))
-
-  module _ (x : Float) (h : i < length xs) (at : x ≡ getD xs i nan) (e : allOf p xs ≡ allOf p (drop i xs)) where
-    first : allOf p xs ≡ p x && allOf p (drop (suc i) xs)
-    first = e ∙ rw (drop-cons xs i nan h, ← at) (all-pass-cons p x (drop (suc i) xs))
-
-    pub bounds-out : p x ≡ false → false ≡ allOf p xs
-    bounds-out f = sym (first ∙ rw f)
-
-    pub bounds-next : p x ≡ true → allOf p xs ≡ allOf p (drop (i + 1) xs)
-    bounds-next f = first ∙ rw (f, add-one i)
 
 -- ---- all bounds of a box
 zero-bits : toBits binary64 plusZero ≡ 0

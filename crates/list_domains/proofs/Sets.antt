@@ -19,6 +19,10 @@ use Rattle.file_rows.specs.Markable.{Markable}
 use Rattle.file_rows.proofs.PutBack.{taken-markable, put-back}
 use Rattle.list_domains.specs.Passed.{RowsPassed}
 
+-- ---- a row whose bit is 1 is in the set
+pub bit-in : {ws : List ℕ} {p : ℕ → Bool} → Marked ws p → (i : ℕ) → bitAt ws i ≡ 1 → p i ≡ true
+bit-in {ws} m i e = sym (marked-held m i) ∙ eq-eqb (bitAt ws i) 1 e
+
 -- what taking the own rows out says
 abbrev Takes : List ℕ → List ℕ → List ℕ → List ℕ → List ℕ → Bool → Type 0
 Takes own left₀ listed₀ left listed r =

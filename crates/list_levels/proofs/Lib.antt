@@ -1,5 +1,7 @@
 -- Laws of the levels of a tree that stands in lists.
 pub mod OneLevel
 pub mod Levels
+mod LevelCounts
+mod LevelChecked
 pub mod PerLevel
 pub mod Tree

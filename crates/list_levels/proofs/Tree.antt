@@ -31,6 +31,7 @@ use Rattle.tree_tests.proofs.Lengths.{ownTotal, borrowedTotal}
 use Rattle.list_domains.specs.InLists.{borrowedEnd}
 use Rattle.list_domains.proofs.AsPacked.{AsPacked, leaves-length, own-joined, borrowed-joined, borrowed-end}
 use Rattle.list_levels.specs.InLists.{countFits, noneBeyond, heldLevelsPass, heldTreePasses}
+use Rattle.list_levels.specs.Passed.{Long}
 use Rattle.list_levels.proofs.Levels.{LevelsHeld, levelsHeld, countsFrom, counts-from, counts-more, leaves-held, levels-held, held-levels}
 use Rattle.list_levels.proofs.PerLevel.{beyond-zero, zero-beyond, entry-in, entry-past, per-level-is}
 
@@ -52,14 +53,8 @@ unfolding total
 whole-count counts k = ap (upTo counts) (sym (zero-add k)) ∙ sym (counts-from counts k 0) ∙ zero-add (countsFrom counts 0 k)
 
 -- ---- the lists are as long as stated
-pub record Long (d n neighbours : ℕ) (l : TreeLists) : Type 0 where
-  pub level-points : 4 * n ≤ length (l .level-points)
-  pub internals : 4 * n ≤ length (l .internals)
-  pub domains : rowNumbers * mostRows n ≤ length (l .domains)
-  pub boxes : rowFloats d * mostRows n ≤ length (l .boxes)
-  pub borrowed : 6 * n * (neighbours + 1) ≤ length (l .borrowed)
-
-pub long-enough : (d n neighbours : ℕ) (l : TreeLists) → listsShort l (buildStated d n neighbours) ≡ false → Long d n neighbours l
+pub long-enough : (d n neighbours : ℕ) (l : TreeLists) → listsShort l (buildStated d n neighbours) ≡ false
+    → Long (packed (l .internals) (l .domains) (l .boxes) (l .borrowed) d) (l .level-points) n (6 * n * (neighbours + 1))
 unfolding listsShort buildStated
 long-enough d n neighbours l h =
     let a = ltb (length (l .level-points)) (4 * n) in
@@ -72,7 +67,7 @@ long-enough d n neighbours l h =
     let h2 = or-none _ e (h3 .0) in
     let h1 = or-none a b (h2 .0) in
     record {
-      level-points = ltb-false (length (l .level-points)) (4 * n) (h1 .0);
+      points = ltb-false (length (l .level-points)) (4 * n) (h1 .0);
       internals = ltb-false (length (l .internals)) (4 * n) (h1 .1);
       domains = ltb-false (length (l .domains)) (rowNumbers * mostRows n) (h2 .1);
       boxes = ltb-false (length (l .boxes)) (rowFloats d * mostRows n) (h3 .1);
@@ -92,7 +87,7 @@ module _ (p : Packed) (level-points : List ℕ) (c : Counts) where
 
 -- ---- the tree
 module _ (s : Settings) (n : ℕ) (c : Counts) (l : TreeLists) (four-rows : length (c .rows) ≡ mostLevels) (four-domains : length (c .domains) ≡ mostLevels)
-    (long : Long (s .dimension) n (s .neighbours) l) where
+    (long : Long (packed (l .internals) (l .domains) (l .boxes) (l .borrowed) (s .dimension)) (l .level-points) n (6 * n * (s .neighbours + 1))) where
   abbrev d : ℕ
   d = s .dimension
 
@@ -144,7 +139,7 @@ module _ (s : Settings) (n : ℕ) (c : Counts) (l : TreeLists) (four-rows : leng
   levels-to zero h g e = absurd (omega arith)
   levels-to (suc k) h g e =
       let m : suc k * n ≤ 4 * n = mul-le-mul-right n g in
-      levels-held p (l .level-points) c n most (long .borrowed) (long .domains) k 0 n (λ i. ltb i n) 0 (omega (arith, long .level-points)) (omega (arith, long .internals))
+      levels-held p (l .level-points) c n most (long .borrowed) (long .domains) k 0 n (λ i. ltb i n) 0 (omega (arith, long .points)) (omega (arith, long .internals))
       (omega arith) (omega arith) (omega arith) e
 
   levels-back : (k : ℕ) → 1 ≤ k → LevelsHeld p (l .level-points) c n most 0 n (λ i. ltb i n) 0 k

@@ -1,1 +1,120 @@
-// The levels of a tree that stand in packed lists, tested one after the other.
+// The levels of a tree that stand in packed lists, tested one after the other, and the whole tree.
+ghost use mathlib.Core.Path.{_≡_};
+ghost use mathlib.Core.Bool.{_&&_};
+ghost use Prim.Native.Nat.{_+_, _*_, _≤_, _<_};
+ghost use lib.Dec.{leb};
+ghost use lib.ListN.{length};
+ghost use Rattle.lists.specs.Lists.{part};
+ghost use Rattle.lists.specs.Ascends.{All, Ascends};
+ghost use Rattle.packed.specs.Reading.{packed};
+ghost use Rattle.tree_tests.specs.InTurn.{among};
+ghost use Rattle.marks.specs.Bits.{Marked};
+ghost use Rattle.list_levels.specs.InLists.{countFits, oneOnly, noneBeyond};
+ghost use Rattle.list_levels.specs.Passed.{LevelReady, LevelPassed};
+use list_domains::AllPassed;
+
+// Whether a tree in lists passes, and how many rows, domains and borrowed rows its levels have in all.
+pub struct ListsPassed {
+    pub good: bool,
+    pub rows: usize,
+    pub domains: usize,
+    pub borrowed: usize,
+}
+
+// The list of words becomes the set of these rows.
+fn set_rows(list: &[usize], at: usize, count: usize, words: &mut [usize])
+    requires { ⌜ (at + count ≤ length (now list)) × Ascends (part (now list) at count) × All (λ i. i < 64 * length (now words)) (part (now list) at count) ⌝ }
+    ensures { λ _. ⌜ Marked (now (words .exit)) (among (part (now (list .entry)) at count)) ⌝ }
+{
+    marks::clear(words);
+    list_rows::mark_rows(list, at, count, words);
+}
+
+// Whether a level's rows are listed above, and its domain rows pass with these rows listed.
+pub fn check_level(
+    level_points: &[usize],
+    internals: &[usize],
+    domains: &[usize],
+    boxes: &[f64],
+    borrowed: &[usize],
+    first: usize,
+    count: usize,
+    dimensions: usize,
+    coarse: bool,
+    own_at: usize,
+    borrowed_at: usize,
+    rows: usize,
+    borrowed_most: usize,
+    left: &mut [usize],
+    listed: &mut [usize],
+) -> AllPassed
+    requires { ⌜ LevelReady (packed (now internals) (now domains) (now boxes) (now borrowed) dimensions) (now «level_points») «borrowed_most» first count
+        «own_at» «borrowed_at» rows (now left) (now listed) ⌝ }
+    ensures { λ r. ⌜ LevelPassed coarse (packed (now (internals .entry)) (now (domains .entry)) (now (boxes .entry)) (now (borrowed .entry)) dimensions)
+        (now («level_points» .entry)) «borrowed_most» first «own_at» «borrowed_at» rows count (now (listed .entry)) (now (listed .exit)) r ⌝ }
+{
+    if !list_rows::rows_marked(level_points, own_at, rows, listed) {
+        return AllPassed {
+            good: false,
+            borrowed_at: 0,
+        };
+    }
+    set_rows(level_points, own_at, rows, left);
+    set_rows(level_points, own_at, rows, listed);
+    list_domains::check_domains(
+        internals,
+        domains,
+        boxes,
+        borrowed,
+        first,
+        count,
+        dimensions,
+        coarse,
+        own_at,
+        borrowed_at,
+        rows,
+        borrowed_most,
+        left,
+        listed,
+    )
+}
+
+// Whether a level may have so many rows: the first one all n, and any other some, and fewer than the level above it.
+fn count_fits(t: usize, n: usize, above: usize, rows: usize) -> bool
+    ensures { λ r. ⌜ r ≡ countFits t n above rows ⌝ }
+{
+    if t == 0 {
+        return rows == n;
+    }
+    if rows == 0 {
+        return false;
+    }
+    rows < above
+}
+
+// Whether a level may have so many domains: the coarse one just one, any other not one, and no more than there is room for.
+fn domains_fit(coarse: bool, count: usize, room: usize) -> bool
+    ensures { λ r. ⌜ r ≡ (oneOnly coarse count && leb count room) ⌝ }
+{
+    if room < count {
+        return false;
+    }
+    if coarse {
+        return count == 1;
+    }
+    count != 1
+}
+
+// Whether no count stands beyond the last level.
+fn none_beyond(counts: &[usize], levels: usize) -> bool
+    ensures { λ r. ⌜ r ≡ noneBeyond levels (now (counts .entry)) ⌝ }
+{
+    let mut i = levels;
+    while i < counts.len() {
+        if counts[i] != 0 {
+            return false;
+        }
+        i += 1;
+    }
+    true
+}

@@ -10,7 +10,7 @@ use Rattle.lists.specs.Lists.{part}
 use Rattle.lists.proofs.Put.{length-part, getD-part}
 use Rattle.stored.specs.Sound.{allOf}
 use Rattle.list_domains.specs.Boxes.{boundFits}
-use Rattle.list_domains.proofs.Boxes.{bounds-end, bounds-out, bounds-next}
+use Rattle.list_domains.proofs.Each.{each-end, each-out, each-next}
 use Rattle.list_domains.proofs.bounds_fit.Statement.{statement}
 use Rattle.list_domains.proofs.bounds_fit.Tie as tie
 use Rattle.list_domains.proofs.bounds_fit.Reads as reads
@@ -45,7 +45,7 @@ returns c =
     let xs = part (a .boxes .now) (a .at) (a .count) in
     let here : at-loop .loop .i < length xs = omega (arith, length-part (a .boxes .now) (a .at) (a .count) (at-loop .before .before .pre)) in
     let read = sym (getD-part (a .boxes .now) (a .at) (a .count) (at-loop .loop .i) nan (omega arith)) in
-    bounds-out (boundFits (a .coarse)) xs (at-loop .loop .i) _ here read (at-loop .loop .inv .1) (sym (c .before .bound-fits .ensures) ∙ not-true _ (c .if1 .taken))
+    each-out (boundFits (a .coarse)) xs (at-loop .loop .i) _ (at-loop .loop .inv .1) nan _ here read (sym (c .before .bound-fits .ensures) ∙ not-true _ (c .if1 .taken))
 
 add-i : tie.Need-add-i Inv-loop μ-loop
 add-i c = search needs
@@ -60,14 +60,14 @@ loop-again c =
     let xs = part (a .boxes .now) (a .at) (a .count) in
     let here : at-loop .loop .i < length xs = omega (arith, length-part (a .boxes .now) (a .at) (a .count) (at-loop .before .before .pre)) in
     let read = sym (getD-part (a .boxes .now) (a .at) (a .count) (at-loop .loop .i) nan (omega arith)) in
-    (omega arith, bounds-next (boundFits (a .coarse)) xs (at-loop .loop .i) _ here read (at-loop .loop .inv .1) (sym (c .before .bound-fits .ensures) ∙ not-false _ (c .if1 .left)))
+    (omega arith, each-next (boundFits (a .coarse)) xs (at-loop .loop .i) _ (at-loop .loop .inv .1) nan _ here read (sym (c .before .bound-fits .ensures) ∙ not-false _ (c .if1 .left)))
 
 returns-2 : tie.Need-returns-2 Inv-loop μ-loop
 returns-2 c =
     let start = c .before .before .before in
     let a = start .args in
     let xs = part (a .boxes .now) (a .at) (a .count) in
-    bounds-end (boundFits (a .coarse)) xs (c .before .loop .i) (omega (arith, length-part (a .boxes .now) (a .at) (a .count) (start .pre))) (c .before .loop .inv .1)
+    each-end (boundFits (a .coarse)) xs (c .before .loop .i) _ (c .before .loop .inv .1) (omega (arith, length-part (a .boxes .now) (a .at) (a .count) (start .pre)))
 
 pub bounds-fit-spec : {M : Type 1} → statement M
 bounds-fit-spec =
