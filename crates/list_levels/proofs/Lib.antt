@@ -3,5 +3,6 @@ pub mod OneLevel
 pub mod Levels
 mod LevelCounts
 mod LevelChecked
+mod NextLevel
 pub mod PerLevel
 pub mod Tree

@@ -2,8 +2,8 @@
 use mathlib.Core.Path.{_≡_}
 use mathlib.Core.Bool.{Bool, true, _&&_}
 use mathlib.Core.List.{List}
-use Prim.Native.Nat.{ℕ, _+_, _*_, _≤_}
-use lib.Dec.{ltb}
+use Prim.Native.Nat.{ℕ, _+_, _-_, _*_, _≤_}
+use lib.Dec.{leb, ltb}
 use lib.ListN.{length}
 use Rattle.lists.specs.Lists.{part}
 use Rattle.definition.specs.Tree.{Settings, Level}
@@ -17,7 +17,7 @@ use Rattle.tree_tests.specs.InTurn.{among}
 use Rattle.marks.specs.Bits.{Marked}
 use Rattle.list_domains.specs.InLists.{borrowedEnd}
 use Rattle.list_domains.specs.declared.AllPassed.{AllPassed}
-use Rattle.list_levels.specs.InLists.{heldLevelPasses, heldLevelsPass}
+use Rattle.list_levels.specs.InLists.{countFits, oneOnly, heldLevelPasses, heldLevelsPass}
 use Rattle.list_levels.specs.declared.ListsPassed.{ListsPassed}
 
 -- ---- before
@@ -52,6 +52,17 @@ pub record LevelsReady (l : Packed) (level-points : List ℕ) (c : Counts) (n mo
   pub same-length : length left ≡ length listed
   pub all : Marked listed (λ i. ltb i n)
 
+-- one level more, where those before it have passed
+pub record NextReady (l : Packed) (level-points : List ℕ) (n most above : ℕ) (done : ListsPassed) (left listed : List ℕ) : Type 0 where
+  pub axes : l .dimension ≤ 3
+  pub many : n ≤ mostPoints
+  pub long : Long l level-points n most
+  pub room : done .rows + n ≤ 4 * n
+  pub domains : done .domains ≤ mostRows n
+  pub borrowed : done .borrowed ≤ most
+  pub fewer : above ≤ n
+  pub same-length : length left ≡ length listed
+
 -- ---- after
 
 -- a level under a set of rows; then its own rows are the listed ones
@@ -59,6 +70,16 @@ pub record LevelPassed (coarse : Bool) (l : Packed) (level-points : List ℕ) (m
   pub passed : (above : ℕ → Bool) → Marked listed₀ above → r .good ≡ heldLevelPasses coarse l level-points most above j a b rows m
   pub end : r .good ≡ true → r .«borrowed_at» ≡ borrowedEnd (l .domains) j b m
   pub listed-now : r .good ≡ true → Marked listed (among (part level-points a rows))
+
+-- the level number t with so many rows and m domains, and then the totals with it
+pub record NextPassed (coarse : Bool) (l : Packed) (level-points : List ℕ) (n most t above rows m : ℕ) (done : ListsPassed) (listed₀ listed : List ℕ) (r : ListsPassed) : Type 0 where
+  pub passed : (set : ℕ → Bool) → Marked listed₀ set
+      → r .good ≡ (countFits t n above rows && (oneOnly coarse m && leb m (mostRows n - done .domains))
+      && heldLevelPasses coarse l level-points most set (done .domains) (done .rows) (done .borrowed) rows m)
+  pub rows-on : r .good ≡ true → r .rows ≡ done .rows + rows
+  pub domains-on : r .good ≡ true → r .domains ≡ done .domains + m
+  pub borrowed-on : r .good ≡ true → r .borrowed ≡ borrowedEnd (l .domains) (done .domains) (done .borrowed) m
+  pub listed-now : r .good ≡ true → Marked listed (among (part level-points (done .rows) rows))
 
 -- the levels, and then their totals
 pub record LevelsPassed (l : Packed) (level-points : List ℕ) (c : Counts) (n most : ℕ) (r : ListsPassed) : Type 0 where

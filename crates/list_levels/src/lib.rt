@@ -1,6 +1,6 @@
 // The levels of a tree that stand in packed lists, tested one after the other, and the whole tree.
 ghost use mathlib.Core.Path.{_≡_};
-ghost use mathlib.Core.Bool.{_&&_};
+ghost use mathlib.Core.Bool.{false, _&&_};
 ghost use Prim.Native.Nat.{_+_, _*_, _≤_, _<_};
 ghost use lib.Dec.{leb};
 ghost use lib.ListN.{length};
@@ -10,7 +10,7 @@ ghost use Rattle.packed.specs.Reading.{packed};
 ghost use Rattle.tree_tests.specs.InTurn.{among};
 ghost use Rattle.marks.specs.Bits.{Marked};
 ghost use Rattle.list_levels.specs.InLists.{countFits, oneOnly, noneBeyond};
-ghost use Rattle.list_levels.specs.Passed.{LevelReady, LevelPassed};
+ghost use Rattle.list_levels.specs.Passed.{LevelReady, NextReady, LevelPassed, NextPassed};
 use list_domains::AllPassed;
 
 // Whether a tree in lists passes, and how many rows, domains and borrowed rows its levels have in all.
@@ -117,4 +117,58 @@ fn none_beyond(counts: &[usize], levels: usize) -> bool
         i += 1;
     }
     true
+}
+
+// A tree that does not pass.
+fn not_passed() -> ListsPassed
+    ensures { λ r. ⌜ r .good ≡ false ⌝ }
+{
+    ListsPassed {
+        good: false,
+        rows: 0,
+        domains: 0,
+        borrowed: 0,
+    }
+}
+
+// The level number t, where the levels before it have passed: its counts, and the level itself. The answer is that of all levels to this one.
+fn next_level(
+    level_points: &[usize],
+    internals: &[usize],
+    domains: &[usize],
+    boxes: &[f64],
+    borrowed: &[usize],
+    dimensions: usize,
+    n: usize,
+    t: usize,
+    coarse: bool,
+    above: usize,
+    rows: usize,
+    count: usize,
+    borrowed_most: usize,
+    done: ListsPassed,
+    left: &mut [usize],
+    listed: &mut [usize],
+) -> ListsPassed
+    requires { ⌜ NextReady (packed (now internals) (now domains) (now boxes) (now borrowed) dimensions) (now «level_points») n «borrowed_most» above done
+        (now left) (now listed) ⌝ }
+    ensures { λ r. ⌜ NextPassed coarse (packed (now (internals .entry)) (now (domains .entry)) (now (boxes .entry)) (now (borrowed .entry)) dimensions)
+        (now («level_points» .entry)) n «borrowed_most» t above rows count done (now (listed .entry)) (now (listed .exit)) r ⌝ }
+{
+    let first = done.domains;
+    let own_at = done.rows;
+    let borrowed_at = done.borrowed;
+    if !count_fits(t, n, above, rows) {
+        return not_passed();
+    }
+    if !domains_fit(coarse, count, 6 * n + 1 - first) {
+        return not_passed();
+    }
+    let level = check_level(level_points, internals, domains, boxes, borrowed, first, count, dimensions, coarse, own_at, borrowed_at, rows, borrowed_most, left, listed);
+    ListsPassed {
+        good: level.good,
+        rows: own_at + rows,
+        domains: first + count,
+        borrowed: level.borrowed_at,
+    }
 }
