@@ -4,5 +4,7 @@ pub mod Levels
 mod LevelCounts
 mod LevelChecked
 mod NextLevel
+mod BetweenLevels
 pub mod PerLevel
 pub mod Tree
+mod ListsChecked

@@ -30,7 +30,7 @@ use Rattle.tree_tests.proofs.Limits.{sound-counted}
 use Rattle.tree_tests.proofs.Lengths.{ownTotal, borrowedTotal}
 use Rattle.list_domains.specs.InLists.{borrowedEnd}
 use Rattle.list_domains.proofs.AsPacked.{AsPacked, leaves-length, own-joined, borrowed-joined, borrowed-end}
-use Rattle.list_levels.specs.InLists.{countFits, noneBeyond, heldLevelsPass, heldTreePasses}
+use Rattle.list_levels.specs.InLists.{countFits, noneBeyond, countsStand, heldLevelsPass, heldTreePasses}
 use Rattle.list_levels.specs.Passed.{Long}
 use Rattle.list_levels.proofs.Levels.{LevelsHeld, levelsHeld, countsFrom, counts-from, counts-more, leaves-held, levels-held, held-levels}
 use Rattle.list_levels.proofs.PerLevel.{beyond-zero, zero-beyond, entry-in, entry-past, per-level-is}
@@ -148,7 +148,7 @@ module _ (s : Settings) (n : ℕ) (c : Counts) (l : TreeLists) (four-rows : leng
   levels-back (suc k) h e = held-levels p (l .level-points) c n most (long .borrowed) (long .domains) k 0 n (λ i. ltb i n) 0 e
 
   tests-to : heldTreePasses d n (s .neighbours) c l ≡ true → TreeHeld
-  unfolding heldTreePasses buildStated
+  unfolding heldTreePasses countsStand buildStated
   tests-to h =
       let a = ltb 0 (c .levels) in
       let b = leb (c .levels) mostLevels in
@@ -162,7 +162,7 @@ module _ (s : Settings) (n : ℕ) (c : Counts) (l : TreeLists) (four-rows : leng
       record { some = some; few = few; rows-end = r .2; domains-end = q .1; held = levels-to (c .levels) some few (q .2) }
 
   tests-back : TreeHeld → heldTreePasses d n (s .neighbours) c l ≡ true
-  unfolding heldTreePasses buildStated
+  unfolding heldTreePasses countsStand buildStated
   tests-back t =
       and-of
       (and-of (and-of (and-of (lt-ltb 0 (c .levels) (t .some)) (le-leb (c .levels) mostLevels (t .few))) (t .rows-end)) (t .domains-end))

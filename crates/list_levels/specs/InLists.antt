@@ -28,6 +28,10 @@ oneOnly coarse m = cond coarse (eqb m 1) (not (eqb m 1))
 abbrev pub noneBeyond : ℕ → List ℕ → Bool
 noneBeyond levels counts = allOf (λ x. eqb x 0) (drop levels counts)
 
+-- one to four levels
+unfoldable pub countsStand : Counts → Bool
+countsStand c = ltb 0 (c .levels) && leb (c .levels) mostLevels && noneBeyond (c .levels) (c .rows) && noneBeyond (c .levels) (c .domains)
+
 -- ---- a level: its rows stand at a, are so many, and are among those above; its m domain rows begin with the row number j, and its borrowed
 -- rows start at b
 unfoldable pub heldLevelPasses : Bool → Packed → List ℕ → ℕ → (ℕ → Bool) → ℕ → ℕ → ℕ → ℕ → ℕ → Bool
@@ -50,6 +54,6 @@ heldLevelsPass p level-points c n most l many above b (suc k) =
 -- ---- the tree on d axes, over n rows and with this neighbour count
 unfoldable pub heldTreePasses : ℕ → ℕ → ℕ → Counts → TreeLists → Bool
 heldTreePasses d n neighbours c l =
-    ltb 0 (c .levels) && leb (c .levels) mostLevels && noneBeyond (c .levels) (c .rows) && noneBeyond (c .levels) (c .domains)
+    countsStand c
     && heldLevelsPass (packed (l .internals) (l .domains) (l .boxes) (l .borrowed) d) (l .level-points) c n (buildStated d n neighbours .borrowed) 0 n
     (λ i. ltb i n) 0 (c .levels)

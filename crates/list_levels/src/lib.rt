@@ -6,12 +6,18 @@ ghost use lib.Dec.{leb};
 ghost use lib.ListN.{length};
 ghost use Rattle.lists.specs.Lists.{part};
 ghost use Rattle.lists.specs.Ascends.{All, Ascends};
+ghost use Rattle.definition.specs.Tree.{Settings};
+ghost use Rattle.definition.specs.Packed.{buildStated};
+ghost use Rattle.definition.specs.Refusals.{mostPoints, mostNeighbours};
 ghost use Rattle.packed.specs.Reading.{packed};
+ghost use Rattle.stored.specs.Outcome.{listsShort};
+ghost use Rattle.tree_answer.specs.Answers.{countsGiven, listsOf};
 ghost use Rattle.tree_tests.specs.InTurn.{among};
 ghost use Rattle.marks.specs.Bits.{Marked};
-ghost use Rattle.list_levels.specs.InLists.{countFits, oneOnly, noneBeyond};
-ghost use Rattle.list_levels.specs.Passed.{LevelReady, NextReady, LevelPassed, NextPassed};
+ghost use Rattle.list_levels.specs.InLists.{countFits, oneOnly, noneBeyond, countsStand};
+ghost use Rattle.list_levels.specs.Passed.{LevelReady, NextReady, LevelsReady, LevelPassed, NextPassed, LevelsPassed, TreePassed};
 use list_domains::AllPassed;
+use tree_answer::TreeCounts;
 
 // Whether a tree in lists passes, and how many rows, domains and borrowed rows its levels have in all.
 pub struct ListsPassed {
@@ -171,4 +177,107 @@ fn next_level(
         domains: first + count,
         borrowed: level.borrowed_at,
     }
+}
+
+// The levels by their row and domain counts, from the first one, above which all n rows are listed, to the coarse one.
+pub fn check_levels(
+    levels: usize,
+    rows: &[usize],
+    counts: &[usize],
+    level_points: &[usize],
+    internals: &[usize],
+    domains: &[usize],
+    boxes: &[f64],
+    borrowed: &[usize],
+    dimensions: usize,
+    n: usize,
+    borrowed_most: usize,
+    left: &mut [usize],
+    listed: &mut [usize],
+) -> ListsPassed
+    requires { ⌜ LevelsReady (packed (now internals) (now domains) (now boxes) (now borrowed) dimensions) (now «level_points»)
+        (record { levels = levels; rows = now rows; domains = now counts }) n «borrowed_most» (now left) (now listed) ⌝ }
+    ensures { λ r. ⌜ LevelsPassed (packed (now (internals .entry)) (now (domains .entry)) (now (boxes .entry)) (now (borrowed .entry)) dimensions)
+        (now («level_points» .entry)) (record { levels = levels; rows = now (rows .entry); domains = now (counts .entry) }) n «borrowed_most» r ⌝ }
+{
+    let mut done = ListsPassed {
+        good: true,
+        rows: 0,
+        domains: 0,
+        borrowed: 0,
+    };
+    let mut above = n;
+    let mut t = 0;
+    while t < levels {
+        let k = rows[t];
+        let m = counts[t];
+        let coarse = t + 1 == levels;
+        done = next_level(level_points, internals, domains, boxes, borrowed, dimensions, n, t, coarse, above, k, m, borrowed_most, done, left, listed);
+        if !done.good {
+            return done;
+        }
+        above = k;
+        t += 1;
+    }
+    done
+}
+
+// Whether there are one to four levels, and no count stands beyond the last one.
+fn counts_stand(levels: usize, rows: &[usize], counts: &[usize]) -> bool
+    ensures { λ r. ⌜ r ≡ countsStand (record { levels = levels; rows = now (rows .entry); domains = now (counts .entry) }) ⌝ }
+{
+    if levels == 0 {
+        return false;
+    }
+    if 4 < levels {
+        return false;
+    }
+    if !none_beyond(rows, levels) {
+        return false;
+    }
+    none_beyond(counts, levels)
+}
+
+// Whether the lists, with these counts, are those of a tree that passes the tests of a stored tree over n rows.
+pub fn check_lists(
+    level_points: &[usize],
+    internals: &[usize],
+    domains: &[usize],
+    boxes: &[f64],
+    borrowed: &[usize],
+    dimensions: usize,
+    n: usize,
+    neighbours: usize,
+    counts: TreeCounts,
+) -> ListsPassed
+    requires { ⌜ (dimensions ≤ 3) × (n ≤ mostPoints) × (neighbours ≤ mostNeighbours)
+        × (listsShort (listsOf (now «level_points») (now internals) (now domains) (now boxes) (now borrowed)) (buildStated dimensions n neighbours) ≡ false) ⌝ }
+    ensures { λ r. ⌜ ((s : Settings) → s .dimension ≡ dimensions → s .neighbours ≡ neighbours
+        → TreePassed s n (countsGiven counts)
+        (listsOf (now («level_points» .entry)) (now (internals .entry)) (now (domains .entry)) (now (boxes .entry)) (now (borrowed .entry))) r) ⌝ }
+{
+    let levels = counts.levels;
+    let rows = counts.rows;
+    let domain_counts = counts.domains;
+    if !counts_stand(levels, &rows, &domain_counts) {
+        return not_passed();
+    }
+    let mut left = [0; 16_384];
+    let mut listed = [0; 16_384];
+    marks::mark_below(&mut listed, n);
+    check_levels(
+        levels,
+        &rows,
+        &domain_counts,
+        level_points,
+        internals,
+        domains,
+        boxes,
+        borrowed,
+        dimensions,
+        n,
+        6 * n * (neighbours + 1),
+        &mut left,
+        &mut listed,
+    )
 }

@@ -86,13 +86,14 @@ same-length-2 c = search needs
 
 returns-3 : tie.Need-returns-3
 returns-3 c =
+    let called = c .before .before .before .before .check-level in
     let tested = c .before .before .before .before .before .before .before in
     let start = tested .before .before .before .before .before .before .before .before .before .before .before in
     let a = start .args in
     let x = tested .before .before .before .count-fits .ensures in
     let y = tested .before .domains-fit .ensures in
     level-on (a .coarse) (packed (a .internals .now) (a .domains .now) (a .boxes .now) (a .borrowed .now) (a .dimensions)) (a .level-points .now) (a .n) (a .borrowed-most) (a .t) (a .above) (a .rows) (a .count) (a .done) (a .left .now) (a .listed .now) (start .pre)
-    _ x _ y (not-false _ (tested .before .before .if1 .left)) (not-false _ (tested .if2 .left)) _ _ (c .before .before .before .before .check-level .ensures)
+    _ x _ y (not-false _ (tested .before .before .if1 .left)) (not-false _ (tested .if2 .left)) (called .last .1 .1 .1 .1 .1 .1 .1 .1 .1 .1 .1 .1 .1 .1 .0) _ (called .ensures)
 
 pub next-level-spec : {M : Type 1} → statement M
 next-level-spec =
