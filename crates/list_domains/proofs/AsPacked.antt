@@ -1,6 +1,8 @@
 -- Domain rows that are those of packing: the first one and those behind it, the own and the borrowed rows that they name, and where the
 -- borrowed rows end. Assumes nothing.
-use mathlib.Core.Path.{_≡_, refl, sym, ap, ap₂, _∙_}
+-- Holds: AsPacked, rows-split, FirstAsPacked, first-as-packed, packed-first, own-joined, borrowed-joined, borrowed-end,
+--   stretches-append, leaves-length, leaves-append, packed-append, packed-front, packed-behind, end-append
+use mathlib.Core.Path.{_≡_, sym, ap, ap₂, _∙_}
 use mathlib.Core.List.{List, [], _∷_, _++_, map, map-append}
 use Prim.Native.Nat.{ℕ, zero, suc, _+_, _*_, _≤_, _<_}
 use native.Mathlib.Nat.{add-assoc, add-zero, zero-add, mul-add, suc-add, add-suc}

@@ -1,15 +1,16 @@
 -- The loop over the domain rows of a level: what holds between two of them, at the start, and at each end. Assumes nothing.
-use mathlib.Core.Path.{_≡_, refl, sym, ap, ap₂, subst, _∙_}
-use mathlib.Core.Bool.{Bool, true, false, _&&_}
+-- Holds: Rest, Between, between-start, between-end, row-ready, between-out, own-most, borrowed-most, between-next
+use mathlib.Core.Path.{_≡_, refl, sym, _∙_}
+use mathlib.Core.Bool.{Bool, true, false}
 use mathlib.Core.List.{List}
-use Prim.Native.Nat.{ℕ, zero, suc, _+_, _-_, _*_, _≤_, _<_}
+use Prim.Native.Nat.{ℕ, suc, _+_, _-_, _≤_, _<_}
 use native.Mathlib.Nat.{add-zero, sub-zero, le-trans, mul-le-mul-left}
 use native.Mathlib.Omega.{arith}
 use borrow.Author.Tests.{eqb-true, eq-eqb}
 use lib.Dec.{eqb}
 use lib.ListN.{length}
 use Rattle.lists.proofs.Tests.{clash}
-use Rattle.definition.specs.Packed.{rowNumbers, rowFloats}
+use Rattle.definition.specs.Packed.{rowFloats}
 use Rattle.packed.specs.Reading.{Packed, ownCount, borrowedCount, readLeaf}
 use Rattle.tree_tests.specs.InTurn.{without}
 use Rattle.tree_tests.proofs.Sets.{without-in}

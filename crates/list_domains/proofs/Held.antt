@@ -1,19 +1,21 @@
 -- Leaves that stand in packed lists pass, row by row, exactly where they pass in turn, their domain rows are those that packing gives
 -- them, and their borrowed rows end by the limit. Assumes nothing.
-use mathlib.Core.Path.{_≡_, refl, sym, ap, ap₂, _∙_}
+-- Holds: DomainsHeld, own-most, RowHeld, row-held, held-row, own-length-is, borrowed-length-is, domains-held, held-domains,
+--   own-all
+use mathlib.Core.Path.{_≡_, sym, _∙_}
 use mathlib.Core.Bool.{Bool, true, _&&_}
-use mathlib.Core.List.{List, [], _∷_, _++_, map}
-use Prim.Native.Nat.{ℕ, zero, suc, _+_, _-_, _*_, _≤_, _<_}
+use mathlib.Core.List.{List, [], _∷_}
+use Prim.Native.Nat.{ℕ, zero, suc, _+_, _-_, _*_, _≤_}
 use native.Mathlib.Omega.{arith}
 use borrow.Author.Tests.{leb-true, eqb-true, le-leb, eq-eqb}
 use lib.Dec.{leb, eqb}
-use lib.ListN.{length, getD}
-use Rattle.lists.specs.Lists.{total, from, part}
+use lib.ListN.{length}
+use Rattle.lists.specs.Lists.{total, from}
 use Rattle.lists.proofs.Tests.{and-of, and-fst, and-snd}
-use Rattle.lists.proofs.Put.{length-part, part-append, part-nil, part-cons}
+use Rattle.lists.proofs.Put.{length-part, part-nil}
 use Rattle.definition.specs.Tree.{Leaf}
-use Rattle.definition.specs.Packed.{rowNumbers, numbersOf, stretches}
-use Rattle.packed.specs.Reading.{Packed, ownStart, ownCount, borrowedStart, borrowedCount, rowAt, readLeaf, readLeaves}
+use Rattle.definition.specs.Packed.{rowNumbers, stretches}
+use Rattle.packed.specs.Reading.{Packed, ownStart, ownCount, borrowedStart, borrowedCount, readLeaf, readLeaves}
 use Rattle.tree_tests.specs.InTurn.{without, inOrder, boxed, leafPasses, leavesPass}
 use Rattle.tree_tests.proofs.Several.{four-pass}
 use Rattle.tree_tests.proofs.Lengths.{ownTotal, borrowedTotal}

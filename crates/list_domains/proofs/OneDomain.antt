@@ -1,5 +1,6 @@
 -- One domain row: what is known of it once its stretches fit, and what its tests come to at each end of `check_domain`. Assumes nothing.
-use mathlib.Core.Path.{_≡_, refl, sym, ap, ap₂, subst, _∙_}
+-- Holds: stretches-off, own-within, borrowed-within, box-off, rows-tell
+use mathlib.Core.Path.{_≡_, refl, sym, ap, ap₂, _∙_}
 use mathlib.Core.Bool.{Bool, true, false, _&&_, and-false}
 use mathlib.Core.List.{List}
 use Prim.Native.Nat.{ℕ, _+_, _-_, _*_, _≤_}
@@ -12,17 +13,15 @@ use Rattle.lists.specs.Lists.{part}
 use Rattle.lists.proofs.Tests.{clash, and-true}
 use Rattle.lists.proofs.Put.{length-part}
 use Rattle.definition.specs.Packed.{rowFloats}
-use Rattle.packed.specs.Reading.{Packed, ownStart, ownCount, borrowedStart, borrowedCount, rowAt, boxAt, readLeaf}
+use Rattle.packed.specs.Reading.{Packed, ownStart, ownCount, borrowedStart, borrowedCount, rowAt, readLeaf}
 use Rattle.packed.specs.Rows.{plainRow, IsRow}
 use Rattle.packed.specs.declared.DomainRow.{DomainRow}
 use Rattle.stored.specs.Sound.{allOf}
 use Rattle.tree_tests.specs.InTurn.{without, inOrder, boxed, leafPasses}
 use Rattle.tree_tests.proofs.Several.{four-pass}
-use Rattle.marks.specs.Bits.{Marked}
 use Rattle.list_domains.specs.Boxes.{boundFits}
 use Rattle.list_domains.specs.InLists.{stretchesFit, domainPasses}
 use Rattle.list_domains.specs.Passed.{Ready, RowsPassed, DomainPassed}
-use Rattle.list_domains.specs.declared.Passed.{Passed}
 use Rattle.list_domains.proofs.Boxes.{box-tests}
 use Rattle.list_domains.proofs.Starts.{row-read}
 

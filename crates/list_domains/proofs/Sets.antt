@@ -1,11 +1,11 @@
 -- The two sets of rows at one leaf: its own rows are taken out of both, its borrowed rows are asked for, and the own rows are put back. Assumes
 -- nothing.
-use mathlib.Core.Path.{_≡_, refl, sym, ap, subst, _∙_}
-use mathlib.Core.Bool.{Bool, true, false, _&&_, _||_}
+-- Holds: bit-in, rows-out, own-markable, rows-asked
+use mathlib.Core.Path.{_≡_, refl, sym, subst, _∙_}
+use mathlib.Core.Bool.{Bool, true, false, _||_}
 use mathlib.Core.List.{List}
 use Prim.Native.Nat.{ℕ, _*_, _<_}
 use lib.ListN.{length}
-use lib.Dec.{eqb}
 use borrow.Author.Tests.{eq-eqb}
 use Rattle.lists.specs.Lists.{member}
 use Rattle.lists.specs.Ascends.{All}

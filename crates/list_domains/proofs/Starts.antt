@@ -1,6 +1,7 @@
 -- A domain row whose stretches start elsewhere or are too long, and one that passes. Assumes nothing.
-use mathlib.Core.Path.{_≡_, refl, sym, ap, ap₂, _∙_}
-use mathlib.Core.Bool.{Bool, true, false, _&&_, and-false}
+-- Holds: own-elsewhere, borrowed-elsewhere, own-too-many, stretches-tell, row-read
+use mathlib.Core.Path.{_≡_}
+use mathlib.Core.Bool.{false, _&&_, and-false}
 use Prim.Native.Nat.{ℕ, _-_, _≤_, _<_}
 use borrow.Author.Tests.{eq-eqb, ne-eqb, le-leb, lt-leb}
 use lib.Dec.{leb, eqb}

@@ -2,7 +2,6 @@
 use mathlib.Core.Bool.{Bool, true, false, not}
 use lib.Dec.{eqb}
 use lib.Ieee.{Float, binary64, toBits, isNan}
-use Prim.Native.Nat.{ℕ}
 
 -- in the place of the coarse domain's box each bound is +0, by its bits; no other bound is a NaN
 unfoldable pub boundFits : Bool → Float → Bool

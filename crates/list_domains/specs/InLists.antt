@@ -1,5 +1,5 @@
--- The tests of leaves that stand in packed lists, one domain row after the other. Inner contracts cite them; `domains-pass-is` and
--- `held-domains-pass` say that they come to the tests of the leaves and to the domain rows that packing gives them. Definitions only.
+-- The tests of leaves that stand in packed lists, one domain row after the other. Inner contracts cite them; `domains-held` and `held-domains`
+-- say that they come to the tests of the leaves in turn and to the domain rows that packing gives them. Definitions only.
 use Prim.Native.Nat.{ℕ, zero, suc, _+_, _-_}
 use mathlib.Core.Bool.{Bool, _&&_}
 use mathlib.Core.List.{List}

@@ -1,8 +1,9 @@
 -- The loop over the levels: what holds between two of them, at the start, and at each end. Assumes nothing.
+-- Holds: BetweenLevels, between-start, between-end, next-ready, between-out, between-next
 use mathlib.Core.Path.{_≡_, refl, sym, ap, ap₂, _∙_}
 use mathlib.Core.Bool.{Bool, true, false, _&&_, and-assoc}
 use mathlib.Core.List.{List}
-use Prim.Native.Nat.{ℕ, zero, suc, _+_, _-_, _*_, _≤_, _<_}
+use Prim.Native.Nat.{ℕ, suc, _+_, _-_, _*_, _≤_, _<_}
 use native.Mathlib.Nat.{zero-add, sub-zero, suc-mul, mul-le-mul-right}
 use native.Mathlib.Numerals.{add-one}
 use native.Mathlib.Omega.{arith}
@@ -10,21 +11,20 @@ use borrow.Author.Tests.{leb-true, eqb-true, eq-eqb}
 use lib.Dec.{leb, ltb, eqb}
 use lib.ListN.{length, getD}
 use Rattle.lists.specs.Lists.{total, part}
-use Rattle.lists.proofs.Tests.{clash, and-fst, and-snd, same-test}
+use Rattle.lists.proofs.Tests.{clash, and-snd, same-test}
 use Rattle.lists.proofs.Sums.{total-more}
-use Rattle.definition.specs.Packed.{Counts, rowNumbers, mostLevels, mostRows}
+use Rattle.definition.specs.Packed.{Counts, rowNumbers, mostRows}
 use Rattle.packed.specs.Reading.{Packed, upTo, pointsAt}
 use Rattle.tree_tests.specs.InTurn.{among}
 use Rattle.tree_tests.proofs.Several.{three-pass}
 use Rattle.marks.specs.Bits.{Marked}
-use Rattle.marks.proofs.Marks.{held, bits-marked}
 use Rattle.list_domains.specs.InLists.{borrowedEnd}
 use Rattle.list_domains.proofs.AsPacked.{end-append, borrowed-end}
 use Rattle.list_levels.specs.InLists.{countFits, oneOnly, heldLevelPasses, heldLevelsPass}
 use Rattle.list_levels.specs.Passed.{LevelsReady, NextReady, NextPassed, LevelsPassed}
 use Rattle.list_levels.specs.declared.ListsPassed.{ListsPassed}
 use Rattle.list_levels.proofs.OneLevel.{LevelHeld, level-held}
-use Rattle.list_levels.proofs.Levels.{count-most}
+use Rattle.list_levels.proofs.Levels.{count-most, none-behind}
 
 -- before the level number t: those before it passed, and the rest decides under the set of rows that is listed now
 pub record BetweenLevels (l : Packed) (level-points : List ℕ) (c : Counts) (n most : ℕ) (left₀ listed₀ left listed : List ℕ) (t above : ℕ) (done : ListsPassed) : Type 0 where
@@ -58,10 +58,6 @@ module _ (l : Packed) (level-points : List ℕ) (c : Counts) (n most t above : �
   unfolding heldLevelsPass
   both =
       rw (and-assoc (countFits t n above (getD (c .rows) t 0)) (oneOnly (eqb k 0) (getD (c .domains) t 0)) (leb (getD (c .domains) t 0) (mostRows n - upTo (c .domains) t)))
-
-none-behind : (l : Packed) (level-points : List ℕ) (c : Counts) (n most t above : ℕ) (set : ℕ → Bool) (b : ℕ) → heldLevelsPass l level-points c n most t above set b 0 ≡ true
-unfolding heldLevelsPass
-none-behind l level-points c n most t above set b = refl
 
 module _ {l : Packed} {level-points : List ℕ} {c : Counts} {n most : ℕ} {left₀ listed₀ : List ℕ} (ready : LevelsReady l level-points c n most left₀ listed₀) where
   pub between-start : BetweenLevels l level-points c n most left₀ listed₀ left₀ listed₀ 0 n (record { good = true; rows = 0; domains = 0; borrowed = 0 })

@@ -1,4 +1,5 @@
 -- The tests of counts, case by case: a level's rows and domains, and all levels. Assumes nothing.
+-- Holds: first-count, no-rows, some-rows, no-room, coarse-count, fine-count, no-levels, many-levels, rows-beyond, counts-tell
 use mathlib.Core.Path.{_≡_, refl, sym, ap, ap₂, _∙_}
 use mathlib.Core.Logic.{⊎-elim}
 use mathlib.Core.Bool.{Bool, true, false, not, _&&_, and-false}

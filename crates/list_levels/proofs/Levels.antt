@@ -1,16 +1,18 @@
 -- Levels that stand in packed lists pass, by counts, exactly where they pass in turn, have as many rows as counted, their domain rows are those
 -- of packing, and their domains and borrowed rows keep to the limits. Assumes nothing.
-use mathlib.Core.Path.{_≡_, refl, sym, ap, ap₂, _∙_}
+-- Holds: count-most, countsFrom, counts-from, counts-more, levelsHeld, leaves-held, none-behind, LevelsHeld, Tests, levels-held,
+--   held-levels
+use mathlib.Core.Path.{_≡_, refl, sym, ap, _∙_}
 use mathlib.Core.Bool.{Bool, true, false, not, _&&_}
 use mathlib.Core.Logic.{⊎-elim}
-use mathlib.Core.List.{List, [], _∷_, _++_, map}
+use mathlib.Core.List.{List, [], _++_, map}
 use Prim.Native.Nat.{ℕ, zero, suc, _+_, _-_, _*_, _≤_, _<_}
-use native.Mathlib.Nat.{add-assoc, add-zero, add-suc, suc-add, suc-mul, le-trans}
+use native.Mathlib.Nat.{add-zero, add-suc, suc-add, suc-mul}
 use native.Mathlib.Omega.{arith}
 use borrow.Author.Tests.{leb-true, eqb-true, ltb-true, le-leb}
 use lib.Dec.{leb, ltb, eqb, eqb·suc-zero}
 use lib.ListN.{length, getD}
-use Rattle.lists.specs.Lists.{total, from, joined, part}
+use Rattle.lists.specs.Lists.{total, from, joined}
 use Rattle.lists.proofs.Tests.{and-of, and-fst, and-snd, le-or-lt}
 use Rattle.lists.proofs.Sums.{total-more, sum-append}
 use Rattle.definition.specs.Tree.{Leaf, Level}
@@ -81,6 +83,11 @@ module _ (p : Packed) (level-points : List ℕ) (c : Counts) where
         && levelsPass (p .dimension) (fewer (length (here .points))) (among (here .points)) (levelsHeld (suc l) (suc k))
     unfolding levelsPass from readLevel
     fine-passes k = refl
+
+-- no level more
+pub none-behind : (p : Packed) (level-points : List ℕ) (c : Counts) (n most l many : ℕ) (above : ℕ → Bool) (b : ℕ) → heldLevelsPass p level-points c n most l many above b 0 ≡ true
+unfolding heldLevelsPass
+none-behind p level-points c n most l many above b = refl
 
 -- ---- what the tests come to, of k levels from the level number l on
 pub record LevelsHeld (p : Packed) (level-points : List ℕ) (c : Counts) (n most l many : ℕ) (above : ℕ → Bool) (b k : ℕ) : Type 0 where
@@ -231,10 +238,6 @@ module _ (p : Packed) (level-points : List ℕ) (c : Counts) (n most : ℕ) (len
       }
 
   -- ---- and back
-  none-behind : (l many : ℕ) (above : ℕ → Bool) (b : ℕ) → heldLevelsPass p level-points c n most l many above b 0 ≡ true
-  unfolding heldLevelsPass
-  none-behind l many above b = refl
-
   leaves-one : (coarse : Bool) (j m : ℕ) → oneOnly coarse (length (readLeaves p j m)) ≡ true → oneOnly coarse m ≡ true
   leaves-one coarse j m h = rw (leaves-length p j m) at h
 
@@ -262,7 +265,7 @@ module _ (p : Packed) (level-points : List ℕ) (c : Counts) (n most : ℕ) (len
         one = leaves-one true j m (and-fst x y q);
         domains = omega (arith, e, h .few);
         level = held-level true p level-points most (countFits l n many) above j (upTo (c .rows) l) b (getD (c .rows) l 0) m lent fit g;
-        behind = none-behind (suc l) (getD (c .rows) l 0) (among (pointsAt level-points (c .rows) l)) (borrowedEnd (p .domains) j b m);
+        behind = none-behind p level-points c n most (suc l) (getD (c .rows) l 0) (among (pointsAt level-points (c .rows) l)) (borrowedEnd (p .domains) j b m);
       })
   held-levels (suc k) l many above b h =
       let j = upTo (c .domains) l in

@@ -1,10 +1,12 @@
 -- Laws of the levels of a tree that stands in lists.
 pub mod OneLevel
 pub mod Levels
+pub mod PerLevel
+mod Fronts
+pub mod LongEnough
+pub mod Tree
 mod LevelCounts
-mod LevelChecked
+mod LevelRows
 mod NextLevel
 mod BetweenLevels
-pub mod PerLevel
-pub mod Tree
-mod ListsChecked
+mod WholeTree

@@ -1,13 +1,13 @@
 -- One level more: its counts, the level itself, and the totals with it. Assumes nothing.
-use mathlib.Core.Path.{_≡_, refl, sym, ap, _∙_}
+-- Holds: count-off, domains-off, rows-most, domains-most, level-ready, level-on
+use mathlib.Core.Path.{_≡_, refl, sym, _∙_}
 use mathlib.Core.Bool.{Bool, true, false, _&&_, and-false}
 use mathlib.Core.List.{List}
-use Prim.Native.Nat.{ℕ, _+_, _-_, _*_, _≤_}
+use Prim.Native.Nat.{ℕ, _+_, _-_, _≤_}
 use native.Mathlib.Nat.{le-trans, mul-le-mul-left}
 use native.Mathlib.Omega.{arith}
 use borrow.Author.Tests.{leb-true}
 use lib.Dec.{leb}
-use lib.ListN.{length}
 use Rattle.lists.proofs.Tests.{clash, and-snd}
 use Rattle.definition.specs.Packed.{rowFloats, mostRows}
 use Rattle.packed.specs.Reading.{Packed}

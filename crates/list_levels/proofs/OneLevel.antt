@@ -1,9 +1,9 @@
 -- A level that stands in packed lists passes exactly where it passes in turn and its domain rows are those of packing. Assumes nothing.
+-- Holds: levelThere, LevelHeld, level-held, held-count, held-level, level-own
 use mathlib.Core.Path.{_≡_, sym, ap, _∙_}
-use mathlib.Core.Bool.{Bool, true, _&&_}
+use mathlib.Core.Bool.{Bool, true}
 use mathlib.Core.List.{List}
 use Prim.Native.Nat.{ℕ, _+_, _*_, _≤_}
-use native.Mathlib.Omega.{arith}
 use lib.ListN.{length}
 use Rattle.lists.specs.Lists.{part}
 use Rattle.lists.proofs.Tests.{and-of, and-fst, and-snd}
@@ -16,7 +16,7 @@ use Rattle.tree_tests.proofs.Several.{three-pass}
 use Rattle.tree_tests.proofs.Lengths.{ownTotal, borrowedTotal}
 use Rattle.list_domains.specs.InLists.{domainsPass}
 use Rattle.list_domains.proofs.AsPacked.{AsPacked}
-use Rattle.list_domains.proofs.Held.{DomainsHeld, domains-held, held-domains, own-all}
+use Rattle.list_domains.proofs.Held.{domains-held, held-domains, own-all}
 use Rattle.list_levels.specs.InLists.{heldLevelPasses}
 
 -- the level whose rows stand at a, with m domain rows from the row number j on

@@ -1,9 +1,10 @@
 -- The counts of a tree that is read from lists by counts: they are its counts where each level has as many as its entry says, and no entry
 -- stands beyond the last level. Assumes nothing.
+-- Holds: beyond-zero, zero-beyond, entry-in, entry-past, per-level-is
 use mathlib.Core.Path.{_≡_, sym, ap, _∙_}
 use mathlib.Core.Bool.{true}
 use mathlib.Core.Logic.{⊎-elim}
-use mathlib.Core.List.{List, map, List·Memᴰ}
+use mathlib.Core.List.{List, map}
 use Prim.Native.Nat.{ℕ, _+_, _-_, _≤_, _<_}
 use native.Mathlib.Omega.{arith}
 use borrow.Author.Tests.{eqb-true, eq-eqb}

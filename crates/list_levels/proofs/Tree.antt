@@ -1,30 +1,29 @@
 -- A tree that stands in lists with counts passes the tests by counts exactly where the lists are its packed lists and it is sound; and the
 -- totals of its counts are the lengths of its packed lists. Assumes nothing.
+-- Holds: TreeHeld, tree-passes, rows-total, domains-total, borrowed-total
 use mathlib.Core.Path.{_≡_, refl, sym, ap, subst, _∙_}
-use mathlib.Core.Bool.{Bool, true, false, _&&_, true≢false}
-use mathlib.Core.List.{List, [], _∷_, _++_, map, map-map}
-use Prim.Native.Nat.{ℕ, zero, suc, _+_, _-_, _*_, _≤_, _<_}
-use native.Mathlib.Nat.{mul-le-mul-right, zero-add, le-trans}
+use mathlib.Core.Bool.{Bool, true, _&&_, true≢false}
+use mathlib.Core.List.{List, map, map-map}
+use Prim.Native.Nat.{ℕ, zero, suc, _+_, _*_, _≤_, _<_}
+use native.Mathlib.Nat.{mul-le-mul-right, zero-add}
 use native.Mathlib.Omega.{arith}
-use borrow.Author.Tests.{leb-true, ltb-true, ltb-false, eqb-true, le-leb, lt-ltb, eq-eqb}
+use borrow.Author.Tests.{leb-true, ltb-true, le-leb, lt-ltb, eq-eqb}
 use lib.Dec.{leb, ltb, eqb}
-use lib.ListN.{length, getD, take, drop, take-append-drop}
-use lib.Seq.{take-append-seam}
+use lib.ListN.{length, getD}
 use Rattle.lists.specs.Lists.{total, from, joined, part}
-use Rattle.lists.proofs.Sums.{total-more, sum-below-same}
-use Rattle.lists.proofs.Tests.{and-of, and-fst, and-snd, or-none, same-test}
-use Rattle.lists.proofs.Put.{part-append, part-nil}
+use Rattle.lists.proofs.Sums.{sum-below-same}
+use Rattle.lists.proofs.Tests.{and-of, and-fst, and-snd, same-test}
 use Rattle.lists.proofs.Joined.{length-joined}
 use Rattle.lists.proofs.From.{length-map-from}
 use Rattle.definition.specs.Tree.{Settings, Leaf, Level}
-use Rattle.definition.specs.Packed.{Counts, countsOf, rowNumbers, rowFloats, mostLevels, mostRows, perLevel, leavesIn, packedLevelPoints, packedInternals, packedDomains, packedBorrowed, stretches, buildStated}
+use Rattle.definition.specs.Packed.{Counts, countsOf, rowNumbers, mostLevels, mostRows, perLevel, leavesIn, packedLevelPoints, packedInternals, packedDomains, packedBorrowed, stretches, buildStated}
 use Rattle.definition.specs.Outcome.{TreeLists}
 use Rattle.definition_laws.proofs.Fit.{length-points, length-domains}
 use Rattle.packed.specs.Reading.{Packed, packed, readLeaves, upTo, pointsAt, readLevel, readLevels}
 use Rattle.stored.specs.Sound.{same, sound}
-use Rattle.stored.specs.Outcome.{listsShort, treeHeld, leads, packs}
+use Rattle.stored.specs.Outcome.{treeHeld, leads, packs}
 use Rattle.tree_tests.specs.InTurn.{levelsPass}
-use Rattle.tree_tests.proofs.Several.{three-pass, four-pass}
+use Rattle.tree_tests.proofs.Several.{three-pass}
 use Rattle.tree_tests.proofs.AllRows.{same-is, same-self}
 use Rattle.tree_tests.proofs.Limits.{sound-counted}
 use Rattle.tree_tests.proofs.Lengths.{ownTotal, borrowedTotal}
@@ -32,58 +31,9 @@ use Rattle.list_domains.specs.InLists.{borrowedEnd}
 use Rattle.list_domains.proofs.AsPacked.{AsPacked, leaves-length, own-joined, borrowed-joined, borrowed-end}
 use Rattle.list_levels.specs.InLists.{countFits, noneBeyond, countsStand, heldLevelsPass, heldTreePasses}
 use Rattle.list_levels.specs.Passed.{Long}
-use Rattle.list_levels.proofs.Levels.{LevelsHeld, levelsHeld, countsFrom, counts-from, counts-more, leaves-held, levels-held, held-levels}
-use Rattle.list_levels.proofs.PerLevel.{beyond-zero, zero-beyond, entry-in, entry-past, per-level-is}
-
--- ---- numbers that lead a list
-front-leads : (xs l : List ℕ) (k : ℕ) → xs ≡ part l 0 k → leads xs l ≡ true
-unfolding part
-front-leads xs l k e =
-    let w : l ≡ xs ++ drop k l = sym (take-append-drop k l) ∙ ap (λ (ys : List ℕ). ys ++ drop k l) (sym e) in
-    let f : take (length xs) l ≡ xs = ap (take (length xs)) w ∙ take-append-seam xs (drop k l) in
-    rw f (same-self xs)
-
-leads-front : (xs l : List ℕ) → leads xs l ≡ true → xs ≡ part l 0 (length xs)
-unfolding part
-leads-front xs l h = same-is xs (take (length xs) l) h
-
--- ---- all counts
-whole-count : (counts : List ℕ) (k : ℕ) → upTo counts k ≡ countsFrom counts 0 k
-unfolding total
-whole-count counts k = ap (upTo counts) (sym (zero-add k)) ∙ sym (counts-from counts k 0) ∙ zero-add (countsFrom counts 0 k)
-
--- ---- the lists are as long as stated
-pub long-enough : (d n neighbours : ℕ) (l : TreeLists) → listsShort l (buildStated d n neighbours) ≡ false
-    → Long (packed (l .internals) (l .domains) (l .boxes) (l .borrowed) d) (l .level-points) n (6 * n * (neighbours + 1))
-unfolding listsShort buildStated
-long-enough d n neighbours l h =
-    let a = ltb (length (l .level-points)) (4 * n) in
-    let b = ltb (length (l .internals)) (4 * n) in
-    let e = ltb (length (l .domains)) (rowNumbers * mostRows n) in
-    let f = ltb (length (l .boxes)) (rowFloats d * mostRows n) in
-    let g = ltb (length (l .borrowed)) (6 * n * (neighbours + 1)) in
-    let h4 = or-none _ g h in
-    let h3 = or-none _ f (h4 .0) in
-    let h2 = or-none _ e (h3 .0) in
-    let h1 = or-none a b (h2 .0) in
-    record {
-      points = ltb-false (length (l .level-points)) (4 * n) (h1 .0);
-      internals = ltb-false (length (l .internals)) (4 * n) (h1 .1);
-      domains = ltb-false (length (l .domains)) (rowNumbers * mostRows n) (h2 .1);
-      boxes = ltb-false (length (l .boxes)) (rowFloats d * mostRows n) (h3 .1);
-      borrowed = ltb-false (length (l .borrowed)) (6 * n * (neighbours + 1)) (h4 .1);
-    }
-
--- ---- the rows of the levels stand one after the other
-module _ (p : Packed) (level-points : List ℕ) (c : Counts) where
-  pub points-joined : (k l : ℕ) → packedLevelPoints (levelsHeld p level-points c l k) ≡ part level-points (upTo (c .rows) l) (countsFrom (c .rows) l k)
-  unfolding packedLevelPoints countsFrom from total joined readLevel
-  points-joined zero l = sym (part-nil level-points (upTo (c .rows) l))
-  points-joined (suc k) l =
-      let a = upTo (c .rows) l in
-      let rows = getD (c .rows) l 0 in
-      ap (λ (xs : List ℕ). part level-points a rows ++ xs) (points-joined k (suc l) ∙ ap (λ (i : ℕ). part level-points i (countsFrom (c .rows) (suc l) k)) (total-more (c .rows) l))
-      ∙ part-append level-points a rows (countsFrom (c .rows) (suc l) k)
+use Rattle.list_levels.proofs.Levels.{LevelsHeld, levelsHeld, countsFrom, leaves-held, levels-held, held-levels}
+use Rattle.list_levels.proofs.Fronts.{front-leads, leads-front, whole-count, points-joined}
+use Rattle.list_levels.proofs.PerLevel.{zero-beyond, entry-in, entry-past, per-level-is}
 
 -- ---- the tree
 module _ (s : Settings) (n : ℕ) (c : Counts) (l : TreeLists) (four-rows : length (c .rows) ≡ mostLevels) (four-domains : length (c .domains) ≡ mostLevels)

@@ -6,7 +6,7 @@ use Prim.Native.Nat.{ℕ, _+_, _-_, _*_, _≤_}
 use lib.Dec.{leb, ltb}
 use lib.ListN.{length}
 use Rattle.lists.specs.Lists.{part}
-use Rattle.definition.specs.Tree.{Settings, Level}
+use Rattle.definition.specs.Tree.{Settings}
 use Rattle.definition.specs.Packed.{Counts, rowNumbers, rowFloats, mostLevels, mostRows, leavesIn, packedLevelPoints, packedBorrowed}
 use Rattle.definition.specs.Refusals.{mostPoints}
 use Rattle.definition.specs.Outcome.{TreeLists}

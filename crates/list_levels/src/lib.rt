@@ -19,6 +19,9 @@ ghost use Rattle.list_levels.specs.Passed.{LevelReady, NextReady, Levels
 use list_domains::AllPassed;
 use tree_answer::TreeCounts;
 
+// How many words hold a bit for each row that there can be.
+const WORDS: usize = 16_384;
+
 // Whether a tree in lists passes, and how many rows, domains and borrowed rows its levels have in all.
 pub struct ListsPassed {
     pub good: bool,
@@ -170,7 +173,23 @@ fn next_level(
     if !domains_fit(coarse, count, 6 * n + 1 - first) {
         return not_passed();
     }
-    let level = check_level(level_points, internals, domains, boxes, borrowed, first, count, dimensions, coarse, own_at, borrowed_at, rows, borrowed_most, left, listed);
+    let level = check_level(
+        level_points,
+        internals,
+        domains,
+        boxes,
+        borrowed,
+        first,
+        count,
+        dimensions,
+        coarse,
+        own_at,
+        borrowed_at,
+        rows,
+        borrowed_most,
+        left,
+        listed,
+    );
     ListsPassed {
         good: level.good,
         rows: own_at + rows,
@@ -212,7 +231,24 @@ pub fn check_levels(
         let k = rows[t];
         let m = counts[t];
         let coarse = t + 1 == levels;
-        done = next_level(level_points, internals, domains, boxes, borrowed, dimensions, n, t, coarse, above, k, m, borrowed_most, done, left, listed);
+        done = next_level(
+            level_points,
+            internals,
+            domains,
+            boxes,
+            borrowed,
+            dimensions,
+            n,
+            t,
+            coarse,
+            above,
+            k,
+            m,
+            borrowed_most,
+            done,
+            left,
+            listed,
+        );
         if !done.good {
             return done;
         }
@@ -262,8 +298,8 @@ pub fn check_lists(
     if !counts_stand(levels, &rows, &domain_counts) {
         return not_passed();
     }
-    let mut left = [0; 16_384];
-    let mut listed = [0; 16_384];
+    let mut left = [0; WORDS];
+    let mut listed = [0; WORDS];
     marks::mark_below(&mut listed, n);
     check_levels(
         levels,

@@ -13,9 +13,6 @@ use Rattle.list_domains.specs.Boxes.{boundFits}
 use Rattle.list_domains.proofs.Each.{each-end, each-out, each-next}
 use Rattle.list_domains.proofs.bounds_fit.Statement.{statement}
 use Rattle.list_domains.proofs.bounds_fit.Tie as tie
-use Rattle.list_domains.proofs.bounds_fit.Reads as reads
-use Rattle.list_domains.proofs.bounds_fit.Lts as lts
-use Rattle.list_domains.proofs.bound_fits.Reads as bound-fits-reads
 
 abbrev Inv-loop : tie.InvT-loop
 Inv-loop boxes at count coarse i₀ i = (i ≤ count) × (allOf (boundFits coarse) (part boxes at count) ≡ allOf (boundFits coarse) (drop i (part boxes at count)))

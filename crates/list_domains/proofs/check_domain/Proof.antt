@@ -5,14 +5,6 @@ use Rattle.list_domains.proofs.OneDomain.{stretches-off, own-within, bo
 use borrow.Author.Needs.{needs}
 use Rattle.list_domains.proofs.check_domain.Statement.{statement}
 use Rattle.list_domains.proofs.check_domain.Tie as tie
-use Rattle.list_domains.proofs.check_domain.Reads as reads
-use Rattle.list_domains.proofs.check_domain.Lts as lts
-use Rattle.list_domains.proofs.bounds_fit.Reads as bounds-fit-reads
-use Rattle.list_domains.proofs.rows_pass.Reads as rows-pass-reads
-use Rattle.list_domains.proofs.stretches_fit.Reads as stretches-fit-reads
-use Rattle.packed.proofs.floats_before.Reads as floats-before-reads
-use Rattle.packed.proofs.read_row.Reads as read-row-reads
-use Rattle.packed.proofs.row_floats.Reads as row-floats-reads
 
 read-row-requires : tie.Need-read-row-requires
 read-row-requires c κs = search needs

@@ -8,9 +8,6 @@ use Rattle.packed.specs.Reading.{packed}
 use Rattle.list_domains.proofs.Between.{Between, between-start, between-end, row-ready, between-out, own-most, borrowed-most, between-next}
 use Rattle.list_domains.proofs.check_domains.Statement.{statement}
 use Rattle.list_domains.proofs.check_domains.Tie as tie
-use Rattle.list_domains.proofs.check_domains.Reads as reads
-use Rattle.list_domains.proofs.check_domains.Lts as lts
-use Rattle.list_domains.proofs.check_domain.Reads as check-domain-reads
 
 abbrev Inv-loop : tie.InvT-loop
 Inv-loop internals domains boxes borrowed first count dimensions coarse own-at borrowed-at rows borrowed-most left₀ listed₀ own₀ end₀ remaining₀ i₀ left listed own end remaining i =

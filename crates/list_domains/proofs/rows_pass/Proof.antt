@@ -1,6 +1,4 @@
 -- `list_domains::rows_pass` meets its contract. Assumes nothing.
-use mathlib.Core.Path.{_≡_}
-use lib.ListN.{length}
 use borrow.Author.Needs.{needs}
 use borrow.Author.Tests.{not-true, not-false}
 use Rattle.lists.specs.Lists.{part}

@@ -2,15 +2,10 @@
 use mathlib.Core.Path.{refl, sym}
 use borrow.Author.Tests.{not-true, not-false}
 use Rattle.packed.specs.Reading.{packed}
-use Rattle.list_levels.proofs.LevelChecked.{points-ascend, points-within, level-out, domains-ready, level-tell}
+use Rattle.list_levels.proofs.LevelRows.{points-ascend, points-within, level-out, domains-ready, level-tell}
 use borrow.Author.Needs.{needs}
 use Rattle.list_levels.proofs.check_level.Statement.{statement}
 use Rattle.list_levels.proofs.check_level.Tie as tie
-use Rattle.list_levels.proofs.check_level.Reads as reads
-use Rattle.list_levels.proofs.check_level.Lts as lts
-use Rattle.list_domains.proofs.check_domains.Reads as check-domains-reads
-use Rattle.list_levels.proofs.set_rows.Reads as set-rows-reads
-use Rattle.list_rows.proofs.rows_marked.Reads as rows-marked-reads
 
 rows-marked-requires : tie.Need-rows-marked-requires
 rows-marked-requires c κs = search needs

@@ -7,9 +7,6 @@ use Rattle.packed.specs.Reading.{packed}
 use Rattle.list_levels.proofs.BetweenLevels.{BetweenLevels, between-start, between-end, next-ready, between-out, between-next}
 use Rattle.list_levels.proofs.check_levels.Statement.{statement}
 use Rattle.list_levels.proofs.check_levels.Tie as tie
-use Rattle.list_levels.proofs.check_levels.Reads as reads
-use Rattle.list_levels.proofs.check_levels.Lts as lts
-use Rattle.list_levels.proofs.next_level.Reads as next-level-reads
 
 abbrev Inv-loop : tie.InvT-loop
 Inv-loop levels rows counts level-points internals domains boxes borrowed dimensions n borrowed-most left₀ listed₀ done₀ above₀ t₀ left listed done above t =

@@ -3,16 +3,11 @@ use mathlib.Core.Path.{sym}
 use borrow.Author.Tests.{not-true, not-false}
 use Rattle.tree_answer.specs.Answers.{countsGiven, listsOf}
 use Rattle.marks.proofs.Marks.{marked-zeros}
-use Rattle.list_levels.proofs.ListsChecked.{tree-out, tree-tell, levels-ready, most-fits}
+use Rattle.list_levels.proofs.WholeTree.{tree-out, tree-tell, levels-ready, most-fits}
+use lib.ListN.{replicate}
 use borrow.Author.Needs.{needs, length-unmapped}
 use Rattle.list_levels.proofs.check_lists.Statement.{statement}
 use Rattle.list_levels.proofs.check_lists.Tie as tie
-use Rattle.list_levels.proofs.check_lists.Reads as reads
-use Rattle.list_levels.proofs.check_lists.Lts as lts
-use Rattle.list_levels.proofs.check_levels.Reads as check-levels-reads
-use Rattle.list_levels.proofs.counts_stand.Reads as counts-stand-reads
-use Rattle.list_levels.proofs.not_passed.Reads as not-passed-reads
-use Rattle.marks.proofs.mark_below.Reads as mark-below-reads
 
 slice-aggregate-counts-stand : tie.Need-slice-aggregate-counts-stand
 slice-aggregate-counts-stand c = search needs
@@ -68,7 +63,7 @@ check-levels-requires c κs =
     let l = listsOf (a .level-points .now) (a .internals .now) (a .domains .now) (a .boxes .now) (a .borrowed .now) in
     let marking = c .before .before .before .before .before .mark-below in
     levels-ready (a .dimensions) (a .n) (a .neighbours) (countsGiven (a .counts)) l (start .pre .0) (start .pre .1) (start .pre .3) (length-unmapped _ (a .counts .rows) 4 (start .good .1 .1 .1 .1 .1 .1 .1 .1 .0 .1 .1 .1 .0 .1 .0 .1)) (length-unmapped _ (a .counts .domains) 4 (start .good .1 .1 .1 .1 .1 .1 .1 .1 .0 .1 .1 .1 .1 .0 .1 .0 .1)) _
-    (c .before .before .before .before .before .before .before .before .counts-stand .ensures) (not-false _ (c .before .before .before .before .before .before .before .if1 .left)) _ (marking .last .0) (sym (marking .kept .0)) (marking .ensures)
+    (c .before .before .before .before .before .before .before .before .counts-stand .ensures) (not-false _ (c .before .before .before .before .before .before .before .if1 .left)) (replicate 16384 0) (marking .last .0) (sym (marking .kept .0)) (marking .ensures)
 
 returns-2 : tie.Need-returns-2
 returns-2 c = λ s e f.

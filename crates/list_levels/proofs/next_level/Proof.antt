@@ -5,12 +5,6 @@ use Rattle.list_levels.proofs.NextLevel.{count-off, domains-off, rows-m
 use borrow.Author.Needs.{needs}
 use Rattle.list_levels.proofs.next_level.Statement.{statement}
 use Rattle.list_levels.proofs.next_level.Tie as tie
-use Rattle.list_levels.proofs.next_level.Reads as reads
-use Rattle.list_levels.proofs.next_level.Lts as lts
-use Rattle.list_levels.proofs.check_level.Reads as check-level-reads
-use Rattle.list_levels.proofs.count_fits.Reads as count-fits-reads
-use Rattle.list_levels.proofs.domains_fit.Reads as domains-fit-reads
-use Rattle.list_levels.proofs.not_passed.Reads as not-passed-reads
 
 count-fits-requires : tie.Need-count-fits-requires
 count-fits-requires c κs = search needs
@@ -61,7 +55,7 @@ add-t23 c =
     let x = tested .before .before .before .count-fits .ensures in
     let y = tested .before .domains-fit .ensures in
     let few = rows-most (a .coarse) (packed (a .internals .now) (a .domains .now) (a .boxes .now) (a .borrowed .now) (a .dimensions)) (a .level-points .now) (a .n) (a .borrowed-most) (a .t) (a .above) (a .rows) (a .count) (a .done) (a .left .now) (a .listed .now) (start .pre)
-        _ x _ y (not-false _ (tested .before .before .if1 .left)) (not-false _ (tested .if2 .left)) in
+    _ x _ y (not-false _ (tested .before .before .if1 .left)) (not-false _ (tested .if2 .left)) in
     let room = start .pre .room in
     let many = start .pre .many in
     search needs
@@ -74,7 +68,7 @@ add-t24 c =
     let x = tested .before .before .before .count-fits .ensures in
     let y = tested .before .domains-fit .ensures in
     let few = domains-most (a .coarse) (packed (a .internals .now) (a .domains .now) (a .boxes .now) (a .borrowed .now) (a .dimensions)) (a .level-points .now) (a .n) (a .borrowed-most) (a .t) (a .above) (a .rows) (a .count) (a .done) (a .left .now) (a .listed .now) (start .pre)
-        _ x _ y (not-false _ (tested .before .before .if1 .left)) (not-false _ (tested .if2 .left)) in
+    _ x _ y (not-false _ (tested .before .before .if1 .left)) (not-false _ (tested .if2 .left)) in
     let many = start .pre .many in
     search needs
 

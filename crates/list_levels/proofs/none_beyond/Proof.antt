@@ -11,8 +11,6 @@ use Rattle.list_domains.proofs.Each.{each-end, each-out, each-next}
 use Rattle.list_levels.specs.InLists.{noneBeyond}
 use Rattle.list_levels.proofs.none_beyond.Statement.{statement}
 use Rattle.list_levels.proofs.none_beyond.Tie as tie
-use Rattle.list_levels.proofs.none_beyond.Reads as reads
-use Rattle.list_levels.proofs.none_beyond.Lts as lts
 
 abbrev Inv-loop : tie.InvT-loop
 Inv-loop counts levels i₀ i = noneBeyond levels counts ≡ allOf (λ x. eqb x 0) (drop i counts)

@@ -4,14 +4,10 @@ use mathlib.Core.Bool.{false}
 use Prim.Native.Nat.{ℕ, _*_, _<_}
 use Rattle.lists.specs.Lists.{part}
 use Rattle.lists.specs.Ascends.{All}
-use Rattle.list_levels.proofs.LevelChecked.{none-markable}
+use Rattle.list_levels.proofs.LevelRows.{none-markable}
 use borrow.Author.Needs.{needs}
 use Rattle.list_levels.proofs.set_rows.Statement.{statement}
 use Rattle.list_levels.proofs.set_rows.Tie as tie
-use Rattle.list_levels.proofs.set_rows.Reads as reads
-use Rattle.list_levels.proofs.set_rows.Lts as lts
-use Rattle.list_rows.proofs.mark_rows.Reads as mark-rows-reads
-use Rattle.marks.proofs.clear.Reads as clear-reads
 
 clear-requires : tie.Need-clear-requires
 clear-requires c κs = search needs

@@ -1,5 +1,6 @@
 -- The whole tree in the lists: counts that do not stand, and levels that are checked. Assumes nothing.
-use mathlib.Core.Path.{_≡_, refl, sym, ap, _∙_}
+-- Holds: tree-out, tree-tell, most-fits, levels-ready
+use mathlib.Core.Path.{_≡_, refl, sym, _∙_}
 use mathlib.Core.Bool.{Bool, true, false, _&&_}
 use mathlib.Core.List.{List}
 use Prim.Native.Nat.{ℕ, _+_, _*_, _^_, _≤_, _<_}
@@ -21,7 +22,8 @@ use Rattle.marks.specs.Bits.{Marked}
 use Rattle.list_levels.specs.InLists.{noneBeyond, countsStand, heldLevelsPass, heldTreePasses}
 use Rattle.list_levels.specs.Passed.{Long, LevelsReady, LevelsPassed, TreePassed}
 use Rattle.list_levels.specs.declared.ListsPassed.{ListsPassed}
-use Rattle.list_levels.proofs.Tree.{long-enough, tree-passes, rows-total, domains-total, borrowed-total}
+use Rattle.list_levels.proofs.LongEnough.{long-enough}
+use Rattle.list_levels.proofs.Tree.{tree-passes, rows-total, domains-total, borrowed-total}
 
 -- the lists that hold leaves, of all lists
 abbrev held : TreeLists → ℕ → Packed

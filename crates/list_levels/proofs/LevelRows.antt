@@ -1,8 +1,9 @@
 -- One level: its rows asked for in the set above, both sets made its rows, and its domain rows checked with them. Assumes nothing.
-use mathlib.Core.Path.{_≡_, refl, sym, ap, subst, _∙_}
-use mathlib.Core.Bool.{Bool, true, false, _&&_}
+-- Holds: none-markable, points-ascend, points-within, level-out, domains-ready, level-tell
+use mathlib.Core.Path.{_≡_, refl, sym, subst, _∙_}
+use mathlib.Core.Bool.{Bool, true, false}
 use mathlib.Core.List.{List}
-use Prim.Native.Nat.{ℕ, _+_, _*_, _≤_, _<_}
+use Prim.Native.Nat.{ℕ, _*_, _<_}
 use lib.ListN.{length}
 use Rattle.lists.specs.Lists.{part}
 use Rattle.lists.specs.Ascends.{All, Ascends}
@@ -11,11 +12,10 @@ use Rattle.lists.proofs.Tests.{clash}
 use Rattle.packed.specs.Reading.{Packed}
 use Rattle.tree_tests.specs.InTurn.{among, inOrder}
 use Rattle.tree_tests.proofs.Rows.{in-order-ascends, in-order-in}
-use Rattle.marks.specs.Bits.{bitAt, Marked}
+use Rattle.marks.specs.Bits.{Marked}
 use Rattle.marks.proofs.Marks.{marked-bit, marked-within, held, bits-marked}
 use Rattle.file_rows.specs.Markable.{Markable}
 use Rattle.file_rows.proofs.PutBack.{markable}
-use Rattle.list_domains.specs.InLists.{domainsPass}
 use Rattle.list_domains.specs.Passed.{Ready, DomainsPassed}
 use Rattle.list_domains.specs.declared.AllPassed.{AllPassed}
 use Rattle.list_domains.proofs.Sets.{bit-in}
