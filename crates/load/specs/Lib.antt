@@ -1,0 +1,2 @@
+-- What the contracts of the loader cite.
+pub mod Loading
