@@ -2,8 +2,9 @@
 ghost use mathlib.Core.Path.{_≡_};
 ghost use Prim.Native.Nat.{_+_, _*_, _≤_, _<_};
 ghost use mathlib.Core.List.{_++_};
-ghost use lib.ListN.{length, set, take};
+ghost use lib.ListN.{length, set, take, replicate};
 ghost use Rattle.lists.specs.Lists.{part, put};
+ghost use Rattle.definition.specs.Number.{plusZero};
 ghost use Rattle.definition.specs.Points.{boxWidth};
 ghost use Rattle.boxes.specs.Boxes.{floatsOf};
 
@@ -109,4 +110,16 @@ pub fn write_halves(whole: Extents, axis: usize, plane: f64, out: &mut [f64], at
     let right = at + box_width(whole.dimensions);
     write_box(whole.with_upper(axis, plane), out, at);
     write_box(whole.with_lower(axis, plane), out, right);
+}
+
+// Writes `count` zeros to the box list, from `at` on: the box of a domain that has none.
+pub fn put_zeros(boxes: &mut [f64], at: usize, count: usize)
+    requires { ⌜ at + count ≤ length (now boxes) ⌝ }
+    ensures { λ _. ⌜ now (boxes .exit) ≡ put (now (boxes .entry)) at (replicate count plusZero) ⌝ }
+{
+    let mut i = 0;
+    while i < count {
+        boxes[at + i] = 0.0;
+        i += 1;
+    }
 }

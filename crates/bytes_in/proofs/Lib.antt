@@ -2,3 +2,4 @@
 pub mod Bytes
 pub mod Floats
 pub mod Turns
+pub mod Fields

@@ -3,3 +3,4 @@ pub mod Nan
 pub mod Bytes
 pub mod Turns
 pub mod Back
+pub mod Wrote

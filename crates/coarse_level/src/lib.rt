@@ -8,18 +8,6 @@ ghost use Rattle.definition.specs.Number.{plusZero};
 ghost use Rattle.definition.specs.Points.{boxWidth};
 ghost use Rattle.definition.specs.Packed.{rowNumbers, rowFloats};
 
-// Writes `count` zeros to the box list, from `at` on.
-pub fn put_zeros(boxes: &mut [f64], at: usize, count: usize)
-    requires { ⌜ at + count ≤ length (now boxes) ⌝ }
-    ensures { λ _. ⌜ now (boxes .exit) ≡ put (now (boxes .entry)) at (replicate count plusZero) ⌝ }
-{
-    let mut i = 0;
-    while i < count {
-        boxes[at + i] = 0.0;
-        i += 1;
-    }
-}
-
 // The coarse level: one domain with all active rows, which borrows nothing and has no box: each bound is +0.
 pub fn coarse_level(
     dimensions: usize,
@@ -45,7 +33,7 @@ pub fn coarse_level(
         borrowed_count: 0,
     };
     packed::put_row(domains, first, row);
-    put_zeros(
+    boxes::put_zeros(
         boxes,
         packed::floats_before(dimensions, first),
         boxes::box_width(dimensions),

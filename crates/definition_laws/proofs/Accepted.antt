@@ -1,10 +1,10 @@
 -- What an accepted call has: no refusal that it tries has its condition met. Assumes nothing.
--- Holds: passes, accepted-iff, right-dimension, number-zero, build-zero, Passed, passed, LentEnough, lent-enough, whole-points,
---   finite-at, all-good, Accepted, build-accepted
+-- Holds: passes, accepted-iff, both-accept, first-accepts, second-accepts, right-dimension, number-zero, build-zero, Passed,
+--   passed, LentEnough, lent-enough, whole-points, finite-at, all-good, Accepted, build-accepted
 use mathlib.Core.Path.{_≡_, refl, _∙_}
 use mathlib.Core.Logic.{_↔_}
 use mathlib.Core.Bool.{Bool, true, false, not, _&&_, cond}
-use mathlib.Core.List.{List, [], _∷_}
+use mathlib.Core.List.{List, [], _∷_, _++_}
 use Prim.Native.Nat.{ℕ, suc, _+_, _*_, _/_, _%_, _^_, _≤_, _<_}
 use native.Mathlib.Omega.{arith}
 use native.Mathlib.Nat.{mul-le-mul-right, suc-mul, div-mul-le-self, div-add-mod'}
@@ -16,6 +16,7 @@ use lib.Ieee.Scale.{finite}
 use Rattle.lists.specs.Lists.{from}
 use Rattle.lists.specs.Ascends.{All}
 use Rattle.lists.proofs.Tests.{clash, and-fst, and-snd, or-none}
+use Rattle.lists.proofs.All.{all-append, all-left, all-right}
 use Rattle.lists.proofs.Members.{none-any, mem-at}
 use Rattle.lists.proofs.From.{from-mem}
 use Rattle.lists.proofs.Ascends.{ascends-from, ascends-once}
@@ -56,6 +57,20 @@ accepted-iff ts = (to ts, back ts)
     back : (ts : List Test) → All (λ (t : Test). t .holds ≡ false) ts → verdict ts ≡ accepted
     back [] h = none
     back (t ∷ ts) h = pass t ts (h .0) ∙ back ts (h .1)
+
+-- ---- two lists of tests
+abbrev Fails : Test → Type 0
+Fails t = t .holds ≡ false
+
+module _ (xs ys : List Test) where
+  pub both-accept : verdict xs ≡ accepted → verdict ys ≡ accepted → verdict (xs ++ ys) ≡ accepted
+  both-accept e f = accepted-iff (xs ++ ys) .1 (all-append Fails xs ys (accepted-iff xs .0 e) (accepted-iff ys .0 f))
+
+  pub first-accepts : verdict (xs ++ ys) ≡ accepted → verdict xs ≡ accepted
+  first-accepts e = accepted-iff xs .1 (all-left Fails xs ys (accepted-iff (xs ++ ys) .0 e))
+
+  pub second-accepts : verdict (xs ++ ys) ≡ accepted → verdict ys ≡ accepted
+  second-accepts e = accepted-iff ys .1 (all-right Fails xs ys (accepted-iff (xs ++ ys) .0 e))
 
 -- a dimension that is not refused
 pub right-dimension : (d : ℕ) → wrongDimension d ≡ false → (1 ≤ d) × (d ≤ 3)

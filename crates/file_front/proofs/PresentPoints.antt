@@ -11,7 +11,7 @@ use lib.ListN.{length, getD, drop}
 use lib.Ieee.{Float}
 use borrow.Author.Tests.{eqb-true}
 use Rattle.lists.specs.Lists.{anyOf, from, part}
-use Rattle.lists.proofs.Tests.{and-fst}
+use Rattle.lists.proofs.Tests.{and-fst, three-pass}
 use Rattle.definition.specs.Tree.{Settings, pointCount}
 use Rattle.formats.specs.Bytes.{field, markSize, whole, floatSize, floatsBytes}
 use Rattle.formats.specs.Stream.{settingsSize, settingsIn, policyFits, pointSize}
@@ -20,7 +20,6 @@ use Rattle.stored.specs.Sound.{same}
 use Rattle.stored.specs.Stored.{headSize, countIn}
 use Rattle.stored.specs.Outcome.{sameSettings, samePoints}
 use Rattle.tree_tests.specs.Whole.{pointsWhole, frontWhole}
-use Rattle.tree_tests.proofs.Several.{three-pass}
 use Rattle.bytes_in.proofs.Turns.{none-tested, none-more, one-found}
 use Rattle.settings_record.proofs.Compared.{field-same, settings-same}
 use Rattle.file_front.specs.Fronts.{pointPlace}

@@ -13,7 +13,7 @@ use lib.Dec.{leb}
 use lib.Ieee.{Float}
 use borrow.Author.Tests.{leb-true}
 use Rattle.lists.specs.Lists.{anyOf}
-use Rattle.lists.proofs.Tests.{and-fst, and-snd}
+use Rattle.lists.proofs.Tests.{and-fst, and-snd, three-pass}
 use Rattle.definition.specs.Tree.{Settings}
 use Rattle.definition.specs.Refusals.{mostPoints, mostNeighbours}
 use Rattle.formats.specs.Bytes.{markedBy, whole}
@@ -21,7 +21,6 @@ use Rattle.formats.specs.Stream.{settingsIn, policyFits, pointSize}
 use Rattle.stored.specs.File.{headMark, filePointMark}
 use Rattle.stored.specs.Stored.{headSize, countIn, pointsIn, levelsPlace, buildable}
 use Rattle.tree_tests.specs.Whole.{pointsWhole, frontWhole}
-use Rattle.tree_tests.proofs.Several.{three-pass}
 use Rattle.stored_laws.proofs.FrontAgain.{point-stands, points-are, count-is}
 use Rattle.stored_laws.proofs.ReadBack.{buildable-passed}
 use Rattle.settings_record.specs.declared.Settings as read

@@ -1,7 +1,7 @@
 -- The domain record at a place of a file: one law for each way out, and that its parts lie within the file. Assumes nothing.
 -- Holds: no-counts, counts-room, number-here, not-marked, too-short, is-whole, parts-within
 use mathlib.Core.Path.{_≡_, sym, ap, _∙_}
-use mathlib.Core.Bool.{Bool, true, false, _&&_}
+use mathlib.Core.Bool.{true, false, _&&_}
 use Prim.Native.Nat.{ℕ, _+_, _*_, _≤_, _<_}
 use native.Mathlib.Omega.{arith}
 use mathlib.Core.List.{List}

@@ -1,14 +1,15 @@
 -- Rows that are taken out of a set can be marked again, and then the set is as it was. Assumes nothing.
-use mathlib.Core.Path.{_≡_, refl, sym, ap, _∙_}
-use mathlib.Core.Bool.{Bool, true, false, not, _&&_, _||_, and-false}
+use mathlib.Core.Path.{_≡_}
+use mathlib.Core.Bool.{Bool, true, false, _||_}
 use Prim.Native.Nat.{ℕ, _*_, _<_}
 use mathlib.Core.List.{List}
 use lib.ListN.{length}
 use Rattle.lists.specs.Lists.{member}
 use Rattle.lists.specs.Ascends.{All, Ascends}
 use Rattle.lists.proofs.All.{all-mem, all-of}
-use Rattle.lists.proofs.Members.{member-mem, mem-member}
 use Rattle.tree_tests.specs.InTurn.{without}
+use Rattle.tree_tests.proofs.Sets as sets
+use Rattle.tree_tests.proofs.Sets.{without-mem}
 use Rattle.marks.specs.Bits.{bitAt, Marked}
 use Rattle.marks.proofs.Marks.{marked-same, unmarked-bit}
 use Rattle.file_rows.specs.Markable.{Markable}
@@ -25,14 +26,8 @@ module _ (rows : List ℕ) {ws : List ℕ} (ascends : Ascends rows) (within : Al
 
   -- and those that are taken out of it are not
   pub taken-markable : (q : ℕ → Bool) → Marked ws (without rows q) → Markable rows ws
-  taken-markable q m = markable m (all-of (λ x. without rows q x ≡ false) rows (λ x i. ap (λ (b : Bool). q x && not b) (mem-member rows x i) ∙ and-false (q x)))
+  taken-markable q m = markable m (all-of (λ x. without rows q x ≡ false) rows (without-mem rows q))
 
 -- the set without its rows, and with them again
 pub put-back : (rows : List ℕ) (q : ℕ → Bool) {ws : List ℕ} → All (λ x. q x ≡ true) rows → Marked ws (λ x. without rows q x || member x rows) → Marked ws q
-put-back rows q all m = marked-same m q (λ x. again (q x) (member x rows) (λ e. all-mem (λ y. q y ≡ true) rows all x (member-mem rows x e)))
-  where
-    again : (b c : Bool) → (c ≡ true → b ≡ true) → (b && not c) || c ≡ b
-    again true true f = refl
-    again true false f = refl
-    again false true f = sym (f refl)
-    again false false f = refl
+put-back rows q all m = marked-same m q (sets.put-back rows q (all-mem (λ y. q y ≡ true) rows all))

@@ -33,11 +33,11 @@ use Rattle.definition.proofs.Steps.{fineLeaf}
 use Rattle.definition_laws.proofs.Shape.{leaves-most}
 use Rattle.queue.specs.Rows.{withOwn}
 use Rattle.rows.proofs.Good.{good-good}
-use Rattle.packed.specs.Reading.{ownAt, readOwn}
+use Rattle.packed.specs.Reading.{ownAt, readOwn, ownIn}
 use Rattle.overlap_owners.specs.Own.{SharedOut, Leaves}
 use Rattle.overlaps.specs.Borrowed.{borrowedLists, withBorrowed, Stage}
 use Rattle.coarse_points.specs.Sent.{sentRows, SendsUp}
-use Rattle.fine_level.specs.Fine.{leavesAt, nextAt, ownIn, Given}
+use Rattle.fine_level.specs.Fine.{leavesAt, nextAt, Given}
 use Rattle.fine_level.proofs.Columns.{own-length, own-names, own-read, keeps-start, keeps-count, both-columns}
 use Rattle.overlaps.proofs.Columns.{columns-length}
 

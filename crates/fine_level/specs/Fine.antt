@@ -18,16 +18,6 @@ leavesAt d cs leaf neighbours active = fineLevel d cs neighbours active (leavesO
 abbrev pub nextAt : ℕ → List Float → ℕ → ℕ → List ℕ → List ℕ
 nextAt d cs leaf size active = nextActive active (sentLists d cs (leavesOf d cs leaf active) size)
 
--- the rows, borrowed rows and boxes of leaves, leaf by leaf
-abbrev pub ownIn : List Leaf → List ℕ
-ownIn fs = joined (map (λ f. f .own) fs)
-
-abbrev pub borrowedIn : List Leaf → List ℕ
-borrowedIn fs = joined (map (λ f. f .borrowed) fs)
-
-abbrev pub boxesIn : List Leaf → List Float
-boxesIn fs = joined (map (λ f. f .box) fs)
-
 -- what a level is built from: a few axes, a leaf threshold, a few neighbours, and some good active rows
 pub record Given (d : ℕ) (cs : List Float) (leaf neighbours : ℕ) (active : List ℕ) : Type 0 where
   pub axes : 1 ≤ d

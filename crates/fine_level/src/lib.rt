@@ -4,7 +4,8 @@ ghost use Prim.Native.Nat.{_+_, _*_, _≤_};
 ghost use lib.ListN.{length};
 ghost use Rattle.lists.specs.Lists.{put};
 ghost use Rattle.definition.specs.Packed.{stretches, rowNumbers, rowFloats};
-ghost use Rattle.fine_level.specs.Fine.{nextAt, ownIn, borrowedIn, boxesIn, Room};
+ghost use Rattle.packed.specs.Reading.{ownIn, borrowedIn, boxesIn};
+ghost use Rattle.fine_level.specs.Fine.{nextAt, Room};
 ghost use Rattle.fine_level.specs.Planned.{leavesBy, activeAt, GivenBy, FitsAt};
 
 // What every level of a build shares: the axes, the leaf threshold and the neighbour count.

@@ -32,9 +32,10 @@ use Rattle.definition.proofs.Sizes.{sized}
 use Rattle.definition.proofs.Fairness.{fair}
 use Rattle.rows.specs.Rows.{GoodRows}
 use Rattle.rows.proofs.Good.{good-good, good-keep}
-use Rattle.fine_level.specs.Fine.{leavesAt, nextAt, ownIn, borrowedIn, boxesIn, Given}
+use Rattle.packed.specs.Reading.{ownIn, borrowedIn, boxesIn}
+use Rattle.packed.proofs.Packing.{points-cons}
+use Rattle.fine_level.specs.Fine.{leavesAt, nextAt, Given}
 use Rattle.fine_level.proofs.Stages.{level-own, level-box, level-number, number-most, own-whole}
-use Rattle.levels_loop.proofs.Packing.{points-cons}
 
 next-good : {d : ℕ} {cs : List Float} (active : List ℕ) (sent : List (List ℕ)) → GoodRows d cs active → GoodRows d cs (nextActive active sent)
 unfolding nextActive

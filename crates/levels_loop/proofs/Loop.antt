@@ -23,10 +23,11 @@ use Rattle.definition.specs.Points.{boxWidth}
 use Rattle.definition.specs.Packed.{rowNumbers, rowFloats, leavesIn, packedLevelPoints, packedInternals, packedDomains, packedBoxes, packedBorrowed, stretches}
 use Rattle.definition.proofs.Steps.{fineOf, nextOf}
 use Rattle.definition_laws.proofs.Fit.{length-stretches}
-use Rattle.fine_level.specs.Fine.{leavesAt, nextAt, ownIn, borrowedIn, boxesIn, Given, Fits, Room}
+use Rattle.packed.specs.Reading.{ownIn, borrowedIn, boxesIn}
+use Rattle.packed.proofs.Packing.{points-more, own-more, borrowed-more, boxes-more, rows-more}
+use Rattle.fine_level.specs.Fine.{leavesAt, nextAt, Given, Fits, Room}
 use Rattle.levels_loop.specs.After.{levelSettings, levelsAfter, Space}
 use Rattle.levels_loop.proofs.Spaces.{coarse-fits, fine-fits, fine-level-points, fine-room, space-next}
-use Rattle.levels_loop.proofs.Packing.{points-more, own-more, borrowed-more, boxes-more, rows-more}
 use Rattle.levels_loop.proofs.Fine.{leaves-few, own-all, borrowed-few, boxes-all, next-many, next-given, size-small, after-coarse, after-fine, first-points, counts-more, fine-rows}
 use Rattle.levels_loop.proofs.Coarse.{coarse-points, coarse-own, coarse-borrowed, coarse-boxes, coarse-rows, coarse-row-count, coarse-domain-count}
 

@@ -1,13 +1,13 @@
 -- What holds of each element of a list: of two lists together, by index, by membership, of what is kept. Assumes nothing.
 -- Holds: all-append, all-left, all-right, all-keep, all-take, all-drop, all-at, all-by-index, all-mem, all-of, mem-by-index,
---   all-joined, joined-all, all-imp, all-map
+--   all-joined, joined-all, all-imp, all-map, map-all, all-replicate
 use mathlib.Core.Path.{refl, sym, subst}
 use Prim.Native.Nat.{ℕ, zero, suc, _<_}
 use native.Mathlib.Nat.{not-suc-le-zero, le-of-suc-le-suc}
 use native.Mathlib.Omega.{arith}
 use mathlib.Core.Bool.{Bool, true, false}
 use mathlib.Core.List.{List, [], _∷_, _++_, map, List·Memᴰ, List·Memᴰ·head, List·Memᴰ·tail}
-use lib.ListN.{length, getD, take, drop}
+use lib.ListN.{length, getD, take, drop, replicate}
 use Rattle.lists.specs.Lists.{consIf, keep, joined}
 use Rattle.lists.specs.Ascends.{All}
 
@@ -99,3 +99,14 @@ pub all-map : {A B : Type 0} (P : B → Type 0) (f : A → B) (l : List A) → A
 unfolding All
 all-map P f [] h = tt
 all-map P f (x ∷ l) h = (h .0, all-map P f l (h .1))
+
+pub map-all : {A B : Type 0} (P : B → Type 0) (f : A → B) (l : List A) → All P (map f l) → All (λ x. P (f x)) l
+unfolding All
+map-all P f [] h = tt
+map-all P f (x ∷ l) h = (h .0, map-all P f l (h .1))
+
+-- ---- each element of a list of one value
+pub all-replicate : {A : Type 0} (P : A → Type 0) (n : ℕ) (x : A) → P x → All P (replicate n x)
+unfolding All
+all-replicate P zero x h = tt
+all-replicate P (suc n) x h = (h, all-replicate P n x h)

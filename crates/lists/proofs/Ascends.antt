@@ -1,9 +1,9 @@
 -- Strictly ascending lists: of what is kept, of stretches, by index, and that its members make such a list. Assumes nothing.
 -- Holds: ascends-keep, ascends-from, ascends-append, ascends-map, ascends-at, ascends-by-index, ascends-same, ascends-unique,
---   ascends-unique-count, ascends-once, once-ascends, ascends-differ
-use mathlib.Core.Path.{_≡_, refl, sym, _∙_}
+--   ascends-unique-count, ascends-once, once-ascends, ascends-differ, ascends-few, ascends-full
+use mathlib.Core.Path.{_≡_, refl, sym, ap₂, subst, _∙_}
 use mathlib.Core.Logic.{_⊎_, inl, inr, ⊎-elim}
-use Prim.Native.Nat.{ℕ, zero, suc, _≤_, _<_}
+use Prim.Native.Nat.{ℕ, zero, suc, _+_, _≤_, _<_}
 use native.Mathlib.Omega.{arith}
 use native.Mathlib.Nat.{not-suc-le-zero}
 use mathlib.Core.Bool.{Bool, true, false}
@@ -14,9 +14,9 @@ use Rattle.lists.specs.Lists.{consIf, keep, from}
 use Rattle.lists.specs.Ascends.{All, Ascends}
 use Rattle.lists.proofs.All.{all-append, all-keep, all-at, all-by-index, all-mem, all-of}
 use Rattle.lists.proofs.Members.{map-mem}
-use Rattle.lists.proofs.From.{from-mem}
+use Rattle.lists.proofs.From.{from-mem, mem-from, length-from}
 use Rattle.lists.specs.Times.{times, Once}
-use Rattle.lists.proofs.Times.{times-nil, times-one, times-other, mem-times, times-mem, once-differ}
+use Rattle.lists.proofs.Times.{times-nil, times-one, times-other, mem-times, times-mem, once-short, once-differ}
 use Rattle.lists.proofs.Tests.{same-or}
 
 -- ---- what is kept, stretches, and the numbers from a on
@@ -126,3 +126,31 @@ once-ascends l o s = ascends-by-index l (λ i j h g. less (s i j h g) (once-diff
 -- ---- ascending numbers at two places differ
 pub ascends-differ : (l : List ℕ) (a b : ℕ) → Ascends l → a < length l → b < length l → (a ≡ b → ⊥) → getD l a 0 ≡ getD l b 0 → ⊥
 ascends-differ l a b s h k n e = n (ascends-same l a b s h k e)
+
+-- ---- numbers below n are no more than n; those from a on and below a + n are all of them where they are n
+pub ascends-few : (n : ℕ) (l : List ℕ) → Ascends l → All (λ x. x < n) l → length l ≤ n
+ascends-few n l up h = omega (arith, once-short (from 0 n) l (ascends-once (from 0 n) (ascends-from 0 n)) within, length-from 0 n)
+  where
+    within : (r : ℕ) → times r l ≤ times r (from 0 n)
+    within r = elim (decLt 0 (times r l)) [
+      | yes m ↦
+          let below = all-mem (λ x. x < n) l h r (times-mem l r m) in
+          omega (arith, ascends-once l up r, mem-times (from 0 n) r (mem-from 0 n (omega arith) (omega (arith, below))))
+      | no k ↦ omega arith
+    ]
+
+lowest : (a x n : ℕ) → a ≤ x → x < a + suc n → All (λ y. x < y) (from (suc a) n) → x ≡ a
+unfolding from All
+lowest a x zero h g k = omega arith
+lowest a x (suc n) h g k = omega (arith, k .0)
+
+pub ascends-full : (a n : ℕ) (xs : List ℕ) → Ascends xs → ((x : ℕ) → List·Memᴰ x xs → (a ≤ x) × (x < a + n)) → length xs ≡ n → xs ≡ from a n
+unfolding from Ascends
+ascends-full a zero [] up h e = refl
+ascends-full a zero (x ∷ xs) up h e = absurd (omega arith)
+ascends-full a (suc n) [] up h e = absurd (omega arith)
+ascends-full a (suc n) (x ∷ xs) up h e =
+    let b = h x (List·Memᴰ·head refl) in
+    let t : xs ≡ from (suc a) n = ascends-full (suc a) n xs (up .1) (λ y m. omega (arith, b, all-mem (λ z. x < z) xs (up .0) y m, h y (List·Memᴰ·tail m))) (omega arith) in
+    let z : x ≡ a = lowest a x n (b .0) (b .1) (subst (λ (l : List ℕ). All (λ y. x < y) l) t (up .0)) in
+    ap₂ (λ (y : ℕ) (ys : List ℕ). y ∷ ys) z t

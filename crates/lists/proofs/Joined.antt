@@ -1,6 +1,7 @@
 -- Lists one after the other: their length and counts, one more list, and each list found again as a stretch. Assumes nothing.
--- Holds: joined-nil, joined-cons, joined-one, joined-append, joined-snoc, length-joined, count-joined, joined-at, joined-fits,
---   getD-joined, even-lengths, joined-even, joined-map-append, joined-map-snoc, joined-map-more, two-lists, sum-joined
+-- Holds: joined-nil, joined-cons, joined-one, joined-two, joined-append, joined-snoc, length-joined, count-joined, joined-at,
+--   joined-fits, getD-joined, even-lengths, joined-even, joined-map-append, joined-map-snoc, joined-map-more, joined-map-even,
+--   parts-front, two-lists, sum-joined
 use mathlib.Core.Path.{_≡_, refl, sym, ap, _∙_}
 use Prim.Native.Nat.{ℕ, zero, suc, _+_, _*_, _≤_, _<_}
 use native.Mathlib.Nat.{zero-add, add-assoc, mul-suc, not-suc-le-zero, mul-zero}
@@ -8,16 +9,18 @@ use native.Mathlib.Numerals.{add-one}
 use native.Mathlib.Omega.{arith}
 use mathlib.Core.Bool.{Bool}
 use mathlib.Core.List.{List, [], _∷_, _++_, map, map-append, append-assoc, append-nil, List·Memᴰ}
-use lib.ListN.{length, getD, take, length-append, List·getD-append}
-use lib.Seq.{take-at, take-suc, drop-append-add, getD-append-add}
+use lib.ListN.{length, getD, take, length-append, length-map, List·getD-append}
+use lib.Seq.{take-at, take-add, take-suc, drop-append-add, getD-append-add}
 use lib.Dec.{eqb}
-use Rattle.lists.specs.Lists.{count, total, joined, part}
+use Rattle.lists.specs.Lists.{count, total, from, joined, part}
 use Rattle.lists.specs.Ascends.{All}
+use Rattle.lists.proofs.All.{all-map, all-of}
 use Rattle.lists.proofs.Count.{count-append}
 use Rattle.lists.proofs.Members.{mem-at, mem-joined}
 use Rattle.lists.specs.Times.{times}
 use Rattle.lists.proofs.Times.{mem-times}
 use Rattle.lists.proofs.Sums.{sum-append}
+use Rattle.lists.proofs.From.{below-snoc}
 
 module _ {A : Type 0} where
   -- ---- list by list
@@ -32,6 +35,10 @@ module _ {A : Type 0} where
   pub joined-one : (l : List A) → joined (l ∷ []) ≡ l
   unfolding joined
   joined-one l = append-nil l
+
+  pub joined-two : (xs ys : List A) → xs ++ ys ≡ joined (xs ∷ ys ∷ [])
+  unfolding joined
+  joined-two xs ys = rw (append-nil ys)
 
   pub joined-append : (xs ys : List (List A)) → joined (xs ++ ys) ≡ joined xs ++ joined ys
   unfolding joined
@@ -101,6 +108,20 @@ module _ {A B : Type 0} (f : A → List B) where
   -- the same with the code's i + 1
   pub joined-map-more : (xs : List A) (i : ℕ) (d : A) → i < length xs → joined (map f (take (i + 1) xs)) ≡ joined (map f (take i xs)) ++ f (getD xs i d)
   joined-map-more xs i d h = rw (add-one i, take-suc xs i d h) (joined-map-snoc (take i xs) (getD xs i d))
+
+-- each of one length
+pub joined-map-even : {A B : Type 0} (f : A → List B) (w : ℕ) → ((x : A) → length (f x) ≡ w) → (xs : List A) → length (joined (map f xs)) ≡ w * length xs
+joined-map-even f w even xs =
+    joined-even w (map f xs) (all-map (λ l. length l ≡ w) f xs (all-of (λ x. length (f x) ≡ w) xs (λ x m. even x))) ∙ ap (λ (n : ℕ). w * n) (length-map xs f)
+
+-- stretches of one length are the list's front
+pub parts-front : {A : Type 0} (l : List A) (w n : ℕ) → joined (map (λ j. part l (w * j) w) (from 0 n)) ≡ take (w * n) l
+unfolding joined from part
+parts-front l w zero = ap (λ (k : ℕ). take k l) (sym (mul-zero w))
+parts-front l w (suc n) =
+    ap (λ (js : List ℕ). joined (map (λ j. part l (w * j) w) js)) (below-snoc n) ∙ joined-map-snoc (λ j. part l (w * j) w) (from 0 n) n
+    ∙ ap (λ (r : List _). r ++ part l (w * n) w) (parts-front l w n)
+    ∙ sym (take-add (w * n) w l) ∙ ap (λ (k : ℕ). take k l) (sym (mul-suc w n))
 
 -- ---- a number in two of the lists stands twice in the whole
 pub two-lists : (z : ℕ) (ls : List (List ℕ)) (j k : ℕ) → j < k → k < length ls → List·Memᴰ z (getD ls j []) → List·Memᴰ z (getD ls k []) → 2 ≤ times z (joined ls)

@@ -1,20 +1,21 @@
 -- Membership as a test and as a fact; members of two lists together, of `keep`, `map`, `joined` and stretches. Assumes nothing.
--- Holds: mem-left, mem-right, mem-at, mem-index, any-mem, mem-any, none-any, any-append, keep-mem, mem-keep, keep-at, joined-mem,
---   mem-joined, mem-map, map-mem, member-mem, mem-member, member-cons, not-member, member-not, split-at, each-before,
---   each-behind, member-snoc, member-last, member-other
+-- Holds: mem-left, mem-right, mem-at, mem-index, any-mem, mem-any, none-any, none-passes, any-append, keep-mem, mem-keep,
+--   keep-at, joined-mem, mem-joined, mem-map, map-mem, member-mem, mem-member, member-nil, member-cons, not-member, member-not,
+--   split-at, each-before, each-behind, member-snoc, member-last, member-other, member-more, member-keep
 use mathlib.Core.Path.{_≡_, refl, sym, ap, subst, _∙_}
 use mathlib.Core.Logic.{⊎-elim}
 use Prim.Native.Nat.{ℕ, zero, suc, _+_, _<_}
 use native.Mathlib.Omega.{arith}
 use native.Mathlib.Nat.{not-suc-le-zero}
-use mathlib.Core.Bool.{Bool, true, false, _||_, true≢false}
+use native.Mathlib.Numerals.{add-one}
+use mathlib.Core.Bool.{Bool, true, false, _&&_, _||_, true≢false}
 use mathlib.Core.List.{List, [], _∷_, _++_, map, List·Memᴰ, List·Memᴰ·head, List·Memᴰ·tail, List·Memᴰ·not-nil, List·Memᴰ·cases-cons, List·Memᴰ·append-cases}
 use lib.ListN.{length, getD, take, drop, take-append-drop, length-take, length-drop}
 use lib.Dec.{eqb}
-use lib.Seq.{drop-cons, getD-take, getD-drop}
+use lib.Seq.{take-suc, drop-cons, getD-take, getD-drop}
 use borrow.Author.Tests.{eqb-true, eq-eqb, ne-eqb}
 use Rattle.lists.specs.Lists.{consIf, keep, anyOf, member, joined}
-use Rattle.lists.proofs.Tests.{clash, or-cases, or-left, or-right, or-assoc, fails, or-false, or-true}
+use Rattle.lists.proofs.Tests.{clash, and-of, and-fst, and-snd, or-cases, or-left, or-right, or-assoc, fails, or-false, or-true, same-test, eqb-comm}
 
 module _ {A : Type 0} where
   -- ---- two lists together
@@ -49,6 +50,9 @@ module _ {A : Type 0} where
 
   pub none-any : (p : A → Bool) (l : List A) {x : A} → anyOf p l ≡ false → List·Memᴰ x l → p x ≡ false
   none-any p l {x} h m = fails (p x) (λ e. clash (mem-any p l m e) h)
+
+  pub none-passes : (p : A → Bool) (l : List A) → ((x : A) → List·Memᴰ x l → p x ≡ false) → anyOf p l ≡ false
+  none-passes p l h = fails (anyOf p l) (λ e. let r = any-mem p l e in clash (r .2) (h (r .0) (r .1)))
 
   pub any-append : (p : A → Bool) (xs ys : List A) → anyOf p (xs ++ ys) ≡ anyOf p xs || anyOf p ys
   unfolding anyOf
@@ -111,6 +115,10 @@ pub mem-member : (l : List ℕ) (z : ℕ) → List·Memᴰ z l → member z l �
 unfolding member
 mem-member l z m = mem-any (λ x. eqb x z) l m (eq-eqb z z refl)
 
+pub member-nil : (z : ℕ) → member z [] ≡ false
+unfolding member anyOf
+member-nil z = refl
+
 pub member-cons : (z x : ℕ) (xs : List ℕ) → member z (x ∷ xs) ≡ eqb x z || member z xs
 unfolding member anyOf
 member-cons z x xs = refl
@@ -148,3 +156,14 @@ member-last xs x = member-snoc x xs x ∙ rw (eq-eqb x x refl) (or-true (member 
 
 pub member-other : (z : ℕ) (xs : List ℕ) (x : ℕ) → (x ≡ z → ⊥) → member z (xs ++ x ∷ []) ≡ member z xs
 member-other z xs x n = member-snoc z xs x ∙ rw (ne-eqb x z n) (or-false (member z xs))
+
+-- the first elements, and one more
+pub member-more : (l : List ℕ) (i x : ℕ) → i < length l → x ≡ getD l i 0 → (z : ℕ) → member z (take (i + 1) l) ≡ member z (take i l) || eqb z x
+member-more l i x h e z = rw (add-one i, take-suc l i 0 h, ← e, eqb-comm z x) (member-snoc z (take i l) x)
+
+-- ---- a member of what is kept
+pub member-keep : (p : ℕ → Bool) (l : List ℕ) (z : ℕ) → member z (keep p l) ≡ member z l && p z
+member-keep p l z =
+    same-test (member z (keep p l)) (member z l && p z)
+    (λ h. let r = keep-mem p l (member-mem (keep p l) z h) in and-of (mem-member l z (r .0)) (r .1))
+    (λ h. mem-member (keep p l) z (mem-keep p l (member-mem l z (and-fst (member z l) (p z) h)) (and-snd (member z l) (p z) h)))

@@ -1,6 +1,6 @@
 -- Tests that pass or fail, and what follows from two of them. Assumes nothing.
--- Holds: clash, true-or-false, and-of, and-fst, and-snd, and-true, or-cases, or-none, or-left, or-right, or-assoc, or-false,
---   or-true, same-test, fails, cond-true, cond-false, eqb-comm, same-or, le-or-lt
+-- Holds: clash, true-or-false, and-of, and-fst, and-snd, and-true, both-pass, three-pass, four-pass, five-pass, or-cases,
+--   or-none, or-left, or-right, or-assoc, or-false, or-true, same-test, fails, cond-true, cond-false, eqb-comm, same-or, le-or-lt
 use mathlib.Core.Path.{_≡_, refl, sym, _∙_}
 use mathlib.Core.Logic.{_⊎_, inl, inr, ⊎-elim}
 use mathlib.Core.Bool.{Bool, true, false, _&&_, _||_, cond, true≢false}
@@ -32,6 +32,19 @@ and-snd false c h = absurd (true≢false (sym h))
 pub and-true : (b : Bool) → b && true ≡ b
 and-true true = refl
 and-true false = refl
+
+-- several
+pub both-pass : {b c : Bool} → b && c ≡ true → (b ≡ true) × (c ≡ true)
+both-pass {b} {c} h = (and-fst b c h, and-snd b c h)
+
+pub three-pass : (a b c : Bool) → a && b && c ≡ true → (a ≡ true) × (b ≡ true) × (c ≡ true)
+three-pass a b c h = let g = and-fst (a && b) c h in (and-fst a b g, and-snd a b g, and-snd (a && b) c h)
+
+pub four-pass : (a b c d : Bool) → a && b && c && d ≡ true → (a ≡ true) × (b ≡ true) × (c ≡ true) × (d ≡ true)
+four-pass a b c d h = let g = three-pass a b c (and-fst (a && b && c) d h) in (g .0, g .1, g .2, and-snd (a && b && c) d h)
+
+pub five-pass : (a b c d e : Bool) → a && b && c && d && e ≡ true → (a ≡ true) × (b ≡ true) × (c ≡ true) × (d ≡ true) × (e ≡ true)
+five-pass a b c d e h = let g = four-pass a b c d (and-fst (a && b && c && d) e h) in (g .0, g .1, g .2, g .3, and-snd (a && b && c && d) e h)
 
 pub or-cases : (b c : Bool) → b || c ≡ true → (b ≡ true) ⊎ (c ≡ true)
 or-cases true c h = inl refl

@@ -1,7 +1,8 @@
 -- How often a number stands in a list, and lists without repeats. Assumes nothing.
--- Holds: times-nil, times-one, times-other, times-cons, times-append, mem-times, times-mem, member-some, member-none, from-times,
---   to-times, times-keep-in, times-keep-out, times-keep-le, once-tail, once-head, once-keep, members-count, others-count,
---   members-length, members-times, once-short, once-length, members-few, member-zero, times-more, once-differ
+-- Holds: times-nil, times-one, times-other, times-cons, times-append, mem-times, times-mem, member-some, member-times,
+--   member-none, from-times, to-times, times-keep-in, times-keep-out, times-keep-le, once-tail, once-head, once-keep,
+--   members-count, others-count, members-length, members-times, once-short, once-length, members-few, member-zero, times-more,
+--   once-differ
 use mathlib.Core.Path.{_≡_, refl, sym, ap, _∙_, subst}
 use mathlib.Core.Bool.{Bool, true, false, not, _||_}
 use mathlib.Core.List.{List, [], _∷_, _++_, List·Memᴰ, List·Memᴰ·head, List·Memᴰ·tail}
@@ -18,7 +19,7 @@ use Rattle.lists.specs.Times.{times, Once}
 use Rattle.lists.proofs.Tests.{clash, eqb-comm}
 use Rattle.lists.proofs.All.{all-of, all-mem}
 use Rattle.lists.proofs.Count.{count-append, count-none, count-or, count-same, count-not, count-len, length-keep, count-or-le, count-halves}
-use Rattle.lists.proofs.Members.{mem-member, not-member, member-cons, none-any, mem-at}
+use Rattle.lists.proofs.Members.{member-mem, mem-member, not-member, member-cons, none-any, mem-at}
 
 -- ---- element by element
 pub times-nil : (r : ℕ) → times r [] ≡ 0
@@ -54,6 +55,9 @@ times-mem (x ∷ l) z h = elim (ℕ-discrete x z) [
 
 pub member-some : (r : ℕ) (xs : List ℕ) → 0 < times r xs → member r xs ≡ true
 member-some r xs h = mem-member xs r (times-mem xs r h)
+
+pub member-times : (r : ℕ) (xs : List ℕ) → member r xs ≡ true → 0 < times r xs
+member-times r xs h = mem-times xs r (member-mem xs r h)
 
 pub member-none : (r : ℕ) (xs : List ℕ) → times r xs ≡ 0 → member r xs ≡ false
 member-none r xs h = not-member xs r (λ m. omega (arith, mem-times xs r m))

@@ -21,7 +21,7 @@ use Rattle.formats.specs.Bytes.{whole, floatsAt}
 use Rattle.stored.specs.File.{domainMark}
 use Rattle.stored.specs.Stored.{boundsPlace, leafIn, leafSize, leavesAt, afterLeaves, secondCount, oneDomain, domainsPlace, levelIn, afterLevel, levelsAt}
 use Rattle.tree_tests.specs.Whole.{leavesWhole, levelWhole, levelsWhole}
-use Rattle.load_lists.proofs.Domain.{length-floats}
+use Rattle.bytes_in.proofs.Fields.{length-floats-at}
 use Rattle.load_lists.proofs.Writing.{Wide, wide-append}
 
 -- ---- domains in bytes
@@ -32,7 +32,7 @@ module _ (d : ℕ) (coarse : Bool) where
     where
       go : (b : Bool) → length (cond b (replicate (boxWidth d) plusZero) (floatsAt (boxWidth d) (boundsPlace bs) bs)) ≡ boxWidth d
       go true = length-replicate (boxWidth d) plusZero
-      go false = length-floats (boxWidth d) (boundsPlace bs) bs
+      go false = length-floats-at (boxWidth d) (boundsPlace bs) bs
 
   pub one-wide : (bs : List ℕ) → Wide d (leafIn d coarse bs ∷ [])
   one-wide bs = ap length (joined-one (leafIn d coarse bs .box)) ∙ box-wide bs ∙ omega arith

@@ -1,57 +1,30 @@
 -- A whole domain record that is fetched at a place of a file: what stands in it, and where. Assumes nothing.
--- Holds: length-numbers, length-floats, numbers-here, floats-here, Found, found, own-fits, borrowed-fits, box-fits,
---   domain-written
+-- Holds: Found, found, own-fits, borrowed-fits, box-fits, domain-written
 use mathlib.Core.Path.{_≡_, refl, sym, ap, _∙_}
 use mathlib.Core.Bool.{Bool, true, cond}
 use mathlib.Core.List.{List, [], _∷_}
 use Prim.Native.Nat.{ℕ, _+_, _*_, _≤_}
 use native.Mathlib.Omega.{arith}
-use native.Mathlib.Nat.{add-assoc, mul-add}
-use lib.ListN.{length, drop, replicate}
-use lib.Seq.{drop-drop}
-use lib.Ieee.{Float, binary64, ofBits}
+use native.Mathlib.Nat.{mul-add}
+use lib.ListN.{length, replicate}
+use lib.Ieee.{Float}
 use Rattle.lists.specs.Lists.{put}
 use Rattle.lists.proofs.Joined.{joined-one}
-use Rattle.lists.proofs.From.{length-map-from, map-below-same}
 use Rattle.definition.specs.Number.{plusZero}
 use Rattle.definition.specs.Points.{boxWidth}
 use Rattle.definition.specs.Tree.{Leaf}
 use Rattle.definition.specs.Packed.{rowFloats, stretches}
 use Rattle.packed.specs.Reading.{Packed, packed}
 use Rattle.packed.specs.Rows.{putRow}
-use Rattle.formats.specs.Bytes.{little, numberSize, numberAt, numbersAt, floatSize, floatAt, floatsAt, whole}
+use Rattle.formats.specs.Bytes.{numberSize, numbersAt, floatsAt, whole}
 use Rattle.stored.specs.File.{domainMark}
 use Rattle.stored.specs.Stored.{leafIn, leafSize}
 use Rattle.file_reader.specs.declared.Fetched.{Fetched}
 use Rattle.file_reader.specs.Fetch.{IsFetched}
-use Rattle.file_reader.proofs.Fetches.{number-here, parts-within}
+use Rattle.file_reader.proofs.Fetches.{parts-within}
 use Rattle.load_lists.specs.Places.{ahead, domainAt, boxBytes, Room, Written}
 use Rattle.load_lists.specs.declared.Cursor.{Cursor}
-
--- ---- numbers and floats of a record, read in the file
-pub length-numbers : (n at : ℕ) (bs : List ℕ) → length (numbersAt n at bs) ≡ n
-unfolding numbersAt
-length-numbers n at bs = length-map-from (λ i. numberAt (at + numberSize * i) bs) 0 n
-
-pub length-floats : (n at : ℕ) (bs : List ℕ) → length (floatsAt n at bs) ≡ n
-unfolding floatsAt
-length-floats n at bs = length-map-from (λ i. floatAt (at + floatSize * i) bs) 0 n
-
-module _ (at : ℕ) (file : List ℕ) where
-  pub numbers-here : (n k : ℕ) → numbersAt n (at + k) file ≡ numbersAt n k (drop at file)
-  unfolding numbersAt
-  numbers-here n k =
-      map-below-same (λ i. numberAt (at + k + numberSize * i) file) (λ i. numberAt (k + numberSize * i) (drop at file)) n
-      (λ i h. ap (λ (z : ℕ). numberAt z file) (add-assoc at k (numberSize * i)) ∙ number-here at file (k + numberSize * i))
-
-  float-here : (k : ℕ) → floatAt (at + k) file ≡ floatAt k (drop at file)
-  float-here k = ap (λ (l : List ℕ). ofBits binary64 (little floatSize l)) (sym (drop-drop k at file))
-
-  pub floats-here : (n k : ℕ) → floatsAt n (at + k) file ≡ floatsAt n k (drop at file)
-  unfolding floatsAt
-  floats-here n k =
-      map-below-same (λ i. floatAt (at + k + floatSize * i) file) (λ i. floatAt (k + floatSize * i) (drop at file)) n
-      (λ i h. ap (λ (z : ℕ). floatAt z file) (add-assoc at k (floatSize * i)) ∙ float-here (k + floatSize * i))
+use Rattle.bytes_in.proofs.Fields.{length-numbers-at, numbers-here, floats-here}
 
 -- ---- the domain at a cursor
 pub record Found (d : ℕ) (coarse : Bool) (file : List ℕ) (c : Cursor) (r : Fetched) : Type 0 where
@@ -77,8 +50,8 @@ found d coarse file c tail r t f w =
       own = rw (p .own, p .own-at) (numbers-here (c .at) file _ _);
       borrowed = rw (p .borrowed, p .borrowed-at) (numbers-here (c .at) file _ _);
       box = rw (p .bounds-at) (ap (cond coarse (replicate (boxWidth d) plusZero)) (floats-here (c .at) file (boxWidth d) _));
-      own-many = p .own ∙ sym (length-numbers _ _ bs);
-      borrowed-many = p .borrowed ∙ sym (length-numbers _ _ bs);
+      own-many = p .own ∙ sym (length-numbers-at _ _ bs);
+      borrowed-many = p .borrowed ∙ sym (length-numbers-at _ _ bs);
       next = p .next ∙ rw t (omega arith);
       own-within = omega arith;
       borrowed-within = omega arith;

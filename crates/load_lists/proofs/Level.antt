@@ -18,7 +18,7 @@ use Rattle.tree_tests.specs.Whole.{leavesWhole, levelWhole}
 use Rattle.file_reader.proofs.Fetches.{number-here}
 use Rattle.load_lists.specs.declared.Cursor.{Cursor}
 use Rattle.load_lists.specs.Places.{ahead, domainsAt, levelAt, Room, Written}
-use Rattle.load_lists.proofs.Domain.{length-numbers, numbers-here}
+use Rattle.bytes_in.proofs.Fields.{length-numbers-at, numbers-here}
 
 -- before the domains of a level with so many rows
 abbrev pub inside : Cursor → ℕ → Cursor
@@ -54,7 +54,7 @@ module _ (d : ℕ) (file : List ℕ) (c : Cursor) (h : levelWhole d (ahead c fil
 
     pub rows-many : rows ≡ length (levelAt d c file .points)
     unfolding levelIn
-    rows-many = rows-first ∙ sym (length-numbers (firstCount here) countsSize here)
+    rows-many = rows-first ∙ sym (length-numbers-at (firstCount here) countsSize here)
 
     pub rows-read : numbersAt rows (c .at + countsSize) file ≡ levelAt d c file .points
     unfolding levelIn

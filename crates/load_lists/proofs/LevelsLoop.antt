@@ -19,9 +19,9 @@ use Rattle.definition.specs.Packed.{rowFloats, mostLevels, leavesIn, packedLeve
 use Rattle.definition_laws.proofs.Fit.{length-domains}
 use Rattle.packed.specs.Reading.{Packed}
 use Rattle.packed.proofs.Counts.{counts-put}
+use Rattle.packed.proofs.Packing.{points-cons}
 use Rattle.stored.specs.Stored.{secondCount, oneDomain, afterLevel, levelsAt}
 use Rattle.tree_tests.specs.Whole.{levelWhole, levelsWhole}
-use Rattle.levels_loop.proofs.Packing.{points-cons}
 use Rattle.load_lists.specs.declared.Cursor.{Cursor}
 use Rattle.load_lists.specs.Places.{ahead, levelAt, Room, Written, treeFrom, CanHold}
 use Rattle.load_lists.proofs.Writing.{Wide, wide-append, written-none, room-front, Long, written-long, room-after, written-append}

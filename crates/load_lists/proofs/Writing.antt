@@ -12,9 +12,8 @@ use Rattle.lists.proofs.Joined.{joined-map-append}
 use Rattle.definition.specs.Tree.{Leaf}
 use Rattle.definition.specs.Packed.{rowNumbers, rowFloats, stretches}
 use Rattle.definition_laws.proofs.Fit.{length-stretches}
-use Rattle.packed.specs.Reading.{Packed}
-use Rattle.fine_level.specs.Fine.{ownIn, borrowedIn, boxesIn}
-use Rattle.levels_loop.proofs.Packing.{stretches-append}
+use Rattle.packed.specs.Reading.{Packed, ownIn, borrowedIn, boxesIn}
+use Rattle.packed.proofs.Packing.{stretches-append}
 use Rattle.load_lists.specs.declared.Cursor.{Cursor}
 use Rattle.load_lists.specs.Places.{Room, Written}
 

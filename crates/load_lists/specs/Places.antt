@@ -8,10 +8,9 @@ use Rattle.lists.specs.Lists.{put}
 use Rattle.definition.specs.Points.{boxWidth}
 use Rattle.definition.specs.Tree.{Leaf, Level}
 use Rattle.definition.specs.Packed.{rowNumbers, rowFloats, mostLevels, stretches, packedLevelPoints, packedInternals, packedDomains, packedBoxes, packedBorrowed}
-use Rattle.packed.specs.Reading.{Packed}
+use Rattle.packed.specs.Reading.{Packed, ownIn, borrowedIn, boxesIn}
 use Rattle.formats.specs.Bytes.{floatSize}
 use Rattle.stored.specs.Stored.{leafIn, leavesAt, levelIn, levelsAt}
-use Rattle.fine_level.specs.Fine.{ownIn, borrowedIn, boxesIn}
 use Rattle.load_lists.specs.declared.Cursor.{Cursor}
 
 -- ---- what stands in a file from the cursor on

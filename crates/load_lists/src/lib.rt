@@ -68,7 +68,7 @@ fn put_box(bytes: &[u8], at: usize, dimensions: usize, coarse: bool, boxes: &mut
 {
     let width = boxes::box_width(dimensions);
     if coarse {
-        coarse_level::put_zeros(boxes, k, width);
+        boxes::put_zeros(boxes, k, width);
     } else {
         bytes_in::read_floats(bytes, at, width, boxes, k);
     }

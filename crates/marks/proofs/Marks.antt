@@ -7,9 +7,9 @@ use mathlib.Core.Bool.{Bool, true, false, not, _&&_, _||_, and-false}
 use Prim.Native.Nat.{ℕ, zero, suc, _+_, _*_, _/_, _%_, _^_, _≤_, _<_}
 use native.Mathlib.Nat.{zero-div, mod-lt}
 use native.Mathlib.Omega.{arith}
-use mathlib.Core.List.{List, [], _∷_}
+use mathlib.Core.List.{List}
 use lib.Dec.{eqb, ltb}
-use lib.ListN.{length, getD, replicate, length-replicate, getD-replicate}
+use lib.ListN.{length, getD, replicate, length-replicate, getD-replicate, List·getD-eq-default}
 use borrow.Author.Tests.{eq-eqb, ne-eqb, lt-ltb, le-ltb}
 use Rattle.lists.specs.Lists.{oneIf}
 use Rattle.lists.proofs.Tests.{clash, le-or-lt, same-or, or-true, or-false, and-true}
@@ -88,12 +88,6 @@ module _ {ws : List ℕ} {p : ℕ → Bool} (m : Marked ws p) where
             let k : 64 * length ws ≤ j = omega (arith, length-unmarking ws i) in
             less-other j (λ e. omega arith) ∙ m .beyond j k
 
--- past a list's end stands the default
-getD-beyond : {A : Type 0} (l : List A) (i : ℕ) (d : A) → length l ≤ i → getD l i d ≡ d
-getD-beyond [] i d h = refl
-getD-beyond (x ∷ l) zero d h = absurd (omega arith)
-getD-beyond (x ∷ l) (suc i) d h = getD-beyond l i d (omega arith)
-
 -- ---- any words mark the rows whose bit is 1
 abbrev pub held : List ℕ → ℕ → Bool
 held ws i = eqb (bitAt ws i) 1
@@ -108,7 +102,7 @@ bits-marked ws = record { bit = λ i h. one-of (bitAt ws i) (mod-lt (getD ws (i 
     one-of (suc (suc b)) h = absurd (omega arith)
 
     past : (i : ℕ) → 64 * length ws ≤ i → held ws i ≡ false
-    past i h = ap (λ (x : ℕ). eqb (x / 2 ^ (i % 64) % 2) 1) (getD-beyond ws (i / 64) 0 (omega arith)) ∙ ap (λ (x : ℕ). eqb (x % 2) 1) (zero-div (2 ^ (i % 64)))
+    past i h = ap (λ (x : ℕ). eqb (x / 2 ^ (i % 64) % 2) 1) (List·getD-eq-default ws 0 (omega arith)) ∙ ap (λ (x : ℕ). eqb (x % 2) 1) (zero-div (2 ^ (i % 64)))
 
 -- and no other set is marked by them
 pub marked-held : {ws : List ℕ} {p : ℕ → Bool} → Marked ws p → (i : ℕ) → held ws i ≡ p i

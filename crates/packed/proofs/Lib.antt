@@ -2,3 +2,5 @@
 pub mod Counts
 pub mod OwnRows
 pub mod Unpacked
+pub mod Packing
+pub mod Standing

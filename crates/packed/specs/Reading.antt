@@ -5,7 +5,7 @@ use mathlib.Core.Path.{_≡_}
 use mathlib.Core.List.{List, map}
 use lib.ListN.{length, getD, take}
 use lib.Ieee.{Float}
-use Rattle.lists.specs.Lists.{total, from, part}
+use Rattle.lists.specs.Lists.{total, from, joined, part}
 use Rattle.definition.specs.Points.{boxWidth}
 use Rattle.definition.specs.Tree.{Leaf, Level}
 use Rattle.definition.specs.Packed.{DomainRow, rowNumbers, rowFloats}
@@ -75,6 +75,16 @@ readLeaf p j =
 -- m leaves from the domain row number j on
 unfoldable pub readLeaves : Packed → ℕ → ℕ → List Leaf
 readLeaves p j m = map (readLeaf p) (from j m)
+
+-- the rows, borrowed rows and boxes of leaves, leaf by leaf
+abbrev pub ownIn : List Leaf → List ℕ
+ownIn fs = joined (map (λ f. f .own) fs)
+
+abbrev pub borrowedIn : List Leaf → List ℕ
+borrowedIn fs = joined (map (λ f. f .borrowed) fs)
+
+abbrev pub boxesIn : List Leaf → List Float
+boxesIn fs = joined (map (λ f. f .box) fs)
 
 -- ---- levels, by the row and domain counts per level
 

@@ -10,8 +10,8 @@ use lib.Ieee.{Float, toBits, binary64}
 use Rattle.lists.specs.Lists.{joined}
 use Rattle.lists.proofs.Joined.{joined-append, joined-map-more}
 use Rattle.formats.specs.Printout.{rowsText, boxText, decimal, hexOnto, ascii}
-use Rattle.print_texts.specs.Wrote.{Wrote, TextRoom}
-use Rattle.print_texts.proofs.Texts.{spelt, room-spelt, room-first, room-next, wrote-then}
+use Rattle.bytes_out.specs.Wrote.{Wrote, RoomFor}
+use Rattle.bytes_out.proofs.Wrote.{spelt, room-spelt, room-first, room-next, wrote-then}
 
 module _ {A : Type 0} (f : A → List ℕ) where
   pub each-none : (xs : List A) → joined (map f (take 0 xs)) ≡ []
@@ -21,19 +21,19 @@ module _ {A : Type 0} (f : A → List ℕ) where
   pub each-all : (xs : List A) (i : ℕ) → length xs ≤ i → joined (map f (take i xs)) ≡ joined (map f xs)
   each-all xs i h = rw (take-all i xs h)
 
-  module _ {l : List ℕ} {at : ℕ} (xs : List A) (h : TextRoom l at (joined (map f xs))) (i : ℕ) where
-    pub each-room : TextRoom l at (joined (map f (take i xs)))
+  module _ {l : List ℕ} {at : ℕ} (xs : List A) (h : RoomFor l at (joined (map f xs))) (i : ℕ) where
+    pub each-room : RoomFor l at (joined (map f (take i xs)))
     each-room =
         let e : joined (map f xs) ≡ joined (map f (take i xs)) ++ joined (map f (drop i xs)) = rw
         (← joined-append (map f (take i xs)) (map f (drop i xs)), ← map-append f (take i xs) (drop i xs), take-append-drop i xs) in
         room-first _ _ (room-spelt e h)
 
-  module _ {l : List ℕ} {at : ℕ} (xs : List A) (h : TextRoom l at (joined (map f xs))) (i : ℕ) (d : A) (g : i < length xs) {r : ℕ} {m : List ℕ}
+  module _ {l : List ℕ} {at : ℕ} (xs : List A) (h : RoomFor l at (joined (map f xs))) (i : ℕ) (d : A) (g : i < length xs) {r : ℕ} {m : List ℕ}
       (w : Wrote l at (joined (map f (take i xs))) r m) where
-    step-room : TextRoom l at (joined (map f (take i xs)) ++ f (getD xs i d))
+    step-room : RoomFor l at (joined (map f (take i xs)) ++ f (getD xs i d))
     step-room = room-spelt (joined-map-more f xs i d g) (each-room xs h (i + 1))
 
-    pub more-room : TextRoom m r (f (getD xs i d))
+    pub more-room : RoomFor m r (f (getD xs i d))
     more-room = room-next _ w step-room
 
     pub each-more : {q : ℕ} {k : List ℕ} → Wrote m r (f (getD xs i d)) q k → Wrote l at (joined (map f (take (i + 1) xs))) q k

@@ -1,5 +1,4 @@
 -- Laws on texts that are written one after the other, and on the texts themselves.
-pub mod Texts
 pub mod Digits
 pub mod Each
 pub mod Writing

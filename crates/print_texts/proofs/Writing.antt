@@ -1,5 +1,5 @@
 -- A text of several parts that the code writes one after the other. Assumes nothing.
--- Holds: Writing, begin, text-room, text-added, finish, two-texts, refusalTexts, refusal-texts
+-- Holds: Writing, begin, text-room, text-added, finish, refusalTexts, refusal-texts
 use mathlib.Core.Path.{_≡_, sym, ap, _∙_}
 use Prim.Native.Nat.{ℕ, _+_}
 use mathlib.Core.List.{List, [], _∷_, _++_, append-assoc, append-nil}
@@ -10,15 +10,16 @@ use lib.Seq.{take-suc, take-length}
 use Rattle.lists.proofs.Joined.{joined-append, joined-snoc}
 use Rattle.lists.specs.Lists.{joined}
 use Rattle.formats.specs.Printout.{ascii, decimal, refusalText}
-use Rattle.print_texts.specs.Wrote.{Wrote, TextRoom, refusalOf}
-use Rattle.print_texts.proofs.Texts.{spelt, room-spelt, room-first, room-next, wrote-then, wrote-none}
+use Rattle.bytes_out.specs.Wrote.{Wrote, RoomFor}
+use Rattle.bytes_out.proofs.Wrote.{spelt, room-spelt, room-first, room-next, wrote-then, wrote-none}
+use Rattle.print_texts.specs.Refusals.{refusalOf}
 
 -- the first k of the texts ts are written, and there is room for all
 pub record Writing (l : List ℕ) (at : ℕ) (ts : List (List ℕ)) (k r : ℕ) (m : List ℕ) : Type 0 where
-  pub room : TextRoom l at (joined ts)
+  pub room : RoomFor l at (joined ts)
   pub done : Wrote l at (joined (take k ts)) r m
 
-pub begin : {text : List ℕ} (ts : List (List ℕ)) {l : List ℕ} {at : ℕ} → text ≡ joined ts → TextRoom l at text → Writing l at ts 0 at l
+pub begin : {text : List ℕ} (ts : List (List ℕ)) {l : List ℕ} {at : ℕ} → text ≡ joined ts → RoomFor l at text → Writing l at ts 0 at l
 unfolding joined
 begin ts {l} {at} e h = record { room = room-spelt e h; done = wrote-none l at }
 
@@ -26,7 +27,7 @@ module _ {l : List ℕ} {at : ℕ} {ts : List (List ℕ)} {k r : ℕ} {m : List 
   step : T (ltb k (length ts)) → joined (take (k + 1) ts) ≡ joined (take k ts) ++ getD ts k []
   step g = rw (add-one, take-suc ts k [] (ltb→lt k (length ts) g)) (joined-snoc (take k ts) (getD ts k []))
 
-  part-room : T (ltb k (length ts)) → TextRoom l at (joined (take k ts) ++ getD ts k [])
+  part-room : T (ltb k (length ts)) → RoomFor l at (joined (take k ts) ++ getD ts k [])
   part-room g =
       room-spelt (step g)
       (room-first (joined (take (k + 1) ts)) (joined (drop (k + 1) ts)) (room-spelt (sym (halves (k + 1))) (w .room)))
@@ -35,7 +36,7 @@ module _ {l : List ℕ} {at : ℕ} {ts : List (List ℕ)} {k r : ℕ} {m : List 
       halves i = sym (joined-append (take i ts) (drop i ts)) ∙ ap joined (take-append-drop i ts)
 
   -- there is room for the next text
-  pub text-room : T (ltb k (length ts)) → TextRoom m r (getD ts k [])
+  pub text-room : T (ltb k (length ts)) → RoomFor m r (getD ts k [])
   text-room g = room-next (getD ts k []) (w .done) (part-room g)
 
   -- and when it is written
@@ -45,11 +46,7 @@ module _ {l : List ℕ} {at : ℕ} {ts : List (List ℕ)} {k r : ℕ} {m : List 
 pub finish : {text : List ℕ} (ts : List (List ℕ)) {l : List ℕ} {at r : ℕ} {m : List ℕ} → text ≡ joined ts → Writing l at ts (length ts) r m → Wrote l at text r m
 finish ts e w = spelt (ap joined (take-length ts) ∙ sym e) (w .done)
 
--- ---- a line of two parts, and a refusal's
-pub two-texts : (a b : List ℕ) → a ++ b ≡ joined (a ∷ b ∷ [])
-unfolding joined
-two-texts a b = rw (append-nil b)
-
+-- ---- a refusal's line
 abbrev pub refusalTexts : ℕ → ℕ → List (List ℕ)
 refusalTexts k p = (ascii "refused " ++ decimal k) ∷ (ascii " at " ++ decimal p) ∷ ascii "\n" ∷ []
 

@@ -4,11 +4,12 @@ ghost use mathlib.Core.List.{[], _∷_, _++_};
 ghost use Prim.Native.Nat.{_<_};
 ghost use lib.Ieee.{toBits, binary64};
 ghost use Rattle.formats.specs.Printout.{digitOf, decimal, hexOnto, rowsText, boxText, refusalText};
-ghost use Rattle.print_texts.specs.Wrote.{Wrote, TextRoom, refusalOf};
+ghost use Rattle.bytes_out.specs.Wrote.{Wrote, RoomFor};
+ghost use Rattle.print_texts.specs.Refusals.{refusalOf};
 
 // One byte.
 pub fn write_byte(b: u8, out: &mut [u8], at: usize) -> usize
-    requires { ⌜ TextRoom (now out) at (b ∷ []) ⌝ }
+    requires { ⌜ RoomFor (now out) at (b ∷ []) ⌝ }
     ensures { λ r. ⌜ Wrote (now (out .entry)) at (b ∷ []) r (now (out .exit)) ⌝ }
 {
     out[at] = b;
@@ -17,7 +18,7 @@ pub fn write_byte(b: u8, out: &mut [u8], at: usize) -> usize
 
 // A text that stands in another list.
 pub fn write_text(text: &[u8], out: &mut [u8], at: usize) -> usize
-    requires { ⌜ TextRoom (now out) at (now text) ⌝ }
+    requires { ⌜ RoomFor (now out) at (now text) ⌝ }
     ensures { λ r. ⌜ Wrote (now (out .entry)) at (now (text .entry)) r (now (out .exit)) ⌝ }
 {
     let mut i = 0;
@@ -38,7 +39,7 @@ fn digit_of(n: u8) -> u8
 
 // A number in decimal.
 fn write_decimal(n: usize, out: &mut [u8], at: usize) -> usize
-    requires { ⌜ TextRoom (now out) at (decimal n) ⌝ }
+    requires { ⌜ RoomFor (now out) at (decimal n) ⌝ }
     ensures { λ r. ⌜ Wrote (now (out .entry)) at (decimal n) r (now (out .exit)) ⌝ }
 {
     let low = digit_of((n % 10) as u8);
@@ -51,7 +52,7 @@ fn write_decimal(n: usize, out: &mut [u8], at: usize) -> usize
 
 // The k lowest hexadecimal digits of a number.
 fn write_hex(k: usize, n: u64, out: &mut [u8], at: usize) -> usize
-    requires { ⌜ TextRoom (now out) at (hexOnto k n []) ⌝ }
+    requires { ⌜ RoomFor (now out) at (hexOnto k n []) ⌝ }
     ensures { λ r. ⌜ Wrote (now (out .entry)) at (hexOnto k n []) r (now (out .exit)) ⌝ }
 {
     if k == 0 {
@@ -64,7 +65,7 @@ fn write_hex(k: usize, n: u64, out: &mut [u8], at: usize) -> usize
 
 // A space and the number.
 fn write_row(n: usize, out: &mut [u8], at: usize) -> usize
-    requires { ⌜ TextRoom (now out) at (32 ∷ decimal n) ⌝ }
+    requires { ⌜ RoomFor (now out) at (32 ∷ decimal n) ⌝ }
     ensures { λ r. ⌜ Wrote (now (out .entry)) at (32 ∷ decimal n) r (now (out .exit)) ⌝ }
 {
     let next = write_byte(32, out, at);
@@ -73,7 +74,7 @@ fn write_row(n: usize, out: &mut [u8], at: usize) -> usize
 
 // A space and the number, for each; a dash where there is none.
 fn write_rows(rows: &[usize], out: &mut [u8], at: usize) -> usize
-    requires { ⌜ TextRoom (now out) at (rowsText (now rows)) ⌝ }
+    requires { ⌜ RoomFor (now out) at (rowsText (now rows)) ⌝ }
     ensures { λ r. ⌜ Wrote (now (out .entry)) at (rowsText (now (rows .entry))) r (now (out .exit)) ⌝ }
 {
     if rows.len() == 0 {
@@ -90,7 +91,7 @@ fn write_rows(rows: &[usize], out: &mut [u8], at: usize) -> usize
 
 // A space and the 16 hexadecimal digits of the bits.
 fn write_bound(x: f64, out: &mut [u8], at: usize) -> usize
-    requires { ⌜ TextRoom (now out) at (32 ∷ hexOnto 16 (toBits binary64 x) []) ⌝ }
+    requires { ⌜ RoomFor (now out) at (32 ∷ hexOnto 16 (toBits binary64 x) []) ⌝ }
     ensures { λ r. ⌜ Wrote (now (out .entry)) at (32 ∷ hexOnto 16 (toBits binary64 x) []) r (now (out .exit)) ⌝ }
 {
     let next = write_byte(32, out, at);
@@ -99,7 +100,7 @@ fn write_bound(x: f64, out: &mut [u8], at: usize) -> usize
 
 // The same for each bound.
 pub fn write_bounds(bounds: &[f64], out: &mut [u8], at: usize) -> usize
-    requires { ⌜ TextRoom (now out) at (boxText (now bounds)) ⌝ }
+    requires { ⌜ RoomFor (now out) at (boxText (now bounds)) ⌝ }
     ensures { λ r. ⌜ Wrote (now (out .entry)) at (boxText (now (bounds .entry))) r (now (out .exit)) ⌝ }
 {
     let mut next = at;
@@ -113,7 +114,7 @@ pub fn write_bounds(bounds: &[f64], out: &mut [u8], at: usize) -> usize
 
 // A text and a number.
 pub fn write_numbered(label: &[u8], n: usize, out: &mut [u8], at: usize) -> usize
-    requires { ⌜ TextRoom (now out) at (now label ++ decimal n) ⌝ }
+    requires { ⌜ RoomFor (now out) at (now label ++ decimal n) ⌝ }
     ensures { λ r. ⌜ Wrote (now (out .entry)) at (now (label .entry) ++ decimal n) r (now (out .exit)) ⌝ }
 {
     let next = write_text(label, out, at);
@@ -122,7 +123,7 @@ pub fn write_numbered(label: &[u8], n: usize, out: &mut [u8], at: usize) -> usiz
 
 // A text and rows.
 pub fn write_listed(label: &[u8], rows: &[usize], out: &mut [u8], at: usize) -> usize
-    requires { ⌜ TextRoom (now out) at (now label ++ rowsText (now rows)) ⌝ }
+    requires { ⌜ RoomFor (now out) at (now label ++ rowsText (now rows)) ⌝ }
     ensures { λ r. ⌜ Wrote (now (out .entry)) at (now (label .entry) ++ rowsText (now (rows .entry))) r (now (out .exit)) ⌝ }
 {
     let next = write_text(label, out, at);
@@ -131,7 +132,7 @@ pub fn write_listed(label: &[u8], rows: &[usize], out: &mut [u8], at: usize) -> 
 
 // The line of a refusal.
 pub fn write_refusal(number: usize, place: usize, out: &mut [u8], at: usize) -> usize
-    requires { ⌜ TextRoom (now out) at (refusalText (refusalOf number place)) ⌝ }
+    requires { ⌜ RoomFor (now out) at (refusalText (refusalOf number place)) ⌝ }
     ensures { λ r. ⌜ Wrote (now (out .entry)) at (refusalText (refusalOf number place)) r (now (out .exit)) ⌝ }
 {
     let said = write_numbered(b"refused ", number, out, at);

@@ -13,10 +13,10 @@ use Rattle.definition.specs.Tree.{Leaf}
 use Rattle.formats.specs.Printout.{domainLine, boxText, fineLines}
 use Rattle.lists.proofs.From.{from-suc, length-from}
 use Rattle.lists.proofs.Map.{map-snoc}
-use Rattle.print_texts.specs.Wrote.{Wrote, TextRoom}
+use Rattle.bytes_out.specs.Wrote.{Wrote, RoomFor}
+use Rattle.bytes_out.proofs.Wrote.{spelt, room-spelt, room-next, wrote-then}
 use Rattle.packed.specs.Reading.{Packed, readLeaf, readLeaves}
 use Rattle.print_tree.specs.Unpack.{leafLine, boxPart}
-use Rattle.print_texts.proofs.Texts.{spelt, room-spelt, room-next, wrote-then}
 
 module _ (g x : ℕ → List ℕ) (grows : (k : ℕ) → g (k + 1) ≡ g k ++ x k) where
   at-least : (k d : ℕ) → length (g k) ≤ length (g (k + d))
@@ -26,16 +26,16 @@ module _ (g x : ℕ → List ℕ) (grows : (k : ℕ) → g (k + 1) ≡ g k ++ x 
       ap (λ (i : ℕ). length (g i)) (add-suc k d ∙ sym (add-one (k + d))) ∙ ap length (grows (k + d)) ∙ length-append (g (k + d)) (x (k + d)) in
       omega (arith, at-least k d, e)
 
-  room-at : {l : List ℕ} {at : ℕ} (m k : ℕ) → k ≤ m → TextRoom l at (g m) → TextRoom l at (g k)
+  room-at : {l : List ℕ} {at : ℕ} (m k : ℕ) → k ≤ m → RoomFor l at (g m) → RoomFor l at (g k)
   room-at {l} {at} m k h r =
       let e : k + (m - k) ≡ m = omega arith in
       record { fits = omega (arith, r .fits, at-least k (m - k), ap (λ (i : ℕ). length (g i)) e) }
 
-  module _ {l : List ℕ} {at : ℕ} (m k : ℕ) (h : k < m) (all : TextRoom l at (g m)) {r : ℕ} {o : List ℕ} (w : Wrote l at (g k) r o) where
-    both : TextRoom l at (g k ++ x k)
+  module _ {l : List ℕ} {at : ℕ} (m k : ℕ) (h : k < m) (all : RoomFor l at (g m)) {r : ℕ} {o : List ℕ} (w : Wrote l at (g k) r o) where
+    both : RoomFor l at (g k ++ x k)
     both = room-spelt (grows k) (room-at m (k + 1) (omega arith) all)
 
-    pub grown-room : TextRoom o r (x k)
+    pub grown-room : RoomFor o r (x k)
     grown-room = room-next (x k) w both
 
     pub grown : {q : ℕ} {n : List ℕ} → Wrote o r (x k) q n → Wrote l at (g (k + 1)) q n

@@ -1,6 +1,6 @@
 -- The levels' texts one after the other, from the packed lists and the counts. Assumes nothing.
 -- Holds: total-none, frontText, fineAt, how-many, front-none, front-grows, coarseText, texts-end, fine-here, coarse-here,
---   rows-here, fits-here, domains-here, levels-whole
+--   levels-whole
 use mathlib.Core.Path.{_≡_, refl, sym, ap, ap₂, _∙_}
 use mathlib.Core.Bool.{false}
 use Prim.Native.Nat.{ℕ, zero, suc, _+_, _-_, _≤_, _<_}
@@ -115,20 +115,6 @@ module _ (p : Packed) (level-points rows counts : List ℕ) where
     pub coarse-here : coarseText t ≡ coarseLevelText t (take (a + getD rows t 0 - a) (drop a level-points)) p j
     unfolding coarseText
     coarse-here = rw (ea, ej)
-
-    module _ (n : ℕ) (s : Stands p level-points rows counts n) (h : t < n) where
-      pub rows-here : a + getD rows t 0 ≤ length level-points
-      rows-here = omega (arith, total-below rows t n h, s .within)
-
-      pub fits-here : (i : ℕ) → i < getD counts t 0 → RowFits p (j + i)
-      fits-here i g = s .fits (j + i) (omega (arith, total-below counts t n h))
-
-      pub domains-here : j + getD counts t 0 ≤ length (p .domains)
-      domains-here = go (j + getD counts t 0) (omega (arith, total-below counts t n h))
-        where
-          go : (k : ℕ) → k ≤ total (take n counts) → k ≤ length (p .domains)
-          go zero g = omega arith
-          go (suc k) g = omega (arith, s .fits k (omega arith) .row)
 
   pub levels-whole : (n t : ℕ) → Stands p level-points rows counts n → t ≡ n - 1 → levelsText 0 (readLevels p level-points rows counts n) ≡ frontText t ++ coarseText t
   levels-whole n t s e =

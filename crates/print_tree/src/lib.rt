@@ -2,13 +2,13 @@
 // the answer is the next position.
 ghost use Prim.Native.Nat.{ℕ, _+_, _<_};
 ghost use Rattle.formats.specs.Printout.{domainLine, fineLines, levelsText, treeText};
-ghost use Rattle.print_texts.specs.Wrote.{Wrote, TextRoom};
+ghost use Rattle.bytes_out.specs.Wrote.{Wrote, RoomFor};
 ghost use Rattle.packed.specs.Reading.{packed, RowFits, readLeaves, Stands, readLevels};
 ghost use Rattle.print_tree.specs.Unpack.{leafOf, boxPart, pointsLine, leafLine, fineLevelText, coarseLevelText};
 
 // The bounds of a box; a dash for the coarse domain's.
 fn write_box(fine: bool, bounds: &[f64], out: &mut [u8], at: usize) -> usize
-    requires { ⌜ TextRoom (now out) at (boxPart fine (now bounds)) ⌝ }
+    requires { ⌜ RoomFor (now out) at (boxPart fine (now bounds)) ⌝ }
     ensures { λ r. ⌜ Wrote (now (out .entry)) at (boxPart fine (now (bounds .entry))) r (now (out .exit)) ⌝ }
 {
     if fine {
@@ -27,7 +27,7 @@ fn write_domain(
     out: &mut [u8],
     at: usize,
 ) -> usize
-    requires { ⌜ TextRoom (now out) at (domainLine i (leafOf (now own) (now borrowed) (now bounds)) (boxPart fine (now bounds))) ⌝ }
+    requires { ⌜ RoomFor (now out) at (domainLine i (leafOf (now own) (now borrowed) (now bounds)) (boxPart fine (now bounds))) ⌝ }
     ensures { λ r. ⌜ Wrote (now (out .entry)) at (domainLine i (leafOf (now (own .entry)) (now (borrowed .entry)) (now (bounds .entry))) (boxPart fine (now (bounds .entry)))) r (now (out .exit)) ⌝ }
 {
     let named = print_texts::write_numbered(b"domain ", i, out, at);
@@ -40,7 +40,7 @@ fn write_domain(
 
 // The line of the level number t.
 fn write_level(t: usize, rows: &[usize], out: &mut [u8], at: usize) -> usize
-    requires { ⌜ TextRoom (now out) at (pointsLine t (now rows)) ⌝ }
+    requires { ⌜ RoomFor (now out) at (pointsLine t (now rows)) ⌝ }
     ensures { λ r. ⌜ Wrote (now (out .entry)) at (pointsLine t (now (rows .entry))) r (now (out .exit)) ⌝ }
 {
     let named = print_texts::write_numbered(b"level ", t, out, at);
@@ -62,7 +62,7 @@ fn write_leaf(
     at: usize,
 ) -> usize
     requires { ⌜ RowFits (packed (now internals) (now domains) (now boxes) (now borrowed) dimensions) j ⌝ }
-    requires { ⌜ TextRoom (now out) at (leafLine fine i (packed (now internals) (now domains) (now boxes) (now borrowed) dimensions) j) ⌝ }
+    requires { ⌜ RoomFor (now out) at (leafLine fine i (packed (now internals) (now domains) (now boxes) (now borrowed) dimensions) j) ⌝ }
     ensures { λ r. ⌜ Wrote (now (out .entry)) at (leafLine fine i (packed (now (internals .entry)) (now (domains .entry)) (now (boxes .entry)) (now (borrowed .entry)) dimensions) j) r (now (out .exit)) ⌝ }
 {
     let row = packed::read_row(domains, j);
@@ -96,7 +96,7 @@ fn write_leaves(
     at: usize,
 ) -> usize
     requires { ⌜ ((i : ℕ) → i < m → RowFits (packed (now internals) (now domains) (now boxes) (now borrowed) dimensions) (j + i)) ⌝ }
-    requires { ⌜ TextRoom (now out) at (fineLines 0 (readLeaves (packed (now internals) (now domains) (now boxes) (now borrowed) dimensions) j m)) ⌝ }
+    requires { ⌜ RoomFor (now out) at (fineLines 0 (readLeaves (packed (now internals) (now domains) (now boxes) (now borrowed) dimensions) j m)) ⌝ }
     ensures { λ r. ⌜ Wrote (now (out .entry)) at (fineLines 0 (readLeaves (packed (now (internals .entry)) (now (domains .entry)) (now (boxes .entry)) (now (borrowed .entry)) dimensions) j m)) r (now (out .exit)) ⌝ }
 {
     let mut next = at;
@@ -134,7 +134,7 @@ fn write_fine(
     at: usize,
 ) -> usize
     requires { ⌜ ((i : ℕ) → i < m → RowFits (packed (now internals) (now domains) (now boxes) (now borrowed) dimensions) (j + i)) ⌝ }
-    requires { ⌜ TextRoom (now out) at (fineLevelText t (now rows) (packed (now internals) (now domains) (now boxes) (now borrowed) dimensions) j m) ⌝ }
+    requires { ⌜ RoomFor (now out) at (fineLevelText t (now rows) (packed (now internals) (now domains) (now boxes) (now borrowed) dimensions) j m) ⌝ }
     ensures { λ r. ⌜ Wrote (now (out .entry)) at (fineLevelText t (now (rows .entry)) (packed (now (internals .entry)) (now (domains .entry)) (now (boxes .entry)) (now (borrowed .entry)) dimensions) j m) r (now (out .exit)) ⌝ }
 {
     let next = write_level(t, rows, out, at);
@@ -165,7 +165,7 @@ fn write_coarse(
     at: usize,
 ) -> usize
     requires { ⌜ RowFits (packed (now internals) (now domains) (now boxes) (now borrowed) dimensions) j ⌝ }
-    requires { ⌜ TextRoom (now out) at (coarseLevelText t (now rows) (packed (now internals) (now domains) (now boxes) (now borrowed) dimensions) j) ⌝ }
+    requires { ⌜ RoomFor (now out) at (coarseLevelText t (now rows) (packed (now internals) (now domains) (now boxes) (now borrowed) dimensions) j) ⌝ }
     ensures { λ r. ⌜ Wrote (now (out .entry)) at (coarseLevelText t (now (rows .entry)) (packed (now (internals .entry)) (now (domains .entry)) (now (boxes .entry)) (now (borrowed .entry)) dimensions) j) r (now (out .exit)) ⌝ }
 {
     let next = write_level(t, rows, out, at);
@@ -198,7 +198,7 @@ fn write_levels(
     at: usize,
 ) -> usize
     requires { ⌜ Stands (packed (now internals) (now domains) (now boxes) (now borrowed) dimensions) (now «level_points») (now rows) (now counts) levels ⌝ }
-    requires { ⌜ TextRoom (now out) at (levelsText 0 (readLevels (packed (now internals) (now domains) (now boxes) (now borrowed) dimensions) (now «level_points») (now rows) (now counts) levels)) ⌝ }
+    requires { ⌜ RoomFor (now out) at (levelsText 0 (readLevels (packed (now internals) (now domains) (now boxes) (now borrowed) dimensions) (now «level_points») (now rows) (now counts) levels)) ⌝ }
     ensures { λ r. ⌜ Wrote (now (out .entry)) at (levelsText 0 (readLevels (packed (now (internals .entry)) (now (domains .entry)) (now (boxes .entry)) (now (borrowed .entry)) dimensions) (now («level_points» .entry)) (now (rows .entry)) (now (counts .entry)) levels)) r (now (out .exit)) ⌝ }
 {
     let last = levels - 1;
@@ -256,7 +256,7 @@ pub fn write_tree(
     at: usize,
 ) -> usize
     requires { ⌜ Stands (packed (now internals) (now domains) (now boxes) (now borrowed) dimensions) (now «level_points») (now rows) (now counts) levels ⌝ }
-    requires { ⌜ TextRoom (now out) at (treeText (readLevels (packed (now internals) (now domains) (now boxes) (now borrowed) dimensions) (now «level_points») (now rows) (now counts) levels)) ⌝ }
+    requires { ⌜ RoomFor (now out) at (treeText (readLevels (packed (now internals) (now domains) (now boxes) (now borrowed) dimensions) (now «level_points») (now rows) (now counts) levels)) ⌝ }
     ensures { λ r. ⌜ Wrote (now (out .entry)) at (treeText (readLevels (packed (now (internals .entry)) (now (domains .entry)) (now (boxes .entry)) (now (borrowed .entry)) dimensions) (now («level_points» .entry)) (now (rows .entry)) (now (counts .entry)) levels)) r (now (out .exit)) ⌝ }
 {
     let said = print_texts::write_numbered(b"levels ", levels, out, at);

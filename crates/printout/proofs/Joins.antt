@@ -28,7 +28,8 @@ use Rattle.stream_laws.specs.Sizes.{JobLimits, WithinLimits, mostBytes}
 use Rattle.stream_laws.proofs.Stream.{job-limits}
 use Rattle.stream_laws.proofs.Long.{job-long, refusal-long, printout-long}
 use Rattle.stream_laws.proofs.Shape.{tree-shaped}
-use Rattle.print_texts.specs.Wrote.{Wrote, TextRoom, refusalOf}
+use Rattle.bytes_out.specs.Wrote.{Wrote, RoomFor}
+use Rattle.print_texts.specs.Refusals.{refusalOf}
 use Rattle.packed.specs.Reading.{Packed, packed, Stands, readLevels}
 use Rattle.packed.proofs.Counts.{noLevel}
 use Rattle.packed.proofs.Unpacked.{Packs, levels-are, tree-back, tree-stands}
@@ -212,10 +213,10 @@ rooms =
     )
 
 -- ---- room for the texts
-pub room-for : (s : tree.Settings) (cs : List Float) (out : List ℕ) → JobLimits s cs → mostBytes ≤ length out → TextRoom out 0 (jobText (job s cs))
+pub room-for : (s : tree.Settings) (cs : List Float) (out : List ℕ) → JobLimits s cs → mostBytes ≤ length out → RoomFor out 0 (jobText (job s cs))
 room-for s cs out h g = record { fits = omega (arith, job-long (job s cs) h) }
 
-pub refusal-room : (number place : ℕ) (out : List ℕ) → mostBytes ≤ length out → TextRoom out 0 (refusalText (refusalOf number place))
+pub refusal-room : (number place : ℕ) (out : List ℕ) → mostBytes ≤ length out → RoomFor out 0 (refusalText (refusalOf number place))
 refusal-room number place out h = record { fits = omega (arith, refusal-long (refusalOf number place)) }
 
 -- ---- by the reader's answer

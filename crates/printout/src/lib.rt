@@ -8,7 +8,7 @@ ghost use Rattle.formats.specs.Stream.{job};
 ghost use Rattle.formats.specs.Printout.{jobText, printout as printed};
 ghost use Rattle.stream_laws.specs.Sizes.{JobLimits, mostBytes};
 ghost use Rattle.settings_record.specs.Reading.{settingsAre};
-ghost use Rattle.print_texts.specs.Wrote.{Wrote};
+ghost use Rattle.bytes_out.specs.Wrote.{Wrote};
 ghost use Rattle.printout.specs.Printing.{printAnswer, printOutput, printedAnswer};
 
 // The largest job: so many points on three axes, each of which takes so many rows, and its domain rows.

@@ -10,7 +10,7 @@ use lib.ListN.{length}
 use lib.Dec.{leb, ltb, eqb}
 use lib.Ieee.{Float}
 use borrow.Author.Tests.{leb-true}
-use Rattle.lists.proofs.Tests.{and-fst, and-snd}
+use Rattle.lists.proofs.Tests.{and-fst, and-snd, three-pass}
 use Rattle.definition.specs.Tree.{Settings, Level, pointCount, levels}
 use Rattle.definition.specs.Packed.{mostLevels, mostRows, BuildSizes, buildStated, leavesIn, packedLevelPoints, packedBorrowed}
 use Rattle.definition.specs.Refusals.{Verdict, accepted, refused, buildVerdict}
@@ -20,7 +20,6 @@ use Rattle.stored.specs.Sound.{sound}
 use Rattle.stored.specs.Programs.{Kept, file, nothing, keptBy, keptJob, kept}
 use Rattle.tree_tests.specs.InTurn.{levelsPass}
 use Rattle.tree_tests.specs.Size.{fileSize}
-use Rattle.tree_tests.proofs.Several.{three-pass}
 use Rattle.tree_tests.proofs.Limits.{sound-counted}
 use Rattle.tree_tests.proofs.Passed.{passed-is, points-most}
 use Rattle.tree_tests.proofs.FileLength.{file-length}

@@ -24,7 +24,7 @@ use Rattle.tree_tests.proofs.Lengths.{length-settings}
 use Rattle.stored_laws.proofs.Fields.{field-back}
 use Rattle.stored_laws.proofs.ReadBack.{buildable-passed}
 use Rattle.stored_laws.proofs.WellFormed.{well-formed-sound, well-formed-writable}
-use Rattle.stored_laws.proofs.Verdicts.{second-accepts}
+use Rattle.definition_laws.proofs.Accepted.{second-accepts}
 use Rattle.stored_laws.proofs.Loaded.{fileTests, tests-passed}
 use Rattle.stream_laws.specs.Sizes.{JobLimits, WithinLimits, mostBytes}
 use Rattle.stream_laws.proofs.Stream.{job-limits, job-points}

@@ -10,7 +10,7 @@ use lib.Dec.{leb, eqb}
 use borrow.Author.Tests.{leb-true, eqb-true}
 use Rattle.lists.specs.Lists.{from, joined}
 use Rattle.lists.specs.Ascends.{All}
-use Rattle.lists.proofs.Tests.{and-fst}
+use Rattle.lists.proofs.Tests.{and-fst, four-pass}
 use Rattle.lists.proofs.All.{all-of}
 use Rattle.definition.specs.Points.{boxWidth}
 use Rattle.definition.specs.Tree.{Settings, Leaf, Level}
@@ -21,7 +21,6 @@ use Rattle.formats.specs.Printout.{ascii, domainLine, fineLines, coarseLines, l
 use Rattle.stream_laws.specs.Sizes.{mostBytes}
 use Rattle.stream_laws.proofs.Long.{decimal-long, each-long, FewRows, few-from, Brief, domain-long, level-long, fine-long, dash-long}
 use Rattle.stored.specs.Sound.{soundBox, soundLevels, firstAll, fits, sound}
-use Rattle.tree_tests.proofs.Several.{four-pass}
 use Rattle.tree_tests.proofs.AllRows.{same-is}
 use Rattle.tree_tests.proofs.SoundLevels.{coarse-level, fine-level, sound-rows-first, sound-rows-ascend}
 use Rattle.reload_laws.proofs.SoundRows.{few-inside, own-few, borrowed-few}

@@ -8,7 +8,7 @@ use lib.Dec.{eqb}
 use Rattle.lists.specs.Lists.{member}
 use Rattle.lists.specs.Ascends.{Ascends}
 use Rattle.lists.specs.Times.{times}
-use Rattle.lists.proofs.Tests.{and-fst, and-snd}
+use Rattle.lists.proofs.Tests.{and-fst, and-snd, three-pass}
 use Rattle.lists.proofs.All.{all-mem, all-of}
 use Rattle.lists.proofs.Members.{member-mem, mem-joined, mem-map}
 use Rattle.lists.proofs.Times.{once-short}
@@ -16,7 +16,6 @@ use Rattle.lists.proofs.Ascends.{ascends-once}
 use Rattle.definition.specs.Tree.{Leaf, Level}
 use Rattle.formats.specs.Stream.{streamPoints}
 use Rattle.stored.specs.Sound.{allOf, ascending, partitioned, soundLeaf, soundRows}
-use Rattle.tree_tests.proofs.Several.{three-pass}
 use Rattle.tree_tests.proofs.AllPass.{all-pass-each, ascending-ascends}
 use Rattle.tree_tests.proofs.Partition.{ownRows, partitioned-is, inside-times}
 use Rattle.stream_laws.proofs.Long.{FewRows}

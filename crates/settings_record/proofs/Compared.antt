@@ -1,6 +1,6 @@
 -- A record's bytes against those of settings: field by field, each as a number. Assumes nothing.
--- Holds: field-same, parts-same, policy-same, length-settings, settings-same, dimension-differs, leaf-differs, neighbours-differ,
---   factor-differs, policy-decides
+-- Holds: field-same, parts-same, policy-same, settings-same, dimension-differs, leaf-differs, neighbours-differ, factor-differs,
+--   policy-decides
 use mathlib.Core.Path.{_≡_, refl, sym, ap, _∙_}
 use mathlib.Core.Bool.{Bool, true, false, _&&_, and-assoc}
 use Prim.Native.Nat.{ℕ, zero, suc, _+_, _*_, _/_, _%_, _^_, _≤_, _<_}
@@ -14,13 +14,14 @@ use borrow.Author.Tests.{eq-eqb, eqb-true}
 use Rattle.lists.specs.Lists.{part}
 use Rattle.lists.proofs.Tests.{same-test, and-fst, and-snd, and-of}
 use Rattle.lists.proofs.Put.{part-append, length-part}
-use Rattle.definition.specs.Levels.{Policy, auto, fixed}
+use Rattle.definition.specs.Levels.{Policy}
 use Rattle.definition.specs.Tree.{Settings}
 use Rattle.formats.specs.Bytes.{little, field, bytesOf}
 use Rattle.formats.specs.Stream.{settingsSize, policyBytes, settingsBytes}
 use Rattle.stored.specs.Sound.{same}
 use Rattle.stored.specs.Outcome.{sameSettings}
 use Rattle.bytes_out.proofs.Bytes.{length-bytes}
+use Rattle.tree_tests.proofs.Lengths.{length-settings}
 
 -- ---- one field
 digits-same : (n b r : ℕ) → b < 256 → eqb (n % 256) b && eqb (n / 256) r ≡ eqb n (b + 256 * r)
@@ -61,15 +62,6 @@ module _ (bs : List ℕ) where
       → same (policyBytes p) (part bs 15 5) ≡ same (bytesOf 1 kind) (part bs 15 1) && same (bytesOf 4 threshold) (part bs 16 4)
   policy-same p kind threshold h e = rw e (parts-same (bytesOf 1 kind) (bytesOf 4 threshold) 15 1 4 (length-bytes 1 kind) (omega arith))
 
-length-policy : (p : Policy) → length (policyBytes p) ≡ 5
-unfolding bytesOf
-length-policy auto = refl
-length-policy (fixed c) = refl
-
-pub length-settings : (s : Settings) → length (settingsBytes s) ≡ 18
-unfolding settingsBytes
-length-settings s = simp (length-append, length-bytes, length-policy)
-
 module _ (s : Settings) (bs : List ℕ) (h : settingsSize ≤ length bs) where
   pub settings-same : sameSettings s bs
       ≡ same (bytesOf 1 (s .dimension)) (part bs 2 1) && same (bytesOf 4 (s .leaf)) (part bs 3 4) && same (bytesOf 4 (s .neighbours)) (part bs 7 4)
@@ -84,7 +76,7 @@ module _ (s : Settings) (bs : List ℕ) (h : settingsSize ≤ length bs) where
       let k2 : length (d ++ leaf) ≡ 5 = simp (length-append, length-bytes) in
       let k3 : length (d ++ leaf ++ neighbours) ≡ 9 = simp (length-append, length-bytes) in
       let k4 : length (d ++ leaf ++ neighbours ++ factor) ≡ 13 = simp (length-append, length-bytes) in
-      ap (λ (k : ℕ). same (settingsBytes s) (part bs 2 k)) (length-settings s)
+      ap (λ (k : ℕ). same (settingsBytes s) (part bs 2 k)) (omega (arith, length-settings s))
       ∙ parts-same bs (d ++ leaf ++ neighbours ++ factor) policy 2 13 5 k4 (omega arith)
       ∙ ap (λ (t : Bool). t && same policy (part bs 15 5))
       (parts-same bs (d ++ leaf ++ neighbours) factor 2 9 4 k3 (omega arith)

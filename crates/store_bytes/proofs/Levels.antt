@@ -1,5 +1,4 @@
 -- The records of levels, from the packed lists and the counts: a level's own, then those of the levels after it. Assumes nothing.
--- Holds: no-level, levels-all, turn-here, rows-inside, row-fits, domains-inside
 use mathlib.Core.Path.{_≡_, refl, sym, ap, _∙_}
 use mathlib.Core.Bool.{true, false}
 use Prim.Native.Nat.{ℕ, zero, suc, _+_, _-_, _≤_, _<_}
@@ -70,17 +69,3 @@ module _ (p : Packed) (level-points rows counts : List ℕ) where
       turn-here =
           level-turn (readLevel p level-points rows counts) t n h
           ∙ ap (λ (l : Level). joined (levelRecords (eqb (t + 1) n) l ∷ treeRecords (map (readLevel p level-points rows counts) (from (t + 1) (n - (t + 1)))))) level-here
-
-      -- its stretches are inside the lists
-      pub rows-inside : a + getD rows t 0 ≤ length level-points
-      rows-inside = omega (arith, total-below rows t n h, s .within)
-
-      pub row-fits : (i : ℕ) → i < getD counts t 0 → RowFits p (j + i)
-      row-fits i g = s .fits (j + i) (omega (arith, total-below counts t n h))
-
-      pub domains-inside : j + getD counts t 0 ≤ length (p .domains)
-      domains-inside = below (j + getD counts t 0) (omega (arith, total-below counts t n h))
-        where
-          below : (k : ℕ) → k ≤ total (take n counts) → k ≤ length (p .domains)
-          below zero g = omega arith
-          below (suc k) g = omega (arith, s .fits k (omega arith) .row)

@@ -10,12 +10,12 @@ use lib.ListN.{length}
 use lib.Ieee.{Float}
 use Rattle.lists.specs.Lists.{joined, from}
 use Rattle.lists.proofs.From.{length-map-from}
+use Rattle.lists.proofs.Joined.{joined-two}
 use Rattle.definition.specs.Tree.{Settings}
 use Rattle.definition.specs.Packed.{Counts}
 use Rattle.definition.specs.Outcome.{TreeLists}
 use Rattle.packed.specs.Reading.{Packed, readLeaf, readLeaves, packed, readLevels}
-use Rattle.print_texts.specs.Wrote.{TextRoom}
-use Rattle.print_texts.proofs.Writing.{two-texts}
+use Rattle.bytes_out.specs.Wrote.{RoomFor}
 use Rattle.stored.specs.File.{levelBytes, headBytes, pointBytes, frontBytes, treeRecords, fileBytes}
 use Rattle.stored.specs.Outcome.{treeHeld}
 use Rattle.store_records.specs.Records.{countsBytes, levelRecord, domainRecord}
@@ -43,7 +43,7 @@ module _ (coarse : Bool) (p : Packed) where
 pub front-run : (s : Settings) (cs : List Float)
     → let n = length cs / s .dimension in frontBytes s cs ≡ joined (headBytes s n ∷ joined (map (pointBytes (s .dimension) cs) (from 0 n)) ∷ [])
 unfolding frontBytes
-front-run s cs = two-texts _ _
+front-run s cs = joined-two _ _
 
 pub file-run : (s : Settings) (cs : List Float) (c : Counts) (l : TreeLists)
     → fileBytes s cs (treeHeld (s .dimension) c l)
@@ -52,8 +52,8 @@ pub file-run : (s : Settings) (cs : List Float) (c : Counts) (l : TreeLists)
     ∷ joined (treeRecords (readLevels (packed (l .internals) (l .domains) (l .boxes) (l .borrowed) (s .dimension)) (l .level-points) (c .rows) (c .domains) (c .levels)))
     ∷ [])
 unfolding fileBytes treeHeld
-file-run s cs c l = two-texts _ _
+file-run s cs c l = joined-two _ _
 
 -- room for bytes from the front on
-pub front-room : (out bytes : List ℕ) → length bytes ≤ length out → TextRoom out 0 bytes
+pub front-room : (out bytes : List ℕ) → length bytes ≤ length out → RoomFor out 0 bytes
 front-room out bytes h = record { fits = omega arith }

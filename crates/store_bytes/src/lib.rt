@@ -9,7 +9,7 @@ ghost use lib.ListN.{length};
 ghost use Rattle.lists.specs.Lists.{joined, from, part, put};
 ghost use Rattle.config.specs.Params.{settingsOf};
 ghost use Rattle.tree_answer.specs.Answers.{countsGiven, listsOf};
-ghost use Rattle.print_texts.specs.Wrote.{Wrote, TextRoom};
+ghost use Rattle.bytes_out.specs.Wrote.{Wrote, RoomFor};
 ghost use Rattle.packed.specs.Reading.{packed, RowFits, readLeaves, Stands, readLevels};
 ghost use Rattle.stored.specs.File.{pointBytes, frontBytes, treeRecords, fileBytes};
 ghost use Rattle.stored.specs.Outcome.{treeHeld};
@@ -18,7 +18,7 @@ ghost use Rattle.store_bytes.specs.Runs.{domainRecords, levelOf, levelRe
 // The first n points.
 fn put_points(points: &[f64], dimensions: usize, n: usize, out: &mut [u8], at: usize) -> usize
     requires { ⌜ n * dimensions ≤ length (now points) ⌝ }
-    requires { ⌜ TextRoom (now out) at (joined (map (pointBytes dimensions (now points)) (from 0 n))) ⌝ }
+    requires { ⌜ RoomFor (now out) at (joined (map (pointBytes dimensions (now points)) (from 0 n))) ⌝ }
     ensures { λ r. ⌜ Wrote (now (out .entry)) at (joined (map (pointBytes dimensions (now (points .entry))) (from 0 n))) r (now (out .exit)) ⌝ }
 {
     let mut next = at;
@@ -33,7 +33,7 @@ fn put_points(points: &[f64], dimensions: usize, n: usize, out: &mut [u8], at: u
 // The head and the points.
 fn put_front(points: &[f64], dimensions: usize, params: DDMParams, out: &mut [u8]) -> usize
     requires { ⌜ (1 ≤ dimensions) × (dimensions ≤ 3) ⌝ }
-    requires { ⌜ TextRoom (now out) 0 (frontBytes (settingsOf dimensions params) (now points)) ⌝ }
+    requires { ⌜ RoomFor (now out) 0 (frontBytes (settingsOf dimensions params) (now points)) ⌝ }
     ensures { λ r. ⌜ Wrote (now (out .entry)) 0 (frontBytes (settingsOf dimensions params) (now (points .entry))) r (now (out .exit)) ⌝ }
 {
     let n = points.len() / dimensions;
@@ -55,7 +55,7 @@ fn put_domains(
     at: usize,
 ) -> usize
     requires { ⌜ ((i : ℕ) → i < m → RowFits (packed (now internals) (now domains) (now boxes) (now borrowed) dimensions) (j + i)) ⌝ }
-    requires { ⌜ TextRoom (now out) at (domainRecords coarse (readLeaves (packed (now internals) (now domains) (now boxes) (now borrowed) dimensions) j m)) ⌝ }
+    requires { ⌜ RoomFor (now out) at (domainRecords coarse (readLeaves (packed (now internals) (now domains) (now boxes) (now borrowed) dimensions) j m)) ⌝ }
     ensures { λ r. ⌜ Wrote (now (out .entry)) at (domainRecords coarse (readLeaves (packed (now (internals .entry)) (now (domains .entry)) (now (boxes .entry)) (now (borrowed .entry)) dimensions) j m)) r (now (out .exit)) ⌝ }
 {
     let mut next = at;
@@ -96,7 +96,7 @@ fn put_whole_level(
 ) -> usize
     requires { ⌜ start + count ≤ length (now «level_points») ⌝ }
     requires { ⌜ ((i : ℕ) → i < m → RowFits (packed (now internals) (now domains) (now boxes) (now borrowed) dimensions) (j + i)) ⌝ }
-    requires { ⌜ TextRoom (now out) at (levelRecords coarse (levelOf (part (now «level_points») start count) (readLeaves (packed (now internals) (now domains) (now boxes) (now borrowed) dimensions) j m))) ⌝ }
+    requires { ⌜ RoomFor (now out) at (levelRecords coarse (levelOf (part (now «level_points») start count) (readLeaves (packed (now internals) (now domains) (now boxes) (now borrowed) dimensions) j m))) ⌝ }
     ensures { λ r. ⌜ Wrote (now (out .entry)) at (levelRecords coarse (levelOf (part (now («level_points» .entry)) start count) (readLeaves (packed (now (internals .entry)) (now (domains .entry)) (now (boxes .entry)) (now (borrowed .entry)) dimensions) j m))) r (now (out .exit)) ⌝ }
 {
     let next = store_records::put_level(level_points, start, count, m, out, at);
@@ -129,7 +129,7 @@ fn put_levels(
     at: usize,
 ) -> usize
     requires { ⌜ Stands (packed (now internals) (now domains) (now boxes) (now borrowed) dimensions) (now «level_points») (now rows) (now counts) levels ⌝ }
-    requires { ⌜ TextRoom (now out) at (joined (treeRecords (readLevels (packed (now internals) (now domains) (now boxes) (now borrowed) dimensions) (now «level_points») (now rows) (now counts) levels))) ⌝ }
+    requires { ⌜ RoomFor (now out) at (joined (treeRecords (readLevels (packed (now internals) (now domains) (now boxes) (now borrowed) dimensions) (now «level_points») (now rows) (now counts) levels))) ⌝ }
     ensures { λ r. ⌜ Wrote (now (out .entry)) at (joined (treeRecords (readLevels (packed (now (internals .entry)) (now (domains .entry)) (now (boxes .entry)) (now (borrowed .entry)) dimensions) (now («level_points» .entry)) (now (rows .entry)) (now (counts .entry)) levels))) r (now (out .exit)) ⌝ }
 {
     let mut next = at;

@@ -9,7 +9,7 @@ use lib.ListN.{length, length-append}
 use Rattle.lists.specs.Lists.{joined, put}
 use Rattle.lists.proofs.Put.{put-nil, put-next-at, length-put}
 use Rattle.lists.proofs.Joined.{joined-nil, joined-cons}
-use Rattle.print_texts.specs.Wrote.{Wrote, TextRoom}
+use Rattle.bytes_out.specs.Wrote.{Wrote, RoomFor}
 
 -- Of the bytes `all`, to be written to l from `at` on, the parts `rest` are left, to be written to o from k on.
 pub record Remains (l : List ℕ) (at : ℕ) (all : List ℕ) (o : List ℕ) (k : ℕ) (rest : List (List ℕ)) : Type 0 where
@@ -17,7 +17,7 @@ pub record Remains (l : List ℕ) (at : ℕ) (all : List ℕ) (o : List ℕ) (k 
   pub place : at + length all ≡ k + length (joined rest)
   pub room : k + length (joined rest) ≤ length o
 
-pub begin : {l : List ℕ} {at : ℕ} {all : List ℕ} (rest : List (List ℕ)) → all ≡ joined rest → TextRoom l at all → Remains l at all l at rest
+pub begin : {l : List ℕ} {at : ℕ} {all : List ℕ} (rest : List (List ℕ)) → all ≡ joined rest → RoomFor l at all → Remains l at all l at rest
 begin {l} {at} rest e h =
     record { same = ap (put l at) e; place = ap (λ (z : List ℕ). at + length z) e; room = omega (arith, h .fits, ap length e) }
 
@@ -36,7 +36,7 @@ module _ {l : List ℕ} {at : ℕ} {all o : List ℕ} {k : ℕ} {x : List ℕ} {
   long = ap length (joined-cons x rest) ∙ length-append x (joined rest)
 
   -- there is room for the next part
-  pub room-now : TextRoom o k x
+  pub room-now : RoomFor o k x
   room-now = record { fits = omega (arith, w .room, long) }
 
   -- and when it is written

@@ -11,7 +11,7 @@ ghost use Rattle.definition.specs.Points.{boxWidth};
 ghost use Rattle.definition.specs.Packed.{rowFloats};
 ghost use Rattle.formats.specs.Bytes.{markOf, numbersBytes, floatsBytes};
 ghost use Rattle.config.specs.Params.{settingsOf};
-ghost use Rattle.print_texts.specs.Wrote.{Wrote, TextRoom};
+ghost use Rattle.bytes_out.specs.Wrote.{Wrote, RoomFor};
 ghost use Rattle.packed.specs.Reading.{packed, RowFits, boxAt, readLeaf};
 ghost use Rattle.stored.specs.File.{headBytes, pointBytes};
 ghost use Rattle.store_records.specs.Records.{countsBytes, levelRecord, boundsGiven, domainRecord};
@@ -32,7 +32,7 @@ const DOMAIN: u8 = 0x44;
 // The rows of a list from `start` on.
 fn put_rows(rows: &[usize], start: usize, count: usize, out: &mut [u8], at: usize) -> usize
     requires { ⌜ start + count ≤ length (now rows) ⌝ }
-    requires { ⌜ TextRoom (now out) at (numbersBytes (part (now rows) start count)) ⌝ }
+    requires { ⌜ RoomFor (now out) at (numbersBytes (part (now rows) start count)) ⌝ }
     ensures { λ r. ⌜ Wrote (now (out .entry)) at (numbersBytes (part (now (rows .entry)) start count)) r (now (out .exit)) ⌝ }
 {
     bytes_out::put_numbers(rows, start, count, out, at);
@@ -42,7 +42,7 @@ fn put_rows(rows: &[usize], start: usize, count: usize, out: &mut [u8], at: usiz
 // The floats of a list from `start` on.
 fn put_reals(xs: &[f64], start: usize, count: usize, out: &mut [u8], at: usize) -> usize
     requires { ⌜ start + count ≤ length (now xs) ⌝ }
-    requires { ⌜ TextRoom (now out) at (floatsBytes (part (now xs) start count)) ⌝ }
+    requires { ⌜ RoomFor (now out) at (floatsBytes (part (now xs) start count)) ⌝ }
     ensures { λ r. ⌜ Wrote (now (out .entry)) at (floatsBytes (part (now (xs .entry)) start count)) r (now (out .exit)) ⌝ }
 {
     bytes_out::put_floats(xs, start, count, out, at);
@@ -51,7 +51,7 @@ fn put_reals(xs: &[f64], start: usize, count: usize, out: &mut [u8], at: usize) 
 
 // The mark of a kind of record, and two counts.
 fn put_counts(kind: u8, first: usize, second: usize, out: &mut [u8], at: usize) -> usize
-    requires { ⌜ TextRoom (now out) at (countsBytes (markOf 0x54 kind) first second) ⌝ }
+    requires { ⌜ RoomFor (now out) at (countsBytes (markOf 0x54 kind) first second) ⌝ }
     ensures { λ r. ⌜ Wrote (now (out .entry)) at (countsBytes (markOf 0x54 kind) first second) r (now (out .exit)) ⌝ }
 {
     bytes_out::put_mark(TREE, kind, out, at);
@@ -72,7 +72,7 @@ fn put_bounds(
     at: usize,
 ) -> usize
     requires { ⌜ (dimensions ≤ 3) × (rowFloats dimensions * j + boxWidth dimensions ≤ length (now boxes)) ⌝ }
-    requires { ⌜ TextRoom (now out) at (floatsBytes (boundsGiven coarse (boxAt dimensions (now boxes) j))) ⌝ }
+    requires { ⌜ RoomFor (now out) at (floatsBytes (boundsGiven coarse (boxAt dimensions (now boxes) j))) ⌝ }
     ensures { λ r. ⌜ Wrote (now (out .entry)) at (floatsBytes (boundsGiven coarse (boxAt dimensions (now (boxes .entry)) j))) r (now (out .exit)) ⌝ }
 {
     if coarse {
@@ -88,7 +88,7 @@ fn put_bounds(
 // The head, which the bytes begin with: the settings, and the number of points.
 pub fn put_head(dimensions: usize, params: DDMParams, n: usize, out: &mut [u8]) -> usize
     requires { ⌜ dimensions < 256 ⌝ }
-    requires { ⌜ TextRoom (now out) 0 (headBytes (settingsOf dimensions params) n) ⌝ }
+    requires { ⌜ RoomFor (now out) 0 (headBytes (settingsOf dimensions params) n) ⌝ }
     ensures { λ r. ⌜ Wrote (now (out .entry)) 0 (headBytes (settingsOf dimensions params) n) r (now (out .exit)) ⌝ }
 {
     bytes_out::put_mark(TREE, HEAD, out, 0);
@@ -100,7 +100,7 @@ pub fn put_head(dimensions: usize, params: DDMParams, n: usize, out: &mut [u8]) 
 // The point of row i.
 pub fn put_point(points: &[f64], dimensions: usize, i: usize, out: &mut [u8], at: usize) -> usize
     requires { ⌜ i * dimensions + dimensions ≤ length (now points) ⌝ }
-    requires { ⌜ TextRoom (now out) at (pointBytes dimensions (now points) i) ⌝ }
+    requires { ⌜ RoomFor (now out) at (pointBytes dimensions (now points) i) ⌝ }
     ensures { λ r. ⌜ Wrote (now (out .entry)) at (pointBytes dimensions (now (points .entry)) i) r (now (out .exit)) ⌝ }
 {
     bytes_out::put_mark(TREE, POINT, out, at);
@@ -117,7 +117,7 @@ pub fn put_level(
     at: usize,
 ) -> usize
     requires { ⌜ start + count ≤ length (now «level_points») ⌝ }
-    requires { ⌜ TextRoom (now out) at (levelRecord (part (now «level_points») start count) «domain_count») ⌝ }
+    requires { ⌜ RoomFor (now out) at (levelRecord (part (now «level_points») start count) «domain_count») ⌝ }
     ensures { λ r. ⌜ Wrote (now (out .entry)) at (levelRecord (part (now («level_points» .entry)) start count) «domain_count») r (now (out .exit)) ⌝ }
 {
     let listed = put_counts(LEVEL, count, domain_count, out, at);
@@ -137,7 +137,7 @@ pub fn put_domain(
     at: usize,
 ) -> usize
     requires { ⌜ RowFits (packed (now internals) (now domains) (now boxes) (now borrowed) dimensions) j ⌝ }
-    requires { ⌜ TextRoom (now out) at (domainRecord coarse (readLeaf (packed (now internals) (now domains) (now boxes) (now borrowed) dimensions) j)) ⌝ }
+    requires { ⌜ RoomFor (now out) at (domainRecord coarse (readLeaf (packed (now internals) (now domains) (now boxes) (now borrowed) dimensions) j)) ⌝ }
     ensures { λ r. ⌜ Wrote (now (out .entry)) at (domainRecord coarse (readLeaf (packed (now (internals .entry)) (now (domains .entry)) (now (boxes .entry)) (now (borrowed .entry)) dimensions) j)) r (now (out .exit)) ⌝ }
 {
     let row = packed::read_row(domains, j);

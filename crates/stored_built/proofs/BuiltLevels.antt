@@ -12,12 +12,13 @@ use lib.ListN.{length, replicate, length-map}
 use lib.Ieee.{Float, isNan, binary64, toBits}
 use Rattle.lists.specs.Lists.{member, anyOf, joined}
 use Rattle.lists.specs.Ascends.{All, Ascends}
-use Rattle.lists.specs.Times.{times, Once}
+use Rattle.lists.specs.Times.{times}
 use Rattle.lists.proofs.Tests.{and-of, le-or-lt}
 use Rattle.lists.proofs.All.{all-imp, all-map, all-mem, all-of}
 use Rattle.lists.proofs.Ascends.{ascends-keep, ascends-once}
 use Rattle.lists.proofs.Joined.{joined-one}
 use Rattle.lists.proofs.Times.{from-times, member-some, member-none, times-keep-le}
+use Rattle.lists.proofs.Members.{none-passes}
 use Rattle.definition.specs.Number.{plusZero}
 use Rattle.definition.specs.Points.{boxWidth}
 use Rattle.definition.specs.Cut.{Domain, leavesOf}
@@ -31,16 +32,10 @@ use Rattle.definition.proofs.OneLevel.{OneLevel, one-level}
 use Rattle.definition_laws.proofs.Shape.{leaves-boxes}
 use Rattle.definition.proofs.Levels.{next-good}
 use Rattle.stored.specs.Sound.{allOf, ascending, partitioned, soundLeaf, soundBox, noBox, soundRows, properPart, soundLevels}
-use Rattle.stored_built.proofs.Passing.{all-pass, none-passes, same-self, ascends-pass}
+use Rattle.tree_tests.proofs.AllPass.{all-pass, ascends-ascending}
+use Rattle.tree_tests.proofs.AllRows.{same-self}
+use Rattle.tree_tests.proofs.Partition.{times-divided}
 use Rattle.stored_built.proofs.FineLeaves.{leaves-two, leaves-known}
-
--- ---- own rows that share the listed rows out
-shares-pass : (points own : List ℕ) → Once points → ((r : ℕ) → times r own ≡ times r points)
-    → allOf (λ i. eqb (times i own) 1) points && allOf (λ i. member i points) own ≡ true
-shares-pass points own once h =
-    and-of
-    (all-pass (λ i. eqb (times i own) 1) points (from-times (λ i. eqb (times i own) 1 ≡ true) points (λ r m. eq-eqb (times r own) 1 (omega (arith, h r, once r, m)))))
-    (all-pass (λ i. member i points) own (from-times (λ i. member i points ≡ true) own (λ r m. member-some r points (omega (arith, h r, m)))))
 
 next-ascends : (active : List ℕ) (sent : List (List ℕ)) → Ascends active → Ascends (nextActive active sent)
 unfolding nextActive
@@ -60,13 +55,13 @@ module _ (d : ℕ) (active : List ℕ) (ascends : Ascends active) where
 
   coarse-leaf : soundLeaf active coarseLeaf ≡ true
   unfolding soundLeaf ascending anyOf
-  coarse-leaf = rw (ascends-pass active ascends)
+  coarse-leaf = rw (ascends-ascending active ascends)
 
   coarse-rows : soundRows (coarseLevel d active) ≡ true
   unfolding soundRows partitioned coarseLevel All
   coarse-rows =
       and-of
-      (and-of (ascends-pass active ascends) (rw (joined-one active) (shares-pass active active (ascends-once active ascends) (λ r. refl))))
+      (and-of (ascends-ascending active ascends) (rw (joined-one active) (times-divided active active (ascends-once active ascends) (λ r. refl))))
       (all-pass (soundLeaf active) (coarseLeaf ∷ []) (coarse-leaf, tt))
 
   coarse-box : noBox d coarseLeaf ≡ true
@@ -124,7 +119,7 @@ module _ (s : Settings) (cs : List Float) (c k built : ℕ) (active : List ℕ) 
 
   fine-leaf : (q : Domain) → Ascends (q .rows) → soundLeaf active (toLeaf q) ≡ true
   unfolding soundLeaf
-  fine-leaf q h = and-of (and-of (ascends-pass (q .rows) h) (ascends-pass (borrowed (q .rows)) (borrows-ascending (q .rows)))) (borrows-pass (q .rows))
+  fine-leaf q h = and-of (and-of (ascends-ascending (q .rows) h) (ascends-ascending (borrowed (q .rows)) (borrows-ascending (q .rows)))) (borrows-pass (q .rows))
 
   own-rows : map (λ (f : Leaf). f .own) (map toLeaf qs) ≡ map (λ (q : Domain). q .rows) qs
   own-rows = map-map (λ (f : Leaf). f .own) toLeaf qs
@@ -133,7 +128,7 @@ module _ (s : Settings) (cs : List Float) (c k built : ℕ) (active : List ℕ) 
   unfolding soundRows partitioned fineLevel
   fine-rows =
       and-of
-      (and-of (ascends-pass active ascends) (rw own-rows (shares-pass active (rowsOf qs) (level .once) (level .internal-once))))
+      (and-of (ascends-ascending active ascends) (rw own-rows (times-divided active (rowsOf qs) (level .once) (level .internal-once))))
       (all-pass (soundLeaf active) (map toLeaf qs)
       (all-map (λ f. soundLeaf active f ≡ true) toLeaf qs
       (all-imp (λ q. Ascends (q .rows)) (λ q. soundLeaf active (toLeaf q) ≡ true) qs fine-leaf (leaves-ascend d cs (s .leaf) active ascends))))
@@ -141,7 +136,7 @@ module _ (s : Settings) (cs : List Float) (c k built : ℕ) (active : List ℕ) 
   -- ---- its boxes
   box-passes : (q : Domain) → length (q .box) ≡ boxWidth d → All (λ x. isNan x ≡ false) (q .box) → soundBox d (toLeaf q) ≡ true
   unfolding soundBox
-  box-passes q w h = and-of (eq-eqb (length (q .box)) (boxWidth d) w) (rw (none-passes isNan (q .box) h) refl)
+  box-passes q w h = and-of (eq-eqb (length (q .box)) (boxWidth d) w) (rw (none-passes isNan (q .box) (all-mem (λ x. isNan x ≡ false) (q .box) h)) refl)
 
   fine-boxes : allOf (soundBox d) (map toLeaf qs) ≡ true
   fine-boxes =

@@ -18,7 +18,7 @@ use Rattle.definition.proofs.Cuts.{Good}
 use Rattle.definition_laws.proofs.Accepted.{build-accepted}
 use Rattle.definition_laws.proofs.Fit.{PackedFit, packed-fit}
 use Rattle.stored.specs.Sound.{firstAll, fits, sound}
-use Rattle.stored_built.proofs.Passing.{same-equal}
+use Rattle.tree_tests.proofs.AllRows.{same-equal}
 use Rattle.stored_built.proofs.BuiltLevels.{Starts, levels-start, levels-pass}
 
 -- ---- over a first active list

@@ -22,7 +22,7 @@ use Rattle.definition_laws.proofs.Fit.{packed-fit}
 use Rattle.packed.specs.Reading.{packed}
 use Rattle.packed.proofs.Unpacked.{Packs, levels-are, tree-back}
 use Rattle.stored.specs.Outcome.{treeHeld, leads, packs}
-use Rattle.stored_built.proofs.Passing.{same-equal}
+use Rattle.tree_tests.proofs.AllRows.{same-equal}
 
 -- the tree ls at the front of the lists, on d axes, with these counts: at most four levels, and boxes of two bounds on each axis
 abbrev pub Holds : ℕ → Counts → TreeLists → List Level → Type 0

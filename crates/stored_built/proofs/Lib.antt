@@ -1,5 +1,4 @@
 -- A tree of the build against the tests of a stored tree.
-pub mod Passing
 pub mod FineLeaves
 pub mod BuiltLevels
 pub mod BuiltSound

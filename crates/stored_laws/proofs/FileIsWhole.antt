@@ -14,7 +14,7 @@ use lib.Ieee.Scale.{finite}
 use borrow.Author.Tests.{eq-eqb, not-false}
 use Rattle.lists.specs.Lists.{from, joined}
 use Rattle.lists.specs.Ascends.{All}
-use Rattle.lists.proofs.Tests.{same-test, and-of, and-fst, and-snd}
+use Rattle.lists.proofs.Tests.{same-test, and-of, and-fst, and-snd, three-pass, four-pass}
 use Rattle.lists.proofs.All.{all-map, all-of, all-joined, all-drop}
 use Rattle.lists.proofs.Members.{none-any}
 use Rattle.definition.specs.Points.{boxWidth}
@@ -30,7 +30,6 @@ use Rattle.stored.specs.File.{headMark, headBytes, pointBytes, frontBytes, file
 use Rattle.stored.specs.Sound.{same, firstAll, soundLevels, fits, sound}
 use Rattle.stored.specs.Stored.{headSize, boundsPlace, leafIn, leafSize, leavesAt, secondCount, oneDomain, domainsPlace, levelIn, afterLevel, levelsAt, countIn, pointsIn, levelsPlace, treeIn, buildable}
 use Rattle.tree_tests.specs.Whole.{pointsWhole, frontWhole, levelsWhole}
-use Rattle.tree_tests.proofs.Several.{three-pass, four-pass}
 use Rattle.tree_tests.proofs.AllRows.{same-is, same-self}
 use Rattle.stored_laws.specs.Writable.{NumberFits, FloatFits, IsByte, policyThreshold, BoxesFit, SettingsFit, Writable}
 use Rattle.stored_laws.proofs.Stowed.{zeros-fit}
@@ -57,7 +56,7 @@ unfolding leavesAt All
 leaves-fit d coarse zero bs = tt
 leaves-fit d coarse (suc m) bs = (box-fits d coarse bs, leaves-fit d coarse m (drop (leafSize d coarse bs) bs))
 
-levels-fit : (d fuel : ℕ) (bs : List ℕ) → All BoxesFit (levelsAt d fuel bs)
+pub levels-fit : (d fuel : ℕ) (bs : List ℕ) → All BoxesFit (levelsAt d fuel bs)
 unfolding levelsAt levelIn All
 levels-fit d zero bs = tt
 levels-fit d (suc fuel) bs = (leaves-fit d (oneDomain bs) (secondCount bs) (drop (domainsPlace bs) bs), go (oneDomain bs) (levels-fit d fuel (afterLevel d bs)))

@@ -14,7 +14,7 @@ use Rattle.lists.specs.Lists.{from, joined}
 use Rattle.lists.specs.Ascends.{All}
 use Rattle.lists.proofs.All.{all-map}
 use Rattle.lists.proofs.From.{all-from, length-from, length-map-from, list-below, below-snoc}
-use Rattle.lists.proofs.Joined.{joined-map-snoc}
+use Rattle.lists.proofs.Joined.{joined-map-snoc, joined-map-even}
 use Rattle.definition.specs.Points.{coordinate}
 use Rattle.definition.specs.Levels.{Policy, auto, fixed, policyFrom}
 use Rattle.definition.specs.Tree.{Settings, Level, pointCount}
@@ -22,7 +22,7 @@ use Rattle.definition.specs.Packed.{mostLevels}
 use Rattle.formats.specs.Bytes.{markSize, markBytes, bytesOf, valueAt, fieldEnd, numberSize, numberBytes, floatsAt, floatsBytes}
 use Rattle.formats.specs.Stream.{dimensionField, leafField, neighboursField, factorField, policyField, thresholdField, settingsSize, settingsIn, policyBytes, settingsBytes, pointSize}
 use Rattle.bytes_out.proofs.Bytes.{length-bytes}
-use Rattle.tree_tests.proofs.Lengths.{length-records, length-floats, length-point}
+use Rattle.tree_tests.proofs.Lengths.{length-floats, length-point}
 use Rattle.stored.specs.File.{headMark, filePointMark, headBytes, pointBytes, frontBytes, treeRecords}
 use Rattle.stored.specs.Stored.{headSize, countIn, pointsIn, levelsPlace, levelsAt, treeIn}
 use Rattle.stored_laws.specs.Writable.{NumberFits, FloatFits, SettingsFit, policyNumber, policyThreshold}
@@ -196,7 +196,7 @@ module _ (d : ℕ) (cs : List Float) where
 
 -- ---- bytes that begin with the head and the points
 points-length : (d : ℕ) (cs : List Float) (n : ℕ) → length (joined (map (pointBytes d cs) (from 0 n))) ≡ pointSize d * n
-points-length d cs n = length-records (pointSize d) (pointBytes d cs) (from 0 n) (length-point d cs) ∙ ap (λ (k : ℕ). pointSize d * k) (length-from 0 n)
+points-length d cs n = joined-map-even (pointBytes d cs) (pointSize d) (length-point d cs) (from 0 n) ∙ ap (λ (k : ℕ). pointSize d * k) (length-from 0 n)
 
 module _ (s : Settings) (cs : List Float) (bs rest : List ℕ) (k : SmallSettings s) (h : All FloatFits cs) (e : bs ≡ frontBytes s cs ++ rest) where
   abbrev d : ℕ

@@ -2,20 +2,20 @@
 -- Assumes nothing.
 use mathlib.Core.Path.{_≡_, refl, sym, ap, ap₂, _∙_}
 use mathlib.Core.Logic.{⊎-elim}
-use Prim.Native.Nat.{ℕ, zero, suc, _+_, _*_, _≤_, _<_}
-use native.Mathlib.Nat.{mul-zero, mul-suc, zero-add}
+use Prim.Native.Nat.{ℕ, zero, suc, _*_, _≤_, _<_}
+use native.Mathlib.Nat.{zero-add}
 use native.Mathlib.Omega.{arith}
 use mathlib.Core.Bool.{Bool, true, _&&_}
 use mathlib.Core.List.{List, _++_, map, map-map, map-append}
 use lib.ListN.{length, getD, take}
-use lib.Seq.{take-add, take-all, length-take-le}
+use lib.Seq.{take-all, length-take-le}
 use lib.Dec.{eqb}
 use borrow.Author.Tests.{eqb-true}
-use Rattle.lists.specs.Lists.{from, joined, part, total}
-use Rattle.lists.proofs.Tests.{le-or-lt}
+use Rattle.lists.specs.Lists.{from, joined, total}
+use Rattle.lists.proofs.Tests.{le-or-lt, four-pass}
 use Rattle.lists.proofs.Sums.{total-more}
 use Rattle.lists.proofs.From.{below-snoc, from-append}
-use Rattle.lists.proofs.Joined.{joined-map-snoc}
+use Rattle.lists.proofs.Joined.{joined-map-snoc, parts-front}
 use Rattle.definition.specs.Points.{boxWidth}
 use Rattle.definition.specs.Tree.{Leaf, Level}
 use Rattle.definition.specs.Packed.{Counts, countsOf, leavesIn, packedLevelPoints, packedInternals, packedDomains, packedBoxes, packedBorrowed}
@@ -24,20 +24,10 @@ use Rattle.definition.specs.Outcome.{TreeLists, written, listAfter, treeListsAf
 use Rattle.packed.specs.Reading.{Packed, packed, upTo, readLeaf, readLeaves, readLevel, readLevels}
 use Rattle.stored.specs.Sound.{same}
 use Rattle.stored.specs.Outcome.{leads, treeHeld, packs}
-use Rattle.tree_tests.proofs.Several.{four-pass}
 use Rattle.tree_tests.proofs.AllRows.{same-is}
 use Rattle.stored_laws.specs.RoundTrip.{frontsOver}
 
 -- ---- the boxes of the tree in the lists are the front of the boxes
-
--- stretches of one length, one after the other
-parts-front : {A : Type 0} (l : List A) (w n : ℕ) → joined (map (λ j. part l (w * j) w) (from 0 n)) ≡ take (w * n) l
-unfolding joined from part
-parts-front l w zero = ap (λ (k : ℕ). take k l) (sym (mul-zero w))
-parts-front l w (suc n) =
-    ap (λ (js : List ℕ). joined (map (λ j. part l (w * j) w) js)) (below-snoc n) ∙ joined-map-snoc (λ j. part l (w * j) w) (from 0 n) n
-    ∙ ap (λ (r : List _). r ++ part l (w * n) w) (parts-front l w n)
-    ∙ sym (take-add (w * n) w l) ∙ ap (λ (k : ℕ). take k l) (sym (mul-suc w n))
 
 -- what is a front is the front of its length
 front-again : {A : Type 0} (l : List A) (k : ℕ) (xs : List A) → xs ≡ take k l → xs ≡ take (length xs) l

@@ -1,7 +1,6 @@
 -- Where a domain, a level, or the levels of a tree stand whole, their bytes are those of what is read from them, if no bound is a NaN.
 -- Assumes nothing.
--- Holds: length-numbers-at, whole-long, counts-again, domain-again, after-bytes, length-leaves-at, Clean, level-again,
---   levels-again
+-- Holds: whole-long, counts-again, domain-again, after-bytes, length-leaves-at, Clean, level-again, levels-again
 use mathlib.Core.Path.{_≡_, refl, sym, ap, ap₂, subst, _∙_}
 use Prim.Native.Nat.{ℕ, zero, suc, _+_, _*_, _≤_}
 use native.Mathlib.Omega.{arith}
@@ -16,10 +15,9 @@ use Rattle.lists.specs.Ascends.{All}
 use Rattle.lists.proofs.Tests.{clash, and-fst, and-snd}
 use Rattle.lists.proofs.All.{all-of, all-drop}
 use Rattle.lists.proofs.Members.{none-any}
-use Rattle.lists.proofs.From.{length-map-from}
 use Rattle.definition.specs.Points.{boxWidth}
 use Rattle.definition.specs.Tree.{Leaf, Level}
-use Rattle.formats.specs.Bytes.{Mark, markSize, markBytes, markedBy, whole, numberSize, numberAt, numberBytes, numbersAt, numbersBytes, floatsBytes}
+use Rattle.formats.specs.Bytes.{Mark, markSize, markBytes, markedBy, whole, numberSize, numberBytes, numbersAt, numbersBytes, floatsBytes}
 use Rattle.stored.specs.File.{levelMark, domainMark, levelBytes, domainBytes, treeRecords}
 use Rattle.stored.specs.Sound.{soundBox, soundLevels}
 use Rattle.stored.specs.Stored.{countsSize, firstCount, secondCount, borrowedPlace, boundsPlace, leafIn, leafSize, leavesAt, afterLeaves, oneDomain, domainsPlace, levelIn, afterLevel, levelsAt}
@@ -29,10 +27,7 @@ use Rattle.stored_laws.specs.Writable.{IsByte}
 use Rattle.stored_laws.proofs.Domains.{boundsOf, domain-parts}
 use Rattle.stored_laws.proofs.Levels.{domainsBytes, level-parts, records-last, records-more}
 use Rattle.stored_laws.proofs.FieldsAgain.{field-again, NoNan, numbers-again, floats-again, mark-again}
-
-pub length-numbers-at : (n at : ℕ) (bs : List ℕ) → length (numbersAt n at bs) ≡ n
-unfolding numbersAt
-length-numbers-at n at bs = length-map-from (λ i. numberAt (at + numberSize * i) bs) 0 n
+use Rattle.bytes_in.proofs.Fields.{length-numbers-at}
 
 -- ---- a record with two counts: a domain or a level
 module _ (m : Mark) (size : ℕ) (bs : List ℕ) (bytes : All IsByte bs) (h : whole m size bs ≡ true) (least : countsSize ≤ size) where

@@ -18,7 +18,7 @@ use Rattle.definition.specs.Refusals.{Test, on, Verdict, accepted, verdict, not
 use Rattle.definition.specs.Outcome.{TreeLists, answered, zeroCounts, treeListsAfter}
 use Rattle.formats.specs.Bytes.{markSize, numberBytes}
 use Rattle.formats.specs.Stream.{settingsIn, settingsBytes}
-use Rattle.definition_laws.proofs.Accepted.{accepted-iff, Passed, whole-points}
+use Rattle.definition_laws.proofs.Accepted.{accepted-iff, Passed, whole-points, both-accept, first-accepts, second-accepts}
 use Rattle.stored.specs.File.{headBytes, pointBytes, frontBytes, treeRecords, fileBytes}
 use Rattle.stored.specs.Sound.{same, sound}
 use Rattle.stored.specs.Stored.{countIn, pointsIn, treeIn, wellFormed}
@@ -28,7 +28,7 @@ use Rattle.stored_laws.specs.Writable.{NumberFits, FloatFits, SettingsFi
 use Rattle.stored_laws.proofs.Front.{SmallSettings, settings-read, count-read, points-read}
 use Rattle.stored_laws.proofs.ReadBack.{buildable-passed, passed-small, written-well, back-tree}
 use Rattle.stored_laws.proofs.WellFormed.{well-formed-file, well-formed-sound}
-use Rattle.stored_laws.proofs.Verdicts.{both-accept, first-accepts, second-accepts, own-whole, own-takes}
+use Rattle.stored_laws.proofs.Verdicts.{own-whole, own-takes}
 
 -- ---- the loader's own tests
 abbrev pub fileTests : Settings → List Float → List ℕ → List Test

@@ -1,22 +1,19 @@
 -- Writing and loading undo each other, as whole calls: `load-of-write` and `write-of-load`. Assumes nothing.
 -- Holds: written-file, load-of-write, loaded-counts, loaded-lists, write-of-load
 use mathlib.Core.Path.{_≡_, sym, ap, subst, _∙_}
-use Prim.Native.Nat.{ℕ, _+_, _≤_}
+use Prim.Native.Nat.{ℕ, _≤_}
 use native.Mathlib.Omega.{arith}
-use mathlib.Core.Bool.{true, false, _||_}
+use mathlib.Core.Bool.{true, false}
 use mathlib.Core.List.{List, [], _∷_, _++_}
-use lib.ListN.{length, take, drop, length-append, length-drop, length-replicate}
+use lib.ListN.{length, take, drop, length-replicate}
 use lib.Seq.{take-append-seam}
-use lib.Dec.{ltb}
 use lib.Ieee.{Float}
-use borrow.Author.Tests.{ltb-false, le-ltb}
 use Rattle.lists.specs.Lists.{joined}
 use Rattle.lists.specs.Ascends.{All}
-use Rattle.lists.proofs.Tests.{or-none}
 use Rattle.lists.proofs.All.{all-imp, all-append}
 use Rattle.definition.specs.Points.{boxWidth}
 use Rattle.definition.specs.Tree.{Settings, Leaf, Level, pointCount}
-use Rattle.definition.specs.Packed.{mostLevels, Counts, countsOf, BuildSizes, buildStated, leavesIn, packedLevelPoints, packedInternals, packedDomains, packedBoxes, packedBorrowed}
+use Rattle.definition.specs.Packed.{mostLevels, Counts, countsOf, buildStated, leavesIn}
 use Rattle.definition.specs.Refusals.{Verdict, accepted}
 use Rattle.definition.specs.Outcome.{answered, numberOf, placeOf, valueOf, TreeLists, written, listAfter, treeListsAfter, zeroCounts}
 use Rattle.stored.specs.File.{fileBytes}
@@ -24,7 +21,7 @@ use Rattle.stored.specs.Stored.{pointsIn, treeIn}
 use Rattle.formats.specs.Stream.{settingsIn}
 use Rattle.stored.specs.Outcome.{listsShort, loadVerdict, loadAnswer, loadLists, treeHeld, writeVerdict, writeOutput}
 use Rattle.stored_built.proofs.Held.{Holds, lists-hold}
-use Rattle.stored_built.proofs.Written.{write-passes, write-answers, write-fills}
+use Rattle.stored_built.proofs.Written.{write-passes, write-answers, write-fills, lists-still-long}
 use Rattle.stored_laws.specs.Writable.{FloatFits, SettingsFit}
 use Rattle.stored_laws.specs.RoundTrip.{LoadsBack, WritesBack}
 use Rattle.stored_laws.proofs.Domains.{Boxed}
@@ -79,32 +76,6 @@ boxes-wide d [] k = tt
 boxes-wide d (l ∷ []) k = all-append (Wide d) (l .leaves) [] (all-imp (Boxed d true) (Wide d) (l .leaves) (λ f e. ap length e ∙ simp length-replicate) (k .boxed)) tt
 boxes-wide d (l ∷ m ∷ ls) k =
     all-append (Wide d) (l .leaves) (leavesIn (m ∷ ls)) (all-imp (Boxed d false) (Wide d) (l .leaves) (λ f e. e .0) (k .0 .boxed)) (boxes-wide d (m ∷ ls) (k .1))
-
--- a list is no shorter after a write to it
-still-long : {A : Type 0} (xs old : List A) (k : ℕ) → ltb (length old) k ≡ false → ltb (length (written xs old)) k ≡ false
-unfolding written
-still-long xs old k h =
-    le-ltb (length (xs ++ drop (length xs) old)) k (omega (arith, ltb-false (length old) k h, length-append xs (drop (length xs) old), length-drop (length xs) old))
-
-lists-still-long : (ls : List Level) (old : TreeLists) (stated : BuildSizes) → listsShort old stated ≡ false → listsShort (treeListsAfter accepted ls old) stated ≡ false
-unfolding listsShort treeListsAfter listAfter
-lists-still-long ls old stated h =
-    let a = ltb (length (old .level-points)) (stated .level-points) in
-    let b = ltb (length (old .internals)) (stated .internals) in
-    let c = ltb (length (old .domains)) (stated .domains) in
-    let e = ltb (length (old .boxes)) (stated .boxes) in
-    let f = ltb (length (old .borrowed)) (stated .borrowed) in
-    let p4 = or-none (a || b || c || e) f h in
-    let p3 = or-none (a || b || c) e (p4 .0) in
-    let p2 = or-none (a || b) c (p3 .0) in
-    let p1 = or-none a b (p2 .0) in
-    rw (
-      still-long (packedLevelPoints ls) (old .level-points) (stated .level-points) (p1 .0),
-      still-long (packedInternals ls) (old .internals) (stated .internals) (p1 .1),
-      still-long (packedDomains ls) (old .domains) (stated .domains) (p2 .1),
-      still-long (packedBoxes ls) (old .boxes) (stated .boxes) (p3 .1),
-      still-long (packedBorrowed ls) (old .borrowed) (stated .borrowed) (p4 .1),
-    )
 
 module _ (s : Settings) (cs : List Float) (bs : List ℕ) (old : TreeLists) (fit : SettingsFit s) (held : All FloatFits cs) (ok : loadVerdict s cs bs old ≡ accepted) where
   abbrev d : ℕ

@@ -1,7 +1,6 @@
 -- A tree that passes the tests, over at most 1,048,576 rows and with bounds of the format, fits the fields of its file. Assumes nothing.
 use mathlib.Core.Path.{_≡_, sym, ap, ap₂, subst, _∙_, refl}
-use mathlib.Core.Logic.{⊎-elim}
-use Prim.Native.Nat.{ℕ, zero, suc, _*_, _≤_, _<_}
+use Prim.Native.Nat.{ℕ, _*_, _≤_, _<_}
 use native.Mathlib.Omega.{arith}
 use mathlib.Core.Bool.{Bool, true, false, not, _&&_}
 use mathlib.Core.List.{List, [], _∷_, map}
@@ -11,21 +10,18 @@ use lib.Ieee.{Float, binary64, toBits, ofBits, isNan}
 use lib.Ieee.Bits.{ofBits-toBits, ofBits-fits}
 use borrow.Author.Tests.{leb-true, eqb-true, eq-eqb}
 use Rattle.lists.specs.Lists.{anyOf, member, count, from, joined}
-use Rattle.lists.specs.Ascends.{All, Ascends}
-use Rattle.lists.specs.Times.{times}
-use Rattle.lists.proofs.Tests.{clash, and-fst, and-snd, le-or-lt}
-use Rattle.lists.proofs.All.{all-of, all-mem, joined-all}
-use Rattle.lists.proofs.From.{mem-from, all-from, length-from}
+use Rattle.lists.specs.Ascends.{All}
+use Rattle.lists.proofs.Tests.{clash, and-fst, and-snd, three-pass, four-pass}
+use Rattle.lists.proofs.All.{all-of, all-mem, joined-all, map-all, all-replicate}
+use Rattle.lists.proofs.From.{all-from, length-from}
 use Rattle.lists.proofs.Members.{member-mem}
-use Rattle.lists.proofs.Times.{times-mem, mem-times, once-short}
-use Rattle.lists.proofs.Ascends.{ascends-from, ascends-once}
+use Rattle.lists.proofs.Ascends.{ascends-few}
 use Rattle.definition.specs.Number.{plusZero}
 use Rattle.definition.specs.Points.{boxWidth}
 use Rattle.definition.specs.Tree.{Settings, Leaf, Level}
 use Rattle.definition.specs.Packed.{mostLevels, mostRows, rowNumbers, buildStated, leavesIn, packedLevelPoints, packedInternals, packedDomains, packedBorrowed}
 use Rattle.definition.specs.Refusals.{mostPoints}
 use Rattle.definition_laws.proofs.Fit.{length-domains}
-use Rattle.tree_tests.proofs.Several.{three-pass, four-pass}
 use Rattle.tree_tests.proofs.AllPass.{all-pass-each, ascending-ascends}
 use Rattle.tree_tests.proofs.AllRows.{same-is}
 use Rattle.tree_tests.proofs.SoundLevels.{coarse-level, fine-level}
@@ -37,25 +33,6 @@ use Rattle.stored_laws.proofs.Levels.{StowedLevel, StowedTree}
 -- ---- rows below n
 abbrev Below : ℕ → List ℕ → Type 0
 Below n l = All (λ i. i < n) l
-
-few : (n : ℕ) (l : List ℕ) → Ascends l → Below n l → length l ≤ n
-few n l a h =
-    omega (arith, once-short (from 0 n) l (ascends-once (from 0 n) (ascends-from 0 n)) within, length-from 0 n)
-  where
-    within : (r : ℕ) → times r l ≤ times r (from 0 n)
-    within r =
-        ⊎-elim
-        (λ (none : times r l ≤ 0). omega arith)
-        (λ (some : 0 < times r l).
-        let below = all-mem (λ i. i < n) l h r (times-mem l r some) in
-        omega (arith, ascends-once l a r, mem-times (from 0 n) r (mem-from 0 n (omega arith) (omega (arith, below)))))
-        (le-or-lt (times r l) 0)
-
--- the property of each image is one of each element
-map-all : {A B : Type 0} (P : B → Type 0) (f : A → B) (l : List A) → All P (map f l) → All (λ x. P (f x)) l
-unfolding All
-map-all P f [] h = tt
-map-all P f (x ∷ l) h = (h .0, map-all P f l (h .1))
 
 small : (n : ℕ) (l : List ℕ) → n ≤ mostPoints → Below n l → All NumberFits l
 small n l h k = all-of NumberFits l (λ x m. omega (arith, all-mem (λ i. i < n) l k x m))
@@ -69,8 +46,8 @@ leaf-stowed n active f h k o e =
     let b : Below n (f .borrowed) =
     all-of (λ i. i < n) (f .borrowed)
     (λ x m. all-mem (λ i. i < n) active k x (member-mem active x (and-fst (member x active) (not (member x (f .own))) (all-pass-each p (f .borrowed) (g .2) x m)))) in
-    let u = few n (f .own) (ascending-ascends (f .own) (g .0)) o in
-    let v = few n (f .borrowed) (ascending-ascends (f .borrowed) (g .1)) b in
+    let u = ascends-few n (f .own) (ascending-ascends (f .own) (g .0)) o in
+    let v = ascends-few n (f .borrowed) (ascending-ascends (f .borrowed) (g .1)) b in
     record {
       own-few = omega (arith, u, h);
       borrowed-few = omega (arith, v, h);
@@ -79,17 +56,16 @@ leaf-stowed n active f h k o e =
     }
 
 -- ---- boxes
-pub zeros-fit : (k : ℕ) → All FloatFits (replicate k plusZero)
-unfolding All
-zeros-fit zero = tt
-zeros-fit (suc k) = (ofBits-fits binary64 0, zeros-fit k)
-
+-- values with the same bits are the same
 unbits : (xs : List Float) → All FloatFits xs → map (ofBits binary64) (map (toBits binary64) xs) ≡ xs
 unfolding All
 unbits [] h = refl
 unbits (x ∷ xs) h = ap₂ (λ (y : Float) (ys : List Float). y ∷ ys) (ofBits-toBits binary64 x (h .0)) (unbits xs (h .1))
 
-coarse-boxed : (d : ℕ) (f : Leaf) → All FloatFits (f .box) → noBox d f ≡ true → Boxed d true f
+pub zeros-fit : (k : ℕ) → All FloatFits (replicate k plusZero)
+zeros-fit k = all-replicate FloatFits k plusZero (ofBits-fits binary64 0)
+
+pub coarse-boxed : (d : ℕ) (f : Leaf) → All FloatFits (f .box) → noBox d f ≡ true → Boxed d true f
 unfolding noBox
 coarse-boxed d f h e =
     let z = replicate (boxWidth d) plusZero in

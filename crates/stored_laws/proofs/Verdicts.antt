@@ -1,32 +1,17 @@
--- Tests that are tried one after the other, and the build's own among those of the loader and the writer. Assumes nothing.
--- Holds: both-accept, first-accepts, second-accepts, own-whole, own-long, own-takes, own-accepts
+-- The build's own tests among those of the loader and the writer. Assumes nothing.
+-- Holds: own-whole, own-long, own-takes, own-accepts
 use mathlib.Core.Path.{_≡_, refl, sym, ap, ap₂, _∙_}
 use mathlib.Core.Bool.{Bool, true, false}
-use mathlib.Core.List.{List, _++_}
+use mathlib.Core.List.{List}
 use lib.Ieee.{Float}
-use Rattle.lists.proofs.All.{all-append, all-left, all-right}
 use Rattle.definition.specs.Tree.{Settings, pointCount}
 use Rattle.definition.specs.Packed.{buildStated}
-use Rattle.definition.specs.Refusals.{Test, Verdict, accepted, verdict, coordinatesMissing, notFinite, buildTests}
+use Rattle.definition.specs.Refusals.{Verdict, accepted, verdict, coordinatesMissing, notFinite, buildTests}
 use Rattle.definition.specs.Outcome.{TreeLists}
-use Rattle.definition_laws.proofs.Accepted.{accepted-iff, Passed, passed}
+use Rattle.definition_laws.proofs.Accepted.{Passed, passed}
 use Rattle.stored.specs.Stored.{taken, buildable}
 use Rattle.stored.specs.Outcome.{listsShort, ownTests}
 use Rattle.stored_laws.proofs.ReadBack.{taken-is}
-
--- ---- two lists of tests
-abbrev Fails : Test → Type 0
-Fails t = t .holds ≡ false
-
-module _ (xs ys : List Test) where
-  pub both-accept : verdict xs ≡ accepted → verdict ys ≡ accepted → verdict (xs ++ ys) ≡ accepted
-  both-accept e f = accepted-iff (xs ++ ys) .1 (all-append Fails xs ys (accepted-iff xs .0 e) (accepted-iff ys .0 f))
-
-  pub first-accepts : verdict (xs ++ ys) ≡ accepted → verdict xs ≡ accepted
-  first-accepts e = accepted-iff xs .1 (all-left Fails xs ys (accepted-iff (xs ++ ys) .0 e))
-
-  pub second-accepts : verdict (xs ++ ys) ≡ accepted → verdict ys ≡ accepted
-  second-accepts e = accepted-iff ys .1 (all-right Fails xs ys (accepted-iff (xs ++ ys) .0 e))
 
 -- ---- the build's own tests, of settings, points and the five lists
 module _ (s : Settings) (cs : List Float) (old : TreeLists) where

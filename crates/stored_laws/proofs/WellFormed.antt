@@ -10,7 +10,7 @@ use mathlib.Core.List.{List}
 use lib.ListN.{drop}
 use lib.Ieee.{Float}
 use Rattle.lists.specs.Ascends.{All}
-use Rattle.lists.proofs.Tests.{and-fst, and-snd}
+use Rattle.lists.proofs.Tests.{and-fst, and-snd, three-pass}
 use Rattle.definition.specs.Tree.{Settings, Level}
 use Rattle.definition.specs.Packed.{mostLevels}
 use Rattle.formats.specs.Stream.{settingsIn}
@@ -18,7 +18,6 @@ use Rattle.stored.specs.File.{fileBytes}
 use Rattle.stored.specs.Sound.{same, sound}
 use Rattle.stored.specs.Stored.{countIn, pointsIn, levelsPlace, treeIn, buildable, wellFormed}
 use Rattle.tree_tests.specs.Whole.{frontWhole, levelsWhole}
-use Rattle.tree_tests.proofs.Several.{three-pass}
 use Rattle.tree_tests.proofs.AllRows.{same-is}
 use Rattle.stored_laws.specs.Writable.{IsByte, Writable, Stores}
 use Rattle.stored_laws.proofs.ReadBack.{back-settings, back-points, back-tree, written-well}

@@ -18,12 +18,12 @@ use Rattle.definition.specs.Packed.{Counts, rowFloats}
 use Rattle.definition.specs.Refusals.{Test, on, accepted, verdict}
 use Rattle.definition.specs.Outcome.{TreeLists}
 use Rattle.packed.specs.Reading.{packed, upTo, readLeaf, readLeaves, readLevel, readLevels}
-use Rattle.definition_laws.proofs.Accepted.{accepted-iff}
+use Rattle.definition_laws.proofs.Accepted.{accepted-iff, first-accepts, second-accepts}
 use Rattle.stored.specs.File.{fileBytes}
 use Rattle.stored.specs.Sound.{sound}
 use Rattle.stored.specs.Outcome.{ownTests, treeHeld, packs, writeVerdict}
 use Rattle.stored_laws.specs.Writable.{FloatFits, SettingsFit, BoxesFit, Writable}
-use Rattle.stored_laws.proofs.Verdicts.{first-accepts, second-accepts, own-takes, own-whole}
+use Rattle.stored_laws.proofs.Verdicts.{own-takes, own-whole}
 
 -- ---- the bounds in the lists are the bounds of the tree
 held-boxes : (d : ℕ) (c : Counts) (l : TreeLists) → All FloatFits (l .boxes) → All BoxesFit (treeHeld d c l)

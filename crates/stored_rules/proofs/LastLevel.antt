@@ -7,7 +7,6 @@ use Prim.Native.Nat.{ℕ, _<_}
 use native.Mathlib.Omega.{arith}
 use lib.ListN.{length, getD, replicate, length-map, length-replicate}
 use lib.Ieee.{binary64, toBits}
-use lib.Ieee.Bits.{ofBits-fits}
 use Rattle.lists.specs.Lists.{joined}
 use Rattle.lists.specs.Ascends.{All}
 use Rattle.lists.specs.Times.{times}
@@ -20,8 +19,9 @@ use Rattle.definition.specs.Points.{boxWidth}
 use Rattle.definition.specs.Tree.{Leaf, Level}
 use Rattle.packed.proofs.Unpacked.{noLeaf}
 use Rattle.stored.specs.Sound.{noBox}
-use Rattle.stored_rules.proofs.Passed.{same-is}
-use Rattle.stored_rules.proofs.Bits.{all-replicate, FloatFits, BoxesFit, same-bits}
+use Rattle.tree_tests.proofs.AllRows.{same-is}
+use Rattle.stored_laws.specs.Writable.{FloatFits, BoxesFit}
+use Rattle.stored_laws.proofs.Stowed.{coarse-boxed}
 use Rattle.stored_rules.proofs.LevelRows.{LeafRows, LevelRows}
 
 -- a list in which no number stands
@@ -40,10 +40,6 @@ pub no-box-width : (d : ℕ) (f : Leaf) → noBox d f ≡ true → length (f .bo
 no-box-width d f h =
     sym (length-map (f .box) (toBits binary64)) ∙ ap length (no-box-bits d f h) ∙ length-map (replicate (boxWidth d) plusZero) (toBits binary64)
     ∙ length-replicate (boxWidth d) plusZero
-
-no-box-zero : (d : ℕ) (f : Leaf) → All FloatFits (f .box) → noBox d f ≡ true → f .box ≡ replicate (boxWidth d) plusZero
-no-box-zero d f fit h =
-    same-bits (f .box) (replicate (boxWidth d) plusZero) fit (all-replicate FloatFits (boxWidth d) plusZero (ofBits-fits binary64 0)) (no-box-bits d f h)
 
 -- ---- the level
 module _ (l : Level) (rows : LevelRows l) (one : length (l .leaves) ≡ 1) where
@@ -72,6 +68,6 @@ module _ (l : Level) (rows : LevelRows l) (one : length (l .leaves) ≡ 1) where
   pub last-no-box : (d : ℕ) → All (λ f. noBox d f ≡ true) (l .leaves) → BoxesFit l
       → getD (l .leaves) 0 noLeaf .box ≡ replicate (boxWidth d) plusZero
   last-no-box d h fit =
-      no-box-zero d leaf
+      coarse-boxed d leaf
       (all-at (λ f. All FloatFits (f .box)) (l .leaves) 0 noLeaf fit (omega arith))
       (all-at (λ f. noBox d f ≡ true) (l .leaves) 0 noLeaf h (omega arith))

@@ -1,7 +1,5 @@
 -- A tree that passes the tests, and the rules of a loaded tree.
-pub mod Passed
 pub mod LevelRows
-pub mod Bits
 pub mod LastLevel
 pub mod SoundTree
 pub mod LoadedRules

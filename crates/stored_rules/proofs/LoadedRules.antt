@@ -1,7 +1,7 @@
 -- A TREE THAT PASSES ITS TESTS HAS DEMAND 3'S RULES WHERE IT IS HANDED OUT. Assumes nothing.
 use mathlib.Core.Path.{_≡_, sym, ap, _∙_}
 use mathlib.Core.Bool.{true}
-use mathlib.Core.List.{List, [], map}
+use mathlib.Core.List.{List, map}
 use Prim.Native.Nat.{ℕ, suc, _-_, _≤_, _<_}
 use native.Mathlib.Omega.{arith}
 use native.Mathlib.Decide.{decLt}
@@ -25,7 +25,7 @@ use Rattle.demand3.specs.LoadedTree.{LoadedTree}
 use Rattle.demand3.proofs.Unpack.{PackedIn, handed-levels, handed-leaves, handed-listed, handed-own, handed-borrowed, handed-box, handed-counted, handed-beyond}
 use Rattle.stored.specs.Sound.{sound}
 use Rattle.stored_built.proofs.Held.{lists-hold}
-use Rattle.stored_rules.proofs.Bits.{BoxesFit}
+use Rattle.stored_laws.specs.Writable.{BoxesFit}
 use Rattle.stored_rules.proofs.LevelRows.{LeafRows, LevelRows}
 use Rattle.stored_rules.proofs.LastLevel.{last-holds-all, last-borrows-none, last-no-box}
 use Rattle.stored_rules.proofs.SoundTree.{SoundTree, sound-tree}

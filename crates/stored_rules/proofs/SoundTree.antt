@@ -1,25 +1,28 @@
 -- What the levels of a tree have that passes its tests, by their numbers. Assumes nothing.
 -- Holds: PartOf, IsLast, SoundTree, sound-tree
 use mathlib.Core.Path.{_≡_, sym}
-use mathlib.Core.Bool.{true, not, true≢false}
+use mathlib.Core.Bool.{true, true≢false}
 use mathlib.Core.List.{List, [], _∷_, map}
 use Prim.Native.Nat.{ℕ, zero, suc, _≤_, _<_}
 use native.Mathlib.Omega.{arith}
-use borrow.Author.Tests.{leb-true, ltb-true, eqb-true}
-use lib.Dec.{leb, ltb, eqb}
+use borrow.Author.Tests.{leb-true, eqb-true}
+use lib.Dec.{leb}
 use lib.ListN.{length, getD}
-use Rattle.lists.specs.Lists.{member, from}
+use Rattle.lists.specs.Lists.{from}
 use Rattle.lists.specs.Ascends.{All}
 use Rattle.lists.specs.Times.{times}
-use Rattle.lists.proofs.All.{all-imp, all-map, all-joined, all-at}
-use Rattle.lists.proofs.Times.{to-times}
+use Rattle.lists.proofs.All.{all-map, all-joined, all-of}
+use Rattle.lists.proofs.Times.{member-times, times-mem}
+use Rattle.lists.proofs.Tests.{both-pass, four-pass}
+use Rattle.lists.proofs.Members.{mem-at}
 use Rattle.definition.specs.Points.{boxWidth}
 use Rattle.definition.specs.Tree.{Settings, Leaf, Level}
 use Rattle.definition.specs.Packed.{mostLevels, leavesIn}
 use Rattle.packed.proofs.Counts.{noLevel}
-use Rattle.stored.specs.Sound.{allOf, soundBox, noBox, soundRows, properPart, soundLevels, firstAll, fits, sound}
-use Rattle.stored_rules.proofs.Passed.{both, three, four, five, all-passed, same-is}
-use Rattle.stored_rules.proofs.LevelRows.{member-times, LevelRows, level-rows}
+use Rattle.stored.specs.Sound.{soundBox, noBox, soundLevels, firstAll, fits, sound}
+use Rattle.tree_tests.proofs.AllRows.{same-is}
+use Rattle.tree_tests.proofs.SoundLevels.{FineLevel, coarse-level, fine-level, sound-rows-each}
+use Rattle.stored_rules.proofs.LevelRows.{LevelRows, level-rows}
 use Rattle.stored_rules.proofs.LastLevel.{no-box-width}
 
 -- ---- the rows of a level against those of the level above
@@ -27,12 +30,12 @@ pub record PartOf (rows above : List ℕ) : Type 0 where
   pub fewer : length rows < length above
   pub from-above : (r : ℕ) → 0 < times r rows → 0 < times r above
 
-part-of : (rows above : List ℕ) → properPart rows above ≡ true → PartOf rows above
-unfolding properPart
-part-of rows above h =
-    let g = three (ltb 0 (length rows)) (ltb (length rows) (length above)) (allOf (λ i. member i above) rows) h in
-    let each = to-times (λ i. member i above ≡ true) rows (all-passed (λ i. member i above) rows (g .2)) in
-    record { fewer = ltb-true (length rows) (length above) (g .1); from-above = λ r m. member-times r above (each r m) }
+part-of : (d : ℕ) (l m : Level) (ls : List Level) → FineLevel d l m ls → PartOf (m .points) (l .points)
+part-of d l m ls g =
+    record {
+      fewer = g .fewer-rows;
+      from-above = λ r k. member-times r (l .points) (g .inside r (times-mem (m .points) r k));
+    }
 
 -- ---- boxes of two bounds on each axis
 abbrev Boxed : ℕ → Level → Type 0
@@ -40,7 +43,7 @@ Boxed d l = All (λ (f : Leaf). length (f .box) ≡ boxWidth d) (l .leaves)
 
 box-width : (d : ℕ) (f : Leaf) → soundBox d f ≡ true → length (f .box) ≡ boxWidth d
 unfolding soundBox
-box-width d f h = eqb-true (length (f .box)) (boxWidth d) (both h .0)
+box-width d f h = eqb-true (length (f .box)) (boxWidth d) (both-pass h .0)
 
 -- ---- the levels
 module _ (d : ℕ) where
@@ -49,54 +52,36 @@ module _ (d : ℕ) where
     pub one-leaf : length (l .leaves) ≡ 1
     pub no-boxes : All (λ f. noBox d f ≡ true) (l .leaves)
 
-  -- the tests of the last level, and of one that has a next one
-  last-tests : (l : Level) → soundLevels d (l ∷ []) ≡ true → (soundRows l ≡ true) × (eqb (length (l .leaves)) 1 ≡ true) × (allOf (noBox d) (l .leaves) ≡ true)
-  unfolding soundLevels
-  last-tests l h = three (soundRows l) (eqb (length (l .leaves)) 1) (allOf (noBox d) (l .leaves)) h
-
-  more-tests : (l m : Level) (ls : List Level) → soundLevels d (l ∷ m ∷ ls) ≡ true
-      → (soundRows l ≡ true) × (not (eqb (length (l .leaves)) 1) ≡ true) × (allOf (soundBox d) (l .leaves) ≡ true) × (properPart (m .points) (l .points) ≡ true)
-      × (soundLevels d (m ∷ ls) ≡ true)
-  unfolding soundLevels
-  more-tests l m ls h =
-      five (soundRows l) (not (eqb (length (l .leaves)) 1)) (allOf (soundBox d) (l .leaves)) (properPart (m .points) (l .points)) (soundLevels d (m ∷ ls)) h
-
   levels-some : (ls : List Level) → soundLevels d ls ≡ true → 1 ≤ length ls
   unfolding soundLevels
   levels-some [] h = absurd (true≢false (sym h))
   levels-some (l ∷ ls) h = omega arith
 
-  levels-rows : (ls : List Level) → soundLevels d ls ≡ true → All LevelRows ls
-  unfolding All
-  levels-rows [] h = tt
-  levels-rows (l ∷ []) h = (level-rows l (last-tests l h .0), tt)
-  levels-rows (l ∷ m ∷ ls) h = let g = more-tests l m ls h in (level-rows l (g .0), levels-rows (m ∷ ls) (g .4))
-
   levels-boxed : (ls : List Level) → soundLevels d ls ≡ true → All (Boxed d) ls
   unfolding All
   levels-boxed [] h = tt
   levels-boxed (l ∷ []) h =
-      (all-imp (λ f. noBox d f ≡ true) (λ f. length (f .box) ≡ boxWidth d) (l .leaves) (no-box-width d) (all-passed (noBox d) (l .leaves) (last-tests l h .2)), tt)
+      (all-of (λ f. length (f .box) ≡ boxWidth d) (l .leaves) (λ f m. no-box-width d f (coarse-level d l h .boxes f m)), tt)
   levels-boxed (l ∷ m ∷ ls) h =
-      let g = more-tests l m ls h in (
-        all-imp (λ f. soundBox d f ≡ true) (λ f. length (f .box) ≡ boxWidth d) (l .leaves) (box-width d) (all-passed (soundBox d) (l .leaves) (g .2)),
-        levels-boxed (m ∷ ls) (g .4),
+      let g = fine-level d l m ls h in (
+        all-of (λ f. length (f .box) ≡ boxWidth d) (l .leaves) (λ f k. box-width d f (g .boxes f k)),
+        levels-boxed (m ∷ ls) (g .later),
       )
 
   levels-next : (ls : List Level) → soundLevels d ls ≡ true → (l : ℕ) → suc l < length ls → PartOf (getD ls (suc l) noLevel .points) (getD ls l noLevel .points)
   levels-next [] h l k = absurd (omega arith)
   levels-next (l ∷ []) h i k = absurd (omega arith)
-  levels-next (l ∷ m ∷ ls) h zero k = part-of (m .points) (l .points) (more-tests l m ls h .3)
-  levels-next (l ∷ m ∷ ls) h (suc i) k = levels-next (m ∷ ls) (more-tests l m ls h .4) i (omega arith)
+  levels-next (l ∷ m ∷ ls) h zero k = part-of d l m ls (fine-level d l m ls h)
+  levels-next (l ∷ m ∷ ls) h (suc i) k = levels-next (m ∷ ls) (fine-level d l m ls h .later) i (omega arith)
 
   levels-last : (ls : List Level) → soundLevels d ls ≡ true → (l : ℕ) → suc l ≡ length ls → IsLast (getD ls l noLevel)
   levels-last [] h l e = absurd (omega arith)
   levels-last (l ∷ []) h zero e =
-      let g = last-tests l h in
-      record { one-leaf = eqb-true (length (l .leaves)) 1 (g .1); no-boxes = all-passed (noBox d) (l .leaves) (g .2) }
+      let g = coarse-level d l h in
+      record { one-leaf = g .one; no-boxes = all-of (λ f. noBox d f ≡ true) (l .leaves) (g .boxes) }
   levels-last (l ∷ []) h (suc i) e = absurd (omega arith)
   levels-last (l ∷ m ∷ ls) h zero e = absurd (omega arith)
-  levels-last (l ∷ m ∷ ls) h (suc i) e = levels-last (m ∷ ls) (more-tests l m ls h .4) i (omega arith)
+  levels-last (l ∷ m ∷ ls) h (suc i) e = levels-last (m ∷ ls) (fine-level d l m ls h .later) i (omega arith)
 
 -- ---- the tree
 pub record SoundTree (d n : ℕ) (ls : List Level) : Type 0 where
@@ -118,12 +103,12 @@ pub sound-tree : (s : Settings) (n : ℕ) (ls : List Level) → sound s n ls ≡
 unfolding sound leavesIn
 sound-tree s n ls h =
     let d = s .dimension in
-    let g = four (leb (length ls) mostLevels) (firstAll n ls) (soundLevels d ls) (fits d n (s .neighbours) ls) h in
+    let g = four-pass (leb (length ls) mostLevels) (firstAll n ls) (soundLevels d ls) (fits d n (s .neighbours) ls) h in
     record {
       first-all = first-is n ls (g .1);
       some = levels-some d ls (g .2);
       few = leb-true (length ls) mostLevels (g .0);
-      rows = λ l m. all-at LevelRows ls l noLevel (levels-rows d ls (g .2)) m;
+      rows = λ l m. level-rows (getD ls l noLevel) (sound-rows-each d ls (g .2) (getD ls l noLevel) (mem-at ls l noLevel m));
       next = levels-next d ls (g .2);
       last = levels-last d ls (g .2);
       boxed =

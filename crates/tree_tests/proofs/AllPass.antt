@@ -1,14 +1,13 @@
 -- A test that each element of a list passes, and a list that ascends by a test. Assumes nothing.
--- Holds: all-pass-nil, all-pass-cons, all-pass-each, each-all-pass, all-pass-same, ascending-cons, ascending-ascends,
---   ascends-ascending
-use mathlib.Core.Path.{_≡_, refl, sym, _∙_}
+-- Holds: all-pass-nil, all-pass-cons, all-pass-each, each-all-pass, all-passed, all-pass, ascending-ascends, ascends-ascending
+use mathlib.Core.Path.{_≡_, refl, _∙_}
 use Prim.Native.Nat.{ℕ, _<_}
 use mathlib.Core.Bool.{Bool, true, false, not, _&&_, _||_}
 use mathlib.Core.List.{List, [], _∷_, List·Memᴰ, List·Memᴰ·head, List·Memᴰ·tail}
 use lib.Dec.{ltb}
 use borrow.Author.Tests.{ltb-true, lt-ltb, not-true, not-false}
 use Rattle.lists.specs.Lists.{anyOf}
-use Rattle.lists.specs.Ascends.{Ascends}
+use Rattle.lists.specs.Ascends.{All, Ascends}
 use Rattle.lists.proofs.Tests.{and-of, and-fst, and-snd}
 use Rattle.lists.proofs.All.{all-mem, all-of}
 use Rattle.lists.proofs.Members.{none-any}
@@ -38,17 +37,14 @@ module _ {A : Type 0} where
   each-all-pass p (x ∷ l) h =
       all-pass-cons p x l ∙ and-of (h x (List·Memᴰ·head refl)) (each-all-pass p l (λ y m. h y (List·Memᴰ·tail m)))
 
-  -- two tests that agree on the elements
-  pub all-pass-same : (p q : A → Bool) (l : List A) → ((x : A) → List·Memᴰ x l → p x ≡ q x) → allOf p l ≡ allOf q l
-  all-pass-same p q [] h = all-pass-nil p ∙ sym (all-pass-nil q)
-  all-pass-same p q (x ∷ l) h =
-      rw (all-pass-cons p x l, all-pass-cons q x l, h x (List·Memᴰ·head refl), all-pass-same p q l (λ y m. h y (List·Memᴰ·tail m)))
+  -- the same by `All`
+  pub all-passed : (p : A → Bool) (l : List A) → allOf p l ≡ true → All (λ x. p x ≡ true) l
+  all-passed p l h = all-of (λ x. p x ≡ true) l (all-pass-each p l h)
+
+  pub all-pass : (p : A → Bool) (l : List A) → All (λ x. p x ≡ true) l → allOf p l ≡ true
+  all-pass p l h = each-all-pass p l (all-mem (λ x. p x ≡ true) l h)
 
 -- ---- a list that ascends
-pub ascending-cons : (x : ℕ) (xs : List ℕ) → ascending (x ∷ xs) ≡ allOf (ltb x) xs && ascending xs
-unfolding ascending
-ascending-cons x xs = refl
-
 pub ascending-ascends : (l : List ℕ) → ascending l ≡ true → Ascends l
 unfolding ascending Ascends
 ascending-ascends [] h = tt

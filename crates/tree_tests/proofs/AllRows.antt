@@ -1,18 +1,18 @@
 -- An ascending list of n numbers below n is all of them. Assumes nothing.
--- Holds: same-is, same-self, ascends-full, all-rows
+-- Holds: same-is, same-self, same-equal, all-rows
 use mathlib.Core.Path.{_≡_, refl, sym, ap, ap₂, _∙_, subst}
-use Prim.Native.Nat.{ℕ, zero, suc, _+_, _≤_, _<_}
+use Prim.Native.Nat.{ℕ}
 use native.Mathlib.Omega.{arith}
 use mathlib.Core.Bool.{true, _&&_, true≢false}
-use mathlib.Core.List.{List, [], _∷_, List·Memᴰ, List·Memᴰ·head, List·Memᴰ·tail}
+use mathlib.Core.List.{List, [], _∷_, List·Memᴰ}
 use lib.ListN.{length}
 use lib.Dec.{ltb, eqb}
 use borrow.Author.Tests.{ltb-true, lt-ltb, eqb-true, eq-eqb}
 use Rattle.lists.specs.Lists.{from}
-use Rattle.lists.specs.Ascends.{All, Ascends}
+use Rattle.lists.specs.Ascends.{Ascends}
 use Rattle.lists.proofs.Tests.{and-of, and-fst, and-snd, same-test}
-use Rattle.lists.proofs.All.{all-mem}
 use Rattle.lists.proofs.From.{from-mem, length-from}
+use Rattle.lists.proofs.Ascends.{ascends-full}
 use Rattle.stored.specs.Sound.{allOf, same}
 use Rattle.tree_tests.proofs.AllPass.{all-pass-each, each-all-pass}
 
@@ -30,24 +30,10 @@ unfolding same
 same-self [] = refl
 same-self (x ∷ xs) = and-of (eq-eqb x x refl) (same-self xs)
 
--- ---- n ascending numbers from a on and below a + n
-lowest : (a x n : ℕ) → a ≤ x → x < a + suc n → All (λ y. x < y) (from (suc a) n) → x ≡ a
-unfolding from All
-lowest a x zero h g k = omega arith
-lowest a x (suc n) h g k = omega (arith, k .0)
+pub same-equal : (xs ys : List ℕ) → xs ≡ ys → same xs ys ≡ true
+same-equal xs ys e = subst (λ (l : List ℕ). same xs l ≡ true) e (same-self xs)
 
-pub ascends-full : (a n : ℕ) (xs : List ℕ) → Ascends xs → ((x : ℕ) → List·Memᴰ x xs → (a ≤ x) × (x < a + n)) → length xs ≡ n → xs ≡ from a n
-unfolding from Ascends
-ascends-full a zero [] up h e = refl
-ascends-full a zero (x ∷ xs) up h e = absurd (omega arith)
-ascends-full a (suc n) [] up h e = absurd (omega arith)
-ascends-full a (suc n) (x ∷ xs) up h e =
-    let b = h x (List·Memᴰ·head refl) in
-    let t : xs ≡ from (suc a) n = ascends-full (suc a) n xs (up .1) (λ y m. omega (arith, b, all-mem (λ z. x < z) xs (up .0) y m, h y (List·Memᴰ·tail m))) (omega arith) in
-    let z : x ≡ a = lowest a x n (b .0) (b .1) (subst (λ (l : List ℕ). All (λ y. x < y) l) t (up .0)) in
-    ap₂ (λ (y : ℕ) (ys : List ℕ). y ∷ ys) z t
-
--- ---- as tests
+-- ---- n ascending numbers below n
 pub all-rows : (n : ℕ) (rows : List ℕ) → Ascends rows → eqb (length rows) n && allOf (λ i. ltb i n) rows ≡ same rows (from 0 n)
 all-rows n rows up =
     let a = eqb (length rows) n in

@@ -12,14 +12,13 @@ use borrow.Author.Tests.{le-leb}
 use Rattle.lists.specs.Lists.{anyOf, member, count, joined}
 use Rattle.lists.specs.Ascends.{Ascends}
 use Rattle.lists.specs.Times.{times, Once}
-use Rattle.lists.proofs.Tests.{and-of, and-fst, and-snd, same-test}
+use Rattle.lists.proofs.Tests.{and-of, and-fst, and-snd, same-test, three-pass, four-pass}
 use Rattle.lists.proofs.Members.{mem-member}
 use Rattle.lists.proofs.Times.{times-append, mem-times, times-mem, once-short}
 use Rattle.lists.proofs.Ascends.{ascends-once}
 use Rattle.definition.specs.Tree.{Leaf}
 use Rattle.stored.specs.Sound.{allOf, ascending, partitioned, soundLeaf}
 use Rattle.tree_tests.specs.InTurn.{among, without, leafPasses, leavesPass}
-use Rattle.tree_tests.proofs.Several.{three-pass, four-pass}
 use Rattle.tree_tests.proofs.AllPass.{all-pass-cons, all-pass-each, each-all-pass, ascending-ascends}
 use Rattle.tree_tests.proofs.Rows.{in-order-is, in-order-same}
 use Rattle.tree_tests.proofs.Partition.{ownRows, divided, divided-times, times-divided, othersOf, others-among, inside-times, others-once, others-times, others-length}

@@ -1,6 +1,6 @@
 -- The lengths of a file's records. Assumes nothing.
--- Holds: length-records, length-numbers, length-floats, length-settings, length-head, length-point, length-front, length-level,
---   length-domain, ownTotal, borrowedTotal, length-domains-in
+-- Holds: length-numbers, length-floats, length-settings, length-head, length-point, length-front, length-level, length-domain,
+--   ownTotal, borrowedTotal, length-domains-in
 use mathlib.Core.Path.{_≡_, refl, ap, _∙_}
 use Prim.Native.Nat.{ℕ, _+_, _*_}
 use native.Mathlib.Nat.{mul-comm}
@@ -9,9 +9,8 @@ use mathlib.Core.List.{List, [], _∷_, map, List·Memᴰ, List·Memᴰ·head, L
 use lib.ListN.{length, length-append, length-map}
 use lib.Ieee.{Float, binary64, toBits}
 use Rattle.lists.specs.Lists.{total, from, joined}
-use Rattle.lists.proofs.All.{all-map, all-of}
 use Rattle.lists.proofs.From.{length-from}
-use Rattle.lists.proofs.Joined.{joined-even}
+use Rattle.lists.proofs.Joined.{joined-map-even}
 use Rattle.definition.specs.Levels.{Policy, auto, fixed}
 use Rattle.definition.specs.Tree.{Settings, Leaf, Level, pointCount}
 use Rattle.formats.specs.Bytes.{markSize, numberSize, numberBytes, numbersBytes, floatSize, floatBytes, floatsBytes}
@@ -20,19 +19,14 @@ use Rattle.bytes_out.proofs.Bytes.{length-bytes}
 use Rattle.stored.specs.File.{headBytes, pointBytes, frontBytes, levelBytes, domainBytes}
 use Rattle.stored.specs.Stored.{headSize, countsSize}
 
--- ---- records of one size
-pub length-records : {A : Type 0} (w : ℕ) (f : A → List ℕ) (l : List A) → ((x : A) → length (f x) ≡ w) → length (joined (map f l)) ≡ w * length l
-length-records w f l h =
-    joined-even w (map f l) (all-map (λ r. length r ≡ w) f l (all-of (λ x. length (f x) ≡ w) l (λ x m. h x)))
-    ∙ ap (λ (n : ℕ). w * n) (length-map l f)
-
+-- ---- numbers and floats
 pub length-numbers : (ns : List ℕ) → length (numbersBytes ns) ≡ numberSize * length ns
 unfolding numbersBytes
-length-numbers ns = length-records numberSize numberBytes ns (length-bytes numberSize)
+length-numbers ns = joined-map-even numberBytes numberSize (length-bytes numberSize) ns
 
 pub length-floats : (xs : List Float) → length (floatsBytes xs) ≡ floatSize * length xs
 unfolding floatsBytes
-length-floats xs = length-records floatSize floatBytes xs (λ x. length-bytes floatSize (toBits binary64 x))
+length-floats xs = joined-map-even floatBytes floatSize (λ x. length-bytes floatSize (toBits binary64 x)) xs
 
 -- ---- head and points
 length-policy : (p : Policy) → length (policyBytes p) ≡ policyField .width + thresholdField .width
@@ -57,7 +51,7 @@ length-front s cs =
     let d = s .dimension in
     let n = pointCount d cs in
     length-append (headBytes s n) (joined (map (pointBytes d cs) (from 0 n)))
-    ∙ omega (arith, length-head s n, length-records (pointSize d) (pointBytes d cs) (from 0 n) (length-point d cs), length-from 0 n, ap (λ (k : ℕ). pointSize d * k) (length-from 0 n), mul-comm n (pointSize d))
+    ∙ omega (arith, length-head s n, joined-map-even (pointBytes d cs) (pointSize d) (length-point d cs) (from 0 n), length-from 0 n, ap (λ (k : ℕ). pointSize d * k) (length-from 0 n), mul-comm n (pointSize d))
 
 -- ---- levels and domains
 pub length-level : (l : Level) → length (levelBytes l) ≡ countsSize + numberSize * length (l .points)

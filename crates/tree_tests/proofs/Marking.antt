@@ -1,5 +1,5 @@
 -- The loop that puts rows into a set: the rows ascend and none of them is in it. Assumes nothing.
--- Holds: Fresh, taken-fresh, mark-fresh, mark-start, mark-step, mark-end
+-- Holds: Fresh, mark-fresh, mark-start, mark-step, mark-end
 use mathlib.Core.Path.{_≡_, sym, subst}
 use Prim.Native.Nat.{ℕ, _+_, _≤_, _<_}
 use native.Mathlib.Omega.{arith}
@@ -11,18 +11,12 @@ use lib.Dec.{eqb}
 use Rattle.lists.specs.Lists.{member}
 use Rattle.lists.specs.Ascends.{Ascends}
 use Rattle.lists.proofs.Ascends.{ascends-at}
-use Rattle.lists.proofs.Members.{mem-at, not-member, each-before}
-use Rattle.tree_tests.specs.InTurn.{without}
-use Rattle.tree_tests.proofs.Sets.{member-nil, member-more, without-mem}
+use Rattle.lists.proofs.Members.{mem-at, not-member, each-before, member-nil, member-more}
 
 -- what the rows have to be
 pub record Fresh (p : ℕ → Bool) (rows : List ℕ) : Type 0 where
   pub ascends : Ascends rows
   pub none : (x : ℕ) → List·Memᴰ x rows → p x ≡ false
-
--- rows that were taken out of a set are such rows
-pub taken-fresh : (p : ℕ → Bool) (rows : List ℕ) → Ascends rows → Fresh (without rows p) rows
-taken-fresh p rows a = record { ascends = a; none = without-mem rows p }
 
 -- the row at i is not in the set after i rows
 pub mark-fresh : {p : ℕ → Bool} {rows : List ℕ} → Fresh p rows → (i x : ℕ) → i < length rows → x ≡ getD rows i 0 → p x || member x (take i rows) ≡ false

@@ -1,6 +1,6 @@
 -- Internals as a partition of rows: how often each row stands in them, and what is left after one leaf. Assumes nothing.
--- Holds: ownRows, divided, partitioned-is, divided-times, times-divided, member-keep, othersOf, others-among, inside-times,
---   others-once, others-times, others-length
+-- Holds: ownRows, divided, partitioned-is, divided-times, times-divided, othersOf, others-among, inside-times, others-once,
+--   others-times, others-length
 use mathlib.Core.Path.{_≡_, refl, ap}
 use Prim.Native.Nat.{ℕ, _+_, _-_, _≤_}
 use native.Mathlib.Omega.{arith}
@@ -13,8 +13,8 @@ use borrow.Author.Tests.{eqb-true, eq-eqb}
 use Rattle.lists.specs.Lists.{keep, member, joined}
 use Rattle.lists.specs.Ascends.{Ascends}
 use Rattle.lists.specs.Times.{times, Once}
-use Rattle.lists.proofs.Tests.{and-of, and-fst, and-snd, same-test}
-use Rattle.lists.proofs.Members.{member-mem, mem-member, keep-mem, mem-keep}
+use Rattle.lists.proofs.Tests.{and-of, and-fst, and-snd}
+use Rattle.lists.proofs.Members.{member-mem, mem-member, member-keep}
 use Rattle.lists.proofs.Times.{mem-times, times-mem, member-zero, times-keep-in, times-keep-out, once-keep, others-count}
 use Rattle.lists.proofs.Ascends.{ascends-once}
 use Rattle.definition.specs.Tree.{Leaf, Level}
@@ -52,12 +52,6 @@ module _ (rows own : List ℕ) (o : Once rows) where
       (each-all-pass (λ i. member i rows) own (λ i m. mem-member rows i (times-mem rows i (omega (arith, h i, mem-times own i m)))))
 
 -- ---- what a leaf leaves
-pub member-keep : (p : ℕ → Bool) (l : List ℕ) (j : ℕ) → member j (keep p l) ≡ member j l && p j
-member-keep p l j =
-    same-test (member j (keep p l)) (member j l && p j)
-    (λ h. let r = keep-mem p l (member-mem (keep p l) j h) in and-of (mem-member l j (r .0)) (r .1))
-    (λ h. mem-member (keep p l) j (mem-keep p l (member-mem l j (and-fst (member j l) (p j) h)) (and-snd (member j l) (p j) h)))
-
 -- the rows that are not the leaf's own
 abbrev pub othersOf : List ℕ → List ℕ → List ℕ
 othersOf own rows = keep (λ i. not (member i own)) rows

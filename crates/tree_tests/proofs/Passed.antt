@@ -13,12 +13,12 @@ use Rattle.lists.proofs.Times.{once-length}
 use Rattle.lists.proofs.Ascends.{ascends-once}
 use Rattle.lists.proofs.Joined.{length-joined}
 use Rattle.lists.proofs.Sums.{sum-same, sum-most}
+use Rattle.lists.proofs.Tests.{three-pass}
 use Rattle.definition.specs.Tree.{Leaf, Level}
 use Rattle.definition.specs.Packed.{packedLevelPoints, packedInternals}
 use Rattle.definition_laws.proofs.Fit.{length-points, length-own}
 use Rattle.stored.specs.Sound.{allOf, ascending, partitioned, soundLeaf, soundRows, soundLevels}
 use Rattle.tree_tests.specs.InTurn.{levelsPass}
-use Rattle.tree_tests.proofs.Several.{three-pass}
 use Rattle.tree_tests.proofs.Partition.{ownRows, divided-times}
 use Rattle.tree_tests.proofs.Levels.{levels-pass-is}
 use Rattle.tree_tests.proofs.SoundLevels.{sound-rows-ascend, sound-rows-each, rows-most}

@@ -1,6 +1,5 @@
 -- Rows tested one after the other: the rows ascend, and each is in the set. Assumes nothing.
--- Holds: in-order-nil, in-order-cons, in-order-from, in-order-is, in-order-above, in-order-ascends, in-order-in,
---   ascends-in-order, in-order-same
+-- Holds: in-order-nil, in-order-cons, in-order-from, in-order-is, in-order-ascends, in-order-in, in-order-same
 use mathlib.Core.Path.{_≡_, refl, sym, _∙_}
 use Prim.Native.Nat.{ℕ, suc, _≤_}
 use native.Mathlib.Omega.{arith}
@@ -9,10 +8,10 @@ use mathlib.Core.List.{List, [], _∷_, List·Memᴰ}
 use lib.Dec.{leb, ltb, leb·zero}
 use borrow.Author.Tests.{leb-true, le-leb}
 use Rattle.lists.specs.Ascends.{Ascends}
-use Rattle.lists.proofs.Tests.{and-of, and-fst, and-snd}
+use Rattle.lists.proofs.Tests.{and-fst, and-snd}
 use Rattle.stored.specs.Sound.{allOf, ascending}
 use Rattle.tree_tests.specs.InTurn.{inOrder}
-use Rattle.tree_tests.proofs.AllPass.{all-pass-nil, all-pass-cons, all-pass-each, each-all-pass, ascending-ascends, ascends-ascending}
+use Rattle.tree_tests.proofs.AllPass.{all-pass-nil, all-pass-cons, all-pass-each, each-all-pass, ascending-ascends}
 
 -- ---- row by row
 pub in-order-nil : (least : ℕ) (p : ℕ → Bool) → inOrder least p [] ≡ true
@@ -52,21 +51,12 @@ module _ (least : ℕ) (p : ℕ → Bool) (rows : List ℕ) (h : inOrder least p
   tests : allOf (leb least) rows && ascending rows && allOf p rows ≡ true
   tests = sym (in-order-from least p rows) ∙ h
 
-  pub in-order-above : (x : ℕ) → List·Memᴰ x rows → least ≤ x
-  in-order-above x m =
-      let a = and-fst (allOf (leb least) rows) (ascending rows) (and-fst (allOf (leb least) rows && ascending rows) (allOf p rows) tests) in
-      leb-true least x (all-pass-each (leb least) rows a x m)
-
   pub in-order-ascends : Ascends rows
   in-order-ascends =
       ascending-ascends rows (and-snd (allOf (leb least) rows) (ascending rows) (and-fst (allOf (leb least) rows && ascending rows) (allOf p rows) tests))
 
   pub in-order-in : (x : ℕ) → List·Memᴰ x rows → p x ≡ true
   in-order-in x m = all-pass-each p rows (and-snd (allOf (leb least) rows && ascending rows) (allOf p rows) tests) x m
-
--- and rows pass that ascend and are in the set
-pub ascends-in-order : (p : ℕ → Bool) (rows : List ℕ) → Ascends rows → ((x : ℕ) → List·Memᴰ x rows → p x ≡ true) → inOrder 0 p rows ≡ true
-ascends-in-order p rows a h = in-order-is p rows ∙ and-of (ascends-ascending rows a) (each-all-pass p rows h)
 
 -- ---- sets that agree at and above the least row give the same answer
 pub in-order-same : (least : ℕ) (p q : ℕ → Bool) (rows : List ℕ) → ((i : ℕ) → least ≤ i → p i ≡ q i) → inOrder least p rows ≡ inOrder least q rows

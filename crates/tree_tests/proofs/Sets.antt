@@ -1,24 +1,18 @@
 -- Sets of rows without the rows of a list: one row after the other taken out, and the rows put back. Assumes nothing.
--- Holds: member-nil, without-nil, without-other, without-mem, without-in, without-inside, put-back, member-more, without-more,
---   without-all
+-- Holds: without-nil, without-other, without-mem, without-in, without-inside, put-back, without-more, without-all
 use mathlib.Core.Path.{_≡_, refl, sym, _∙_}
 use Prim.Native.Nat.{ℕ, _+_, _≤_, _<_}
-use native.Mathlib.Numerals.{add-one}
 use mathlib.Core.Bool.{Bool, true, false, not, _&&_, _||_, and-true, and-false, or-false, or-true}
 use mathlib.Core.List.{List, [], List·Memᴰ}
 use lib.ListN.{length, getD, take}
-use lib.Seq.{take-suc, take-all}
+use lib.Seq.{take-all}
 use lib.Dec.{eqb}
-use Rattle.lists.specs.Lists.{anyOf, member}
-use Rattle.lists.proofs.Tests.{and-of, and-fst, and-snd, eqb-comm}
-use Rattle.lists.proofs.Members.{member-mem, mem-member, member-snoc}
+use Rattle.lists.specs.Lists.{member}
+use Rattle.lists.proofs.Tests.{and-of, and-fst, and-snd}
+use Rattle.lists.proofs.Members.{member-mem, mem-member, member-nil, member-more}
 use Rattle.tree_tests.specs.InTurn.{without}
 
 -- ---- a set without rows
-pub member-nil : (j : ℕ) → member j [] ≡ false
-unfolding member anyOf
-member-nil j = refl
-
 pub without-nil : (p : ℕ → Bool) (j : ℕ) → without [] p j ≡ p j
 without-nil p j = rw (member-nil j) (and-true (p j))
 
@@ -48,12 +42,9 @@ put-back rows p h j = go (member j rows) refl
 
 -- ---- the rows of a list up to one of them
 module _ (rows : List ℕ) (i x : ℕ) (h : i < length rows) (e : x ≡ getD rows i 0) where
-  pub member-more : (j : ℕ) → member j (take (i + 1) rows) ≡ member j (take i rows) || eqb j x
-  member-more j = rw (add-one i, take-suc rows i 0 h, ← e, eqb-comm j x) (member-snoc j (take i rows) x)
-
   -- one row more is taken out of the set
   pub without-more : (p : ℕ → Bool) (j : ℕ) → without (take i rows) p j && not (eqb j x) ≡ without (take (i + 1) rows) p j
-  without-more p j = rw (member-more j) (go (p j) (member j (take i rows)) (eqb j x))
+  without-more p j = rw (member-more rows i x h e j) (go (p j) (member j (take i rows)) (eqb j x))
     where
       go : (a b c : Bool) → a && not b && not c ≡ a && not (b || c)
       go false b c = refl

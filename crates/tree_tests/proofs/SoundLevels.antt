@@ -11,9 +11,9 @@ use lib.Dec.{ltb, eqb}
 use borrow.Author.Tests.{not-true, ltb-true, eqb-true}
 use Rattle.lists.specs.Lists.{member}
 use Rattle.lists.specs.Ascends.{Ascends}
+use Rattle.lists.proofs.Tests.{three-pass, five-pass}
 use Rattle.definition.specs.Tree.{Leaf, Level}
 use Rattle.stored.specs.Sound.{allOf, ascending, partitioned, soundLeaf, soundBox, noBox, soundRows, properPart, soundLevels}
-use Rattle.tree_tests.proofs.Several.{three-pass}
 use Rattle.tree_tests.proofs.AllPass.{all-pass-each, ascending-ascends}
 
 -- the coarse one
@@ -43,18 +43,16 @@ unfolding soundLevels properPart
 fine-level d l m ls h =
     let a = length (l .points) in
     let b = length (m .points) in
-    let fine = soundRows l && not (eqb (length (l .leaves)) 1) && allOf (soundBox d) (l .leaves) in
-    let g = three-pass fine (properPart (m .points) (l .points)) (soundLevels d (m ∷ ls)) h in
-    let r = three-pass (soundRows l) (not (eqb (length (l .leaves)) 1)) (allOf (soundBox d) (l .leaves)) (g .0) in
-    let p = three-pass (ltb 0 b) (ltb b a) (allOf (λ i. member i (l .points)) (m .points)) (g .1) in
+    let g = five-pass (soundRows l) (not (eqb (length (l .leaves)) 1)) (allOf (soundBox d) (l .leaves)) (properPart (m .points) (l .points)) (soundLevels d (m ∷ ls)) h in
+    let p = three-pass (ltb 0 b) (ltb b a) (allOf (λ i. member i (l .points)) (m .points)) (g .3) in
     record {
-      rows = r .0;
-      more = not-true (eqb (length (l .leaves)) 1) (r .1);
-      boxes = all-pass-each (soundBox d) (l .leaves) (r .2);
+      rows = g .0;
+      more = not-true (eqb (length (l .leaves)) 1) (g .1);
+      boxes = all-pass-each (soundBox d) (l .leaves) (g .2);
       some = ltb-true 0 b (p .0);
       fewer-rows = ltb-true b a (p .1);
       inside = all-pass-each (λ i. member i (l .points)) (m .points) (p .2);
-      later = g .2;
+      later = g .4;
     }
 
 pub sound-rows-first : (d : ℕ) (l : Level) (ls : List Level) → soundLevels d (l ∷ ls) ≡ true → soundRows l ≡ true

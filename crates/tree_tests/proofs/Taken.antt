@@ -1,6 +1,6 @@
 -- The loop that tests rows against a set and takes each of them out of that set, and out of another one around it. A row that is taken is below
 -- the least number that the next row may be, so what is left of the set answers as the set did. Assumes nothing.
--- Holds: Taken, take-start, take-left, take-rest, take-step, take-low, take-out, take-end
+-- Holds: Taken, take-start, take-left, take-step, take-low, take-out, take-end
 use mathlib.Core.Path.{_≡_, sym, _∙_}
 use mathlib.Core.Logic.{⊎-elim}
 use Prim.Native.Nat.{ℕ, _+_, _≤_, _<_}
@@ -8,11 +8,10 @@ use native.Mathlib.Omega.{arith}
 use native.Mathlib.Numerals.{add-one}
 use mathlib.Core.Bool.{Bool, true, false}
 use mathlib.Core.List.{List, [], _∷_, _++_, List·Memᴰ, List·Memᴰ·not-nil, List·Memᴰ·append-cases, List·Memᴰ·eq-of-singleton}
-use lib.ListN.{length, getD, take, drop}
+use lib.ListN.{length, getD, take}
 use lib.Seq.{take-suc}
 use Rattle.lists.proofs.Members.{not-member}
 use Rattle.tree_tests.specs.InTurn.{inOrder, without}
-use Rattle.tree_tests.proofs.Rows.{in-order-same}
 use Rattle.tree_tests.proofs.Sets.{without-other}
 use Rattle.tree_tests.proofs.Checked.{Checked, check-start, check-step, check-low, check-out, check-end}
 
@@ -28,10 +27,6 @@ module _ {p : ℕ → Bool} {rows : List ℕ} {i least : ℕ} (c : Taken p rows 
   -- what is left of the set, and of one around it, is as before from `least` on
   pub take-left : (q : ℕ → Bool) (x : ℕ) → least ≤ x → without (take i rows) q x ≡ q x
   take-left q x l = without-other (take i rows) q x (not-member (take i rows) x (λ m. omega (arith, c .below x m)))
-
-  -- so the rows from i on are to pass against what is left
-  pub take-rest : inOrder 0 p rows ≡ inOrder least (without (take i rows) p) (drop i rows)
-  take-rest = c .checked .rest ∙ in-order-same least p (without (take i rows) p) (drop i rows) (λ x l. sym (take-left p x l))
 
   module _ (x : ℕ) (h : i < length rows) (e : x ≡ getD rows i 0) where
     -- the row at i passes

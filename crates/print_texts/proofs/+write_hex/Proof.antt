@@ -1,6 +1,6 @@
 -- `print_texts::write_hex` meets its contract. Assumes nothing.
 use Rattle.print_texts.proofs.Digits.{hex-none, hex-step}
-use Rattle.print_texts.proofs.Texts.{spelt, room-spelt, room-first, room-next, wrote-then, wrote-none}
+use Rattle.bytes_out.proofs.Wrote.{spelt, room-spelt, room-first, room-next, wrote-then, wrote-none}
 use mathlib.Core.Path.{sym}
 use borrow.Author.Needs.{needs}
 use native.Mathlib.Omega.{arith}

@@ -1,6 +1,6 @@
 -- `print_texts::write_bound` meets its contract. Assumes nothing.
 use Rattle.print_texts.proofs.Digits.{bitsText, bits-text}
-use Rattle.print_texts.proofs.Texts.{spelt, room-spelt, room-first, room-next, wrote-then}
+use Rattle.bytes_out.proofs.Wrote.{spelt, room-spelt, room-first, room-next, wrote-then}
 use mathlib.Core.List.{[], _∷_}
 use mathlib.Core.Path.{sym}
 use borrow.Author.Needs.{needs}

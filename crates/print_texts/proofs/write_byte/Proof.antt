@@ -1,5 +1,5 @@
 -- `print_texts::write_byte` meets its contract. Assumes nothing.
-use Rattle.print_texts.proofs.Texts.{wrote-byte}
+use Rattle.bytes_out.proofs.Wrote.{wrote-byte}
 use borrow.Author.Needs.{needs}
 use Rattle.print_texts.proofs.write_byte.Statement.{statement}
 use Rattle.print_texts.proofs.write_byte.Tie as tie

@@ -1,7 +1,8 @@
 -- `print_texts::write_listed` meets its contract. Assumes nothing.
 use mathlib.Core.List.{[], _∷_}
 use Rattle.formats.specs.Printout.{rowsText}
-use Rattle.print_texts.proofs.Writing.{begin, text-room, text-added, finish, two-texts}
+use Rattle.lists.proofs.Joined.{joined-two}
+use Rattle.print_texts.proofs.Writing.{begin, text-room, text-added, finish}
 use borrow.Author.Needs.{needs}
 use Rattle.print_texts.proofs.write_listed.Statement.{statement}
 use Rattle.print_texts.proofs.write_listed.Tie as tie
@@ -9,14 +10,14 @@ use Rattle.print_texts.proofs.write_listed.Tie as tie
 write-text-requires : tie.Need-write-text-requires
 write-text-requires c κs =
     let start = c .before .before .before .before in
-    let e = two-texts (start .args .label .now) (rowsText (start .args .rows .now)) in
+    let e = joined-two (start .args .label .now) (rowsText (start .args .rows .now)) in
     let w0 = begin (start .args .label .now ∷ rowsText (start .args .rows .now) ∷ []) e (start .pre) in
     text-room w0 tt
 
 write-rows-requires : tie.Need-write-rows-requires
 write-rows-requires c κs =
     let start = c .before .before .before .before .before .before .before .before in
-    let e = two-texts (start .args .label .now) (rowsText (start .args .rows .now)) in
+    let e = joined-two (start .args .label .now) (rowsText (start .args .rows .now)) in
     let w0 = begin (start .args .label .now ∷ rowsText (start .args .rows .now) ∷ []) e (start .pre) in
     let w1 = text-added w0 tt (c .before .before .before .write-text .ensures) in
     text-room w1 tt
@@ -27,7 +28,7 @@ same-length c = search needs
 returns : tie.Need-returns
 returns c =
     let start = c .before .before .before .before .before .before .before .before .before .before .before in
-    let e = two-texts (start .args .label .now) (rowsText (start .args .rows .now)) in
+    let e = joined-two (start .args .label .now) (rowsText (start .args .rows .now)) in
     let w0 = begin (start .args .label .now ∷ rowsText (start .args .rows .now) ∷ []) e (start .pre) in
     let w1 = text-added w0 tt (c .before .before .before .before .before .before .write-text .ensures) in
     let w2 = text-added w1 tt (c .before .before .write-rows .ensures) in

@@ -1,5 +1,5 @@
 -- `print_texts::write_row` meets its contract. Assumes nothing.
-use Rattle.print_texts.proofs.Texts.{room-first, room-next, wrote-then}
+use Rattle.bytes_out.proofs.Wrote.{room-first, room-next, wrote-then}
 use Rattle.formats.specs.Printout.{decimal}
 use mathlib.Core.List.{[], _∷_}
 use borrow.Author.Needs.{needs}

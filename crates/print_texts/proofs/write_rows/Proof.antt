@@ -1,7 +1,7 @@
 -- `print_texts::write_rows` meets its contract. Assumes nothing.
 use Rattle.print_texts.proofs.Each.{rowText, rows-dash, rows-listed, each-none, each-all, each-more, more-room}
-use Rattle.print_texts.proofs.Texts.{spelt, room-spelt, wrote-none}
-use Rattle.print_texts.specs.Wrote.{Wrote}
+use Rattle.bytes_out.specs.Wrote.{Wrote}
+use Rattle.bytes_out.proofs.Wrote.{spelt, room-spelt, wrote-none}
 use Rattle.lists.specs.Lists.{joined}
 use lib.ListN.{length, take}
 use Prim.Native.Nat.{_-_, _≤_}

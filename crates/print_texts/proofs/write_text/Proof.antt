@@ -1,6 +1,6 @@
 -- `print_texts::write_text` meets its contract. Assumes nothing.
-use Rattle.print_texts.proofs.Texts.{spelt, wrote-none, copied}
-use Rattle.print_texts.specs.Wrote.{Wrote}
+use Rattle.bytes_out.specs.Wrote.{Wrote}
+use Rattle.bytes_out.proofs.Wrote.{spelt, wrote-none, copied}
 use native.Mathlib.Nat.{add-zero}
 use lib.Seq.{take-all}
 use lib.ListN.{length, take, length-set}

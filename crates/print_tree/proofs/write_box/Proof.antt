@@ -1,6 +1,6 @@
 -- `print_tree::write_box` meets its contract. Assumes nothing.
 use Rattle.print_tree.proofs.Lines.{box-fine, box-coarse}
-use Rattle.print_texts.proofs.Texts.{spelt, room-spelt}
+use Rattle.bytes_out.proofs.Wrote.{spelt, room-spelt}
 use mathlib.Core.Path.{sym}
 use borrow.Author.Needs.{needs}
 use Rattle.print_tree.proofs.write_box.Statement.{statement}

@@ -1,5 +1,5 @@
 -- `print_tree::write_fine` meets its contract. Assumes nothing.
-use Rattle.print_texts.proofs.Texts.{room-first, room-next, wrote-then}
+use Rattle.bytes_out.proofs.Wrote.{room-first, room-next, wrote-then}
 use Rattle.print_tree.specs.Unpack.{fineLevelText}
 use borrow.Author.Needs.{needs}
 use Rattle.print_tree.proofs.write_fine.Statement.{statement}

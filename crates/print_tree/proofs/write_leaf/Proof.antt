@@ -1,6 +1,6 @@
 -- `print_tree::write_leaf` meets its contract. Assumes nothing.
 use Rattle.print_tree.proofs.Leaves.{leaf-line}
-use Rattle.print_texts.proofs.Texts.{spelt, room-spelt}
+use Rattle.bytes_out.proofs.Wrote.{spelt, room-spelt}
 use Rattle.packed.specs.Reading.{packed}
 use mathlib.Core.Path.{sym}
 use borrow.Author.Needs.{needs}

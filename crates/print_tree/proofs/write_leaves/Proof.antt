@@ -1,9 +1,9 @@
 -- `print_tree::write_leaves` meets its contract. Assumes nothing.
 use Rattle.print_tree.proofs.Grow.{fineText, fine-none, fine-grows, grown-room, grown}
-use Rattle.print_texts.proofs.Texts.{spelt, wrote-none}
 use Rattle.packed.specs.Reading.{packed}
 use Rattle.print_tree.specs.Unpack.{leafLine}
-use Rattle.print_texts.specs.Wrote.{Wrote}
+use Rattle.bytes_out.specs.Wrote.{Wrote}
+use Rattle.bytes_out.proofs.Wrote.{spelt, wrote-none}
 use lib.ListN.{length}
 use Prim.Native.Nat.{_+_, _-_, _≤_}
 use mathlib.Core.Bool.{true}

@@ -1,10 +1,11 @@
 -- `print_tree::write_levels` meets its contract. Assumes nothing.
-use Rattle.print_tree.proofs.Levels.{frontText, fineAt, front-none, front-grows, total-none, fine-here, coarse-here, rows-here, fits-here, domains-here, levels-whole}
+use Rattle.print_tree.proofs.Levels.{frontText, fineAt, front-none, front-grows, total-none, fine-here, coarse-here, levels-whole}
 use Rattle.lists.proofs.Sums.{total-step}
 use Rattle.print_tree.proofs.Grow.{grown-room, grown}
-use Rattle.print_texts.proofs.Texts.{spelt, room-spelt, room-first, room-next, wrote-then, wrote-none}
 use Rattle.packed.specs.Reading.{packed}
-use Rattle.print_texts.specs.Wrote.{Wrote}
+use Rattle.packed.proofs.Standing.{rows-inside, row-fits, domains-inside}
+use Rattle.bytes_out.specs.Wrote.{Wrote}
+use Rattle.bytes_out.proofs.Wrote.{spelt, room-spelt, room-first, room-next, wrote-then, wrote-none}
 use Rattle.lists.specs.Lists.{total}
 use lib.ListN.{length, take, getD}
 use native.Mathlib.Nat.{add-zero}
@@ -56,7 +57,7 @@ add-e c =
     let v = c .before .before .loop in
     omega (
       arith,
-      rows-here p (a .level-points .now) (a .rows .now) (a .counts .now) (v .t) (v .a) (v .j) (v .inv .0) (v .inv .1) (a .levels) s
+      rows-inside p (a .level-points .now) (a .rows .now) (a .counts .now) (v .t) (v .a) (v .j) (v .inv .0) (v .inv .1) (a .levels) s
           (omega (arith, s .some, v .inv .3)),
       start .good,
     )
@@ -76,7 +77,7 @@ mul-write-fine c =
     let v = c .before .before .before .loop in
     omega (
       arith,
-      rows-here p (a .level-points .now) (a .rows .now) (a .counts .now) (v .t) (v .a) (v .j) (v .inv .0) (v .inv .1) (a .levels) s
+      rows-inside p (a .level-points .now) (a .rows .now) (a .counts .now) (v .t) (v .a) (v .j) (v .inv .0) (v .inv .1) (a .levels) s
           (omega (arith, s .some, v .inv .3)),
       start .good,
     )
@@ -94,7 +95,7 @@ part-write-fine-end c =
     let p = packed (a .internals .now) (a .domains .now) (a .boxes .now) (a .borrowed .now) (a .dimensions) in
     let s = start .pre .0 in
     let v = c .before .before .before .loop in
-    rows-here p (a .level-points .now) (a .rows .now) (a .counts .now) (v .t) (v .a) (v .j) (v .inv .0) (v .inv .1) (a .levels) s (omega (arith, s .some, v .inv .3))
+    rows-inside p (a .level-points .now) (a .rows .now) (a .counts .now) (v .t) (v .a) (v .j) (v .inv .0) (v .inv .1) (a .levels) s (omega (arith, s .some, v .inv .3))
 
 write-fine-requires : tie.Need-write-fine-requires Inv-loop μ-loop
 write-fine-requires c κs =
@@ -106,7 +107,7 @@ write-fine-requires c κs =
     let r = room-first _ _ (room-spelt (levels-whole p (a .level-points .now) (a .rows .now) (a .counts .now) (a .levels) (a .levels - 1) s refl) (start .pre .1)) in
     let g = grown-room (frontText p (a .level-points .now) (a .rows .now) (a .counts .now)) (fineAt p (a .level-points .now) (a .rows .now) (a .counts .now))
     (front-grows p (a .level-points .now) (a .rows .now) (a .counts .now)) (a .levels - 1) (v .t) (omega arith) r (v .inv .2) in (
-      fits-here p (a .level-points .now) (a .rows .now) (a .counts .now) (v .t) (v .a) (v .j) (v .inv .0) (v .inv .1) (a .levels) s
+      row-fits p (a .level-points .now) (a .rows .now) (a .counts .now) (v .t) (v .a) (v .j) (v .inv .0) (v .inv .1) (a .levels) s
           (omega (arith, s .some, v .inv .3)),
       room-spelt
           (fine-here p (a .level-points .now) (a .rows .now) (a .counts .now) (v .t) (v .a) (v .j) (v .inv .0) (v .inv .1)) g,
@@ -121,7 +122,7 @@ add-j c =
     let v = c .before .before .before .before .before .before .before .before .loop in
     omega (
       arith,
-      domains-here p (a .level-points .now) (a .rows .now) (a .counts .now) (v .t) (v .a) (v .j) (v .inv .0) (v .inv .1) (a .levels) s
+      domains-inside p (a .level-points .now) (a .rows .now) (a .counts .now) (v .t) (v .a) (v .j) (v .inv .0) (v .inv .1) (a .levels) s
           (omega (arith, s .some, v .inv .3)),
       start .good,
     )
@@ -171,7 +172,7 @@ add-e-2 c =
     let e : v .t ≡ a .levels - 1 = omega (arith, v .inv .3, c .before .loop-test .left) in
     let ea : v .a ≡ total (take (a .levels - 1) (a .rows .now)) = v .inv .0 ∙ ap (λ (k : ℕ). total (take k (a .rows .now))) e in
     let ej : v .j ≡ total (take (a .levels - 1) (a .counts .now)) = v .inv .1 ∙ ap (λ (k : ℕ). total (take k (a .counts .now))) e in
-    omega (arith, rows-here p (a .level-points .now) (a .rows .now) (a .counts .now) (a .levels - 1) (v .a) (v .j) ea ej (a .levels) s (omega (arith, s .some)), start .good)
+    omega (arith, rows-inside p (a .level-points .now) (a .rows .now) (a .counts .now) (a .levels - 1) (v .a) (v .j) ea ej (a .levels) s (omega (arith, s .some)), start .good)
 
 mul-write-coarse : tie.Need-mul-write-coarse Inv-loop μ-loop
 mul-write-coarse c =
@@ -183,7 +184,7 @@ mul-write-coarse c =
     let e : v .t ≡ a .levels - 1 = omega (arith, v .inv .3, c .before .loop-test .left) in
     let ea : v .a ≡ total (take (a .levels - 1) (a .rows .now)) = v .inv .0 ∙ ap (λ (k : ℕ). total (take k (a .rows .now))) e in
     let ej : v .j ≡ total (take (a .levels - 1) (a .counts .now)) = v .inv .1 ∙ ap (λ (k : ℕ). total (take k (a .counts .now))) e in
-    omega (arith, rows-here p (a .level-points .now) (a .rows .now) (a .counts .now) (a .levels - 1) (v .a) (v .j) ea ej (a .levels) s (omega (arith, s .some)), start .good)
+    omega (arith, rows-inside p (a .level-points .now) (a .rows .now) (a .counts .now) (a .levels - 1) (v .a) (v .j) ea ej (a .levels) s (omega (arith, s .some)), start .good)
 
 sub-write-coarse : tie.Need-sub-write-coarse Inv-loop μ-loop
 sub-write-coarse c = search needs
@@ -201,7 +202,7 @@ part-write-coarse-end c =
     let e : v .t ≡ a .levels - 1 = omega (arith, v .inv .3, c .before .loop-test .left) in
     let ea : v .a ≡ total (take (a .levels - 1) (a .rows .now)) = v .inv .0 ∙ ap (λ (k : ℕ). total (take k (a .rows .now))) e in
     let ej : v .j ≡ total (take (a .levels - 1) (a .counts .now)) = v .inv .1 ∙ ap (λ (k : ℕ). total (take k (a .counts .now))) e in
-    rows-here p (a .level-points .now) (a .rows .now) (a .counts .now) (a .levels - 1) (v .a) (v .j) ea ej (a .levels) s (omega (arith, s .some))
+    rows-inside p (a .level-points .now) (a .rows .now) (a .counts .now) (a .levels - 1) (v .a) (v .j) ea ej (a .levels) s (omega (arith, s .some))
 
 write-coarse-requires : tie.Need-write-coarse-requires Inv-loop μ-loop
 write-coarse-requires c κs =
@@ -215,7 +216,7 @@ write-coarse-requires c κs =
     let ej : v .j ≡ total (take (a .levels - 1) (a .counts .now)) = v .inv .1 ∙ ap (λ (k : ℕ). total (take k (a .counts .now))) e in
     let w = spelt (ap (frontText p (a .level-points .now) (a .rows .now) (a .counts .now)) e) (v .inv .2) in
     let r = room-next _ w (room-spelt (levels-whole p (a .level-points .now) (a .rows .now) (a .counts .now) (a .levels) (a .levels - 1) s refl) (start .pre .1)) in (
-      rw add-zero at (fits-here p (a .level-points .now) (a .rows .now) (a .counts .now) (a .levels - 1) (v .a) (v .j) ea ej (a .levels) s
+      rw add-zero at (row-fits p (a .level-points .now) (a .rows .now) (a .counts .now) (a .levels - 1) (v .a) (v .j) ea ej (a .levels) s
           (omega (arith, s .some)) 0 (omega (arith, s .coarse))),
       room-spelt (coarse-here p (a .level-points .now) (a .rows .now) (a .counts .now) (a .levels - 1)
           (v .a) (v .j) ea ej) r,

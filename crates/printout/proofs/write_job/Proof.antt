@@ -1,6 +1,6 @@
 -- `printout::write_job` meets its contract. Assumes nothing.
 use mathlib.Core.Path.{sym}
-use Rattle.print_texts.proofs.Texts.{spelt, room-spelt}
+use Rattle.bytes_out.proofs.Wrote.{spelt, room-spelt}
 use Rattle.settings_record.specs.Reading.{settingsAre}
 use Rattle.printout.proofs.Joins.{lentLists, rooms, room-for, job-refused, tree-ready, job-tree}
 use native.Mathlib.Omega.{arith}

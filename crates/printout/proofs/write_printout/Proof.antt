@@ -2,7 +2,7 @@
 use mathlib.Core.Path.{sym}
 use native.Mathlib.Omega.{arith}
 use lib.Seq.{length-take-le}
-use Rattle.print_texts.proofs.Texts.{spelt}
+use Rattle.bytes_out.proofs.Wrote.{spelt}
 use Rattle.printout.proofs.Joins.{refusal-room, broken-here, whole-here, limits-here, floats-here}
 use borrow.Author.Needs.{needs}
 use Rattle.printout.proofs.write_printout.Statement.{statement}

@@ -1,9 +1,10 @@
 -- `store_bytes::put_levels` meets its contract. Assumes nothing.
 use Rattle.store_records.proofs.Remains.{Remains, begin, restated, room-now, part-written, done}
-use Rattle.store_bytes.proofs.Levels.{no-level, levels-all, turn-here, rows-inside, row-fits, domains-inside}
+use Rattle.store_bytes.proofs.Levels.{no-level, levels-all, turn-here}
 use Rattle.lists.specs.Lists.{joined, total, from}
 use Rattle.lists.proofs.Sums.{total-nil, total-step}
 use Rattle.packed.specs.Reading.{packed, readLevel, readLevels}
+use Rattle.packed.proofs.Standing.{rows-inside, row-fits, domains-inside}
 use Rattle.stored.specs.File.{treeRecords}
 use lib.ListN.{length, getD, take}
 use Prim.Native.Nat.{ℕ, _+_, _-_, _≤_}

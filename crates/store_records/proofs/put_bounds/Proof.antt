@@ -1,6 +1,6 @@
 -- `store_records::put_bounds` meets its contract. Assumes nothing.
 use Rattle.store_records.proofs.Parts.{bounds-none, bounds-all}
-use Rattle.print_texts.proofs.Texts.{spelt, room-spelt, wrote-none}
+use Rattle.bytes_out.proofs.Wrote.{spelt, room-spelt, wrote-none}
 use mathlib.Core.Path.{sym}
 use native.Mathlib.Omega.{arith}
 use borrow.Author.Needs.{needs}

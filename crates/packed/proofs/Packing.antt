@@ -14,7 +14,7 @@ use Rattle.lists.proofs.Joined.{joined-cons, joined-map-append}
 use Rattle.definition.specs.Tree.{Leaf, Level}
 use Rattle.definition.specs.Packed.{rowNumbers, leavesIn, packedLevelPoints, packedInternals, packedBorrowed, packedBoxes, stretches}
 use Rattle.definition_laws.proofs.Fit.{length-stretches}
-use Rattle.fine_level.specs.Fine.{ownIn, borrowedIn, boxesIn}
+use Rattle.packed.specs.Reading.{ownIn, borrowedIn, boxesIn}
 
 module _ (l : Level) (ls : List Level) where
   pub leaves-cons : leavesIn (l ∷ ls) ≡ l .leaves ++ leavesIn ls

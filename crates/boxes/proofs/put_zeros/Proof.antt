@@ -1,4 +1,4 @@
--- `coarse_level::put_zeros` meets its contract. The loop's invariant: i zeros are written. Assumes nothing.
+-- `boxes::put_zeros` meets its contract. The loop's invariant: i zeros are written. Assumes nothing.
 use mathlib.Core.Path.{_≡_, sym, ap, _∙_}
 use Prim.Native.Nat.{ℕ, _+_, _-_, _≤_}
 use native.Mathlib.Omega.{arith}
@@ -7,10 +7,10 @@ use lib.ListN.{length, replicate, length-set}
 use Rattle.lists.specs.Lists.{put}
 use Rattle.lists.proofs.Put.{put-nil, put-same-more}
 use Rattle.definition.specs.Number.{plusZero}
-use Rattle.coarse_level.proofs.put_zeros.Statement.{statement}
-use Rattle.coarse_level.proofs.put_zeros.Tie as tie
-use Rattle.coarse_level.proofs.put_zeros.Reads as reads
-use Rattle.coarse_level.proofs.put_zeros.Lts as lts
+use Rattle.boxes.proofs.put_zeros.Statement.{statement}
+use Rattle.boxes.proofs.put_zeros.Tie as tie
+use Rattle.boxes.proofs.put_zeros.Reads as reads
+use Rattle.boxes.proofs.put_zeros.Lts as lts
 
 abbrev Inv-loop : tie.InvT-loop
 Inv-loop boxes₀ at count i₀ boxes i = (i ≤ count) × (length boxes ≡ length boxes₀) × (boxes ≡ put boxes₀ at (replicate i plusZero))
