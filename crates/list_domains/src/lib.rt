@@ -41,12 +41,12 @@ fn bounds_fit(boxes: &[f64], at: usize, count: usize, coarse: bool) -> bool
     requires { ⌜ at + count ≤ length (now boxes) ⌝ }
     ensures { λ r. ⌜ r ≡ allOf (boundFits coarse) (part (now (boxes .entry)) at count) ⌝ }
 {
-    let mut i = 0;
-    while i < count {
-        if !bound_fits(boxes[at + i], coarse) {
+    let mut bound = 0;
+    while bound < count {
+        if !bound_fits(boxes[at + bound], coarse) {
             return false;
         }
-        i += 1;
+        bound += 1;
     }
     true
 }

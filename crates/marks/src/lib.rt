@@ -70,9 +70,9 @@ pub fn mark_below(words: &mut [usize], n: usize)
     requires { ⌜ Marked (now words) (λ i. false) × (n ≤ 64 * length (now words)) ⌝ }
     ensures { λ _. ⌜ Marked (now (words .exit)) (λ i. ltb i n) ⌝ }
 {
-    let mut i = 0;
-    while i < n {
-        mark(words, i);
-        i += 1;
+    let mut row = 0;
+    while row < n {
+        mark(words, row);
+        row += 1;
     }
 }

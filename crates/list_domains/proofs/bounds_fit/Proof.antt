@@ -40,12 +40,12 @@ returns c =
     let at-loop = c .before .before .before .before in
     let a = at-loop .before .before .args in
     let xs = part (a .boxes .now) (a .at) (a .count) in
-    let here : at-loop .loop .i < length xs = omega (arith, length-part (a .boxes .now) (a .at) (a .count) (at-loop .before .before .pre)) in
-    let read = sym (getD-part (a .boxes .now) (a .at) (a .count) (at-loop .loop .i) nan (omega arith)) in
-    each-out (boundFits (a .coarse)) xs (at-loop .loop .i) _ (at-loop .loop .inv .1) nan _ here read (sym (c .before .bound-fits .ensures) ∙ not-true _ (c .if1 .taken))
+    let here : at-loop .loop .bound < length xs = omega (arith, length-part (a .boxes .now) (a .at) (a .count) (at-loop .before .before .pre)) in
+    let read = sym (getD-part (a .boxes .now) (a .at) (a .count) (at-loop .loop .bound) nan (omega arith)) in
+    each-out (boundFits (a .coarse)) xs (at-loop .loop .bound) _ (at-loop .loop .inv .1) nan _ here read (sym (c .before .bound-fits .ensures) ∙ not-true _ (c .if1 .taken))
 
-add-i : tie.Need-add-i Inv-loop μ-loop
-add-i c = search needs
+add-bound : tie.Need-add-bound Inv-loop μ-loop
+add-bound c = search needs
 
 loop-less : tie.Need-loop-less Inv-loop μ-loop
 loop-less c = search needs
@@ -55,16 +55,16 @@ loop-again c =
     let at-loop = c .before .before .before .before in
     let a = at-loop .before .before .args in
     let xs = part (a .boxes .now) (a .at) (a .count) in
-    let here : at-loop .loop .i < length xs = omega (arith, length-part (a .boxes .now) (a .at) (a .count) (at-loop .before .before .pre)) in
-    let read = sym (getD-part (a .boxes .now) (a .at) (a .count) (at-loop .loop .i) nan (omega arith)) in
-    (omega arith, each-next (boundFits (a .coarse)) xs (at-loop .loop .i) _ (at-loop .loop .inv .1) nan _ here read (sym (c .before .bound-fits .ensures) ∙ not-false _ (c .if1 .left)))
+    let here : at-loop .loop .bound < length xs = omega (arith, length-part (a .boxes .now) (a .at) (a .count) (at-loop .before .before .pre)) in
+    let read = sym (getD-part (a .boxes .now) (a .at) (a .count) (at-loop .loop .bound) nan (omega arith)) in
+    (omega arith, each-next (boundFits (a .coarse)) xs (at-loop .loop .bound) _ (at-loop .loop .inv .1) nan _ here read (sym (c .before .bound-fits .ensures) ∙ not-false _ (c .if1 .left)))
 
 returns-2 : tie.Need-returns-2 Inv-loop μ-loop
 returns-2 c =
     let start = c .before .before .before in
     let a = start .args in
     let xs = part (a .boxes .now) (a .at) (a .count) in
-    each-end (boundFits (a .coarse)) xs (c .before .loop .i) _ (c .before .loop .inv .1) (omega (arith, length-part (a .boxes .now) (a .at) (a .count) (start .pre)))
+    each-end (boundFits (a .coarse)) xs (c .before .loop .bound) _ (c .before .loop .inv .1) (omega (arith, length-part (a .boxes .now) (a .at) (a .count) (start .pre)))
 
 pub bounds-fit-spec : {M : Type 1} → statement M
 bounds-fit-spec =
@@ -78,7 +78,7 @@ bounds-fit-spec =
     shared-slice-read-bound-fits
     bound-fits-requires
     returns
-    add-i
+    add-bound
     loop-less
     loop-again
     returns-2)

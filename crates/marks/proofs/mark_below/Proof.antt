@@ -22,8 +22,8 @@ loop-holds c = (search needs, search needs, below-start (c .before .pre .0))
 mark-requires : tie.Need-mark-requires Inv-loop μ-loop
 mark-requires c κs = (omega arith, below-clear _ (omega arith) (c .before .before .loop .inv .2))
 
-add-i : tie.Need-add-i Inv-loop μ-loop
-add-i c = search needs
+add-row : tie.Need-add-row Inv-loop μ-loop
+add-row c = search needs
 
 loop-less : tie.Need-loop-less Inv-loop μ-loop
 loop-less c = search needs
@@ -45,7 +45,7 @@ mark-below-spec =
     μ-loop
     loop-holds
     mark-requires
-    add-i
+    add-row
     loop-less
     loop-again
     same-length
