@@ -1,11 +1,10 @@
 -- Fields of w bytes, written one after the other: those of a list's elements from `start` on. Assumes nothing.
 use mathlib.Core.Path.{_≡_, sym, ap, _∙_}
 use Prim.Native.Nat.{ℕ, _+_, _*_, _≤_, _<_}
-use native.Mathlib.Nat.{mul-zero, mul-suc}
 use native.Mathlib.Numerals.{add-one}
 use native.Mathlib.Omega.{arith}
-use mathlib.Core.List.{List, [], _∷_, map}
-use lib.ListN.{length, getD, length-append}
+use mathlib.Core.List.{List, map}
+use lib.ListN.{length, getD}
 use Rattle.lists.specs.Lists.{joined, part, put}
 use Rattle.lists.proofs.Put.{put-nil, put-next-at, part-nil, part-snoc, length-part}
 use Rattle.lists.proofs.Joined.{joined-nil, joined-map-snoc, joined-map-even}

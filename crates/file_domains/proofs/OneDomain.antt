@@ -10,7 +10,7 @@ use lib.ListN.{length, drop, replicate}
 use lib.Ieee.{isNan, binary64, toBits}
 use borrow.Author.Tests.{leb-true, le-leb, lt-leb, eq-eqb}
 use Rattle.lists.specs.Lists.{anyOf}
-use Rattle.lists.proofs.Tests.{clash, and-of, and-snd}
+use Rattle.lists.proofs.Tests.{clash, and-of, and-snd, three-pass}
 use Rattle.lists.proofs.From.{length-map-from}
 use Rattle.definition.specs.Number.{plusZero}
 use Rattle.definition.specs.Points.{boxWidth}
@@ -20,15 +20,14 @@ use Rattle.stored.specs.File.{domainMark}
 use Rattle.stored.specs.Sound.{soundBox, noBox}
 use Rattle.stored.specs.Stored.{countsSize, firstCount, secondCount, borrowedPlace, boundsPlace, leafIn, leafSize}
 use Rattle.tree_tests.specs.InTurn.{without, inOrder, boxed, leafPasses}
-use Rattle.tree_tests.proofs.Several.{three-pass}
 use Rattle.tree_tests.proofs.AllRows.{same-self}
 use Rattle.file_rows.proofs.InBytes.{length-rows}
 use Rattle.file_reader.specs.declared.Fetched.{Fetched}
-use Rattle.file_reader.specs.Fetch.{IsFetched}
+use Rattle.file_reader.specs.Fetch.{IsFetched, boxBytes}
 use Rattle.file_reader.proofs.Fetches.{parts-within}
 use Rattle.file_domains.specs.declared.Passed.{Passed}
 use Rattle.file_domains.specs.Domains.{RowsPassed, DomainPassed, DomainHere, notPassed}
-use Rattle.file_domains.proofs.FromPlace.{numbers-here, floats-here}
+use Rattle.bytes_in.proofs.Fields.{numbers-here, floats-here}
 
 -- ---- the tests of a leaf: the count of its own rows, its rows, its box
 leaf-tests : (box : Leaf → Bool) (q p : ℕ → Bool) (k : ℕ) (f : Leaf)
@@ -46,7 +45,7 @@ box-tests d false bs =
     (eq-eqb (length (floatsAt (boxWidth d) (boundsPlace bs) bs)) (boxWidth d) (length-map-from (λ i. floatAt (boundsPlace bs + floatSize * i) bs) 0 (boxWidth d)))
 
 -- ---- the record that is fetched at a place
-module _ (file : List ℕ) (at d : ℕ) (coarse : Bool) (tail : ℕ) (f : Fetched) (e : tail ≡ cond coarse 0 (floatSize * boxWidth d)) (fetched : IsFetched (drop at file) at tail f) where
+module _ (file : List ℕ) (at d : ℕ) (coarse : Bool) (tail : ℕ) (f : Fetched) (e : tail ≡ boxBytes d coarse) (fetched : IsFetched (drop at file) at tail f) where
   abbrev here : List ℕ
   here = drop at file
 
@@ -96,11 +95,11 @@ module _ (file : List ℕ) (at d : ℕ) (coarse : Bool) (tail : ℕ) (f : Fetche
 
       own-here : numbersAt (f .own) (f .«own_at») file ≡ leaf .own
       unfolding leafIn
-      own-here = rw (fetched .parts w .own, fetched .parts w .own-at) (numbers-here (firstCount here) at countsSize file)
+      own-here = rw (fetched .parts w .own, fetched .parts w .own-at) (numbers-here at file (firstCount here) countsSize)
 
       borrowed-here : numbersAt (f .borrowed) (f .«borrowed_at») file ≡ leaf .borrowed
       unfolding leafIn
-      borrowed-here = rw (fetched .parts w .borrowed, fetched .parts w .borrowed-at) (numbers-here (secondCount here) at (borrowedPlace here) file)
+      borrowed-here = rw (fetched .parts w .borrowed, fetched .parts w .borrowed-at) (numbers-here at file (secondCount here) (borrowedPlace here))
 
       module _ (enough : f .own ≤ remaining) (rp : Bool) (told : RowsPassed (numbersAt (f .own) (f .«own_at») file) (numbersAt (f .borrowed) (f .«borrowed_at») file) p q left listed rp) where
         rows : RowsPassed (leaf .own) (leaf .borrowed) p q left listed rp
@@ -121,7 +120,7 @@ module _ (file : List ℕ) (at d : ℕ) (coarse : Bool) (tail : ℕ) (f : Fetche
           box-is =
               asked
               ∙ ap (λ (xs : List _). cond coarse true (not (anyOf isNan xs)))
-              (ap (λ (k : ℕ). floatsAt (boxWidth d) k file) (fetched .parts w .bounds-at) ∙ floats-here (boxWidth d) at (boundsPlace here) file)
+              (ap (λ (k : ℕ). floatsAt (boxWidth d) k file) (fetched .parts w .bounds-at) ∙ floats-here at file (boxWidth d) (boundsPlace here))
               ∙ sym (box-tests d coarse here)
 
           -- its box does not

@@ -7,12 +7,10 @@ ghost use lib.ListN.{length};
 ghost use lib.Ieee.{isNan};
 ghost use Rattle.lists.specs.Lists.{anyOf};
 ghost use Rattle.definition.specs.Points.{boxWidth};
-ghost use Rattle.formats.specs.Bytes.{numberSize, numbersAt, floatSize, floatsAt};
+ghost use Rattle.formats.specs.Bytes.{numberSize, numbersAt, floatsAt};
 ghost use Rattle.marks.specs.Bits.{Marked};
+ghost use Rattle.file_reader.specs.Fetch.{boxBytes};
 ghost use Rattle.file_domains.specs.Domains.{Inside, RowsPassed, DomainPassed, DomainsPassed, notPassed};
-
-// The bytes of a box's lower and upper bound on one axis.
-const AXIS: usize = 2 * bytes_in::FLOAT;
 
 // Whether the records pass; where they do, where what comes after them starts, and how many internal and borrowed rows they have.
 pub struct Passed {
@@ -33,20 +31,9 @@ fn not_passed() -> Passed
     }
 }
 
-// The bytes of a domain's box; the coarse domain has none.
-fn box_size(dimensions: usize, coarse: bool) -> usize
-    requires { ⌜ dimensions ≤ 3 ⌝ }
-    ensures { λ r. ⌜ r ≡ cond coarse 0 (floatSize * boxWidth dimensions) ⌝ }
-{
-    if coarse {
-        return 0;
-    }
-    AXIS * dimensions
-}
-
 // Whether none of the bounds from `at` on is not-a-number; the coarse domain has none.
 fn box_passes(bytes: &[u8], at: usize, dimensions: usize, coarse: bool) -> bool
-    requires { ⌜ (dimensions ≤ 3) × (at + cond coarse 0 (floatSize * boxWidth dimensions) ≤ length (now bytes)) ⌝ }
+    requires { ⌜ (dimensions ≤ 3) × (at + boxBytes dimensions coarse ≤ length (now bytes)) ⌝ }
     ensures { λ r. ⌜ r ≡ cond coarse true (not (anyOf isNan (floatsAt (boxWidth dimensions) at (now (bytes .entry))))) ⌝ }
 {
     if coarse {
@@ -95,7 +82,7 @@ pub fn check_domain(
     ensures { λ r. ⌜ ((p q : ℕ → Bool) → Marked (now (left .entry)) p → Marked (now (listed .entry)) q
         → DomainPassed (now (bytes .entry)) at dimensions coarse remaining p q (now (left .exit)) (now (listed .exit)) r) ⌝ }
 {
-    let f = file_reader::fetch_domain(bytes, at, box_size(dimensions, coarse));
+    let f = file_reader::fetch_domain(bytes, at, file_reader::box_bytes(dimensions, coarse));
     if !f.whole {
         return not_passed();
     }

@@ -15,10 +15,11 @@ use Rattle.definition.specs.Tree.{Leaf, Level}
 use Rattle.definition.specs.Packed.{mostLevels, leavesIn, packedBorrowed}
 use Rattle.formats.specs.Bytes.{numberSize}
 use Rattle.stored.specs.Sound.{soundBox, noBox}
-use Rattle.stored.specs.Stored.{countsSize, secondCount, oneDomain, domainsPlace, levelIn, afterLevel, levelsAt}
+use Rattle.stored.specs.Stored.{countsSize, oneDomain, levelIn, afterLevel, levelsAt}
 use Rattle.tree_tests.specs.InTurn.{among, boxed, levelPasses, fewer, levelsPass}
 use Rattle.tree_tests.specs.Whole.{levelWhole, levelsWhole}
 use Rattle.tree_tests.proofs.Levels.{levels-pass-same}
+use Rattle.tree_tests.proofs.Lengths.{length-leaves-in}
 use Rattle.marks.specs.Bits.{Marked}
 use Rattle.marks.proofs.Marks.{held, bits-marked, marked-held}
 use Rattle.file_domains.specs.Domains.{borrowedRows}
@@ -26,7 +27,6 @@ use Rattle.file_domains.proofs.DomainsInTurn.{and-apart}
 use Rattle.file_levels.specs.declared.LevelPassed.{LevelPassed}
 use Rattle.file_levels.specs.declared.TreePassed.{TreePassed}
 use Rattle.file_levels.specs.Levels.{between, LevelHere, LevelPassedIs, TreePassedIs, treeNotPassed}
-use Rattle.file_levels.proofs.OneLevel.{leaves-count}
 
 -- ---- the tests of the levels at the front of bytes, at most f of them
 abbrev answer : ℕ → (ℕ → Bool) → (ℕ → Bool) → ℕ → List ℕ → Bool
@@ -65,17 +65,13 @@ module _ (d : ℕ) (counts above : ℕ → Bool) (w : Bool) (l : Level) (after :
       ap (λ (b : Bool). (w && levelsWhole d (suc f) after) && (not b && levelPasses (soundBox d) counts above l && levelsPass d (fewer (length (l .points))) (among (l .points)) (levelsAt d (suc f) after))) e
       ∙ and-apart w (levelsWhole d (suc f) after) (levelPasses (soundBox d) counts above l) (levelsPass d (fewer (length (l .points))) (among (l .points)) (levelsAt d (suc f) after))
 
-one-leaf : (d : ℕ) (bs : List ℕ) → length (levelIn d bs .leaves) ≡ secondCount bs
-unfolding levelIn
-one-leaf d bs = leaves-count d (oneDomain bs) (secondCount bs) (drop (domainsPlace bs) bs)
-
 first-and-rest : (d : ℕ) (counts above : ℕ → Bool) (f : ℕ) (bs : List ℕ)
     → answer d counts above (suc f) bs
     ≡ (levelWhole d bs && levelPasses (boxed d (oneDomain bs)) counts above (levelIn d bs))
     && cond (oneDomain bs) (eqb (length (afterLevel d bs)) 0) (answer d (fewer (length (levelIn d bs .points))) (among (levelIn d bs .points)) f (afterLevel d bs))
 unfolding levelsWhole levelsAt
 first-and-rest d counts above f bs =
-    split d counts above (levelWhole d bs) (levelIn d bs) (afterLevel d bs) (oneDomain bs) (ap (λ (k : ℕ). eqb k 1) (one-leaf d bs)) f
+    split d counts above (levelWhole d bs) (levelIn d bs) (afterLevel d bs) (oneDomain bs) (ap (λ (k : ℕ). eqb k 1) (length-leaves-in d bs)) f
 
 -- ---- the counts of the first level and of those behind it
 leaves-more : (l : Level) (ls : List Level) → length (leavesIn (l ∷ ls)) ≡ length (l .leaves) + length (leavesIn ls)
@@ -194,7 +190,7 @@ module _ (file : List ℕ) (at d n : ℕ) (old-left old-listed left listed : Lis
       level-fits = (omega (arith, s .room, it .past, it .within), omega (arith, s .room, it .past, it .within))
 
       one-is : oneDomain here ≡ eqb (l .domains) 1
-      one-is = ap (λ (k : ℕ). eqb k 1) (sym (it .domains ∙ one-leaf d here))
+      one-is = ap (λ (k : ℕ). eqb k 1) (sym (it .domains ∙ length-leaves-in d here))
 
       count-now : {size : List Level → ℕ} {own : Level → ℕ} → Counting size own → size (levelsAt d (mostLevels - i) here) ≡ size (levelsAt d (suc (mostLevels - (i + 1))) here)
       count-now {size} k = ap (λ (f : ℕ). size (levelsAt d f here)) one-less

@@ -1,8 +1,8 @@
 -- One level tested with its domains: one law for each way out. Assumes nothing.
--- Holds: leaves-count, no-level-record, too-few, too-many-rows, bad-level-rows, bad-domains, level-good
+-- Holds: no-level-record, too-few, too-many-rows, bad-level-rows, bad-domains, level-good
 use mathlib.Core.Path.{_≡_, refl, sym, ap, _∙_}
 use mathlib.Core.Bool.{Bool, true, false, _&&_, and-false}
-use Prim.Native.Nat.{ℕ, zero, suc, _≤_, _<_}
+use Prim.Native.Nat.{ℕ, _≤_, _<_}
 use native.Mathlib.Omega.{arith}
 use mathlib.Core.List.{List}
 use lib.Dec.{leb, ltb, eqb}
@@ -13,23 +13,18 @@ use Rattle.lists.proofs.Tests.{clash, and-of}
 use Rattle.definition.specs.Tree.{Level}
 use Rattle.formats.specs.Bytes.{numbersAt, whole}
 use Rattle.stored.specs.File.{levelMark}
-use Rattle.stored.specs.Stored.{countsSize, firstCount, secondCount, oneDomain, domainsPlace, leavesAt, leafSize, levelIn, afterLevel}
+use Rattle.stored.specs.Stored.{countsSize, firstCount, secondCount, oneDomain, domainsPlace, levelIn, afterLevel}
 use Rattle.tree_tests.specs.InTurn.{among, inOrder, boxed, leavesPass, levelPasses}
 use Rattle.tree_tests.specs.Whole.{leavesWhole, levelWhole}
+use Rattle.tree_tests.proofs.Lengths.{length-leaves-in}
 use Rattle.file_rows.proofs.InBytes.{length-rows}
 use Rattle.file_domains.specs.declared.Passed.{Passed}
 use Rattle.file_domains.specs.Domains.{DomainsPassed}
-use Rattle.file_domains.proofs.FromPlace.{numbers-here}
+use Rattle.bytes_in.proofs.Fields.{numbers-here}
 use Rattle.file_levels.specs.declared.LevelHead.{LevelHead}
 use Rattle.file_levels.specs.declared.LevelPassed.{LevelPassed}
 use Rattle.file_levels.specs.Levels.{IsHead, between, LevelPassedIs, levelNotPassed}
 use Rattle.file_levels.proofs.LevelHeads.{head-within}
-
--- as many leaves as are read
-pub leaves-count : (d : ℕ) (coarse : Bool) (m : ℕ) (bs : List ℕ) → length (leavesAt d coarse m bs) ≡ m
-unfolding leavesAt
-leaves-count d coarse zero bs = refl
-leaves-count d coarse (suc m) bs = ap suc (leaves-count d coarse m (drop (leafSize d coarse bs) bs))
 
 module _ (file : List ℕ) (at d : ℕ) (h : LevelHead) (is : IsHead (drop at file) at h) where
   abbrev here : List ℕ
@@ -54,11 +49,11 @@ module _ (file : List ℕ) (at d : ℕ) (h : LevelHead) (is : IsHead (drop at fi
 
   leaves-length : h .whole ≡ true → length (level .leaves) ≡ h .domains
   unfolding levelIn
-  leaves-length w = leaves-count d (oneDomain here) (secondCount here) (drop (domainsPlace here) here) ∙ sym (is .parts w .domains)
+  leaves-length w = length-leaves-in d here ∙ sym (is .parts w .domains)
 
   rows-here : h .whole ≡ true → numbersAt (h .rows) (h .«rows_at») file ≡ level .points
   unfolding levelIn
-  rows-here w = rw (is .parts w .rows, is .parts w .rows-at) (numbers-here (firstCount here) at countsSize file)
+  rows-here w = rw (is .parts w .rows, is .parts w .rows-at) (numbers-here at file (firstCount here) countsSize)
 
   domains-here : h .whole ≡ true → drop (h .next) file ≡ drop (domainsPlace here) here
   domains-here w = ap (λ (k : ℕ). drop k file) (is .parts w .next) ∙ sym (drop-drop (domainsPlace here) at file)

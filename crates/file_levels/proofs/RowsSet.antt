@@ -1,21 +1,18 @@
 -- Two sets made the rows of a level: the first one cleared and marked, and copied to the second. Assumes nothing.
--- Holds: copied-whole, copied-marked, rows-markable, passed-settable
-use mathlib.Core.Path.{_≡_, refl, sym, ap, _∙_}
-use mathlib.Core.Bool.{Bool, true, false}
+use mathlib.Core.Path.{_≡_, sym, ap, _∙_}
+use mathlib.Core.Bool.{Bool, true}
 use Prim.Native.Nat.{ℕ, _*_, _<_}
 use native.Mathlib.Omega.{arith}
 use mathlib.Core.List.{List, append-nil, _++_}
 use lib.ListN.{length, drop-of-length-le}
 use Rattle.lists.specs.Lists.{part, put}
 use Rattle.lists.specs.Ascends.{All, Ascends}
-use Rattle.lists.proofs.All.{all-of, all-imp}
+use Rattle.lists.proofs.All.{all-of}
 use Rattle.lists.proofs.Put.{put-zero, part-whole}
 use Rattle.tree_tests.specs.InTurn.{inOrder}
 use Rattle.tree_tests.proofs.Rows.{in-order-ascends, in-order-in}
 use Rattle.marks.specs.Bits.{Marked}
 use Rattle.marks.proofs.Marks.{marked-within, held, bits-marked}
-use Rattle.file_rows.specs.Markable.{Markable}
-use Rattle.file_rows.proofs.PutBack.{markable}
 
 -- a list copied whole to one of its length
 pub copied-whole : {A : Type 0} (l out : List A) → length l ≡ length out → put out 0 (part l 0 (length l)) ≡ l
@@ -25,11 +22,6 @@ copied-whole l out e =
 -- what the list marks, its copy marks
 pub copied-marked : (left listed copy : List ℕ) (p : ℕ → Bool) → length left ≡ length listed → copy ≡ put listed 0 (part left 0 (length left)) → Marked left p → Marked copy p
 copied-marked left listed copy p e c m = rw (c ∙ copied-whole left listed e) m
-
--- the rows of a level can be marked where no row is, in as many words
-pub rows-markable : (rows ws old : List ℕ) → length ws ≡ length old → Ascends rows → All (λ i. i < 64 * length old) rows → Marked ws (λ i. false) → Markable rows ws
-rows-markable rows ws old e a w m =
-    markable rows a (all-imp (λ i. i < 64 * length old) (λ i. i < 64 * length ws) rows (λ i h. omega arith) w) m (all-of (λ x. _≡_ {A = Bool} false false) rows (λ x i. refl))
 
 -- rows that passed against a set of words ascend, and as many words have a bit for each
 pub passed-settable : (rows ws new : List ℕ) (r : Bool) → length new ≡ length ws → ((p : ℕ → Bool) → Marked ws p → r ≡ inOrder 0 p rows) → r ≡ true

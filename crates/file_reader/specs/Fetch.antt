@@ -1,12 +1,17 @@
 -- The domain record at the front of bytes, of which the first stands at a place of a file. Definitions only.
 use mathlib.Core.Path.{_≡_}
-use Prim.Native.Nat.{ℕ, _+_}
-use mathlib.Core.Bool.{true, false}
+use Prim.Native.Nat.{ℕ, _+_, _*_}
+use mathlib.Core.Bool.{Bool, true, false, cond}
 use mathlib.Core.List.{List}
-use Rattle.formats.specs.Bytes.{whole}
+use Rattle.definition.specs.Points.{boxWidth}
+use Rattle.formats.specs.Bytes.{floatSize, whole}
 use Rattle.stored.specs.File.{domainMark}
 use Rattle.stored.specs.Stored.{countsSize, firstCount, secondCount, borrowedPlace, boundsPlace}
 use Rattle.file_reader.specs.declared.Fetched.{Fetched}
+
+-- the bytes of a domain's box; the coarse domain has none
+abbrev pub boxBytes : ℕ → Bool → ℕ
+boxBytes d coarse = cond coarse 0 (floatSize * boxWidth d)
 
 -- its counts, and the places of its parts and of what comes next
 pub record Parts (bs : List ℕ) (at tail : ℕ) (r : Fetched) : Type 0 where

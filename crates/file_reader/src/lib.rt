@@ -1,23 +1,22 @@
 // The records of a stored tree, read where they stand in the caller's bytes: a domain's counts, and where its rows, its box and the
 // next record begin.
 ghost use mathlib.Core.Path.{_≡_};
+ghost use Prim.Native.Nat.{_≤_};
 ghost use lib.ListN.{drop};
 ghost use Rattle.formats.specs.Bytes.{whole};
 ghost use Rattle.stored.specs.File.{domainMark};
 ghost use Rattle.stored.specs.Stored.{countsSize};
-ghost use Rattle.file_reader.specs.Fetch.{IsFetched, noDomain};
-
-// A record's mark, and a count or a row.
-const MARK: usize = 2;
-
-const NUMBER: usize = 4;
+ghost use Rattle.file_reader.specs.Fetch.{boxBytes, IsFetched, noDomain};
 
 // Where a domain's two counts begin, and where they end.
-const OWN: usize = MARK;
+const OWN: usize = bytes_in::MARK;
 
-const BORROWED: usize = OWN + NUMBER;
+const BORROWED: usize = OWN + bytes_in::NUMBER;
 
-const COUNTS: usize = BORROWED + NUMBER;
+const COUNTS: usize = BORROWED + bytes_in::NUMBER;
+
+// The bytes of a box's lower and upper bound on one axis.
+const AXIS: usize = 2 * bytes_in::FLOAT;
 
 // A position in the bytes of a stored tree.
 pub struct FileReader<'a> {
@@ -50,6 +49,17 @@ fn nothing() -> Fetched
     }
 }
 
+// The bytes of a domain's box; the coarse domain has none.
+pub fn box_bytes(dimensions: usize, coarse: bool) -> usize
+    requires { ⌜ dimensions ≤ 3 ⌝ }
+    ensures { λ r. ⌜ r ≡ boxBytes dimensions coarse ⌝ }
+{
+    if coarse {
+        return 0;
+    }
+    AXIS * dimensions
+}
+
 // Whether a domain's mark and its two counts stand at a position.
 fn counts_stand(bytes: &[u8], at: usize) -> bool
     ensures { λ r. ⌜ r ≡ whole domainMark countsSize (drop at (now (bytes .entry))) ⌝ }
@@ -69,7 +79,7 @@ fn domain_at(bytes: &[u8], at: usize, tail: usize) -> Fetched
     }
     let own = bytes_in::number_at(bytes, at + OWN);
     let borrowed = bytes_in::number_at(bytes, at + BORROWED);
-    let place = COUNTS + NUMBER * (own + borrowed);
+    let place = COUNTS + bytes_in::NUMBER * (own + borrowed);
     let left = bytes.len() - at;
     if left < place {
         return nothing();
@@ -82,7 +92,7 @@ fn domain_at(bytes: &[u8], at: usize, tail: usize) -> Fetched
         own: own,
         borrowed: borrowed,
         own_at: at + COUNTS,
-        borrowed_at: at + COUNTS + NUMBER * own,
+        borrowed_at: at + COUNTS + bytes_in::NUMBER * own,
         bounds_at: at + place,
         next: at + place + tail,
     }

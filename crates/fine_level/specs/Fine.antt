@@ -1,9 +1,8 @@
 -- One fine level over its active rows, by short names; what it asks. Definitions only.
 use Prim.Native.Nat.{ℕ, _+_, _*_, _≤_}
-use mathlib.Core.List.{List, map}
+use mathlib.Core.List.{List}
 use lib.ListN.{length}
 use lib.Ieee.{Float}
-use Rattle.lists.specs.Lists.{joined}
 use Rattle.definition.specs.Cut.{leavesOf}
 use Rattle.definition.specs.Tree.{Leaf, fineLevel, sentLists, nextActive}
 use Rattle.definition.specs.Packed.{rowNumbers, rowFloats}

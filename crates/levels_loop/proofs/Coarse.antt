@@ -2,7 +2,7 @@
 -- Holds: coarse-points, coarse-own, coarse-borrowed, coarse-boxes, coarse-rows, coarse-row-count, coarse-domain-count
 use mathlib.Core.Path.{_≡_, refl}
 use mathlib.Core.List.{List, [], _∷_, map, append-nil}
-use Prim.Native.Nat.{ℕ, _*_}
+use Prim.Native.Nat.{ℕ}
 use lib.ListN.{length, replicate}
 use Rattle.lists.specs.Lists.{joined}
 use Rattle.definition.specs.Number.{plusZero}

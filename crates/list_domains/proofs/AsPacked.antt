@@ -3,18 +3,20 @@
 -- Holds: AsPacked, rows-split, FirstAsPacked, first-as-packed, packed-first, own-joined, borrowed-joined, borrowed-end,
 --   stretches-append, leaves-length, leaves-append, packed-append, packed-front, packed-behind, end-append
 use mathlib.Core.Path.{_≡_, sym, ap, ap₂, _∙_}
-use mathlib.Core.List.{List, [], _∷_, _++_, map, map-append}
+use mathlib.Core.List.{List, _∷_, _++_, map, map-append, map-map}
 use Prim.Native.Nat.{ℕ, zero, suc, _+_, _*_, _≤_, _<_}
-use native.Mathlib.Nat.{add-assoc, add-zero, zero-add, mul-add, suc-add, add-suc}
+use native.Mathlib.Nat.{add-zero, zero-add, mul-add, suc-add, add-suc}
 use native.Mathlib.Omega.{arith}
 use lib.ListN.{length, getD, take, drop}
 use lib.Seq.{take-at, drop-at}
 use Rattle.lists.specs.Lists.{total, from, joined, part}
+use Rattle.lists.proofs.Joined.{length-joined}
 use Rattle.lists.proofs.From.{from-append, length-map-from}
 use Rattle.lists.proofs.Put.{length-part, part-append, part-nil, part-cons}
 use Rattle.definition.specs.Tree.{Leaf}
 use Rattle.definition.specs.Packed.{rowNumbers, numbersOf, stretches}
 use Rattle.definition_laws.proofs.Fit.{length-stretches}
+use Rattle.packed.proofs.Packing as packing
 use Rattle.packed.specs.Reading.{Packed, ownStart, ownCount, borrowedStart, borrowedCount, rowAt, readLeaf, readLeaves}
 use Rattle.tree_tests.proofs.Lengths.{ownTotal, borrowedTotal}
 use Rattle.list_domains.specs.InLists.{borrowedEnd}
@@ -110,14 +112,11 @@ module _ (p : Packed) where
 
 -- ---- domain rows and those behind them
 pub stretches-append : (xs ys : List Leaf) (a b : ℕ) → stretches a b (xs ++ ys) ≡ stretches a b xs ++ stretches (a + ownTotal xs) (b + borrowedTotal xs) ys
-unfolding stretches total
-stretches-append [] ys a b = ap₂ (λ (x y : ℕ). stretches x y ys) (sym (add-zero a)) (sym (add-zero b))
-stretches-append (f ∷ xs) ys a b =
-    let own = length (f .own) in
-    let more = length (f .borrowed) in
-    ap (λ (l : List ℕ). a ∷ own ∷ b ∷ more ∷ l)
-    (stretches-append xs ys (a + own) (b + more)
-    ∙ ap₂ (λ (x y : ℕ). stretches (a + own) (b + more) xs ++ stretches x y ys) (add-assoc a own (ownTotal xs)) (add-assoc b more (borrowedTotal xs)))
+stretches-append xs ys a b =
+    packing.stretches-append a b xs ys
+    ∙ ap₂ (λ (x y : ℕ). stretches a b xs ++ stretches (a + x) (b + y) ys)
+    (length-joined (map (λ (f : Leaf). f .own) xs) ∙ ap total (map-map length (λ (f : Leaf). f .own) xs))
+    (length-joined (map (λ (f : Leaf). f .borrowed) xs) ∙ ap total (map-map length (λ (f : Leaf). f .borrowed) xs))
 
 pub leaves-length : (p : Packed) (j m : ℕ) → length (readLeaves p j m) ≡ m
 unfolding readLeaves

@@ -11,13 +11,12 @@ use borrow.Author.Tests.{leb-true, eqb-true, le-leb, eq-eqb}
 use lib.Dec.{leb, eqb}
 use lib.ListN.{length}
 use Rattle.lists.specs.Lists.{total, from}
-use Rattle.lists.proofs.Tests.{and-of, and-fst, and-snd}
+use Rattle.lists.proofs.Tests.{and-of, and-fst, and-snd, four-pass}
 use Rattle.lists.proofs.Put.{length-part, part-nil}
 use Rattle.definition.specs.Tree.{Leaf}
 use Rattle.definition.specs.Packed.{rowNumbers, stretches}
 use Rattle.packed.specs.Reading.{Packed, ownStart, ownCount, borrowedStart, borrowedCount, readLeaf, readLeaves}
 use Rattle.tree_tests.specs.InTurn.{without, inOrder, boxed, leafPasses, leavesPass}
-use Rattle.tree_tests.proofs.Several.{four-pass}
 use Rattle.tree_tests.proofs.Lengths.{ownTotal, borrowedTotal}
 use Rattle.tree_tests.proofs.Leaves.{leaves-pass-nil, leaves-pass-cons}
 use Rattle.list_domains.specs.InLists.{stretchesFit, domainPasses, domainsPass}

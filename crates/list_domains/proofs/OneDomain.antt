@@ -10,7 +10,7 @@ use borrow.Author.Tests.{leb-true, eqb-true, le-leb}
 use lib.Dec.{leb, eqb}
 use lib.ListN.{length}
 use Rattle.lists.specs.Lists.{part}
-use Rattle.lists.proofs.Tests.{clash, and-true}
+use Rattle.lists.proofs.Tests.{clash, and-true, four-pass}
 use Rattle.lists.proofs.Put.{length-part}
 use Rattle.definition.specs.Packed.{rowFloats}
 use Rattle.packed.specs.Reading.{Packed, ownStart, ownCount, borrowedStart, borrowedCount, rowAt, readLeaf}
@@ -18,7 +18,6 @@ use Rattle.packed.specs.Rows.{plainRow, IsRow}
 use Rattle.packed.specs.declared.DomainRow.{DomainRow}
 use Rattle.stored.specs.Sound.{allOf}
 use Rattle.tree_tests.specs.InTurn.{without, inOrder, boxed, leafPasses}
-use Rattle.tree_tests.proofs.Several.{four-pass}
 use Rattle.list_domains.specs.Boxes.{boundFits}
 use Rattle.list_domains.specs.InLists.{stretchesFit, domainPasses}
 use Rattle.list_domains.specs.Passed.{Ready, RowsPassed, DomainPassed}

@@ -11,12 +11,11 @@ use borrow.Author.Tests.{leb-true, eqb-true, eq-eqb}
 use lib.Dec.{leb, ltb, eqb}
 use lib.ListN.{length, getD}
 use Rattle.lists.specs.Lists.{total, part}
-use Rattle.lists.proofs.Tests.{clash, and-snd, same-test}
+use Rattle.lists.proofs.Tests.{clash, and-snd, same-test, three-pass}
 use Rattle.lists.proofs.Sums.{total-more}
 use Rattle.definition.specs.Packed.{Counts, rowNumbers, mostRows}
 use Rattle.packed.specs.Reading.{Packed, upTo, pointsAt}
 use Rattle.tree_tests.specs.InTurn.{among}
-use Rattle.tree_tests.proofs.Several.{three-pass}
 use Rattle.marks.specs.Bits.{Marked}
 use Rattle.list_domains.specs.InLists.{borrowedEnd}
 use Rattle.list_domains.proofs.AsPacked.{end-append, borrowed-end}

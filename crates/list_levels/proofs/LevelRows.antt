@@ -1,5 +1,5 @@
 -- One level: its rows asked for in the set above, both sets made its rows, and its domain rows checked with them. Assumes nothing.
--- Holds: none-markable, points-ascend, points-within, level-out, domains-ready, level-tell
+-- Holds: points-ascend, points-within, level-out, domains-ready, level-tell
 use mathlib.Core.Path.{_≡_, refl, sym, subst, _∙_}
 use mathlib.Core.Bool.{Bool, true, false}
 use mathlib.Core.List.{List}
@@ -14,17 +14,11 @@ use Rattle.tree_tests.specs.InTurn.{among, inOrder}
 use Rattle.tree_tests.proofs.Rows.{in-order-ascends, in-order-in}
 use Rattle.marks.specs.Bits.{Marked}
 use Rattle.marks.proofs.Marks.{marked-bit, marked-within, held, bits-marked}
-use Rattle.file_rows.specs.Markable.{Markable}
-use Rattle.file_rows.proofs.PutBack.{markable}
 use Rattle.list_domains.specs.Passed.{Ready, DomainsPassed}
 use Rattle.list_domains.specs.declared.AllPassed.{AllPassed}
 use Rattle.list_domains.proofs.Sets.{bit-in}
 use Rattle.list_levels.specs.InLists.{heldLevelPasses}
 use Rattle.list_levels.specs.Passed.{LevelReady, LevelPassed}
-
--- ---- rows that no word marks can be marked
-pub none-markable : (rows ws : List ℕ) → Marked ws (λ i. false) → Ascends rows → All (λ i. i < 64 * length ws) rows → Markable rows ws
-none-markable rows ws m up within = markable rows up within m (all-of (λ x. false ≡ false) rows (λ x i. refl))
 
 -- ---- the rows of a level, asked for in the set above
 module _ (level-points : List ℕ) (a rows : ℕ) (listed₀ : List ℕ) (r : Bool) (said : (p : ℕ → Bool) → Marked listed₀ p → r ≡ inOrder 0 p (part level-points a rows)) where

@@ -13,14 +13,13 @@ use borrow.Author.Tests.{leb-true, eqb-true, ltb-true, le-leb}
 use lib.Dec.{leb, ltb, eqb, eqb·suc-zero}
 use lib.ListN.{length, getD}
 use Rattle.lists.specs.Lists.{total, from, joined}
-use Rattle.lists.proofs.Tests.{and-of, and-fst, and-snd, le-or-lt}
+use Rattle.lists.proofs.Tests.{and-of, and-fst, and-snd, le-or-lt, three-pass}
 use Rattle.lists.proofs.Sums.{total-more, sum-append}
 use Rattle.definition.specs.Tree.{Leaf, Level}
 use Rattle.definition.specs.Packed.{Counts, rowNumbers, mostRows, leavesIn}
 use Rattle.packed.specs.Reading.{Packed, readLeaves, upTo, pointsAt, readLevel}
 use Rattle.stored.specs.Sound.{soundBox, noBox}
 use Rattle.tree_tests.specs.InTurn.{among, fewer, boxed, levelPasses, levelsPass}
-use Rattle.tree_tests.proofs.Several.{three-pass}
 use Rattle.tree_tests.proofs.Lengths.{ownTotal, borrowedTotal}
 use Rattle.list_domains.specs.InLists.{borrowedEnd}
 use Rattle.list_domains.proofs.AsPacked.{AsPacked, leaves-append, leaves-length, packed-append, packed-front, packed-behind, borrowed-end}

@@ -6,13 +6,12 @@ use mathlib.Core.List.{List}
 use Prim.Native.Nat.{ℕ, _+_, _*_, _≤_}
 use lib.ListN.{length}
 use Rattle.lists.specs.Lists.{part}
-use Rattle.lists.proofs.Tests.{and-of, and-fst, and-snd}
+use Rattle.lists.proofs.Tests.{and-of, and-fst, and-snd, three-pass}
 use Rattle.lists.proofs.Put.{length-part}
 use Rattle.definition.specs.Tree.{Level}
 use Rattle.definition.specs.Packed.{rowNumbers}
 use Rattle.packed.specs.Reading.{Packed, readLeaves}
 use Rattle.tree_tests.specs.InTurn.{among, inOrder, boxed, leavesPass, levelPasses}
-use Rattle.tree_tests.proofs.Several.{three-pass}
 use Rattle.tree_tests.proofs.Lengths.{ownTotal, borrowedTotal}
 use Rattle.list_domains.specs.InLists.{domainsPass}
 use Rattle.list_domains.proofs.AsPacked.{AsPacked}

@@ -12,7 +12,7 @@ use lib.Dec.{leb, ltb, eqb}
 use lib.ListN.{length, getD}
 use Rattle.lists.specs.Lists.{total, from, joined, part}
 use Rattle.lists.proofs.Sums.{sum-below-same}
-use Rattle.lists.proofs.Tests.{and-of, and-fst, and-snd, same-test}
+use Rattle.lists.proofs.Tests.{and-of, and-fst, and-snd, same-test, three-pass}
 use Rattle.lists.proofs.Joined.{length-joined}
 use Rattle.lists.proofs.From.{length-map-from}
 use Rattle.definition.specs.Tree.{Settings, Leaf, Level}
@@ -23,7 +23,6 @@ use Rattle.packed.specs.Reading.{Packed, packed, readLeaves, upTo, pointsAt, re
 use Rattle.stored.specs.Sound.{same, sound}
 use Rattle.stored.specs.Outcome.{treeHeld, leads, packs}
 use Rattle.tree_tests.specs.InTurn.{levelsPass}
-use Rattle.tree_tests.proofs.Several.{three-pass}
 use Rattle.tree_tests.proofs.AllRows.{same-is, same-self}
 use Rattle.tree_tests.proofs.Limits.{sound-counted}
 use Rattle.tree_tests.proofs.Lengths.{ownTotal, borrowedTotal}

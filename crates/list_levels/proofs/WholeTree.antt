@@ -9,7 +9,7 @@ use native.Mathlib.Omega.{arith}
 use lib.ListN.{length}
 use lib.Dec.{leb, ltb}
 use borrow.Author.Tests.{leb-true}
-use Rattle.lists.proofs.Tests.{clash, and-snd}
+use Rattle.lists.proofs.Tests.{clash, and-snd, three-pass}
 use Rattle.definition.specs.Tree.{Settings}
 use Rattle.definition.specs.Packed.{Counts, mostLevels, buildStated}
 use Rattle.definition.specs.Refusals.{mostPoints, mostNeighbours}
@@ -17,7 +17,6 @@ use Rattle.definition.specs.Outcome.{TreeLists}
 use Rattle.packed.specs.Reading.{Packed, packed}
 use Rattle.stored.specs.Sound.{sound}
 use Rattle.stored.specs.Outcome.{listsShort, treeHeld, packs}
-use Rattle.tree_tests.proofs.Several.{three-pass}
 use Rattle.marks.specs.Bits.{Marked}
 use Rattle.list_levels.specs.InLists.{noneBeyond, countsStand, heldLevelsPass, heldTreePasses}
 use Rattle.list_levels.specs.Passed.{Long, LevelsReady, LevelsPassed, TreePassed}

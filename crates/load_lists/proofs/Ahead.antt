@@ -1,7 +1,7 @@
 -- Domains and levels one after another in bytes: how many they are, that each domain has all its bounds, the first of them, and what comes
 -- after it. Assumes nothing.
--- Holds: one-wide, leaves-wide, leaves-many, leaves-first, whole-first, after-first, level-wide, level-many, levels-wide,
---   levels-first, level-first, wholes-next
+-- Holds: one-wide, leaves-wide, leaves-first, whole-first, after-first, level-wide, levels-wide, levels-first, level-first,
+--   wholes-next
 use mathlib.Core.Path.{_≡_, refl, sym, ap, _∙_}
 use mathlib.Core.Bool.{Bool, true, false, _&&_, cond}
 use mathlib.Core.List.{List, [], _∷_}
@@ -44,11 +44,6 @@ module _ (d : ℕ) (coarse : Bool) where
       let rest = drop (leafSize d coarse bs) bs in
       wide-append d (leafIn d coarse bs ∷ []) (leavesAt d coarse m rest) (one-wide bs) (leaves-wide m rest)
 
-  pub leaves-many : (m : ℕ) (bs : List ℕ) → length (leavesAt d coarse m bs) ≡ m
-  unfolding leavesAt
-  leaves-many zero bs = refl
-  leaves-many (suc m) bs = ap suc (leaves-many m (drop (leafSize d coarse bs) bs))
-
   -- the first of them, and what comes after it
   pub leaves-first : (m : ℕ) (bs : List ℕ) → 0 < m → leavesAt d coarse m bs ≡ leafIn d coarse bs ∷ leavesAt d coarse (m - 1) (drop (leafSize d coarse bs) bs)
   unfolding leavesAt
@@ -70,10 +65,6 @@ module _ (d : ℕ) where
   pub level-wide : (bs : List ℕ) → Wide d (levelIn d bs .leaves)
   unfolding levelIn
   level-wide bs = leaves-wide d (oneDomain bs) (secondCount bs) (drop (domainsPlace bs) bs)
-
-  pub level-many : (bs : List ℕ) → length (levelIn d bs .leaves) ≡ secondCount bs
-  unfolding levelIn
-  level-many bs = leaves-many d (oneDomain bs) (secondCount bs) (drop (domainsPlace bs) bs)
 
   none-wide : Wide d (leavesIn [])
   unfolding leavesIn joined

@@ -20,9 +20,9 @@ use Rattle.formats.specs.Bytes.{numberSize, numbersAt, floatsAt, whole}
 use Rattle.stored.specs.File.{domainMark}
 use Rattle.stored.specs.Stored.{leafIn, leafSize}
 use Rattle.file_reader.specs.declared.Fetched.{Fetched}
-use Rattle.file_reader.specs.Fetch.{IsFetched}
+use Rattle.file_reader.specs.Fetch.{IsFetched, boxBytes}
 use Rattle.file_reader.proofs.Fetches.{parts-within}
-use Rattle.load_lists.specs.Places.{ahead, domainAt, boxBytes, Room, Written}
+use Rattle.load_lists.specs.Places.{ahead, domainAt, Room, Written}
 use Rattle.load_lists.specs.declared.Cursor.{Cursor}
 use Rattle.bytes_in.proofs.Fields.{length-numbers-at, numbers-here, floats-here}
 

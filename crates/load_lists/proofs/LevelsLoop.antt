@@ -22,10 +22,11 @@ use Rattle.packed.proofs.Counts.{counts-put}
 use Rattle.packed.proofs.Packing.{points-cons}
 use Rattle.stored.specs.Stored.{secondCount, oneDomain, afterLevel, levelsAt}
 use Rattle.tree_tests.specs.Whole.{levelWhole, levelsWhole}
+use Rattle.tree_tests.proofs.Lengths.{length-leaves-in}
 use Rattle.load_lists.specs.declared.Cursor.{Cursor}
 use Rattle.load_lists.specs.Places.{ahead, levelAt, Room, Written, treeFrom, CanHold}
 use Rattle.load_lists.proofs.Writing.{Wide, wide-append, written-none, room-front, Long, written-long, room-after, written-append}
-use Rattle.load_lists.proofs.Ahead.{level-wide, level-many, levels-wide, levels-first, level-first, wholes-next}
+use Rattle.load_lists.proofs.Ahead.{level-wide, levels-wide, levels-first, level-first, wholes-next}
 
 -- how many rows, and how many domains, a level has
 abbrev pub rowCount : Level → ℕ
@@ -243,7 +244,7 @@ module _ {d : ℕ} {file : List ℕ} {at : ℕ} {c : Cursor} {P P₁ : List ℕ}
     module _ {r : Cursor} {P₂ : List ℕ} {t : Packed} (after : ahead r file ≡ afterLevel d (ahead c file)) (points : r .points ≡ c .points + length (levelAt d c file .points))
         (eP : P₂ ≡ put P₁ (c .points) (levelAt d c file .points)) (w : Written (levelAt d c file .leaves) c r q t) where
       domains-many : r .row - c .row ≡ secondCount (ahead c file)
-      domains-many = omega (arith, w .row-end, level-many d (ahead c file))
+      domains-many = omega (arith, w .row-end, length-leaves-in d (ahead c file))
 
       pub levels-next : {left₁ : ℕ} → left₁ ≡ cond (eqb (r .row - c .row) 1) 0 (left - 1)
           → Inv d file at r P P₂ p t (set rows levels (r .points - c .points)) (set counts levels (r .row - c .row)) (levels + 1) left₁

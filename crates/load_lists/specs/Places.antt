@@ -1,15 +1,13 @@
 -- Where the records of a stored tree are read, where their parts are written, and the room for these. Definitions only.
 use Prim.Native.Nat.{ℕ, _+_, _*_, _≤_}
 use mathlib.Core.Path.{_≡_}
-use mathlib.Core.Bool.{Bool, cond}
+use mathlib.Core.Bool.{Bool}
 use mathlib.Core.List.{List}
 use lib.ListN.{length, drop}
 use Rattle.lists.specs.Lists.{put}
-use Rattle.definition.specs.Points.{boxWidth}
 use Rattle.definition.specs.Tree.{Leaf, Level}
 use Rattle.definition.specs.Packed.{rowNumbers, rowFloats, mostLevels, stretches, packedLevelPoints, packedInternals, packedDomains, packedBoxes, packedBorrowed}
 use Rattle.packed.specs.Reading.{Packed, ownIn, borrowedIn, boxesIn}
-use Rattle.formats.specs.Bytes.{floatSize}
 use Rattle.stored.specs.Stored.{leafIn, leavesAt, levelIn, levelsAt}
 use Rattle.load_lists.specs.declared.Cursor.{Cursor}
 
@@ -28,10 +26,6 @@ domainsAt d coarse m c bs = leavesAt d coarse m (ahead c bs)
 -- a level
 abbrev pub levelAt : ℕ → Cursor → List ℕ → Level
 levelAt d c bs = levelIn d (ahead c bs)
-
--- the bytes of a domain's box
-abbrev pub boxBytes : ℕ → Bool → ℕ
-boxBytes d coarse = cond coarse 0 (floatSize * boxWidth d)
 
 -- ---- domains in the lists, from the cursor c on
 

@@ -16,22 +16,16 @@ ghost use Rattle.stored.specs.File.{domainMark};
 ghost use Rattle.stored.specs.Stored.{leafSize, afterLeaves, afterLevel};
 ghost use Rattle.tree_tests.specs.Whole.{leavesWhole, levelWhole, levelsWhole};
 ghost use Rattle.tree_answer.specs.Answers.{treeAnswer};
-ghost use Rattle.load_lists.specs.Places.{ahead, domainAt, domainsAt, levelAt, boxBytes, Room, Written, treeFrom, CanHold};
+ghost use Rattle.file_reader.specs.Fetch.{boxBytes};
+ghost use Rattle.load_lists.specs.Places.{ahead, domainAt, domainsAt, levelAt, Room, Written, treeFrom, CanHold};
 use tree_answer::DDMTree;
 
-// The bytes of a record's mark, of a count or a row, and of a float.
-const MARK: usize = 2;
-
-const NUMBER: usize = 4;
-
-const FLOAT: usize = 8;
-
 // Where a level's row count and its domain count stand, and where its rows begin.
-const ROWS: usize = MARK;
+const ROWS: usize = bytes_in::MARK;
 
-const DOMAINS: usize = ROWS + NUMBER;
+const DOMAINS: usize = ROWS + bytes_in::NUMBER;
 
-const LISTED: usize = DOMAINS + NUMBER;
+const LISTED: usize = DOMAINS + bytes_in::NUMBER;
 
 // The most levels of a tree.
 const MOST_LEVELS: usize = 4;
@@ -47,18 +41,6 @@ struct Cursor {
 }
 
 // ---- a domain
-
-// How many bytes a domain's box has: the coarse domain has no box.
-fn box_bytes(dimensions: usize, coarse: bool) -> usize
-    requires { ⌜ dimensions ≤ 3 ⌝ }
-    ensures { λ r. ⌜ r ≡ boxBytes dimensions coarse ⌝ }
-{
-    if coarse {
-        0
-    } else {
-        FLOAT * boxes::box_width(dimensions)
-    }
-}
 
 // Writes a domain's box, which stands at `at`, to the boxes from k on; +0 for each bound of the box that the coarse domain does not
 // have.
@@ -92,7 +74,7 @@ fn put_domain(
         (packed (now (internals .entry)) (now (domains .entry)) (now (boxes .entry)) (now (borrowed .entry)) dimensions)
         (packed (now (internals .exit)) (now (domains .exit)) (now (boxes .exit)) (now (borrowed .exit)) dimensions) ⌝ }
 {
-    let found = file_reader::fetch_domain(bytes, c.at, box_bytes(dimensions, coarse));
+    let found = file_reader::fetch_domain(bytes, c.at, file_reader::box_bytes(dimensions, coarse));
     bytes_in::read_numbers(bytes, found.own_at, found.own, internals, c.own);
     bytes_in::read_numbers(
         bytes,
@@ -185,7 +167,7 @@ fn put_level(
     let listed = c.at + LISTED;
     bytes_in::read_numbers(bytes, listed, rows, level_points, c.points);
     let inside = Cursor {
-        at: listed + NUMBER * rows,
+        at: listed + bytes_in::NUMBER * rows,
         points: c.points + rows,
         own: c.own,
         borrowed: c.borrowed,

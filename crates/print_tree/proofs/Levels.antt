@@ -3,7 +3,7 @@
 --   levels-whole
 use mathlib.Core.Path.{_≡_, refl, sym, ap, ap₂, _∙_}
 use mathlib.Core.Bool.{false}
-use Prim.Native.Nat.{ℕ, zero, suc, _+_, _-_, _≤_, _<_}
+use Prim.Native.Nat.{ℕ, suc, _+_, _-_}
 use native.Mathlib.Nat.{add-zero, zero-add, add-suc}
 use native.Mathlib.Omega.{arith}
 use mathlib.Core.List.{List, [], _∷_, _++_, append-assoc, append-nil, map}
@@ -11,9 +11,8 @@ use lib.ListN.{length, getD, take, drop, length-map}
 use Rattle.lists.specs.Lists.{from, total, joined}
 use Rattle.definition.specs.Tree.{Level}
 use Rattle.formats.specs.Printout.{levelLine, fineLines, coarseLines, levelsText}
-use Rattle.packed.specs.Reading.{Packed, readLeaves, readLevel, readLevels, RowFits, Stands}
+use Rattle.packed.specs.Reading.{Packed, readLeaves, readLevel, readLevels, Stands}
 use Rattle.print_tree.specs.Unpack.{leafLine, boxPart, pointsLine, fineLevelText, coarseLevelText}
-use Rattle.lists.proofs.Sums.{total-below}
 use Rattle.lists.proofs.From.{from-suc, length-from}
 use Rattle.lists.proofs.Map.{map-snoc}
 use Rattle.lists.proofs.Put.{part-lent}

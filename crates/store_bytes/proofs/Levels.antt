@@ -5,14 +5,13 @@ use Prim.Native.Nat.{ℕ, zero, suc, _+_, _-_, _≤_, _<_}
 use native.Mathlib.Numerals.{add-one}
 use native.Mathlib.Omega.{arith}
 use mathlib.Core.List.{List, [], _∷_, map, append-nil}
-use lib.ListN.{length, getD, take}
+use lib.ListN.{getD, take}
 use lib.Dec.{eqb}
 use borrow.Author.Tests.{eq-eqb, ne-eqb}
 use Rattle.lists.specs.Lists.{joined, total, part, from}
-use Rattle.lists.proofs.Sums.{total-below}
 use Rattle.lists.proofs.Joined.{joined-append}
 use Rattle.definition.specs.Tree.{Level}
-use Rattle.packed.specs.Reading.{Packed, readLeaves, readLevel, readLevels, RowFits, Stands}
+use Rattle.packed.specs.Reading.{Packed, readLeaves, readLevel, readLevels, Stands}
 use Rattle.stored.specs.File.{levelBytes, domainBytes, treeRecords}
 use Rattle.store_records.specs.Records.{boundsGiven, domainRecord}
 use Rattle.store_bytes.specs.Runs.{domainRecords, levelOf, levelRecords}

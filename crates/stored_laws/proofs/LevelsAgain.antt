@@ -1,6 +1,6 @@
 -- Where a domain, a level, or the levels of a tree stand whole, their bytes are those of what is read from them, if no bound is a NaN.
 -- Assumes nothing.
--- Holds: whole-long, counts-again, domain-again, after-bytes, length-leaves-at, Clean, level-again, levels-again
+-- Holds: whole-long, counts-again, domain-again, after-bytes, Clean, level-again, levels-again
 use mathlib.Core.Path.{_≡_, refl, sym, ap, ap₂, subst, _∙_}
 use Prim.Native.Nat.{ℕ, zero, suc, _+_, _*_, _≤_}
 use native.Mathlib.Omega.{arith}
@@ -23,6 +23,7 @@ use Rattle.stored.specs.Sound.{soundBox, soundLevels}
 use Rattle.stored.specs.Stored.{countsSize, firstCount, secondCount, borrowedPlace, boundsPlace, leafIn, leafSize, leavesAt, afterLeaves, oneDomain, domainsPlace, levelIn, afterLevel, levelsAt}
 use Rattle.tree_tests.specs.Whole.{leavesWhole, levelWhole, levelsWhole}
 use Rattle.tree_tests.proofs.SoundLevels.{fine-level}
+use Rattle.tree_tests.proofs.Lengths.{length-leaves-at}
 use Rattle.stored_laws.specs.Writable.{IsByte}
 use Rattle.stored_laws.proofs.Domains.{boundsOf, domain-parts}
 use Rattle.stored_laws.proofs.Levels.{domainsBytes, level-parts, records-last, records-more}
@@ -84,11 +85,6 @@ pub after-bytes : (d : ℕ) (coarse : Bool) (m : ℕ) (bs : List ℕ) → All Is
 unfolding afterLeaves
 after-bytes d coarse zero bs bytes = bytes
 after-bytes d coarse (suc m) bs bytes = after-bytes d coarse m (drop (leafSize d coarse bs) bs) (all-drop IsByte (leafSize d coarse bs) bs bytes)
-
-pub length-leaves-at : (d : ℕ) (coarse : Bool) (m : ℕ) (bs : List ℕ) → length (leavesAt d coarse m bs) ≡ m
-unfolding leavesAt
-length-leaves-at d coarse zero bs = refl
-length-leaves-at d coarse (suc m) bs = ap suc (length-leaves-at d coarse m (drop (leafSize d coarse bs) bs))
 
 -- no bound in the records is a NaN
 abbrev pub Clean : Bool → Leaf → Type 0

@@ -1,12 +1,13 @@
 -- The lengths of a file's records. Assumes nothing.
 -- Holds: length-numbers, length-floats, length-settings, length-head, length-point, length-front, length-level, length-domain,
---   ownTotal, borrowedTotal, length-domains-in
+--   ownTotal, borrowedTotal, length-domains-in, length-leaves-at, length-leaves-in
 use mathlib.Core.Path.{_≡_, refl, ap, _∙_}
-use Prim.Native.Nat.{ℕ, _+_, _*_}
+use Prim.Native.Nat.{ℕ, zero, suc, _+_, _*_}
 use native.Mathlib.Nat.{mul-comm}
 use native.Mathlib.Omega.{arith}
+use mathlib.Core.Bool.{Bool}
 use mathlib.Core.List.{List, [], _∷_, map, List·Memᴰ, List·Memᴰ·head, List·Memᴰ·tail}
-use lib.ListN.{length, length-append, length-map}
+use lib.ListN.{length, drop, length-append, length-map}
 use lib.Ieee.{Float, binary64, toBits}
 use Rattle.lists.specs.Lists.{total, from, joined}
 use Rattle.lists.proofs.From.{length-from}
@@ -17,7 +18,7 @@ use Rattle.formats.specs.Bytes.{markSize, numberSize, numberBytes, numbersBytes
 use Rattle.formats.specs.Stream.{policyField, thresholdField, settingsBytes, policyBytes, settingsSize, pointSize}
 use Rattle.bytes_out.proofs.Bytes.{length-bytes}
 use Rattle.stored.specs.File.{headBytes, pointBytes, frontBytes, levelBytes, domainBytes}
-use Rattle.stored.specs.Stored.{headSize, countsSize}
+use Rattle.stored.specs.Stored.{headSize, countsSize, secondCount, leafSize, leavesAt, oneDomain, domainsPlace, levelIn}
 
 -- ---- numbers and floats
 pub length-numbers : (ns : List ℕ) → length (numbersBytes ns) ≡ numberSize * length ns
@@ -78,3 +79,13 @@ length-domains-in bounds w [] h = omega arith
 length-domains-in bounds w (f ∷ fs) h =
     length-append (domainBytes (bounds f) f) (joined (map (λ f. domainBytes (bounds f) f) fs))
     ∙ omega (arith, length-domain (bounds f) f, h f (List·Memᴰ·head refl), length-domains-in bounds w fs (λ g m. h g (List·Memᴰ·tail m)))
+
+-- ---- as many leaves as are read
+pub length-leaves-at : (d : ℕ) (coarse : Bool) (m : ℕ) (bs : List ℕ) → length (leavesAt d coarse m bs) ≡ m
+unfolding leavesAt
+length-leaves-at d coarse zero bs = refl
+length-leaves-at d coarse (suc m) bs = ap suc (length-leaves-at d coarse m (drop (leafSize d coarse bs) bs))
+
+pub length-leaves-in : (d : ℕ) (bs : List ℕ) → length (levelIn d bs .leaves) ≡ secondCount bs
+unfolding levelIn
+length-leaves-in d bs = length-leaves-at d (oneDomain bs) (secondCount bs) (drop (domainsPlace bs) bs)

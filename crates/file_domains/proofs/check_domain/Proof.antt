@@ -8,8 +8,8 @@ use borrow.Author.Needs.{needs}
 use Rattle.file_domains.proofs.check_domain.Statement.{statement}
 use Rattle.file_domains.proofs.check_domain.Tie as tie
 
-box-size-requires : tie.Need-box-size-requires
-box-size-requires c κs = search needs
+box-bytes-requires : tie.Need-box-bytes-requires
+box-bytes-requires c κs = search needs
 
 fetch-domain-requires : tie.Need-fetch-domain-requires
 fetch-domain-requires c κs = search needs
@@ -20,7 +20,7 @@ not-passed-requires c κs = search needs
 returns : tie.Need-returns
 returns c =
     let f = c .before .before .before in
-    λ p q m n. no-record _ _ _ _ _ _ (f .before .box-size .ensures) (f .fetch-domain .ensures) _ p q _ _ _ (not-true _ (c .before .if1 .taken)) (c .not-passed .ensures)
+    λ p q m n. no-record _ _ _ _ _ _ (f .before .box-bytes .ensures) (f .fetch-domain .ensures) _ p q _ _ _ (not-true _ (c .before .if1 .taken)) (c .not-passed .ensures)
 
 not-passed-requires-2 : tie.Need-not-passed-requires-2
 not-passed-requires-2 c κs = search needs
@@ -28,7 +28,7 @@ not-passed-requires-2 c κs = search needs
 returns-2 : tie.Need-returns-2
 returns-2 c =
     let f = c .before .before .before .before .before in
-    λ p q m n. too-many _ _ _ _ _ _ (f .before .box-size .ensures) (f .fetch-domain .ensures) _ p q _ _ _ (not-false _ (c .before .before .before .if1 .left)) (c .before .if2 .taken) (c .not-passed2 .ensures)
+    λ p q m n. too-many _ _ _ _ _ _ (f .before .box-bytes .ensures) (f .fetch-domain .ensures) _ p q _ _ _ (not-false _ (c .before .before .before .if1 .left)) (c .before .if2 .taken) (c .not-passed2 .ensures)
 
 rows-pass-requires : tie.Need-rows-pass-requires
 rows-pass-requires c κs =
@@ -49,7 +49,7 @@ same-length-2 c = search needs
 returns-3 : tie.Need-returns-3
 returns-3 c =
     let f = c .before .before .before .before .before .before .before .before .before .before .before .before .before in
-    λ p q m n. bad-rows _ _ _ _ _ _ (f .before .box-size .ensures) (f .fetch-domain .ensures) _ p q _ _ _ (not-false _ (c .before .before .before .before .before .before .before .before .before .before .before .if1 .left)) (c .before .before .before .before .before .before .before .before .before .if2 .left)
+    λ p q m n. bad-rows _ _ _ _ _ _ (f .before .box-bytes .ensures) (f .fetch-domain .ensures) _ p q _ _ _ (not-false _ (c .before .before .before .before .before .before .before .before .before .before .before .if1 .left)) (c .before .before .before .before .before .before .before .before .before .if2 .left)
     _ (c .before .before .before .before .before .before .rows-pass .ensures p q m n) (not-true _ (c .before .if3 .taken)) (c .not-passed3 .ensures)
 
 box-passes-requires : tie.Need-box-passes-requires
@@ -57,7 +57,7 @@ box-passes-requires c κs =
     let f = c .before .before .before .before .before .before .before .before .before .before .before .before in
     let a = f .before .before .before .before .before .args in
     let k = parts-within (a .bytes .now) (a .at) _ (f .fetch-domain .result) (f .fetch-domain .ensures) (not-false _ (c .before .before .before .before .before .before .before .before .before .before .if1 .left)) in
-    (omega arith, omega (arith, f .before .box-size .ensures))
+    (omega arith, omega (arith, f .before .box-bytes .ensures))
 
 not-passed-requires-4 : tie.Need-not-passed-requires-4
 not-passed-requires-4 c κs = search needs
@@ -71,7 +71,7 @@ same-length-4 c = search needs
 returns-4 : tie.Need-returns-4
 returns-4 c =
     let f = c .before .before .before .before .before .before .before .before .before .before .before .before .before .before .before in
-    λ p q m n. bad-box _ _ _ _ _ _ (f .before .box-size .ensures) (f .fetch-domain .ensures) _ p q _ _ _ (not-false _ (c .before .before .before .before .before .before .before .before .before .before .before .before .before .if1 .left)) (c .before .before .before .before .before .before .before .before .before .before .before .if2 .left)
+    λ p q m n. bad-box _ _ _ _ _ _ (f .before .box-bytes .ensures) (f .fetch-domain .ensures) _ p q _ _ _ (not-false _ (c .before .before .before .before .before .before .before .before .before .before .before .before .before .if1 .left)) (c .before .before .before .before .before .before .before .before .before .before .before .if2 .left)
     _ (c .before .before .before .before .before .before .before .before .rows-pass .ensures p q m n) (not-false _ (c .before .before .before .if3 .left)) _ (c .before .before .box-passes .ensures) (not-true _ (c .before .if4 .taken)) (c .not-passed4 .ensures)
 
 same-length-5 : tie.Need-same-length-5
@@ -83,14 +83,14 @@ same-length-6 c = search needs
 returns-5 : tie.Need-returns-5
 returns-5 c =
     let f = c .before .before .before .before .before .before .before .before .before .before .before .before .before .before in
-    λ p q m n. domain-good _ _ _ _ _ _ (f .before .box-size .ensures) (f .fetch-domain .ensures) _ p q _ _ _ (not-false _ (c .before .before .before .before .before .before .before .before .before .before .before .before .if1 .left)) (c .before .before .before .before .before .before .before .before .before .before .if2 .left)
+    λ p q m n. domain-good _ _ _ _ _ _ (f .before .box-bytes .ensures) (f .fetch-domain .ensures) _ p q _ _ _ (not-false _ (c .before .before .before .before .before .before .before .before .before .before .before .before .if1 .left)) (c .before .before .before .before .before .before .before .before .before .before .if2 .left)
     _ (c .before .before .before .before .before .before .before .rows-pass .ensures p q m n) (not-false _ (c .before .before .if3 .left)) _ (c .before .box-passes .ensures) (not-false _ (c .if4 .left)) refl
 
 pub check-domain-spec : {M : Type 1} → statement M
 check-domain-spec =
     tie.close
     (tie.spec
-    box-size-requires
+    box-bytes-requires
     fetch-domain-requires
     not-passed-requires
     returns

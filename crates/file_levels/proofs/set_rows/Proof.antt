@@ -1,6 +1,7 @@
 -- `file_levels::set_rows` meets its contract: the first set is cleared and marked, and the second one is its copy. Assumes nothing.
 use mathlib.Core.Bool.{false}
-use Rattle.file_levels.proofs.RowsSet.{copied-marked, rows-markable}
+use Rattle.file_levels.proofs.RowsSet.{copied-marked}
+use Rattle.file_rows.proofs.PutBack.{none-markable}
 use borrow.Author.Needs.{needs}
 use Rattle.file_levels.proofs.set_rows.Statement.{statement}
 use Rattle.file_levels.proofs.set_rows.Tie as tie
@@ -10,7 +11,7 @@ clear-requires c κs = search needs
 
 mark-rows-requires : tie.Need-mark-rows-requires
 mark-rows-requires c κs =
-    (search needs, rows-markable _ _ (c .before .before .before .before .before .before .before .before .args .left .now) (search needs) (c .before .before .before .before .before .before .before .before .pre .2) (c .before .before .before .before .before .before .before .before .pre .3) (c .before .before .before .clear .ensures))
+    (search needs, none-markable _ _ (c .before .before .before .before .before .before .before .before .args .left .now) (search needs) (c .before .before .before .before .before .before .before .before .pre .2) (c .before .before .before .before .before .before .before .before .pre .3) (c .before .before .before .clear .ensures))
 
 copy-rows-requires : tie.Need-copy-rows-requires
 copy-rows-requires c κs = search needs

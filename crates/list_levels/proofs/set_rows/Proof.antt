@@ -1,10 +1,6 @@
 -- `list_levels::set_rows` meets its contract. Assumes nothing.
-use mathlib.Core.Path.{sym, subst}
 use mathlib.Core.Bool.{false}
-use Prim.Native.Nat.{ℕ, _*_, _<_}
-use Rattle.lists.specs.Lists.{part}
-use Rattle.lists.specs.Ascends.{All}
-use Rattle.list_levels.proofs.LevelRows.{none-markable}
+use Rattle.file_rows.proofs.PutBack.{none-markable}
 use borrow.Author.Needs.{needs}
 use Rattle.list_levels.proofs.set_rows.Statement.{statement}
 use Rattle.list_levels.proofs.set_rows.Tie as tie
@@ -16,7 +12,7 @@ mark-rows-requires : tie.Need-mark-rows-requires
 mark-rows-requires c κs =
     let start = c .before .before .before .before .before .before .before in
     let cleared = c .before .before .before .clear in
-    (start .pre .0, none-markable _ _ (cleared .ensures) (start .pre .1) (subst (λ (n : ℕ). All (λ i. i < 64 * n) (part (start .args .list .now) (start .args .at) (start .args .count))) (sym (cleared .kept .0)) (start .pre .2)))
+    (start .pre .0, none-markable _ _ (start .args .words .now) (cleared .kept .0) (start .pre .1) (start .pre .2) (cleared .ensures))
 
 same-length : tie.Need-same-length
 same-length c = search needs
