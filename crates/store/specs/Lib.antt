@@ -1,0 +1,3 @@
+-- What the contracts of the writer cite.
+pub mod Outcome
+pub mod Limits
