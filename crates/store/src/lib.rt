@@ -1,9 +1,16 @@
 // The writer: the tree that a caller's lists and counts hold, written as the bytes of a file to a list that the caller lends.
 ghost use mathlib.Core.Path.{_≡_};
-ghost use Prim.Native.Nat.{_≤_};
+ghost use Rattle.definition.specs.Refusals.{accepted, verdict};
+ghost use Rattle.config.specs.Params.{settingsOf};
+ghost use Rattle.tree_answer.specs.Answers.{countsGiven, listsOf};
+ghost use Rattle.stored.specs.Outcome.{ownTests};
 ghost use Rattle.tree_tests.specs.Size.{fileSize};
 ghost use Rattle.store.specs.Limits.{Limited};
-ghost use Rattle.store.specs.Outcome.{storeReport};
+ghost use Rattle.store.specs.Outcome.{storeReport, Stored};
+use build_checks::Checked;
+use config::DDMParams;
+use tree_answer::TreeCounts;
+use tree_checks::TreeSizes;
 
 // The head's bytes: the settings record's, and the point count's.
 const HEAD: usize = settings_record::SIZE + bytes_in::NUMBER;
@@ -48,4 +55,111 @@ fn file_size(
     let counts = COUNTS * (levels + domains);
     let numbers = bytes_in::NUMBER * (2 * rows + borrowed);
     front + counts + numbers + bounds * (domains - 1)
+}
+
+// The tree of a call that the build's own tests let pass: 20 where the lists and counts are not those of a sound tree, 11 where the file list
+// has no room for its file, and the file otherwise.
+fn store_sound(
+    points: &[f64],
+    dimensions: usize,
+    params: DDMParams,
+    counts: TreeCounts,
+    level_points: &[usize],
+    internals: &[usize],
+    domains: &[usize],
+    boxes: &[f64],
+    borrowed: &[usize],
+    file: &mut [u8],
+) -> StoreAnswer
+    requires { ⌜ verdict (ownTests (settingsOf dimensions params) (now points) (listsOf (now «level_points») (now internals) (now domains) (now boxes) (now borrowed))) ≡ accepted ⌝ }
+    ensures { λ r. ⌜ Stored (settingsOf dimensions params) (now (points .entry)) (countsGiven counts)
+        (listsOf (now («level_points» .entry)) (now (internals .entry)) (now (domains .entry)) (now (boxes .entry)) (now (borrowed .entry)))
+        (now (file .entry)) (now (file .exit)) (storeReport r) ⌝ }
+{
+    let n = points.len() / dimensions;
+    let tree = list_levels::check_lists(
+        level_points,
+        internals,
+        domains,
+        boxes,
+        borrowed,
+        dimensions,
+        n,
+        params.overlap_knn as usize,
+        counts,
+    );
+    if !tree.good {
+        return refusal(20, 0);
+    }
+    let size = file_size(
+        dimensions,
+        n,
+        counts.levels,
+        tree.rows,
+        tree.domains,
+        tree.borrowed,
+    );
+    if file.len() < size {
+        return refusal(11, 0);
+    }
+    let bytes = store_bytes::put_file(
+        points,
+        dimensions,
+        params,
+        counts,
+        level_points,
+        internals,
+        domains,
+        boxes,
+        borrowed,
+        file,
+    );
+    StoreAnswer {
+        number: 0,
+        place: 0,
+        bytes: bytes,
+    }
+}
+
+// Writes the file of the tree that stands in the lists with these counts, over these points and settings. The bytes go to the front of the
+// file list, and the answer tells how many they are; what stands past them stays as it was. A refused call writes nothing.
+pub fn store_tree(
+    points: &[f64],
+    dimensions: usize,
+    params: DDMParams,
+    counts: TreeCounts,
+    level_points: &[usize],
+    internals: &[usize],
+    domains: &[usize],
+    boxes: &[f64],
+    borrowed: &[usize],
+    file: &mut [u8],
+) -> StoreAnswer
+    ensures { λ r. ⌜ Stored (settingsOf dimensions params) (now (points .entry)) (countsGiven counts)
+        (listsOf (now («level_points» .entry)) (now (internals .entry)) (now (domains .entry)) (now (boxes .entry)) (now (borrowed .entry)))
+        (now (file .entry)) (now (file .exit)) (storeReport r) ⌝ }
+{
+    let lent = TreeSizes {
+        level_points: level_points.len(),
+        internals: internals.len(),
+        domains: domains.len(),
+        boxes: boxes.len(),
+        borrowed: borrowed.len(),
+    };
+    let checked = tree_checks::check_tree(points, dimensions, params, lent);
+    match checked {
+        Checked::Refused(number, place) => refusal(number, place),
+        Checked::Accepted => store_sound(
+            points,
+            dimensions,
+            params,
+            counts,
+            level_points,
+            internals,
+            domains,
+            boxes,
+            borrowed,
+            file,
+        ),
+    }
 }

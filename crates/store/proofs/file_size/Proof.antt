@@ -4,9 +4,6 @@ use Rattle.store.proofs.Lengths.{points-most, boxes-most}
 use borrow.Author.Needs.{needs}
 use Rattle.store.proofs.file_size.Statement.{statement}
 use Rattle.store.proofs.file_size.Tie as tie
-use Rattle.store.proofs.file_size.Reads as reads
-use Rattle.store.proofs.file_size.Lts as lts
-use Rattle.packed.proofs.row_floats.Reads as row-floats-reads
 
 mul-point : tie.Need-mul-point
 mul-point c = search needs
