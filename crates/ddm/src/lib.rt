@@ -1,4 +1,5 @@
-// The library: the build of a multilevel domain tree over points, written to lists that the caller lends, and the other calls.
+// The library: the build of a multilevel domain tree over points, written to lists that the caller lends; the tree stored and loaded; and
+// the other calls.
 ghost use mathlib.Core.Path.{_≡_};
 ghost use Rattle.lists.specs.Lists.{put};
 ghost use Rattle.definition.specs.Tree.{levels};
@@ -21,6 +22,7 @@ pub use leaf_rows::row_test;
 pub use leaf_rows::rows_of;
 pub use level_sizes::LevelSize;
 pub use level_sizes::get_num_level_coarse_points;
+pub use load::load_tree;
 pub use packed::DomainRow;
 pub use quotas::QuotaAnswer;
 pub use quotas::get_domain_coarse_quotas;
@@ -28,7 +30,10 @@ pub use root::RootAnswer;
 pub use root::square_root;
 pub use sampling::SampleAnswer;
 pub use sampling::farthest_point_sampling;
+pub use store::StoreAnswer;
+pub use store::store_tree;
 pub use tree_answer::DDMTree;
+pub use tree_answer::TreeCounts;
 
 // The tree of an accepted call.
 fn grow(
