@@ -1,17 +1,11 @@
--- The text of an accepted call, and that the printout of the bytes read is the printout of the stream. Assumes nothing.
--- Holds: text-fits, text-printed, open-printed, ended-printed, reply-text
-use mathlib.Core.Path.{_≡_, refl, ap, _∙_}
+-- The printout of the bytes read is the printout of the stream. Assumes nothing.
+use mathlib.Core.Path.{_≡_}
 use Prim.Native.Nat.{ℕ, _≤_}
-use native.Mathlib.Omega.{arith}
-use mathlib.Core.List.{List, _++_}
-use lib.ListN.{length, take, drop, length-append}
-use lib.Seq.{take-at}
-use Rattle.definition.specs.Outcome.{Answer, valueOf, written, listAfter}
+use mathlib.Core.List.{List}
+use lib.ListN.{length, take}
 use Rattle.formats.specs.Printout.{printout}
-use Rattle.stream_laws.specs.Sizes.{decisive, mostBytes}
+use Rattle.stream_laws.specs.Sizes.{decisive}
 use Rattle.stream_laws.proofs.Front.{front-printed}
-use Rattle.printout.specs.Printing.{printAnswer, printOutput}
-use Rattle.printout.proofs.Joins.{call-long}
 use Rattle.program_input.specs.declared.Front.{Front}
 use Rattle.program_input.specs.declared.Front.the-variants.{Open, Ended}
 use Rattle.program_input.specs.Input.{Stopped}
@@ -19,22 +13,6 @@ use Rattle.program_input.proofs.Fronts.{open-decides, ended-decides}
 use Rattle.ddm_tree.specs.declared.Reply.{Reply}
 use Rattle.ddm_tree.specs.declared.Reply.the-variants.{Text}
 use Rattle.ddm_tree.specs.Output.{PrintoutFor, Replies}
-
--- ---- the text of an accepted call
-module _ (bytes text : List ℕ) (long : mostBytes ≤ length text) (r : Answer ℕ) (e : r ≡ printAnswer bytes text) (after : List ℕ) (f : after ≡ printOutput bytes text) where
-  text-counted : r .value ≡ length (printout bytes)
-  unfolding printAnswer valueOf
-  text-counted = ap (λ (a : Answer ℕ). a .value) e ∙ rw (call-long bytes text long)
-
-  text-written : after ≡ printout bytes ++ drop (length (printout bytes)) text
-  unfolding printOutput listAfter written
-  text-written = f ∙ rw (call-long bytes text long)
-
-  pub text-fits : r .value ≤ length after
-  text-fits = omega (arith, text-counted, ap length text-written, length-append (printout bytes) (drop (length (printout bytes)) text))
-
-  pub text-printed : take (r .value) after ≡ printout bytes
-  text-printed = rw (text-counted, text-written) (take-at (printout bytes) (drop (length (printout bytes)) text) (length (printout bytes)) refl)
 
 -- ---- the printout of what was read
 

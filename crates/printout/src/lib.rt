@@ -1,4 +1,5 @@
 // What the program prints for a job stream, as a function on lists: bytes in, bytes out, and the count of them back.
+use job_room::Printed;
 use settings_record::Settings;
 use stream_reader::Read;
 ghost use mathlib.Core.Path.{_≡_};
@@ -8,48 +9,21 @@ ghost use Rattle.formats.specs.Stream.{job};
 ghost use Rattle.formats.specs.Printout.{jobText, printout as printed};
 ghost use Rattle.stream_laws.specs.Sizes.{JobLimits, mostBytes};
 ghost use Rattle.settings_record.specs.Reading.{settingsAre};
-ghost use Rattle.bytes_out.specs.Wrote.{Wrote};
-ghost use Rattle.printout.specs.Printing.{printAnswer, printOutput, printedAnswer};
-
-// The largest job: so many points on three axes, each of which takes so many rows, and its domain rows.
-const POINTS: usize = stream_reader::MOST_POINTS;
-
-const TAKEN: usize = stream_reader::MOST_NEIGHBOURS as usize + 1;
-
-const ROWS: usize = 6 * POINTS + 1;
-
-// The lengths of the lists that its build is to be lent. The level points and the internals have as many entries.
-const LEVEL_POINTS: usize = 4 * POINTS;
-
-const DOMAINS: usize = packed::ROW_NUMBERS * ROWS;
-
-const BOXES: usize = packed::MOST_ROW_FLOATS * ROWS;
-
-const BORROWED: usize = 6 * POINTS * TAKEN;
-
-const FLOATS: usize = 32 * POINTS;
-
-const WHOLES: usize = 32 * POINTS + 8 * POINTS * TAKEN;
-
-// How many bytes were written, or the number of a refusal (11: the output list is short) and its place.
-pub struct Printed {
-    pub number: usize,
-    pub place: usize,
-    pub count: usize,
-}
+ghost use Rattle.print_texts.specs.Wrote.{Wrote};
+ghost use Rattle.job_room.specs.Printing.{printAnswer, printOutput, printedAnswer};
 
 // The text of a job: of its tree, or of the build's refusal. The lists suffice for the largest job.
 fn write_job(s: Settings, points: &[f64], out: &mut [u8]) -> usize
     requires { ⌜ JobLimits (settingsAre s) (now points) × (mostBytes ≤ length (now out)) ⌝ }
     ensures { λ r. ⌜ Wrote (now (out .entry)) 0 (jobText (job (settingsAre s) (now (points .entry)))) r (now (out .exit)) ⌝ }
 {
-    let mut level_points = [0usize; LEVEL_POINTS];
-    let mut internals = [0usize; LEVEL_POINTS];
-    let mut domains = [0usize; DOMAINS];
-    let mut boxes = [0.0; BOXES];
-    let mut borrowed = [0usize; BORROWED];
-    let mut floats = [0.0; FLOATS];
-    let mut wholes = [0usize; WHOLES];
+    let mut level_points = [0usize; job_room::LEVEL_POINTS];
+    let mut internals = [0usize; job_room::LEVEL_POINTS];
+    let mut domains = [0usize; job_room::DOMAINS];
+    let mut boxes = [0.0; job_room::BOXES];
+    let mut borrowed = [0usize; job_room::BORROWED];
+    let mut floats = [0.0; job_room::FLOATS];
+    let mut wholes = [0usize; job_room::WHOLES];
     let d = s.dimensions;
     let params = s.params;
     let tree = ddm::build(
@@ -92,7 +66,7 @@ fn write_printout(input: &[u8], output: &mut [u8]) -> usize
     requires { ⌜ mostBytes ≤ length (now output) ⌝ }
     ensures { λ r. ⌜ Wrote (now (output .entry)) 0 (printed (now (input .entry))) r (now (output .exit)) ⌝ }
 {
-    let mut points = [0.0; 3 * POINTS];
+    let mut points = [0.0; job_room::COORDINATES];
     let read = stream_reader::read_job(input, &mut points);
     match read {
         Read::Broken(number, place) => print_texts::write_refusal(number, place, output, 0),
@@ -106,8 +80,8 @@ fn write_printout(input: &[u8], output: &mut [u8]) -> usize
 // What the program prints for a stream, written to the front of `output`, which is to have 131,072 bytes at least: no printout is
 // longer.
 pub fn printout(input: &[u8], output: &mut [u8]) -> Printed
-    ensures answer { λ r. ⌜ printedAnswer r ≡ printAnswer (now (input .entry)) (now (output .entry)) ⌝ }
-    ensures output { λ _. ⌜ now (output .exit) ≡ printOutput (now (input .entry)) (now (output .entry)) ⌝ }
+    ensures answer { λ r. ⌜ printedAnswer r ≡ printAnswer (printed (now (input .entry))) (now (output .entry)) ⌝ }
+    ensures output { λ _. ⌜ now (output .exit) ≡ printOutput (printed (now (input .entry))) (now (output .entry)) ⌝ }
 {
     if output.len() < 131072 {
         return Printed {

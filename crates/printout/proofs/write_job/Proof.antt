@@ -2,7 +2,8 @@
 use mathlib.Core.Path.{sym}
 use Rattle.bytes_out.proofs.Wrote.{spelt, room-spelt}
 use Rattle.settings_record.specs.Reading.{settingsAre}
-use Rattle.printout.proofs.Joins.{lentLists, rooms, room-for, job-refused, tree-ready, job-tree}
+use Rattle.job_room.proofs.Lists.{lentLists, lent-largest}
+use Rattle.printout.proofs.Joins.{room-for, job-refused, tree-ready, job-tree}
 use native.Mathlib.Omega.{arith}
 use borrow.Author.Needs.{needs}
 use Rattle.printout.proofs.write_job.Statement.{statement}
@@ -39,7 +40,7 @@ write-refusal-requires c κs =
     let cs = start .args .points .now in
     let w = c .before .before .before .before .before .before .before .before .before .build .ensures in
     let t = c .before .if1 .taken in
-    room-spelt (job-refused s cs lentLists _ _ (start .pre .0) rooms _ (w .answers) (omega (arith, t))) (room-for s cs (start .args .out .now) (start .pre .0) (start .pre .1))
+    room-spelt (job-refused s cs lentLists _ _ (start .pre .0) lent-largest _ (w .answers) (omega (arith, t))) (room-for s cs (start .args .out .now) (start .pre .0) (start .pre .1))
 
 same-length : tie.Need-same-length
 same-length c = search needs
@@ -51,7 +52,7 @@ returns c =
     let cs = start .args .points .now in
     let w = c .before .before .before .before .before .before .before .before .before .before .before .before .build .ensures in
     let t = c .before .before .before .before .if1 .taken in
-    spelt (sym (job-refused s cs lentLists _ _ (start .pre .0) rooms _ (w .answers) (omega (arith, t)))) (c .before .before .write-refusal .ensures)
+    spelt (sym (job-refused s cs lentLists _ _ (start .pre .0) lent-largest _ (w .answers) (omega (arith, t)))) (c .before .before .write-refusal .ensures)
 
 slice-aggregate-write-tree : tie.Need-slice-aggregate-write-tree
 slice-aggregate-write-tree c = search needs
@@ -82,9 +83,9 @@ write-tree-requires c κs =
     let w = c .before .before .before .before .before .before .before .before .before .before .before .before .before .before .before .before .before
     .before .build .ensures in
     let t = c .before .before .before .before .before .before .before .before .before .before .if1 .left in (
-      tree-ready s cs lentLists _ _ (start .pre .0) rooms _ (w .answers) t _ (w .lists),
+      tree-ready s cs lentLists _ _ (start .pre .0) lent-largest _ (w .answers) t _ (w .lists),
       room-spelt
-          (job-tree s cs lentLists _ _ (start .pre .0) rooms _ (w .answers) t _ (w .lists)) (room-for s cs (start .args .out .now) (start .pre .0) (start .pre .1)),
+          (job-tree s cs lentLists _ _ (start .pre .0) lent-largest _ (w .answers) t _ (w .lists)) (room-for s cs (start .args .out .now) (start .pre .0) (start .pre .1)),
     )
 
 same-length-2 : tie.Need-same-length-2
@@ -98,7 +99,7 @@ returns-2 c =
     let w = c .before .before .before .before .before .before .before .before .before .before .before .before .before .before .before .before .before
     .before .before .before .before .build .ensures in
     let t = c .before .before .before .before .before .before .before .before .before .before .before .before .before .if1 .left in
-    spelt (sym (job-tree s cs lentLists _ _ (start .pre .0) rooms _ (w .answers) t _ (w .lists))) (c .before .before .write-tree .ensures)
+    spelt (sym (job-tree s cs lentLists _ _ (start .pre .0) lent-largest _ (w .answers) t _ (w .lists))) (c .before .before .write-tree .ensures)
 
 pub write-job-spec : {M : Type 1} → statement M
 write-job-spec =

@@ -2,8 +2,10 @@
 use mathlib.Core.Path.{sym}
 use native.Mathlib.Omega.{arith}
 use lib.Seq.{length-take-le}
-use Rattle.bytes_out.proofs.Wrote.{spelt}
-use Rattle.printout.proofs.Joins.{refusal-room, broken-here, whole-here, limits-here, floats-here}
+use Rattle.print_texts.proofs.Texts.{spelt}
+use Rattle.job_room.proofs.JobRead.{limits-read, coordinates-read}
+use Rattle.job_room.proofs.Printing.{refusal-room}
+use Rattle.printout.proofs.Joins.{broken-printed, whole-printed}
 use borrow.Author.Needs.{needs}
 use Rattle.printout.proofs.write_printout.Statement.{statement}
 use Rattle.printout.proofs.write_printout.Tie as tie
@@ -29,7 +31,7 @@ mul-k c =
     let told = c .before .before .read2 .given .1 in
     let job = c .before .before .before .before .before .read-job in
     let same = job .ensures .0 in
-    let few = floats-here _ _ (start .args .input .now) same _ _ told (job .ensures .1) in
+    let few = coordinates-read _ _ (start .args .input .now) same _ _ told (job .ensures .1) in
     omega (arith, few)
 
 array-share-prefix-points : tie.Need-array-share-prefix-points
@@ -38,7 +40,7 @@ array-share-prefix-points c =
     let told = c .before .before .read2 .given .1 in
     let job = c .before .before .before .before .before .read-job in
     let same = job .ensures .0 in
-    let few = floats-here _ _ (start .args .input .now) same _ _ told (job .ensures .1) in
+    let few = coordinates-read _ _ (start .args .input .now) same _ _ told (job .ensures .1) in
     omega (arith, few, job .kept)
 
 slice-aggregate-write-job : tie.Need-slice-aggregate-write-job
@@ -47,7 +49,7 @@ slice-aggregate-write-job c =
     let told = c .before .before .before .read2 .given .1 in
     let job = c .before .before .before .before .before .before .read-job in
     let same = job .ensures .0 in
-    let few = floats-here _ _ (start .args .input .now) same _ _ told (job .ensures .1) in
+    let few = coordinates-read _ _ (start .args .input .now) same _ _ told (job .ensures .1) in
     sym (length-take-le _ _ (omega (arith, few, job .kept)))
 
 write-job-requires : tie.Need-write-job-requires
@@ -55,7 +57,7 @@ write-job-requires c κs =
     let start = c .before .before .before .before .before .before .before .before .before .before .before in
     let told = c .before .before .before .before .read2 .given .1 in
     let same = c .before .before .before .before .before .before .before .read-job .ensures .0 in
-    (limits-here _ _ (start .args .input .now) same _ _ told, start .pre)
+    (limits-read _ _ (start .args .input .now) same _ _ told, start .pre)
 
 same-length : tie.Need-same-length
 same-length c = search needs
@@ -64,7 +66,7 @@ returns : tie.Need-returns
 returns c =
     let start = c .before .before .before .before .before .before .before .before .before .before .before .before in
     let same = c .before .before .before .before .before .before .before .before .read-job .ensures .0 in
-    spelt (broken-here _ _ (start .args .input .now) same _ _ (c .before .before .before .before .before .read .given .1)) (c .before .before .write-refusal .ensures)
+    spelt (broken-printed _ _ (start .args .input .now) same _ _ (c .before .before .before .before .before .read .given .1)) (c .before .before .write-refusal .ensures)
 
 same-length-2 : tie.Need-same-length-2
 same-length-2 c = search needs
@@ -73,7 +75,7 @@ returns-2 : tie.Need-returns-2
 returns-2 c =
     let start = c .before .before .before .before .before .before .before .before .before .before .before .before .before .before in
     let same = c .before .before .before .before .before .before .before .before .before .before .read-job .ensures .0 in
-    spelt (whole-here _ _ (start .args .input .now) same _ _ (c .before .before .before .before .before .before .before .read2 .given .1))
+    spelt (whole-printed _ _ (start .args .input .now) same _ _ (c .before .before .before .before .before .before .before .read2 .given .1))
     (c .before .before .write-job .ensures)
 
 pub write-printout-spec : {M : Type 1} → statement M

@@ -2,7 +2,8 @@
 use mathlib.Core.Path.{sym}
 use native.Mathlib.Omega.{arith}
 use lib.Seq.{length-take-le}
-use Rattle.printout.proofs.Joins.{count-fits}
+use Rattle.stream_laws.proofs.Long.{printout-long}
+use Rattle.job_room.proofs.Printing.{count-fits}
 use borrow.Author.Needs.{needs}
 use Rattle.run_job_streams.proofs.agrees.Statement.{statement}
 use Rattle.run_job_streams.proofs.agrees.Tie as tie
@@ -11,11 +12,11 @@ printout-requires : tie.Need-printout-requires
 printout-requires c κs = search needs
 
 slice-reshare-prefix-same : tie.Need-slice-reshare-prefix-same
-slice-reshare-prefix-same c = omega (arith, count-fits _ _ _ (c .before .before .printout .ensures .0), c .before .before .printout .kept)
+slice-reshare-prefix-same c = omega (arith, count-fits _ _ _ (c .before .before .printout .ensures .0) (printout-long _), c .before .before .printout .kept)
 
 slice-aggregate-same : tie.Need-slice-aggregate-same
 slice-aggregate-same c =
-    sym (length-take-le _ _ (omega (arith, count-fits _ _ _ (c .before .before .before .printout .ensures .0), c .before .before .before .printout .kept)))
+    sym (length-take-le _ _ (omega (arith, count-fits _ _ _ (c .before .before .before .printout .ensures .0) (printout-long _), c .before .before .before .printout .kept)))
 
 same-requires : tie.Need-same-requires
 same-requires c κs = search needs

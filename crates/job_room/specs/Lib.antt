@@ -1,0 +1,2 @@
+-- What the contracts cite of calls that print into a lent list.
+pub mod Printing
