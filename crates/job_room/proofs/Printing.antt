@@ -11,7 +11,7 @@ use lib.Seq.{take-at}
 use borrow.Author.Tests.{le-ltb, lt-ltb}
 use Rattle.lists.proofs.Put.{put-zero}
 use Rattle.lists.proofs.Tests.{le-or-lt}
-use Rattle.definition.specs.Refusals.{Verdict, accepted, refused, verdict}
+use Rattle.definition.specs.Refusals.{accepted, refused, verdict}
 use Rattle.definition.specs.Outcome.{Answer, numberOf, placeOf, valueOf, written, listAfter}
 use Rattle.formats.specs.Printout.{refusalText}
 use Rattle.stream_laws.specs.Sizes.{mostBytes}

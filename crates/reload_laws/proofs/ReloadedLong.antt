@@ -70,10 +70,10 @@ refused-long : (r : Refusal) (bs : List ℕ) → length (reloadedBy (refused r) 
 unfolding reloadedBy
 refused-long r bs = omega (arith, refusal-long r)
 
-for-long : (j : Job) (bs : List ℕ) → WithinLimits j → length (reloadedFor j bs) ≤ mostBytes
+pub reloaded-for-long : (j : Job) (bs : List ℕ) → WithinLimits j → length (reloadedFor j bs) ≤ mostBytes
 unfolding reloadedFor
-for-long (broken r) bs limits = omega (arith, refusal-long r)
-for-long (job s cs) bs limits = both (ltb mostFile (length bs)) (any (loadVerdict s cs bs (blankLists s cs)) refl)
+reloaded-for-long (broken r) bs limits = omega (arith, refusal-long r)
+reloaded-for-long (job s cs) bs limits = both (ltb mostFile (length bs)) (any (loadVerdict s cs bs (blankLists s cs)) refl)
   where
     any : (v : Verdict) → loadVerdict s cs bs (blankLists s cs) ≡ v → length (reloadedBy v bs) ≤ mostBytes
     any accepted e = loaded-long s cs bs (blankLists s cs) limits e
@@ -87,4 +87,4 @@ for-long (job s cs) bs limits = both (ltb mostFile (length bs)) (any (loadVerdic
 -- THE LAW: nothing longer than 131,072 bytes
 pub reloaded-long : (stream bs : List ℕ) → length (reloaded stream bs) ≤ mostBytes
 unfolding reloaded
-reloaded-long stream bs = for-long (jobIn stream) bs (job-limits stream)
+reloaded-long stream bs = reloaded-for-long (jobIn stream) bs (job-limits stream)

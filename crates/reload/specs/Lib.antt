@@ -1,0 +1,2 @@
+-- What the contracts of a reload cite beside the definition.
+pub mod Loading
