@@ -29,7 +29,7 @@ write-loaded-requires c κs =
     let s = settingsAre (start .args .s) in
     let cs = start .args .points .now in
     let bs = start .args .file .now in
-    (start .pre .0, loaded-room s cs bs _ (start .pre .0) (start .pre .1) (c .before .if1 .left))
+    (start .pre .0, loaded-room s cs bs _ (start .pre .0) (start .pre .1) (omega (arith, c .before .if1 .left)))
 
 same-length-2 : tie.Need-same-length-2
 same-length-2 c = search needs
@@ -40,7 +40,7 @@ returns-2 c =
     let s = settingsAre (start .args .s) in
     let cs = start .args .points .now in
     let bs = start .args .file .now in
-    spelt (not-too-long s cs bs (c .before .before .before .before .if1 .left)) (c .before .before .write-loaded .ensures)
+    spelt (not-too-long s cs bs (omega (arith, c .before .before .before .before .if1 .left))) (c .before .before .write-loaded .ensures)
 
 pub write-job-spec : {M : Type 1} → statement M
 write-job-spec =

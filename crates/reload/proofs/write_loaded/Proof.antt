@@ -78,7 +78,7 @@ write-tree-requires c κs =
     let bs = start .args .file .now in
     let w = c .before .before .before .before .before .before .before .before .before .before .before .before .before .before .before .before .load-tree .ensures in
     let t = c .before .before .before .before .before .before .before .before .before .before .if1 .left in
-    (loaded-stands s cs bs (start .pre .0) _ _ w t, room-spelt (load-tree-text s cs bs (start .pre .0) _ _ w t) (start .pre .1))
+    (loaded-stands s cs bs (start .pre .0) _ _ w (omega (arith, t)), room-spelt (load-tree-text s cs bs (start .pre .0) _ _ w (omega (arith, t))) (start .pre .1))
 
 same-length-2 : tie.Need-same-length-2
 same-length-2 c = search needs
@@ -91,7 +91,7 @@ returns-2 c =
     let bs = start .args .file .now in
     let w = c .before .before .before .before .before .before .before .before .before .before .before .before .before .before .before .before .before .before .before .load-tree .ensures in
     let t = c .before .before .before .before .before .before .before .before .before .before .before .before .before .if1 .left in
-    spelt (sym (load-tree-text s cs bs (start .pre .0) _ _ w t)) (c .before .before .write-tree .ensures)
+    spelt (sym (load-tree-text s cs bs (start .pre .0) _ _ w (omega (arith, t)))) (c .before .before .write-tree .ensures)
 
 pub write-loaded-spec : {M : Type 1} → statement M
 write-loaded-spec =
