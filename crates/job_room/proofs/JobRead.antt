@@ -9,7 +9,7 @@ use lib.Ieee.{Float}
 use Rattle.formats.specs.Stream.{job, broken, streamPoints, jobIn}
 use Rattle.stream_laws.specs.Sizes.{JobLimits, WithinLimits}
 use Rattle.stream_laws.proofs.Stream.{job-limits}
-use Rattle.print_texts.specs.Wrote.{refusalOf}
+use Rattle.print_texts.specs.Refusals.{refusalOf}
 use Rattle.settings_record.specs.declared.Settings.{Settings}
 use Rattle.settings_record.specs.Reading.{settingsAre}
 use Rattle.stream_reader.specs.declared.Read.{Read}

@@ -16,14 +16,15 @@ use Rattle.definition.specs.Outcome.{Answer, numberOf, placeOf, valueOf, writte
 use Rattle.formats.specs.Printout.{refusalText}
 use Rattle.stream_laws.specs.Sizes.{mostBytes}
 use Rattle.stream_laws.proofs.Long.{refusal-long}
-use Rattle.print_texts.specs.Wrote.{Wrote, TextRoom, refusalOf}
+use Rattle.bytes_out.specs.Wrote.{Wrote, RoomFor}
+use Rattle.print_texts.specs.Refusals.{refusalOf}
 use Rattle.job_room.specs.Printing.{printCall, printAnswer, printOutput}
 
 -- ---- room for a text
-pub text-room : (text out : List ℕ) → length text ≤ mostBytes → mostBytes ≤ length out → TextRoom out 0 text
+pub text-room : (text out : List ℕ) → length text ≤ mostBytes → mostBytes ≤ length out → RoomFor out 0 text
 text-room text out h g = record { fits = omega arith }
 
-pub refusal-room : (number place : ℕ) (out : List ℕ) → mostBytes ≤ length out → TextRoom out 0 (refusalText (refusalOf number place))
+pub refusal-room : (number place : ℕ) (out : List ℕ) → mostBytes ≤ length out → RoomFor out 0 (refusalText (refusalOf number place))
 refusal-room number place out h = record { fits = omega (arith, refusal-long (refusalOf number place)) }
 
 -- ---- the outcome

@@ -18,7 +18,8 @@ use Rattle.definition_laws.proofs.Accepted.{build-zero}
 use Rattle.stream_laws.specs.Sizes.{JobLimits, mostBytes}
 use Rattle.stream_laws.proofs.Long.{job-long}
 use Rattle.stream_laws.proofs.Shape.{tree-shaped}
-use Rattle.print_texts.specs.Wrote.{TextRoom, refusalOf}
+use Rattle.bytes_out.specs.Wrote.{RoomFor}
+use Rattle.print_texts.specs.Refusals.{refusalOf}
 use Rattle.packed.specs.Reading.{Packed, packed, Stands, readLevels}
 use Rattle.packed.proofs.Counts.{noLevel}
 use Rattle.packed.proofs.Unpacked.{Packs, levels-are, tree-back, tree-stands}
@@ -129,7 +130,7 @@ module _ (s : tree.Settings) (cs : List Float) (old : TreeLists) (floats : List 
             ∙ tree-back ls lists (new .level-points) (r .value) tree-packed))
 
 -- ---- room for the text
-pub room-for : (s : tree.Settings) (cs : List Float) (out : List ℕ) → JobLimits s cs → mostBytes ≤ length out → TextRoom out 0 (jobText (job s cs))
+pub room-for : (s : tree.Settings) (cs : List Float) (out : List ℕ) → JobLimits s cs → mostBytes ≤ length out → RoomFor out 0 (jobText (job s cs))
 room-for s cs out h g = text-room (jobText (job s cs)) out (job-long (job s cs) h) g
 
 -- ---- by the reader's answer

@@ -9,7 +9,7 @@ ghost use Rattle.formats.specs.Stream.{job};
 ghost use Rattle.formats.specs.Printout.{jobText, printout as printed};
 ghost use Rattle.stream_laws.specs.Sizes.{JobLimits, mostBytes};
 ghost use Rattle.settings_record.specs.Reading.{settingsAre};
-ghost use Rattle.print_texts.specs.Wrote.{Wrote};
+ghost use Rattle.bytes_out.specs.Wrote.{Wrote};
 ghost use Rattle.job_room.specs.Printing.{printAnswer, printOutput, printedAnswer};
 
 // The text of a job: of its tree, or of the build's refusal. The lists suffice for the largest job.

@@ -22,10 +22,10 @@ use Rattle.stored.specs.Programs.{reloadedBy}
 use Rattle.stored_built.proofs.Held.{Holds, lists-hold}
 use Rattle.stored_rules.proofs.SoundTree.{SoundTree, sound-tree}
 use Rattle.stored_laws.proofs.Loaded.{fileTests, tests-passed}
-use Rattle.stored_laws.proofs.Verdicts.{first-accepts, second-accepts}
+use Rattle.definition_laws.proofs.Accepted.{first-accepts, second-accepts}
 use Rattle.stored_laws.proofs.WellFormed.{well-formed-sound}
 use Rattle.stream_laws.specs.Sizes.{JobLimits}
-use Rattle.print_texts.specs.Wrote.{refusalOf}
+use Rattle.print_texts.specs.Refusals.{refusalOf}
 use Rattle.load.specs.Loading.{Loaded}
 use Rattle.load.proofs.SameFile.{its-dimension}
 use Rattle.job_room.proofs.Lists.{lentLists}

@@ -12,7 +12,8 @@ use Rattle.formats.specs.Printout.{refusalText}
 use Rattle.stored.specs.Programs.{mostFile, reloadedFor, reloaded}
 use Rattle.stream_laws.specs.Sizes.{JobLimits, mostBytes}
 use Rattle.reload_laws.proofs.ReloadedLong.{reloaded-for-long}
-use Rattle.print_texts.specs.Wrote.{TextRoom, refusalOf}
+use Rattle.bytes_out.specs.Wrote.{RoomFor}
+use Rattle.print_texts.specs.Refusals.{refusalOf}
 use Rattle.settings_record.specs.declared.Settings.{Settings}
 use Rattle.settings_record.specs.Reading.{settingsAre}
 use Rattle.stream_reader.specs.declared.Read.{Read}
@@ -32,7 +33,7 @@ module _ (s : tree.Settings) (cs : List Float) (bs : List ℕ) where
   unfolding reloadedFor loadedText
   not-too-long h = rw (le-ltb mostFile (length bs) h)
 
-  pub loaded-room : (out : List ℕ) → JobLimits s cs → mostBytes ≤ length out → length bs ≤ mostFile → TextRoom out 0 (loadedText s cs bs)
+  pub loaded-room : (out : List ℕ) → JobLimits s cs → mostBytes ≤ length out → length bs ≤ mostFile → RoomFor out 0 (loadedText s cs bs)
   loaded-room out limits long h = rw (not-too-long h) (text-room (reloadedFor (job s cs) bs) out (reloaded-for-long (job s cs) bs limits) long)
 
 -- ---- by the reader's answer

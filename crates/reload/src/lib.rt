@@ -10,7 +10,7 @@ ghost use Rattle.formats.specs.Stream.{job};
 ghost use Rattle.stored.specs.Programs.{reloadedFor, reloaded};
 ghost use Rattle.stream_laws.specs.Sizes.{JobLimits, mostBytes};
 ghost use Rattle.settings_record.specs.Reading.{settingsAre};
-ghost use Rattle.print_texts.specs.Wrote.{Wrote, TextRoom};
+ghost use Rattle.bytes_out.specs.Wrote.{Wrote, RoomFor};
 ghost use Rattle.job_room.specs.Printing.{printAnswer, printOutput, printedAnswer};
 ghost use Rattle.reload.specs.Loading.{loadedText};
 
@@ -19,7 +19,7 @@ pub const MOST_FILE: usize = 1048576;
 
 // The text of the tree that is loaded for a job, or of the loader's refusal. The lists suffice for the largest job.
 fn write_loaded(s: Settings, points: &[f64], file: &[u8], out: &mut [u8]) -> usize
-    requires { ⌜ JobLimits (settingsAre s) (now points) × TextRoom (now out) 0 (loadedText (settingsAre s) (now points) (now file)) ⌝ }
+    requires { ⌜ JobLimits (settingsAre s) (now points) × RoomFor (now out) 0 (loadedText (settingsAre s) (now points) (now file)) ⌝ }
     ensures { λ r. ⌜ Wrote (now (out .entry)) 0 (loadedText (settingsAre s) (now (points .entry)) (now (file .entry))) r (now (out .exit)) ⌝ }
 {
     let mut level_points = [0usize; job_room::LEVEL_POINTS];

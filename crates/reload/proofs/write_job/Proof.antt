@@ -1,6 +1,6 @@
 -- `reload::write_job` meets its contract. Assumes nothing.
 use native.Mathlib.Omega.{arith}
-use Rattle.print_texts.proofs.Texts.{spelt}
+use Rattle.bytes_out.proofs.Wrote.{spelt}
 use Rattle.settings_record.specs.Reading.{settingsAre}
 use Rattle.job_room.proofs.Printing.{refusal-room}
 use Rattle.reload.proofs.Reloads.{too-long, not-too-long, loaded-room}

@@ -1,7 +1,7 @@
 -- `reload::write_loaded` meets its contract. Assumes nothing.
 use mathlib.Core.Path.{sym}
 use native.Mathlib.Omega.{arith}
-use Rattle.print_texts.proofs.Texts.{spelt, room-spelt}
+use Rattle.bytes_out.proofs.Wrote.{spelt, room-spelt}
 use Rattle.settings_record.specs.Reading.{settingsAre}
 use Rattle.reload.proofs.LoadedText.{load-refused, loaded-stands, load-tree-text}
 use borrow.Author.Needs.{needs}

@@ -2,7 +2,7 @@
 use mathlib.Core.Path.{sym}
 use native.Mathlib.Omega.{arith}
 use lib.Seq.{length-take-le}
-use Rattle.print_texts.proofs.Texts.{spelt}
+use Rattle.bytes_out.proofs.Wrote.{spelt}
 use Rattle.job_room.proofs.JobRead.{limits-read, coordinates-read}
 use Rattle.job_room.proofs.Printing.{refusal-room}
 use Rattle.reload.proofs.Reloads.{broken-reloaded, whole-reloaded}
