@@ -1,5 +1,5 @@
 -- Lists of the lengths that the largest job asks for are long enough for every job. Assumes nothing.
--- Holds: none-short, as-stated, largest, largest-enough, build-as-stated, lentLists, lentFloats, lentWholes, lent-largest
+-- Holds: as-stated, largest-enough, build-as-stated, lentLists, lentFloats, lentWholes, lent-largest
 use mathlib.Core.Path.{_≡_}
 use mathlib.Core.Bool.{false}
 use Prim.Native.Nat.{ℕ, _+_, _*_, _≤_}
@@ -20,7 +20,7 @@ use Rattle.stream_laws.specs.Sizes.{JobLimits}
 use Rattle.stream_laws.proofs.Stream.{job-points}
 
 -- ---- lists that are long enough
-pub none-short : (lent stated : BuildSizes) → LentEnough lent stated → buildShort lent stated ≡ false
+none-short : (lent stated : BuildSizes) → LentEnough lent stated → buildShort lent stated ≡ false
 unfolding buildShort
 none-short lent stated e =
     rw (
@@ -47,7 +47,7 @@ as-stated stated =
     }
 
 -- what the largest job asks for
-abbrev pub largest : BuildSizes
+abbrev largest : BuildSizes
 largest = buildStated 3 streamPoints streamNeighbours
 
 roomy : (d n k : ℕ) → d ≤ 3 → n ≤ streamPoints → k ≤ streamNeighbours → LentEnough largest (buildStated d n k)
