@@ -7,13 +7,12 @@ ghost use Rattle.definition.specs.Outcome.{numberOf, rootAnswer, sizeAnswer, si
 ghost use Rattle.tree_answer.specs.Answers.{listsOf};
 ghost use Rattle.slots.specs.Settings.{settingsFrom};
 ghost use Rattle.slots.specs.Slots.{valueSlot, sizesSlot, versionNumber};
-ghost use Rattle.slots.specs.Told.{Told, QuotasTold, SampleTold, BuildTold};
-use config::DDMParams;
+ghost use Rattle.slots.specs.Told.{Told, QuotasTold, SampleTold, BuildTold, StoreTold, LoadTold};
 
 // The version as one number: major * 10000 + minor * 100 + patch.
 #[no_mangle]
 pub extern "C" fn ddm_version() -> usize
-    ensures { λ r. ⌜ r ≡ versionNumber 0 2 0 ⌝ }
+    ensures { λ r. ⌜ r ≡ versionNumber 0 3 0 ⌝ }
 {
     slots::version()
 }
@@ -152,13 +151,7 @@ pub extern "C" fn ddm_build(
     if result.len() < 10 {
         return 11;
     }
-    let size = slots::policy_of(policy, threshold);
-    let params = DDMParams {
-        leaf_threshold: leaf,
-        overlap_knn: neighbours,
-        coarse_reduction_factor: factor,
-        coarse_threshold: size,
-    };
+    let params = slots::params_of(leaf, neighbours, factor, policy, threshold);
     let tree = ddm::build(
         points,
         dimensions,
@@ -170,6 +163,100 @@ pub extern "C" fn ddm_build(
         borrowed,
         floats,
         wholes,
+    );
+    let rows = tree.rows;
+    let each = tree.domains;
+    slots::put_counts(result, tree.place, tree.levels, rows, each);
+    tree.number
+}
+
+// Writes the tree that stands in the lists to the bytes of a file. `tree` is the slot that its build or load wrote. The slot `result`: place,
+// bytes written. Refusals 1 to 11 and 20.
+#[no_mangle]
+pub extern "C" fn ddm_store(
+    points: &[f64],
+    dimensions: usize,
+    leaf: u32,
+    neighbours: u32,
+    factor: u32,
+    policy: u32,
+    threshold: u32,
+    tree: &[usize],
+    level_points: &[usize],
+    internals: &[usize],
+    domains: &[usize],
+    boxes: &[f64],
+    borrowed: &[usize],
+    file: &mut [u8],
+    result: &mut [usize],
+) -> usize
+    ensures { λ r. ⌜ StoreTold (settingsFrom dimensions leaf neighbours factor policy threshold) (now (points .entry)) (now (tree .entry))
+        (listsOf (now («level_points» .entry)) (now (internals .entry)) (now (domains .entry)) (now (boxes .entry)) (now (borrowed .entry)))
+        (now (file .entry)) (now (file .exit)) (now (result .entry)) (now (result .exit)) r ⌝ }
+{
+    if result.len() < 2 {
+        return 11;
+    }
+    if tree.len() < 10 {
+        stretches::put_pair(result, 0, 0, 0);
+        return 11;
+    }
+    let params = slots::params_of(leaf, neighbours, factor, policy, threshold);
+    let counts = slots::counts_from(tree);
+    let stored = store::store_tree(
+        points,
+        dimensions,
+        params,
+        counts,
+        level_points,
+        internals,
+        domains,
+        boxes,
+        borrowed,
+        file,
+    );
+    stretches::put_pair(result, 0, stored.place, stored.bytes);
+    stored.number
+}
+
+// Hands out the tree that stands in the bytes of a file, for these points and settings. The slot is that of a build. Refusals 1 to 11,
+// 18, 19 and 20.
+#[no_mangle]
+pub extern "C" fn ddm_load(
+    points: &[f64],
+    dimensions: usize,
+    leaf: u32,
+    neighbours: u32,
+    factor: u32,
+    policy: u32,
+    threshold: u32,
+    file: &[u8],
+    level_points: &mut [usize],
+    internals: &mut [usize],
+    domains: &mut [usize],
+    boxes: &mut [f64],
+    borrowed: &mut [usize],
+    result: &mut [usize],
+) -> usize
+    ensures { λ r. ⌜ LoadTold (settingsFrom dimensions leaf neighbours factor policy threshold) (now (points .entry)) (now (file .entry))
+        (listsOf (now («level_points» .entry)) (now (internals .entry)) (now (domains .entry)) (now (boxes .entry)) (now (borrowed .entry)))
+        (listsOf (now («level_points» .exit)) (now (internals .exit)) (now (domains .exit)) (now (boxes .exit)) (now (borrowed .exit)))
+        (now (result .entry)) (now (result .exit)) r ⌝ }
+{
+    if result.len() < 10 {
+        return 11;
+    }
+    let params = slots::params_of(leaf, neighbours, factor, policy, threshold);
+    let tree = load::load_tree(
+        points,
+        dimensions,
+        params,
+        file,
+        level_points,
+        internals,
+        domains,
+        boxes,
+        borrowed,
     );
     let rows = tree.rows;
     let each = tree.domains;

@@ -1,7 +1,7 @@
 -- The whole outcome of each exported call: of one with a short slot, and of one that found its slot long enough, from the outcome of
 -- the call behind it. Assumes nothing.
--- Holds: told-short, told-long, told-value, quotas-short, quotas-long, sample-short, sample-long, settings-from, build-short,
---   build-long
+-- Holds: told-short, told-long, told-value, quotas-short, quotas-long, sample-short, sample-long, build-short, build-long,
+--   store-short, store-tree-short, store-long, load-short, load-long
 use mathlib.Core.Path.{_≡_, refl, subst, ap, _∙_}
 use mathlib.Core.List.{List, [], _∷_}
 use Prim.Native.Nat.{ℕ, _≤_, _<_}
@@ -10,15 +10,14 @@ use lib.ListN.{length, set}
 use lib.Ieee.{Float}
 use Rattle.lists.specs.Lists.{put}
 use Rattle.lists.proofs.Put.{set-put}
-use Rattle.definition.specs.Levels.{Policy, policyFrom}
 use Rattle.definition.specs.Tree.{Settings}
 use Rattle.definition.specs.Packed.{Counts}
 use Rattle.definition.specs.Outcome.{Answer, Shared, TreeLists, RoomAfter, buildCall, buildAnswer, buildLists}
+use Rattle.stored.specs.Outcome.{writeAnswer, writeOutput, loadAnswer, loadLists}
 use Rattle.quotas.specs.Outcome.{SeatsShared}
 use Rattle.sampling.specs.Outcome.{RowsSampled}
-use Rattle.slots.specs.Slots.{valueSlot, buildSlot}
-use Rattle.slots.specs.Settings.{settingsFrom}
-use Rattle.slots.specs.Told.{Told, QuotasTold, SampleTold, BuildTold}
+use Rattle.slots.specs.Slots.{valueSlot, placedSlot, buildSlot, countsIn, unlessShort}
+use Rattle.slots.specs.Told.{Told, QuotasTold, SampleTold, BuildTold, StoreTold, LoadTold}
 use Rattle.slots.proofs.Slots.{slot-short, slot-long, slot-written, room-short, room-long, number-long}
 
 -- ---- number and slot
@@ -79,13 +78,6 @@ module _ (d : ℕ) (cs : List Float) (wanted seed : ℕ) (out : List ℕ) (float
       }
 
 -- ---- the build
-
--- the settings, from the policy of the code's
-pub settings-from : (d leaf neighbours factor policy c : ℕ) (p : Policy) → p ≡ policyFrom policy c
-    → record { dimension = d; leaf = leaf; neighbours = neighbours; factor = factor; policy = p } ≡ settingsFrom d leaf neighbours factor policy c
-settings-from d leaf neighbours factor policy c p e =
-    ap (λ (q : Policy). record { dimension = d; leaf = leaf; neighbours = neighbours; factor = factor; policy = q }) e
-
 module _ (cs : List Float) (old : TreeLists) (floats : List Float) (wholes slot : List ℕ) where
   pub build-short : (s : Settings) → length slot < 10 → BuildTold s cs old old floats floats wholes wholes slot slot 11
   build-short s h =
@@ -108,4 +100,56 @@ module _ (cs : List Float) (old : TreeLists) (floats : List Float) (wholes slot 
         lists = slot-long 10 slot _ _ _ h lists;
         floats-free = room-long 10 slot _ _ _ h free-floats;
         wholes-free = room-long 10 slot _ _ _ h free-wholes;
+      }
+
+-- ---- the writer
+module _ (s : Settings) (cs : List Float) (tree : List ℕ) (l : TreeLists) (file slot : List ℕ) where
+  pub store-short : length slot < 2 → StoreTold s cs tree l file file slot slot 11
+  store-short h = record { told = told-short 2 _ slot _ h; output = slot-short 2 slot _ _ h }
+
+  -- a slot of counts that is too short
+  pub store-tree-short : (slot′ : List ℕ) → 2 ≤ length slot → length tree < 10 → slot′ ≡ put slot 0 (0 ∷ 0 ∷ []) → StoreTold s cs tree l file file slot slot′ 11
+  store-tree-short slot′ h g w =
+      record {
+        told = told-long 2 placedSlot slot slot′ 11 (record { number = 11; place = 0; value = 0 }) _ h refl w (slot-short 10 tree _ _ g);
+        output = slot-long 2 slot _ _ _ h (slot-short 10 tree _ _ g);
+      }
+
+  -- u is the code's settings, and c its counts
+  pub store-long : (file′ slot′ : List ℕ) (a : Answer ℕ) (u : Settings) (c : Counts) → u ≡ s → c ≡ countsIn tree → 2 ≤ length slot → 10 ≤ length tree
+      → slot′ ≡ put slot 0 (placedSlot a) → a ≡ writeAnswer u cs c l file → file′ ≡ writeOutput u cs c l file → StoreTold s cs tree l file file′ slot slot′ (a .number)
+  store-long file′ slot′ a u c e f h g w answers output =
+      record {
+        told = told-long 2 placedSlot slot slot′ (a .number) a _ h refl w
+            (slot-long 10 tree _ _ _ g (rw (← e, ← f) answers));
+        output = slot-long 2 slot _ _ _ h (slot-long 10 tree _ _ _ g (rw (← e, ← f) output));
+      }
+
+-- ---- the loader
+module _ (cs : List Float) (bs : List ℕ) (old : TreeLists) (slot : List ℕ) where
+  pub load-short : (s : Settings) → length slot < 10 → LoadTold s cs bs old old slot slot 11
+  load-short s h =
+      record {
+        told = told-short 10 _ slot _ h;
+        level-points = slot-short 10 slot _ _ h;
+        internals = slot-short 10 slot _ _ h;
+        domains = slot-short 10 slot _ _ h;
+        boxes = slot-short 10 slot _ _ h;
+        borrowed = slot-short 10 slot _ _ h;
+      }
+
+  -- s is the code's settings, and t the same from the numbers of the call
+  pub load-long : (new : TreeLists) (slot′ : List ℕ) (a : Answer Counts) (s t : Settings) → s ≡ t → 10 ≤ length slot → slot′ ≡ put slot 0 (buildSlot a)
+      → a ≡ loadAnswer s cs bs old → new .level-points ≡ loadLists s cs bs old .level-points → new .internals ≡ loadLists s cs bs old .internals
+      → new .domains ≡ loadLists s cs bs old .domains → new .boxes ≡ loadLists s cs bs old .boxes → new .borrowed ≡ loadLists s cs bs old .borrowed
+      → LoadTold t cs bs old new slot slot′ (a .number)
+  load-long new slot′ a s t e h w answers level-points internals domains boxes borrowed =
+      subst (λ (u : Settings). LoadTold u cs bs old new slot slot′ (a .number)) e
+      record {
+        told = told-long 10 buildSlot slot slot′ (a .number) a _ h refl w answers;
+        level-points = slot-long 10 slot _ _ _ h level-points;
+        internals = slot-long 10 slot _ _ _ h internals;
+        domains = slot-long 10 slot _ _ _ h domains;
+        boxes = slot-long 10 slot _ _ _ h boxes;
+        borrowed = slot-long 10 slot _ _ _ h borrowed;
       }

@@ -2,9 +2,10 @@
 use Prim.Native.Nat.{ℕ, _+_, _*_}
 use mathlib.Core.Bool.{cond}
 use mathlib.Core.List.{List, [], _∷_, _++_}
-use lib.ListN.{length}
+use lib.ListN.{length, getD}
 use lib.Dec.{ltb}
-use Rattle.definition.specs.Packed.{Counts, BuildSizes}
+use Rattle.lists.specs.Lists.{part}
+use Rattle.definition.specs.Packed.{Counts, BuildSizes, mostLevels}
 use Rattle.definition.specs.Refusals.{Verdict, refused}
 use Rattle.definition.specs.Outcome.{Answer, Shared, written}
 
@@ -34,8 +35,9 @@ valueSlot a = a .value ∷ []
 abbrev pub quotaSlot : Answer Shared → List ℕ
 quotaSlot a = a .value .leaves ∷ a .value .seats ∷ []
 
-abbrev pub sampleSlot : Answer ℕ → List ℕ
-sampleSlot a = a .place ∷ a .value ∷ []
+-- sampling's and the writer's: the place, and how many rows or bytes were written
+abbrev pub placedSlot : Answer ℕ → List ℕ
+placedSlot a = a .place ∷ a .value ∷ []
 
 -- the lengths that a build is to be lent, in the order of its lists
 abbrev pub lengthsOf : BuildSizes → List ℕ
@@ -47,6 +49,10 @@ sizesSlot a = lengthsOf (a .value)
 
 abbrev pub buildSlot : Answer Counts → List ℕ
 buildSlot a = a .place ∷ a .value .levels ∷ a .value .rows ++ a .value .domains
+
+-- the counts of a tree, from the slot that a build or a load wrote
+abbrev pub countsIn : List ℕ → Counts
+countsIn slot = record { levels = getD slot 1 0; rows = part slot 2 mostLevels; domains = part slot 6 mostLevels }
 
 -- ---- the version, as one number
 abbrev pub versionNumber : ℕ → ℕ → ℕ → ℕ

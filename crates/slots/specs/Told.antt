@@ -6,7 +6,8 @@ use mathlib.Core.List.{List}
 use lib.Ieee.{Float}
 use Rattle.definition.specs.Tree.{Settings}
 use Rattle.definition.specs.Outcome.{Answer, TreeLists, RoomAfter, quotaCall, quotaAnswer, quotaOutput, sampleCall, sampleAnswer, sampleOutput, buildCall, buildAnswer, buildLists}
-use Rattle.slots.specs.Slots.{unlessShort, numberAfter, slotAfter, slotFirst, quotaSlot, sampleSlot, buildSlot}
+use Rattle.stored.specs.Outcome.{writeAnswer, writeOutput, loadAnswer, loadLists}
+use Rattle.slots.specs.Slots.{unlessShort, numberAfter, slotAfter, slotFirst, quotaSlot, placedSlot, buildSlot, countsIn}
 
 -- What a call returns, and its slot of n entries: `values` are those of an answer.
 pub record Told {A B : Type 0} (n : ℕ) (values : Answer A → List B) (slot slot′ : List B) (returned : ℕ) (answer : Answer A) : Type 0 where
@@ -21,7 +22,7 @@ pub record QuotasTold (sizes : List ℕ) (wanted : ℕ) (out out′ wholes whole
 
 -- sampling
 pub record SampleTold (d : ℕ) (cs : List Float) (wanted seed : ℕ) (out out′ : List ℕ) (floats floats′ : List Float) (wholes wholes′ slot slot′ : List ℕ) (returned : ℕ) : Type 0 where
-  pub told : Told 2 sampleSlot slot slot′ returned (sampleAnswer d cs wanted seed out floats wholes)
+  pub told : Told 2 placedSlot slot slot′ returned (sampleAnswer d cs wanted seed out floats wholes)
   pub output : out′ ≡ unlessShort 2 slot out (sampleOutput d cs wanted seed out floats wholes)
   pub floats-free : RoomAfter (slotFirst 2 slot (sampleCall d cs wanted seed out floats wholes)) floats floats′
   pub wholes-free : RoomAfter (slotFirst 2 slot (sampleCall d cs wanted seed out floats wholes)) wholes wholes′
@@ -32,3 +33,17 @@ pub record BuildTold (s : Settings) (cs : List Float) (old new : TreeLists) (flo
   pub lists : new ≡ unlessShort 10 slot old (buildLists s cs old floats wholes)
   pub floats-free : RoomAfter (slotFirst 10 slot (buildCall s cs old floats wholes)) floats floats′
   pub wholes-free : RoomAfter (slotFirst 10 slot (buildCall s cs old floats wholes)) wholes wholes′
+
+-- The writer, whose caller hands the counts back as the slot `tree` of a build or a load. One that is too short is refused next, with 11.
+pub record StoreTold (s : Settings) (cs : List Float) (tree : List ℕ) (l : TreeLists) (file file′ slot slot′ : List ℕ) (returned : ℕ) : Type 0 where
+  pub told : Told 2 placedSlot slot slot′ returned (unlessShort 10 tree (record { number = 11; place = 0; value = 0 }) (writeAnswer s cs (countsIn tree) l file))
+  pub output : file′ ≡ unlessShort 2 slot file (unlessShort 10 tree file (writeOutput s cs (countsIn tree) l file))
+
+-- the loader
+pub record LoadTold (s : Settings) (cs : List Float) (bs : List ℕ) (old new : TreeLists) (slot slot′ : List ℕ) (returned : ℕ) : Type 0 where
+  pub told : Told 10 buildSlot slot slot′ returned (loadAnswer s cs bs old)
+  pub level-points : new .level-points ≡ unlessShort 10 slot (old .level-points) (loadLists s cs bs old .level-points)
+  pub internals : new .internals ≡ unlessShort 10 slot (old .internals) (loadLists s cs bs old .internals)
+  pub domains : new .domains ≡ unlessShort 10 slot (old .domains) (loadLists s cs bs old .domains)
+  pub boxes : new .boxes ≡ unlessShort 10 slot (old .boxes) (loadLists s cs bs old .boxes)
+  pub borrowed : new .borrowed ≡ unlessShort 10 slot (old .borrowed) (loadLists s cs bs old .borrowed)

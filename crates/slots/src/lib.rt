@@ -1,29 +1,33 @@
 // What the exported functions write to their result slots, and return: one small function for each kind of answer.
 ghost use mathlib.Core.Path.{_≡_};
 ghost use mathlib.Core.List.{_∷_, _++_};
-ghost use Prim.Native.Nat.{_≤_};
+ghost use Prim.Native.Nat.{ℕ, _≤_};
 ghost use lib.ListN.{length};
 ghost use Rattle.lists.specs.Lists.{put};
 ghost use Rattle.root.specs.Answers as root-answers;
 ghost use Rattle.level_sizes.specs.Answers.{sizeReport};
 ghost use Rattle.quotas.specs.Answers.{quotaReport};
 ghost use Rattle.sampling.specs.Answers.{sampleReport};
-ghost use Rattle.config.specs.Params.{thresholdPolicy};
+ghost use Rattle.config.specs.Params.{thresholdPolicy, settingsOf};
 ghost use Rattle.build_sizes.specs.Sizes.{sizesOf};
 ghost use Rattle.definition.specs.Levels.{policyFrom};
-ghost use Rattle.slots.specs.Slots.{lengthsOf, versionNumber};
+ghost use Rattle.tree_answer.specs.Answers.{countsGiven};
+ghost use Rattle.slots.specs.Settings.{settingsFrom};
+ghost use Rattle.slots.specs.Slots.{lengthsOf, countsIn, versionNumber};
 use build_sizes::BuildSizes;
+use config::DDMParams;
 use config::SizePolicy;
 use level_sizes::LevelSize;
 use quotas::QuotaAnswer;
 use root::RootAnswer;
 use sampling::SampleAnswer;
+use tree_answer::TreeCounts;
 
-// The version, 0.2.0, as one number: major, minor and patch, with two digits for each of the last two.
+// The version, 0.3.0, as one number: major, minor and patch, with two digits for each of the last two.
 pub fn version() -> usize
-    ensures { λ r. ⌜ r ≡ versionNumber 0 2 0 ⌝ }
+    ensures { λ r. ⌜ r ≡ versionNumber 0 3 0 ⌝ }
 {
-    200
+    300
 }
 
 // The refusal's number of a root.
@@ -138,13 +142,26 @@ pub fn put_sizes(result: &mut [usize], sizes: BuildSizes)
 }
 
 // The policy: 0 is Auto, any other number Fixed.
-pub fn policy_of(policy: u32, coarse_threshold: u32) -> SizePolicy
+fn policy_of(policy: u32, coarse_threshold: u32) -> SizePolicy
     ensures { λ r. ⌜ thresholdPolicy r ≡ policyFrom policy «coarse_threshold» ⌝ }
 {
     if policy == 0 {
         return SizePolicy::Auto;
     }
     SizePolicy::Fixed(coarse_threshold)
+}
+
+// The settings, from the numbers of the call.
+pub fn params_of(leaf: u32, neighbours: u32, factor: u32, policy: u32, threshold: u32) -> DDMParams
+    ensures { λ r. ⌜ ((d : ℕ) → settingsOf d r ≡ settingsFrom d leaf neighbours factor policy threshold) ⌝ }
+{
+    let size = policy_of(policy, threshold);
+    DDMParams {
+        leaf_threshold: leaf,
+        overlap_knn: neighbours,
+        coarse_reduction_factor: factor,
+        coarse_threshold: size,
+    }
 }
 
 // Place, levels, the rows of each level and the domains of each level to the front of a slot.
@@ -161,4 +178,16 @@ pub fn put_counts(
     stretches::put_pair(result, 0, place, levels);
     stretches::copy_rows(&rows, 0, 4, result, 2);
     stretches::copy_rows(&domains, 0, 4, result, 6);
+}
+
+// The counts of a tree, from the slot that a build or a load wrote.
+pub fn counts_from(tree: &[usize]) -> TreeCounts
+    requires { ⌜ 10 ≤ length (now tree) ⌝ }
+    ensures { λ r. ⌜ countsGiven r ≡ countsIn (now (tree .entry)) ⌝ }
+{
+    TreeCounts {
+        levels: tree[1],
+        rows: [tree[2], tree[3], tree[4], tree[5]],
+        domains: [tree[6], tree[7], tree[8], tree[9]],
+    }
 }

@@ -1,7 +1,9 @@
 -- `ddm_c::ddm_build` meets its contract. Assumes nothing.
 use native.Mathlib.Omega.{arith}
+use Rattle.config.specs.Params.{settingsOf}
 use Rattle.tree_answer.specs.Answers.{treeAnswer, listsOf}
-use Rattle.slots.proofs.Told.{settings-from, build-short, build-long}
+use Rattle.slots.specs.Settings.{settingsFrom}
+use Rattle.slots.proofs.Told.{build-short, build-long}
 use borrow.Author.Needs.{needs}
 use Rattle.ddm_c.proofs.ddm_build.Statement.{statement}
 use Rattle.ddm_c.proofs.ddm_build.Tie as tie
@@ -9,8 +11,8 @@ use Rattle.ddm_c.proofs.ddm_build.Tie as tie
 returns : tie.Need-returns
 returns c = build-short _ (listsOf _ _ _ _ _) _ _ _ _ (omega arith)
 
-policy-of-requires : tie.Need-policy-of-requires
-policy-of-requires c κs = search needs
+params-of-requires : tie.Need-params-of-requires
+params-of-requires c κs = search needs
 
 build-requires : tie.Need-build-requires
 build-requires c κs = search needs
@@ -44,11 +46,13 @@ same-length-8 c = search needs
 
 returns-2 : tie.Need-returns-2
 returns-2 c =
+    let a = c .before .before .before .before .before .before .before .before .before .before .before .before .before .before .before .before .before .before .before .before .before .before .before .before .before .before .before .before .before .before .before .before .before .before .before .before .before .before .before .args in
+    let p = c .before .before .before .before .before .before .before .before .before .before .before .before .before .before .before .before .before .before .before .before .before .before .before .before .before .before .before .before .params-of in
     let q = c .before .before .before .before .before .before .before .before .before .before .before .before .before .before .before .before .before .before .before .before .build in
     let w = q .ensures in
-    let start = c .before .before .before .before .before .before .before .before .before .before .before .before .before .before .before .before .before .before .before .before .before .before .before .before .before .before .before .before .before .before .before .before .before .before .before .before .before .before .before in
-    build-long _ (listsOf _ _ _ _ _) _ _ _ (listsOf _ _ _ _ _) _ _ _ (treeAnswer (q .result)) _ _
-    (settings-from _ _ _ _ (start .args .policy) (start .args .threshold) _ (c .before .before .before .before .before .before .before .before .before .before .before .before .before .before .before .before .before .before .before .before .before .before .before .before .before .before .before .before .policy-of .ensures))
+    build-long _ (listsOf _ _ _ _ _) _ _ _ (listsOf _ _ _ _ _) _ _ _ (treeAnswer (q .result)) (settingsOf _ (p .result))
+    (settingsFrom (a .dimensions) (a .leaf) (a .neighbours) (a .factor) (a .policy) (a .threshold))
+    (p .ensures _)
     (c .before .before .before .before .before .before .before .before .before .before .before .before .before .before .before .before .before .before .before .before .before .before .before .before .before .before .before .before .before .if1 .left) (c .before .before .put-counts .ensures) (w .answers) (w .lists) (w .floats-free) (w .wholes-free)
 
 pub ddm-build-spec : {M : Type 1} → statement M
@@ -56,7 +60,7 @@ ddm-build-spec =
     tie.close
     (tie.spec
     returns
-    policy-of-requires
+    params-of-requires
     build-requires
     put-counts-requires
     same-length
