@@ -10,7 +10,7 @@
  *
  * Threads. There is no global state: any number of calls may run at once, as long as no list is lent to two of them. Points may be
  * shared, since they are only read.
- * Stack. Under 16 KiB for any input; nothing is allocated.
+ * Stack. Under 16 KiB for any input, but for ddm_store and ddm_load, whose sets of rows take 256 KiB; nothing is allocated.
  * Memory. A build over n points asks for 768 + 96 * dimensions + 112 * (K + 1) bytes a point in its seven lists, with K neighbours:
  * 2,864 in two dimensions with 16. That is the most that any input can need, and few are touched: 5,000 random wells in two dimensions
  * write some 70 of them a well at the default settings, some 620 at leaf threshold 1. So lists from calloc cost little.
@@ -31,7 +31,7 @@ extern "C" {
 
 /* major * 10000 + minor * 100 + patch, of this header; ddm_version gives that of the library. Another minor version may have wider rows
  * and more lists, so that a program which loads the shared library tests ddm_version() / 100 == DDM_VERSION / 100 first. */
-#define DDM_VERSION 200
+#define DDM_VERSION 300
 
 /* ---- limits and settings */
 
@@ -81,6 +81,11 @@ extern "C" {
 #define DDM_SAMPLE_WRITTEN 1
 #define DDM_SAMPLE_SLOT 2
 
+/* The writer's: the place of a refusal, the bytes written. */
+#define DDM_STORE_PLACE 0
+#define DDM_STORE_BYTES 1
+#define DDM_STORE_SLOT 2
+
 /* The quotas': the entries written, the seats. */
 #define DDM_QUOTA_WRITTEN 0
 #define DDM_QUOTA_SEATS 1
@@ -110,6 +115,38 @@ size_t ddm_build(const double *points, size_t points_len, size_t dimensions, uin
                  double *boxes, size_t boxes_len, size_t *borrowed, size_t borrowed_len, double *floats, size_t floats_len,
                  size_t *wholes, size_t wholes_len, size_t *result, size_t result_len);
 
+/* Writes a tree as the bytes of a file, with the points and settings that it was built or loaded for. tree: the slot that the build or
+ * load wrote (DDM_BUILD_SLOT; a shorter one is refused with 11 before all but the result slot). The lists are those of the tree, as long as
+ * for a build; file has at least ddm_file_size bytes, and what stands past them stays as it was. result: DDM_STORE_SLOT. Refusals 1 to 9,
+ * 11, 10, 20, and 11 for a short file, in this order. */
+size_t ddm_store(const double *points, size_t points_len, size_t dimensions, uint32_t leaf_threshold, uint32_t overlap_knn,
+                 uint32_t coarse_reduction_factor, uint32_t policy, uint32_t coarse_threshold, const size_t *tree, size_t tree_len,
+                 const size_t *level_points, size_t level_points_len, const size_t *internals, size_t internals_len,
+                 const size_t *domains, size_t domains_len, const double *boxes, size_t boxes_len, const size_t *borrowed,
+                 size_t borrowed_len, uint8_t *file, size_t file_len, size_t *result, size_t result_len);
+
+/* Hands out the tree that stands in a file, where the file is whole and sound and was written for these very settings and points, bit for
+ * bit. The lists are as for a build, without working room, and so is the result slot (DDM_BUILD_SLOT). Refusals 1 to 9, 11, 10, 20, 18,
+ * 19, in this order. */
+size_t ddm_load(const double *points, size_t points_len, size_t dimensions, uint32_t leaf_threshold, uint32_t overlap_knn,
+                uint32_t coarse_reduction_factor, uint32_t policy, uint32_t coarse_threshold, const uint8_t *file, size_t file_len,
+                size_t *level_points, size_t level_points_len, size_t *internals, size_t internals_len, size_t *domains,
+                size_t domains_len, double *boxes, size_t boxes_len, size_t *borrowed, size_t borrowed_len, size_t *result,
+                size_t result_len);
+
+/* The bytes of a tree's file, exactly: n points, the slot that its build or load wrote, and the rows that its leaves borrow in all (the last
+ * domain row's start and count of them, added). They are the head's; the points'; a mark and two counts for each level and domain; each
+ * level row and, as an internal row, once more; the borrowed rows; and a box for each domain but the coarse one. */
+static inline size_t ddm_file_size(size_t dimensions, size_t n, const size_t *tree, size_t borrowed) {
+    size_t rows = 0, domains = 0, level;
+    for (level = 0; level < DDM_MOST_LEVELS; level++) {
+        rows += tree[DDM_SLOT_ROWS + level];
+        domains += tree[DDM_SLOT_DOMAINS + level];
+    }
+    return 24 + n * (2 + 8 * dimensions) + 10 * (tree[DDM_SLOT_LEVELS] + domains) + 4 * (2 * rows + borrowed)
+           + 8 * DDM_BOX_FLOATS(dimensions) * (domains - 1);
+}
+
 /* Farthest point sampling: `wanted` rows from the row `seed` on. out: at least wanted; floats 2n; wholes n; result: DDM_SAMPLE_SLOT.
  * Refusals 1, 6, 7, 8, 13, 11, 10. */
 size_t ddm_sample(const double *points, size_t points_len, size_t dimensions, size_t wanted, size_t seed, size_t *out,
@@ -132,8 +169,8 @@ size_t ddm_square_root(double x, double *result, size_t result_len);
  * leaf are then list[start] to list[start + count - 1]. */
 size_t ddm_row_test(size_t start, size_t count, size_t list_len);
 
-/* A refusal in words. Whoever sets the station can mend 1 to 5 and 9; whoever brings the points 6, 7, 8 and 10; the calling program 11
- * to 15; whoever feeds the program ddm_tree a job stream 16 and 17, which no function here gives. */
+/* A refusal in words. Whoever sets the station can mend 1 to 5, 9 and 18; whoever brings the points 6, 7, 8, 10 and 19; the calling program
+ * 11 to 15; whoever keeps the file 20; whoever feeds the program ddm_tree a job stream 16 and 17, which no function here gives. */
 static inline const char *ddm_refusal_text(size_t number) {
     switch (number) {
     case 0: return "nothing was refused";
@@ -154,6 +191,9 @@ static inline const char *ddm_refusal_text(size_t number) {
     case 15: return "a negative number or not-a-number has no root";
     case 16: return "the job stream is broken";
     case 17: return "the job stream has over 32 points or over 16 neighbours";
+    case 18: return "the stored tree is of other settings";
+    case 19: return "the stored tree is of other points";
+    case 20: return "the file, or the lists to be stored, hold no sound tree";
     default: return "no refusal has this number";
     }
 }

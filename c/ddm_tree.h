@@ -13,6 +13,8 @@
  *       }
  *   ddm_tree_free(tree);
  *
+ * ddm_tree_store gives a tree as the bytes of a file, and ddm_tree_load takes them for the same points and settings.
+ *
  * The lists come from calloc, so that what the build does not touch costs nothing; afterwards the working room is given back and the
  * others are cut to what they hold. A tree is only read by the functions that walk it: any number of threads may do so at once. A level
  * or leaf that is not there has no rows, no leaves and no box.
@@ -202,6 +204,115 @@ static inline ddm_tree *ddm_tree_build(const double *points, size_t points_len, 
         } else {
             tree->dimensions = dimensions;
             kept.number = ddm_lists_build(&lists, points, points_len, dimensions, params, tree->result);
+            kept.place = tree->result[DDM_SLOT_PLACE];
+            if (kept.number)
+                ddm_lists_free(&lists);
+            else
+                ddm_tree_take(tree, &lists);
+        }
+    }
+    if (error)
+        *error = kept;
+    if (!kept.number)
+        return tree;
+    free(tree);
+    return NULL;
+}
+
+/* ---- storing and loading */
+
+/* How many rows the leaves borrow in all. */
+static inline size_t ddm_tree_lent(const ddm_tree *tree) {
+    const size_t leaves = ddm_tree_sum(tree->result + DDM_SLOT_DOMAINS, DDM_MOST_LEVELS);
+    const size_t *last = tree->domains + DDM_ROW_NUMBERS * (leaves - 1);
+    return last[DDM_COLUMN_BORROWED_START] + last[DDM_COLUMN_BORROWED_COUNT];
+}
+
+/* The front of a list copied into one that was lent at full length. */
+static inline void ddm_copy_wholes(size_t *to, const size_t *from, size_t entries) {
+    while (entries--)
+        to[entries] = from[entries];
+}
+
+/* Lists at full length again, with what the tree holds at their fronts. */
+static inline void ddm_lists_refill(ddm_lists *lists, const ddm_tree *tree) {
+    const size_t rows = ddm_tree_sum(tree->result + DDM_SLOT_ROWS, DDM_MOST_LEVELS);
+    const size_t leaves = ddm_tree_sum(tree->result + DDM_SLOT_DOMAINS, DDM_MOST_LEVELS);
+    ddm_copy_wholes(lists->level_points, tree->level_points, rows);
+    ddm_copy_wholes(lists->internals, tree->internals, rows);
+    ddm_copy_wholes(lists->domains, tree->domains, DDM_ROW_NUMBERS * leaves);
+    ddm_copy_wholes(lists->borrowed, tree->borrowed, ddm_tree_lent(tree));
+    for (size_t i = 0; i < DDM_ROW_FLOATS(tree->dimensions) * leaves; i++)
+        lists->boxes[i] = tree->boxes[i];
+}
+
+/* The tree as the bytes of a file, with the points and settings that it was built or loaded for: a list from malloc, for free, whose length
+ * goes to *bytes. NULL, and why in *error (which may be NULL), where there is no memory or the library refuses. */
+static inline unsigned char *ddm_tree_store(const ddm_tree *tree, const double *points, size_t points_len, ddm_params params, size_t *bytes,
+                                            ddm_error *error) {
+    ddm_error kept;
+    ddm_lists lists;
+    unsigned char *file = NULL;
+    size_t slot[DDM_STORE_SLOT];
+    const size_t n = points_len / tree->dimensions, *sizes = lists.sizes;
+    kept.place = 0;
+    *bytes = 0;
+    kept.number = ddm_build_sizes(n, tree->dimensions, params.overlap_knn, lists.sizes, DDM_SIZES_SLOT);
+    if (!kept.number) {
+        const size_t size = ddm_file_size(tree->dimensions, n, tree->result, ddm_tree_lent(tree));
+        lists.sizes[DDM_SIZES_FLOATS] = lists.sizes[DDM_SIZES_WHOLES] = 1;
+        file = (unsigned char *)malloc(size);
+        if (!file || !ddm_lists_make(&lists)) {
+            kept.number = DDM_NO_MEMORY;
+        } else {
+            ddm_lists_refill(&lists, tree);
+            kept.number = ddm_store(points, points_len, tree->dimensions, params.leaf_threshold, params.overlap_knn,
+                                    params.coarse_reduction_factor, params.policy, params.coarse_threshold, tree->result, DDM_BUILD_SLOT,
+                                    lists.level_points, sizes[DDM_SIZES_LEVEL_POINTS], lists.internals, sizes[DDM_SIZES_INTERNALS],
+                                    lists.domains, sizes[DDM_SIZES_DOMAINS], lists.boxes, sizes[DDM_SIZES_BOXES], lists.borrowed,
+                                    sizes[DDM_SIZES_BORROWED], file, size, slot, DDM_STORE_SLOT);
+            kept.place = slot[DDM_STORE_PLACE];
+            *bytes = slot[DDM_STORE_BYTES];
+            ddm_lists_free(&lists);
+        }
+    }
+    if (error)
+        *error = kept;
+    if (!kept.number)
+        return file;
+    free(file);
+    return NULL;
+}
+
+static inline size_t ddm_lists_load(ddm_lists *lists, const double *points, size_t points_len, size_t dimensions, ddm_params params,
+                                    const unsigned char *file, size_t bytes, size_t *result) {
+    const size_t *sizes = lists->sizes;
+    return ddm_load(points, points_len, dimensions, params.leaf_threshold, params.overlap_knn, params.coarse_reduction_factor,
+                    params.policy, params.coarse_threshold, file, bytes, lists->level_points, sizes[DDM_SIZES_LEVEL_POINTS],
+                    lists->internals, sizes[DDM_SIZES_INTERNALS], lists->domains, sizes[DDM_SIZES_DOMAINS], lists->boxes,
+                    sizes[DDM_SIZES_BOXES], lists->borrowed, sizes[DDM_SIZES_BORROWED], result, DDM_BUILD_SLOT);
+}
+
+/* The tree that ddm_tree_store gave as these bytes, for the points and settings that it was built for; NULL, and why in *error, for others
+ * (18, 19) and for a file that is damaged (20). */
+static inline ddm_tree *ddm_tree_load(const double *points, size_t points_len, size_t dimensions, ddm_params params,
+                                      const unsigned char *file, size_t bytes, ddm_error *error) {
+    ddm_error kept;
+    ddm_lists lists;
+    ddm_tree *tree = NULL;
+    size_t result[DDM_BUILD_SLOT];
+    kept.place = 0;
+    kept.number = ddm_lists_test(points, points_len, dimensions, params, result);
+    if (!kept.number)
+        kept.number = ddm_build_sizes(points_len / dimensions, dimensions, params.overlap_knn, lists.sizes, DDM_SIZES_SLOT);
+    if (!kept.number) {
+        lists.sizes[DDM_SIZES_FLOATS] = lists.sizes[DDM_SIZES_WHOLES] = 1;
+        tree = (ddm_tree *)calloc(1, sizeof(ddm_tree));
+        if (!tree || !ddm_lists_make(&lists)) {
+            kept.number = DDM_NO_MEMORY;
+        } else {
+            tree->dimensions = dimensions;
+            kept.number = ddm_lists_load(&lists, points, points_len, dimensions, params, file, bytes, tree->result);
             kept.place = tree->result[DDM_SLOT_PLACE];
             if (kept.number)
                 ddm_lists_free(&lists);

@@ -55,13 +55,14 @@ literal='(row|result)\[[0-9]|[0-9] \+ level|[^0-9]4 \* |2 \* (d|dimensions?|AXES
 
 # ---- C and C++, plain and under the sanitizers
 programs() {
-    for name in example lists slots tree; do
+    for name in example lists slots tree stored; do
         compile "$name" "$@"
     done
     right_example "$made/example"
     right_example "$made/lists"
     "$made/slots"
     "$made/tree"
+    "$made/stored"
     there "$cxx" || { skipped "the C++ program (there is no '$cxx')"; return; }
     # shellcheck disable=SC2086
     "$cxx" -std=c++11 $strict "$@" -o "$made/both" c/both.cpp "$lib"

@@ -5,10 +5,13 @@ The table has the form that make_job.py --help shows (settings, a head such as '
 neighbours; --columns reads any other table that has a head. The folder gets level0.svg, level1.svg, .. and summary.txt, which has the
 wall sheet's lines: A the settings and what they come to, B who owns each well, C what each leaf sends up.
 
+--store FILE keeps the tree beside that, and --load FILE takes it from there instead of building it: only for the settings and wells that it
+was built for, bit for bit.
+
 It needs the shared library, which python/make_shared.sh makes. A build that will take long is announced, and what it is at is said on
 standard error.
 where not given: leaf 256, neighbours 16, factor 128, coarse auto (the wells / 32, at least 512 and at most 4,096).
-exit status: 0 made, 1 the table is refused (what is wrong is said with its line), 2 wrong use.
+exit status: 0 made, 1 the table or the stored tree is refused (what is wrong is said), 2 wrong use.
 """
 import sys
 
@@ -33,11 +36,37 @@ def announce(table, settings):
     return estimate.spelt(time)
 
 
-def built(table, settings):
-    """The tree of a table."""
+def loaded(table, settings, path):
+    """The tree of a table, from the file that it was stored in."""
     try:
-        about = announce(table, settings)
-        return with_progress(lambda: rekvashu.build(table.coordinates, **settings, dimension=table.dimension), about)
+        with open(path, "rb") as file:
+            data = file.read()
+    except OSError as error:
+        raise WrongUse(f"{path}: {error.strerror}") from None
+    return rekvashu.load(table.coordinates, data, **settings, dimension=table.dimension)
+
+
+def built(table, settings):
+    """The tree of a table, built."""
+    about = announce(table, settings)
+    return with_progress(lambda: rekvashu.build(table.coordinates, **settings, dimension=table.dimension), about)
+
+
+def store(tree, path):
+    try:
+        with open(path, "wb") as file:
+            file.write(tree.to_bytes())
+    except OSError as error:
+        raise WrongUse(f"{path}: {error.strerror}") from None
+
+
+def tree_of(table, settings, args):
+    """The tree of a table, stored where that is asked."""
+    try:
+        tree = loaded(table, settings, args.load) if args.load else built(table, settings)
+        if args.store:
+            store(tree, args.store)
+        return tree
     except rekvashu.LibraryError as error:
         raise WrongUse(str(error)) from None
     except rekvashu.Refusal as refusal:
@@ -47,11 +76,13 @@ def built(table, settings):
 def work(argv):
     parser = command.options("field.py", __doc__)
     parser.add_argument("-o", "--output", metavar="FOLDER", default=".", help="where the pictures go (where not given: here)")
+    parser.add_argument("--store", metavar="FILE", help="keep the tree in this file")
+    parser.add_argument("--load", metavar="FILE", help="take the tree from this file instead of building it")
     parser.add_argument("--links", action="store_true", help="draw what each leaf borrows (up to 150 wells)")
     parser.add_argument("--rows", action="store_true", help="write rows instead of the table's names")
     args = parser.parse_intermixed_args(argv)
     table, settings, taken = command.table_of(args, job_settings.LIBRARY)
-    field = Field(table.dimension, table.coordinates, built(table, settings).levels, namer(table, args.rows))
+    field = Field(table.dimension, table.coordinates, tree_of(table, settings, args).levels, namer(table, args.rows))
     put_out(args.output, field, settings, args.links, taken)
 
 

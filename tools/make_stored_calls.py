@@ -347,12 +347,16 @@ def calls():
         yield from part
 
 
+def recorded(call):
+    """A call's refusal number, and its record."""
+    return load_record(call) if isinstance(call, Load) else store_record(call)
+
+
 def main():
     records, tally = [], collections.Counter()
     for call in calls():
-        kind = "load" if isinstance(call, Load) else "store"
-        number, body = load_record(call) if kind == "load" else store_record(call)
-        tally[kind, number] += 1
+        number, body = recorded(call)
+        tally["load" if isinstance(call, Load) else "store", number] += 1
         records.append(struct.pack("<I", len(body)) + body)
     data = b"".join(records)
     assert len(data) <= MOST_BYTES, len(data)

@@ -2,10 +2,9 @@
 import ctypes
 import numbers
 
-from . import layout, settings
+from . import layout, library, settings
 from .coordinates import coordinates
 from .lent import Lent
-from .library import load
 from .refusals import Refusal
 from .settings import size, uint32
 from .tree import Packed, Tree
@@ -27,20 +26,60 @@ def passed(number, place=0):
 def build_sizes(rows, dimension, neighbours):
     """The lengths of a build's lists, by name."""
     result = slot(layout.SIZES_SLOT)
-    passed(load().ddm_build_sizes(size("rows", rows), size("dimension", dimension), uint32("neighbours", neighbours), result, len(result)))
+    passed(library.load().ddm_build_sizes(size("rows", rows), size("dimension", dimension), uint32("neighbours", neighbours), result, len(result)))
     return dict(zip(layout.LISTS, result))
+
+
+def lent_of(lists, names):
+    """The lists as the library takes them: pointer, length."""
+    return [x for name in names for x in (lists[name].c, lists[name].entries)]
+
+
+def lists_of(lengths, names=layout.LISTS):
+    return {name: Lent(KINDS.get(name, ctypes.c_size_t), lengths.get(name, 0)) for name in names}
 
 
 def build_into(given, params, lists):
     """One call of the build with these lists: (refusal number, slot)."""
     result = slot(layout.BUILD_SLOT)
-    lent = [x for name in layout.LISTS for x in (lists[name].c, lists[name].entries)]
-    number = load().ddm_build(given.c, given.length, given.dimension, *params, *lent, result, len(result))
+    number = library.load().ddm_build(given.c, given.length, given.dimension, *params, *lent_of(lists, layout.LISTS), result, len(result))
     return number, result
 
 
-def lists_of(lengths):
-    return {name: Lent(KINDS.get(name, ctypes.c_size_t), lengths.get(name, 0)) for name in layout.LISTS}
+def load_into(data):
+    """One call of the loader with these bytes, as a function like build_into."""
+    def call(given, params, lists):
+        result = slot(layout.BUILD_SLOT)
+        number = library.load().ddm_load(given.c, given.length, given.dimension, *params, data, len(data),
+                                         *lent_of(lists, layout.TREE_LISTS), result, len(result))
+        return number, result
+    return call
+
+
+def params_of(leaf, neighbours, factor, coarse):
+    return [uint32("leaf", leaf), uint32("neighbours", neighbours), uint32("factor", factor), *settings.policy_of(coarse)]
+
+
+def tree_by(call, names, given, params, neighbours):
+    """The tree that a call writes to the lists of these names, which are lent at the stated lengths."""
+    # Settings and counts are judged before the lists: a call that lends none costs nothing, and 11 says that only they were missing.
+    number, result = call(given, params, lists_of({}, names))
+    if number != NO_ROOM:
+        passed(number, result[layout.SLOT_PLACE])
+    lists = lists_of(build_sizes(given.rows, given.dimension, neighbours), names)
+    number, result = call(given, params, lists)
+    passed(number, result[layout.SLOT_PLACE])
+    return Tree(Packed(given.dimension, lists, result), lambda packed: stored(given, params, packed))
+
+
+def stored(given, params, packed):
+    """The bytes of the file of a tree over these points."""
+    entries = layout.file_bytes(given.dimension, given.rows, packed.slot, len(packed.borrowed))
+    file, result = ctypes.create_string_buffer(entries), slot(layout.STORE_SLOT)
+    number = library.load().ddm_store(given.c, given.length, given.dimension, *params, packed.slot, len(packed.slot),
+                                      *lent_of(packed.lent, layout.TREE_LISTS), file, entries, result, len(result))
+    passed(number, result[layout.STORE_PLACE])
+    return file.raw[:result[layout.STORE_BYTES]]
 
 
 def build(points, leaf=settings.LEAF, neighbours=settings.NEIGHBOURS, factor=settings.FACTOR, coarse=settings.COARSE, *,
@@ -50,15 +89,16 @@ def build(points, leaf=settings.LEAF, neighbours=settings.NEIGHBOURS, factor=set
     points: rows of one to three numbers (a list of lists, an array), or numbers alone for one axis. With `dimension`, a flat list
     of coordinates, that many for each row. coarse: "auto" or a whole number. A Refusal says what the library refused."""
     given = coordinates(points, dimension)
-    params = [uint32("leaf", leaf), uint32("neighbours", neighbours), uint32("factor", factor), *settings.policy_of(coarse)]
-    # Settings and counts are judged before the lists: a call that lends none costs nothing, and 11 says that only they were missing.
-    number, result = build_into(given, params, lists_of({}))
-    if number != NO_ROOM:
-        passed(number, result[layout.SLOT_PLACE])
-    lists = lists_of(build_sizes(given.rows, given.dimension, neighbours))
-    number, result = build_into(given, params, lists)
-    passed(number, result[layout.SLOT_PLACE])
-    return Tree(Packed(given.dimension, lists, result))
+    return tree_by(build_into, layout.LISTS, given, params_of(leaf, neighbours, factor, coarse), neighbours)
+
+
+def load(points, data, leaf=settings.LEAF, neighbours=settings.NEIGHBOURS, factor=settings.FACTOR, coarse=settings.COARSE, *,
+         dimension=None):
+    """The tree that `Tree.to_bytes` gave as these bytes, for the points and settings that it was built for; others are refused."""
+    if not isinstance(data, (bytes, bytearray, memoryview)):
+        raise TypeError(f"the stored tree is {type(data).__name__}, and has to be bytes")
+    given = coordinates(points, dimension)
+    return tree_by(load_into(bytes(data)), layout.TREE_LISTS, given, params_of(leaf, neighbours, factor, coarse), neighbours)
 
 
 def sample(points, wanted, seed, *, dimension=None):
@@ -68,7 +108,7 @@ def sample(points, wanted, seed, *, dimension=None):
     floats, wholes = layout.sample_room(rows)
     out, floats, wholes = Lent(ctypes.c_size_t, min(wanted, rows)), Lent(ctypes.c_double, floats), Lent(ctypes.c_size_t, wholes)
     result = slot(layout.SAMPLE_SLOT)
-    number = load().ddm_sample(given.c, given.length, given.dimension, wanted, seed, out.c, out.entries, floats.c, floats.entries,
+    number = library.load().ddm_sample(given.c, given.length, given.dimension, wanted, seed, out.c, out.entries, floats.c, floats.entries,
                                wholes.c, wholes.entries, result, len(result))
     passed(number, result[layout.SAMPLE_PLACE])
     return out.cut(result[layout.SAMPLE_WRITTEN])[:]
@@ -77,7 +117,7 @@ def sample(points, wanted, seed, *, dimension=None):
 def level_size(active, threshold, reductions):
     """The size of the next level, of this many active rows at the threshold with so many reductions left."""
     result = slot(layout.LEVEL_SIZE_SLOT)
-    passed(load().ddm_level_size(size("active", active), uint32("threshold", threshold), uint32("reductions", reductions), result,
+    passed(library.load().ddm_level_size(size("active", active), uint32("threshold", threshold), uint32("reductions", reductions), result,
                                  len(result)))
     return result[0]
 
@@ -88,7 +128,7 @@ def quotas(sizes, wanted):
     lent, out, wholes = slot(max(1, len(given))), Lent(ctypes.c_size_t, len(given)), Lent(ctypes.c_size_t, len(given))
     lent[:len(given)] = given
     result = slot(layout.QUOTA_SLOT)
-    passed(load().ddm_quotas(lent, len(given), size("wanted", wanted), out.c, out.entries, wholes.c, wholes.entries, result,
+    passed(library.load().ddm_quotas(lent, len(given), size("wanted", wanted), out.c, out.entries, wholes.c, wholes.entries, result,
                              len(result)))
     return out.cut(result[layout.QUOTA_WRITTEN])[:]
 
@@ -102,15 +142,15 @@ def square_root(x):
     except OverflowError:
         raise ValueError("the number is outside the range of a 64-bit float") from None
     result = (ctypes.c_double * layout.ROOT_SLOT)()
-    passed(load().ddm_square_root(x, result, len(result)))
+    passed(library.load().ddm_square_root(x, result, len(result)))
     return result[0]
 
 
 def row_test(start, count, length):
     """Refuses (12) a stretch whose start plus count ends past a list of this length."""
-    passed(load().ddm_row_test(size("start", start), size("count", count), size("length", length)))
+    passed(library.load().ddm_row_test(size("start", start), size("count", count), size("length", length)))
 
 
 def library_version():
     """The loaded library's version: major * 10000 + minor * 100 + patch."""
-    return load().ddm_version()
+    return library.load().ddm_version()

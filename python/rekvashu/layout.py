@@ -3,6 +3,9 @@
 # The lists of a build, in the order in which the library takes them and ddm_build_sizes gives their lengths.
 LISTS = ("level_points", "internals", "domains", "boxes", "borrowed", "floats", "wholes")
 
+# Those that hold a tree; the others are working room.
+TREE_LISTS = LISTS[:5]
+
 # A domain row: its numbers, and the floats that belong to it.
 ROW_NUMBERS = 4
 COLUMN_OWN_START, COLUMN_OWN_COUNT, COLUMN_BORROWED_START, COLUMN_BORROWED_COUNT = range(4)
@@ -28,6 +31,9 @@ BUILD_SLOT = SLOT_DOMAINS + MOST_LEVELS
 SAMPLE_PLACE, SAMPLE_WRITTEN, SAMPLE_SLOT = 0, 1, 2
 QUOTA_WRITTEN, QUOTA_SEATS, QUOTA_SLOT = 0, 1, 2
 
+# The writer's slot: place, bytes written.
+STORE_PLACE, STORE_BYTES, STORE_SLOT = 0, 1, 2
+
 # The level size and the root are one value; the sizes are one for each list.
 LEVEL_SIZE_SLOT = ROOT_SLOT = 1
 SIZES_SLOT = len(LISTS)
@@ -36,3 +42,12 @@ SIZES_SLOT = len(LISTS)
 def sample_room(rows):
     """Floats and whole numbers that sampling works in."""
     return 2 * rows, rows
+
+
+def file_bytes(dimension, rows, slot, borrowed):
+    """The bytes of the file of a tree over so many points, by its slot and the rows borrowed in all: the head; the points; a mark and two
+    counts for each level and domain; each level row and, as an internal row, once more; the borrowed rows; and a box for each domain but
+    the coarse one."""
+    levels, listed = slot[SLOT_LEVELS], sum(slot[SLOT_ROWS:SLOT_DOMAINS])
+    domains = sum(slot[SLOT_DOMAINS:BUILD_SLOT])
+    return 24 + rows * (2 + 8 * dimension) + 10 * (levels + domains) + 4 * (2 * listed + borrowed) + 8 * box_floats(dimension) * (domains - 1)

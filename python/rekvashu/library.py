@@ -11,13 +11,17 @@ MADE = os.path.join(os.path.dirname(os.path.dirname(HERE)), "target", "shared", 
 
 SIZE, UINT32, DOUBLE = ctypes.c_size_t, ctypes.c_uint32, ctypes.c_double
 WHOLES, FLOATS = [ctypes.POINTER(SIZE), SIZE], [ctypes.POINTER(DOUBLE), SIZE]
+BYTES = [ctypes.c_void_p, SIZE]
 POINTS = FLOATS + [SIZE]
+TREE = WHOLES * 3 + FLOATS + WHOLES
 
 # The public functions and their arguments, as in c/ddm.h; each returns a refusal number, ddm_version its number.
 FUNCTIONS = {
     "ddm_version": [],
     "ddm_build_sizes": [SIZE, SIZE, UINT32] + WHOLES,
-    "ddm_build": POINTS + [UINT32] * 5 + WHOLES * 3 + FLOATS + WHOLES + FLOATS + WHOLES + WHOLES,
+    "ddm_build": POINTS + [UINT32] * 5 + TREE + FLOATS + WHOLES + WHOLES,
+    "ddm_store": POINTS + [UINT32] * 5 + WHOLES + TREE + BYTES + WHOLES,
+    "ddm_load": POINTS + [UINT32] * 5 + BYTES + TREE + WHOLES,
     "ddm_sample": POINTS + [SIZE] * 2 + WHOLES + FLOATS + WHOLES + WHOLES,
     "ddm_level_size": [SIZE, UINT32, UINT32] + WHOLES,
     "ddm_quotas": WHOLES + [SIZE] + WHOLES * 3,

@@ -1,7 +1,7 @@
 """What each refusal number means, once, for the package and for the tools."""
 
 SETTER, BRINGER = "whoever sets the station", "whoever brings the points"
-CALLER, FEEDER = "the calling program", "whoever feeds the program"
+CALLER, FEEDER, KEEPER = "the calling program", "whoever feeds the program", "whoever keeps the file"
 
 # number: (what is wrong, who can mend it)
 REFUSALS = {
@@ -22,6 +22,9 @@ REFUSALS = {
     15: ("a negative number or not-a-number has no root", CALLER),
     16: ("the job stream is broken", FEEDER),
     17: ("the job stream has over 32 points or over 16 neighbours", FEEDER),
+    18: ("the stored tree is of other settings", SETTER),
+    19: ("the stored tree is of other points", BRINGER),
+    20: ("the file, or the lists to be stored, hold no sound tree", KEEPER),
 }
 
 # What the place counts, for the refusals that name one.

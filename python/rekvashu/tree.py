@@ -5,11 +5,12 @@ from . import layout
 
 
 class Packed:
-    """The lent lists of a built tree, cut to the counts, and the counts of its levels."""
+    """The lent lists of a tree, cut to the counts, and the counts of its levels; and the lists as they were lent."""
 
     def __init__(self, dimension, lists, slot):
         levels = slot[layout.SLOT_LEVELS]
-        self.dimension = dimension
+        self.dimension, self.slot = dimension, slot
+        self.lent = {name: lists[name] for name in layout.TREE_LISTS}
         self.rows = [slot[layout.SLOT_ROWS + t] for t in range(levels)]
         self.leaves = [slot[layout.SLOT_DOMAINS + t] for t in range(levels)]
         points, domains = sum(self.rows), sum(self.leaves)
@@ -30,15 +31,21 @@ class Packed:
 
 
 class Tree:
-    """The tree of domains over the points: level 0 is the finest, the last one the coarse level."""
+    """The tree of domains over the points: level 0 is the finest, the last one the coarse level.
 
-    def __init__(self, packed):
-        self._packed = packed
+    `store` writes it: a function of the packed lists that gives the bytes of its file."""
+
+    def __init__(self, packed, store):
+        self._packed, self._store = packed, store
         self.levels = tuple(Level(packed, t) for t in range(len(packed.rows)))
 
     @property
     def dimension(self):
         return self._packed.dimension
+
+    def to_bytes(self):
+        """The tree as the bytes of a file, with the settings and points that it was built for: `load` takes them."""
+        return self._store(self._packed)
 
     def __repr__(self):
         return f"<Tree: {', '.join(map(str, self.levels))}>"

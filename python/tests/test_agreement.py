@@ -8,7 +8,7 @@ import support
 from rekvashu import layout, library, refusals, settings, version
 
 # The header's names, and what they are called here.
-NAMED = {name: getattr(layout, name) for name in dir(layout) if name.isupper() and name != "LISTS"}
+NAMED = {name: getattr(layout, name) for name in dir(layout) if name.isupper() and not name.endswith("LISTS")}
 NAMED.update({f"SIZES_{name.upper()}": i for i, name in enumerate(layout.LISTS)})
 NAMED.update({name: getattr(settings, name) for name in ("MOST_POINTS", "MOST_NEIGHBOURS", "POLICY_AUTO", "POLICY_FIXED")})
 NAMED["VERSION"] = version.NUMBER
@@ -35,7 +35,7 @@ class Header(unittest.TestCase):
             words = re.search(rf"\b{name}\s*\(([^)]*)\)", header()).group(1)
             kinds = [] if words == "void" else [re.sub(r"\bconst\b|\w+$|\s", "", word) for word in words.split(",")]
             ours = [{library.SIZE: "size_t", library.UINT32: "uint32_t", library.DOUBLE: "double", library.WHOLES[0]: "size_t*",
-                     library.FLOATS[0]: "double*"}[a] for a in arguments]
+                     library.FLOATS[0]: "double*", library.BYTES[0]: "uint8_t*"}[a] for a in arguments]
             self.assertEqual(kinds, ours, name)
 
     def test_strides_slots_and_limits(self):

@@ -23,7 +23,7 @@ const fn whole(digits: &str) -> usize {
 /// The version of the linked library: major * 10,000 + minor * 100 + patch.
 ///
 /// ```
-/// assert!(rekvashu::version() >= 200);
+/// assert!(rekvashu::version() >= 300);
 /// ```
 pub fn version() -> usize {
     sys::version()
@@ -76,6 +76,50 @@ pub fn build(points: &[f64], dimension: usize, params: DDMParams) -> Result<Tree
     match sys::build(points, dimension, params, &mut lists, &mut slot) {
         0 => Ok(Tree::of(dimension, &slot, lists)),
         number => Err(refused(number, slot[SLOT_PLACE])),
+    }
+}
+
+/// The tree that [`Tree::to_bytes`] gave as these bytes, for the points and settings that it was built for: a file of other settings is
+/// refused with 18, one of other points with 19, and a damaged one with 20. Refusals 1 to 10, 20, 18, 19.
+///
+/// ```
+/// use rekvashu::{build, load, DDMParams};
+///
+/// let (points, params) = ([0.0, 0.0, 3.0, 4.0], DDMParams::default());
+/// let file = build(&points, 2, params)?.to_bytes(&points, params)?;
+/// assert_eq!(load(&points, 2, params, &file)?, build(&points, 2, params)?);
+/// assert_eq!(load(&[0.0, 0.0, 3.0, 5.0], 2, params, &file).unwrap_err().refusal().unwrap().number, 19);
+/// # Ok::<(), rekvashu::Error>(())
+/// ```
+pub fn load(points: &[f64], dimension: usize, params: DDMParams, file: &[u8]) -> Result<Tree, Error> {
+    right_version()?;
+    let mut slot = [0; BUILD_SLOT];
+    match sys::load(points, dimension, params, file, &mut Lists::default(), &mut slot) {
+        SHORT_LIST => {}
+        number => return Err(refused(number, slot[SLOT_PLACE])),
+    }
+    let sizes = build_sizes(points.len() / dimension, dimension, params.overlap_knn)?;
+    let mut lists = Lists::reserved(&BuildSizes { floats: 0, wholes: 0, ..sizes })?;
+    match sys::load(points, dimension, params, file, &mut lists, &mut slot) {
+        0 => Ok(Tree::of(dimension, &slot, lists)),
+        number => Err(refused(number, slot[SLOT_PLACE])),
+    }
+}
+
+impl Tree {
+    /// The tree as the bytes of a file, with the points and settings that it was built or loaded for: [`load`] takes them. Other points or
+    /// settings are written as they are given; a tree that does not fit them is refused with 20. Refusals 1 to 10, 20.
+    pub fn to_bytes(&self, points: &[f64], params: DDMParams) -> Result<Vec<u8>, Error> {
+        right_version()?;
+        let dimension = self.dimension();
+        let sizes = build_sizes(points.len() / dimension, dimension, params.overlap_knn)?;
+        let (tree, lists) = self.lent(&sizes)?;
+        let mut file = reserved(file_bytes(dimension, points.len() / dimension, &tree, self.borrowed_rows()))?;
+        let mut slot = [0; STORE_SLOT];
+        match sys::store(points, dimension, params, &tree, &lists, &mut file, &mut slot) {
+            0 => Ok(file),
+            number => Err(refused(number, slot[STORE_PLACE])),
+        }
     }
 }
 

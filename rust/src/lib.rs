@@ -19,6 +19,9 @@
 //! # Ok::<(), rekvashu::Error>(())
 //! ```
 //!
+//! [`Tree::to_bytes`] gives a tree as the bytes of a file, with the points and settings that it was built for, and [`load`] takes them: a tree
+//! is handed out only where the file is whole and sound and the present points and settings are its own, bit for bit.
+//!
 //! # Memory, threads, floating environment
 //!
 //! The lists of a build have room for the worst input ([`build_sizes`]: 2,864 bytes a well in two dimensions with 16 neighbours) and are
@@ -35,7 +38,7 @@ mod refusal;
 mod sys;
 mod tree;
 
-pub use calls::{build, build_sizes, level_size, quotas, sample, square_root, version};
+pub use calls::{build, build_sizes, level_size, load, quotas, sample, square_root, version};
 pub use lists::BuildSizes;
 pub use params::{DDMParams, SizePolicy};
 pub use refusal::{Error, Mender, Refusal};

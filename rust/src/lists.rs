@@ -70,6 +70,28 @@ impl Lists {
     }
 }
 
+impl Lists {
+    /// The five lists of a tree with room for these sizes, and these fronts.
+    pub fn lent(sizes: &BuildSizes, level_points: &[usize], internals: &[usize], domains: &[usize], boxes: &[f64], borrowed: &[usize])
+        -> Result<Self, TryReserveError> {
+        Ok(Lists {
+            level_points: fronted(sizes.level_points, level_points)?,
+            internals: fronted(sizes.internals, internals)?,
+            domains: fronted(sizes.domains, domains)?,
+            boxes: fronted(sizes.boxes, boxes)?,
+            borrowed: fronted(sizes.borrowed, borrowed)?,
+            ..Lists::default()
+        })
+    }
+}
+
+/// A list with this front and room for this many entries.
+fn fronted<T: Copy>(entries: usize, front: &[T]) -> Result<Vec<T>, TryReserveError> {
+    let mut list = reserved(entries.max(front.len()))?;
+    list.extend_from_slice(front);
+    Ok(list)
+}
+
 /// An empty list with room for this many entries.
 pub fn reserved<T>(entries: usize) -> Result<Vec<T>, TryReserveError> {
     let mut list = Vec::new();

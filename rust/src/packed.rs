@@ -42,9 +42,23 @@ pub const SAMPLE_PLACE: usize = 0;
 pub const SAMPLE_WRITTEN: usize = 1;
 pub const SAMPLE_SLOT: usize = 2;
 
+/// The writer's slot: the place of a refusal, the bytes written.
+pub const STORE_PLACE: usize = 0;
+pub const STORE_BYTES: usize = 1;
+pub const STORE_SLOT: usize = 2;
+
 /// The quotas' slot: the entries written, the seats.
 pub const QUOTA_WRITTEN: usize = 0;
 pub const QUOTA_SLOT: usize = 2;
+
+/// The bytes of a tree's file: the head; the points; a mark and two counts for each level and domain; each level row and, as an internal
+/// row, once more; the borrowed rows; and a box for each domain but the coarse one.
+pub fn file_bytes(dimension: usize, points: usize, slot: &[usize; BUILD_SLOT], borrowed: usize) -> usize {
+    let rows: usize = slot[SLOT_ROWS..SLOT_DOMAINS].iter().sum();
+    let domains: usize = slot[SLOT_DOMAINS..].iter().sum();
+    24 + points * (2 + 8 * dimension) + 10 * (slot[SLOT_LEVELS] + domains) + 4 * (2 * rows + borrowed)
+        + 8 * box_floats(dimension) * (domains - 1)
+}
 
 /// The level size and the root: one value.
 pub const LEVEL_SIZE_SLOT: usize = 1;
@@ -84,6 +98,9 @@ mod tests {
             ("SAMPLE_PLACE", SAMPLE_PLACE),
             ("SAMPLE_WRITTEN", SAMPLE_WRITTEN),
             ("SAMPLE_SLOT", SAMPLE_SLOT),
+            ("STORE_PLACE", STORE_PLACE),
+            ("STORE_BYTES", STORE_BYTES),
+            ("STORE_SLOT", STORE_SLOT),
             ("QUOTA_WRITTEN", QUOTA_WRITTEN),
             ("QUOTA_SLOT", QUOTA_SLOT),
             ("LEVEL_SIZE_SLOT", LEVEL_SIZE_SLOT),

@@ -32,6 +32,8 @@ pub enum Mender {
     Program,
     /// Whoever feeds the program a job stream; the library's own calls never give these.
     Stream,
+    /// Whoever keeps the file of a stored tree; where a tree is to be stored, whoever keeps its lists.
+    File,
 }
 
 impl Refusal {
@@ -43,9 +45,10 @@ impl Refusal {
     /// Who can mend it.
     pub fn mender(&self) -> Mender {
         match self.number {
-            1..=5 | 9 => Mender::Settings,
-            6 | 7 | 8 | 10 => Mender::Points,
+            1..=5 | 9 | 18 => Mender::Settings,
+            6 | 7 | 8 | 10 | 19 => Mender::Points,
             16 | 17 => Mender::Stream,
+            20 => Mender::File,
             _ => Mender::Program,
         }
     }
@@ -71,6 +74,9 @@ impl Refusal {
             15 => "a negative number or not-a-number has no root",
             16 => "the job stream is broken",
             17 => "the job stream has over 32 points or over 16 neighbours",
+            18 => "the stored tree is of other settings",
+            19 => "the stored tree is of other points",
+            20 => "the file, or the lists to be stored, hold no sound tree",
             _ => "no refusal has this number",
         }
     }
@@ -83,6 +89,7 @@ impl fmt::Display for Refusal {
             Mender::Points => "whoever brings the points can mend it",
             Mender::Program => "the calling program can mend it",
             Mender::Stream => "whoever feeds the program can mend it",
+            Mender::File => "whoever keeps the file can mend it",
         };
         write!(f, "refused {} at {}: {}; {}", self.number, self.place, self.reason(), who)
     }

@@ -15,6 +15,19 @@ extern "C" {
         boxes_len: usize, borrowed: *mut usize, borrowed_len: usize, floats: *mut f64, floats_len: usize, wholes: *mut usize,
         wholes_len: usize, result: *mut usize, result_len: usize,
     ) -> usize;
+    fn ddm_store(
+        points: *const f64, points_len: usize, dimensions: usize, leaf_threshold: u32, overlap_knn: u32,
+        coarse_reduction_factor: u32, policy: u32, coarse_threshold: u32, tree: *const usize, tree_len: usize,
+        level_points: *const usize, level_points_len: usize, internals: *const usize, internals_len: usize, domains: *const usize,
+        domains_len: usize, boxes: *const f64, boxes_len: usize, borrowed: *const usize, borrowed_len: usize, file: *mut u8,
+        file_len: usize, result: *mut usize, result_len: usize,
+    ) -> usize;
+    fn ddm_load(
+        points: *const f64, points_len: usize, dimensions: usize, leaf_threshold: u32, overlap_knn: u32,
+        coarse_reduction_factor: u32, policy: u32, coarse_threshold: u32, file: *const u8, file_len: usize, level_points: *mut usize,
+        level_points_len: usize, internals: *mut usize, internals_len: usize, domains: *mut usize, domains_len: usize,
+        boxes: *mut f64, boxes_len: usize, borrowed: *mut usize, borrowed_len: usize, result: *mut usize, result_len: usize,
+    ) -> usize;
     fn ddm_sample(
         points: *const f64, points_len: usize, dimensions: usize, wanted: usize, seed: usize, out: *mut usize, out_len: usize,
         floats: *mut f64, floats_len: usize, wholes: *mut usize, wholes_len: usize, result: *mut usize, result_len: usize,
@@ -35,12 +48,37 @@ pub fn build_sizes(n: usize, dimensions: usize, neighbours: u32, result: &mut [u
     unsafe { ddm_build_sizes(n, dimensions, neighbours, result.as_mut_ptr(), result.len()) }
 }
 
-/// Builds into the lists, and after an accepted call gives each its length; the working room stays empty.
-pub fn build(points: &[f64], dimensions: usize, params: DDMParams, lists: &mut Lists, result: &mut [usize; BUILD_SLOT]) -> usize {
-    let (policy, threshold) = match params.coarse_threshold {
+/// The policy as the library takes it: its number, and the threshold.
+fn policy(params: &DDMParams) -> (u32, u32) {
+    match params.coarse_threshold {
         SizePolicy::Auto => (0, 0),
         SizePolicy::Fixed(c) => (1, c),
-    };
+    }
+}
+
+/// Gives the lists of a tree their lengths, by what the library has reported and written.
+///
+/// # Safety
+/// The slot is that of an accepted build or load into these lists.
+unsafe fn tree_written(l: &mut Lists, dimensions: usize, result: &[usize; BUILD_SLOT]) {
+    let rows: usize = result[SLOT_ROWS..SLOT_ROWS + MOST_LEVELS].iter().sum();
+    let leaves: usize = result[SLOT_DOMAINS..SLOT_DOMAINS + MOST_LEVELS].iter().sum();
+    // the front of these lists is written: a row of each level, a domain row of each leaf
+    unsafe {
+        written(&mut l.level_points, rows);
+        written(&mut l.internals, rows);
+        written(&mut l.domains, ROW_NUMBERS * leaves);
+        written(&mut l.boxes, row_floats(dimensions) * leaves);
+    }
+    let last = &l.domains[ROW_NUMBERS * (leaves - 1)..];
+    let borrowed = last[BORROWED_START] + last[BORROWED_COUNT];
+    // and the last leaf's borrowed rows end the list of these
+    unsafe { written(&mut l.borrowed, borrowed) };
+}
+
+/// Builds into the lists, and after an accepted call gives each its length; the working room stays empty.
+pub fn build(points: &[f64], dimensions: usize, params: DDMParams, lists: &mut Lists, result: &mut [usize; BUILD_SLOT]) -> usize {
+    let (policy, threshold) = policy(&params);
     let l = &mut *lists;
     let number = unsafe {
         ddm_build(
@@ -52,19 +90,52 @@ pub fn build(points: &[f64], dimensions: usize, params: DDMParams, lists: &mut L
         )
     };
     if number == 0 {
-        let rows: usize = result[SLOT_ROWS..SLOT_ROWS + MOST_LEVELS].iter().sum();
-        let leaves: usize = result[SLOT_DOMAINS..SLOT_DOMAINS + MOST_LEVELS].iter().sum();
-        // an accepted build writes the front of these lists: a row of each level, a domain row of each leaf
-        unsafe {
-            written(&mut l.level_points, rows);
-            written(&mut l.internals, rows);
-            written(&mut l.domains, ROW_NUMBERS * leaves);
-            written(&mut l.boxes, row_floats(dimensions) * leaves);
-        }
-        let last = &l.domains[ROW_NUMBERS * (leaves - 1)..];
-        let borrowed = last[BORROWED_START] + last[BORROWED_COUNT];
-        // and the last leaf's borrowed rows end the list of these
-        unsafe { written(&mut l.borrowed, borrowed) };
+        unsafe { tree_written(l, dimensions, result) };
+    }
+    number
+}
+
+/// Loads into the five lists of a tree, and after an accepted call gives each its length.
+pub fn load(
+    points: &[f64], dimensions: usize, params: DDMParams, file: &[u8], lists: &mut Lists, result: &mut [usize; BUILD_SLOT],
+) -> usize {
+    let (policy, threshold) = policy(&params);
+    let l = &mut *lists;
+    let number = unsafe {
+        ddm_load(
+            points.as_ptr(), points.len(), dimensions, params.leaf_threshold, params.overlap_knn,
+            params.coarse_reduction_factor, policy, threshold, file.as_ptr(), file.len(), l.level_points.as_mut_ptr(),
+            l.level_points.capacity(), l.internals.as_mut_ptr(), l.internals.capacity(), l.domains.as_mut_ptr(),
+            l.domains.capacity(), l.boxes.as_mut_ptr(), l.boxes.capacity(), l.borrowed.as_mut_ptr(), l.borrowed.capacity(),
+            result.as_mut_ptr(), result.len(),
+        )
+    };
+    if number == 0 {
+        unsafe { tree_written(l, dimensions, result) };
+    }
+    number
+}
+
+/// Writes the file of the tree in the five lists to `file`, and after an accepted call gives that its length. The lists are lent by their
+/// capacity too: the writer reads what the counts and domain rows name, which is their front, and nothing behind it.
+#[allow(clippy::too_many_arguments)]
+pub fn store(
+    points: &[f64], dimensions: usize, params: DDMParams, tree: &[usize; BUILD_SLOT], lists: &Lists, file: &mut Vec<u8>,
+    result: &mut [usize; STORE_SLOT],
+) -> usize {
+    let (policy, threshold) = policy(&params);
+    let number = unsafe {
+        ddm_store(
+            points.as_ptr(), points.len(), dimensions, params.leaf_threshold, params.overlap_knn,
+            params.coarse_reduction_factor, policy, threshold, tree.as_ptr(), tree.len(), lists.level_points.as_ptr(),
+            lists.level_points.capacity(), lists.internals.as_ptr(), lists.internals.capacity(), lists.domains.as_ptr(), lists.domains.capacity(),
+            lists.boxes.as_ptr(), lists.boxes.capacity(), lists.borrowed.as_ptr(), lists.borrowed.capacity(), file.as_mut_ptr(),
+            file.capacity(), result.as_mut_ptr(), result.len(),
+        )
+    };
+    if number == 0 {
+        // an accepted call writes as many bytes as it says
+        unsafe { written(file, result[STORE_BYTES]) };
     }
     number
 }

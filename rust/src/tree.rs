@@ -1,6 +1,7 @@
 //! A tree of domains, read from the lists that a build has written.
-use crate::lists::Lists;
+use crate::lists::{BuildSizes, Lists};
 use crate::packed::*;
+use std::collections::TryReserveError;
 
 /// A tree of domains over the points.
 ///
@@ -65,6 +66,20 @@ impl Tree {
         }
         tree.boxes.shrink_to_fit();
         tree
+    }
+
+    /// Its slot, and its lists at these lengths again, for the writer.
+    pub(crate) fn lent(&self, sizes: &BuildSizes) -> Result<([usize; BUILD_SLOT], Lists), TryReserveError> {
+        let mut slot = [0; BUILD_SLOT];
+        slot[SLOT_LEVELS] = self.levels;
+        slot[SLOT_ROWS..SLOT_DOMAINS].copy_from_slice(&self.rows);
+        slot[SLOT_DOMAINS..].copy_from_slice(&self.leaves);
+        Ok((slot, Lists::lent(sizes, &self.level_points, &self.internals, &self.domains, &self.boxes, &self.borrowed)?))
+    }
+
+    /// How many rows its leaves borrow in all.
+    pub(crate) fn borrowed_rows(&self) -> usize {
+        self.borrowed.len()
     }
 
     /// How many axes the points have.

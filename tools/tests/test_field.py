@@ -49,6 +49,19 @@ class Made(support.InFolder):
         self.assertIn("neighbours 16 (not given)", out)
         self.assertIn("q3", self.read("out", "level0.svg").decode())
 
+    def test_stored_and_loaded(self):
+        kept = self.path("field.tree")
+        self.assertEqual(support.said_by(field.main, sample("field_32.csv"), "-o", self.path("a"), "--store", kept)[0], 0)
+        status, out, err = support.said_by(field.main, sample("field_32.csv"), "-o", self.path("b"), "--load", kept)
+        self.assertEqual((status, err), (0, ""))
+        for file in os.listdir(self.path("a")):
+            self.assertEqual(self.read("a", file), self.read("b", file))
+        status, out, err = support.said_by(field.main, sample("field_32.csv"), "--leaf", "9", "-o", self.path("c"), "--load", kept)
+        self.assertEqual(status, 1)
+        self.assertIn("refused 18", err)
+        status, out, err = support.said_by(field.main, sample("field_32.csv"), "-o", self.path("c"), "--load", self.path("none"))
+        self.assertEqual(status, 2)
+
     def test_rows_on_request(self):
         support.said_by(field.main, sample("field_32.csv"), "--rows", "-o", self.path("out"))
         self.assertNotIn("W25, W31", self.read("out", "summary.txt").decode())

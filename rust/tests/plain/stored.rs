@@ -152,7 +152,7 @@ fn settings_in(bytes: &[u8; 18]) -> Option<(usize, Settings)> {
 fn rows_in(rows: impl Iterator<Item = usize>, set: &[bool], out: &mut Vec<usize>) -> Option<()> {
     let mut least = 0;
     for row in rows {
-        if row < least || !set.get(row)? {
+        if row < least || !*set.get(row)? {
             return None;
         }
         out.push(row);

@@ -1,0 +1,70 @@
+"""A tree as the bytes of a file, and loaded again."""
+import random
+import unittest
+
+import support
+
+import rekvashu
+import stored_model
+
+setUpModule = support.need_library
+
+FOUR = dict(leaf=2, neighbours=1, factor=2, coarse=2)
+
+
+def settings_of(dimension, leaf, neighbours, factor, coarse):
+    return (dimension, leaf, neighbours, factor, *((0, 0) if coarse == "auto" else (1, coarse)))
+
+
+def plain_tree(tree):
+    return [(support.plain(level.points),
+             [(support.plain(leaf.own), support.plain(leaf.borrowed), None if leaf.box is None else [support.plain(b) for b in leaf.box])
+              for leaf in level.leaves]) for level in tree.levels]
+
+
+def refused(*words, **settings):
+    try:
+        rekvashu.load(*words, **settings)
+    except rekvashu.Refusal as refusal:
+        return refusal.number
+    return 0
+
+
+class Stored(unittest.TestCase):
+    @support.both
+    def test_the_papers_example(self):
+        tree = rekvashu.build([0, 1, 3, 7], **FOUR)
+        data = tree.to_bytes()
+        self.assertEqual(len(data), 270)
+        self.assertEqual(plain_tree(rekvashu.load([0, 1, 3, 7], data, **FOUR)), plain_tree(tree))
+        self.assertEqual(rekvashu.load([0, 1, 3, 7], bytearray(data), **FOUR).to_bytes(), data)
+
+    def test_against_the_model(self):
+        rng = random.Random(1)
+        for _ in range(200):
+            d, n = rng.randint(1, 3), rng.randint(1, 30)
+            points = [float(rng.randint(0, 20)) for _ in range(n * d)]
+            params = dict(leaf=rng.randint(1, 5), neighbours=rng.randint(0, 4), factor=rng.randint(2, 5), coarse=rng.choice(["auto", max(1, n // 4)]))
+            data = rekvashu.build(points, **params, dimension=d).to_bytes()
+            settings, bits = settings_of(d, **params), stored_model.bits_of(points)
+            self.assertEqual(data, stored_model.file_bytes(settings, bits, stored_model.built(settings, bits)))
+
+    def test_refusals(self):
+        points, data = [0, 1, 3, 7], rekvashu.build([0, 1, 3, 7], **FOUR).to_bytes()
+        self.assertEqual(refused(points, data, **{**FOUR, "leaf": 3}), 18)
+        self.assertEqual(refused([0, 1, 3, 8], data, **FOUR), 19)
+        self.assertEqual(refused([-0.0, 1, 3, 7], data, **FOUR), 19)
+        self.assertEqual(refused([0, 1, 3, 8], data[:-1], **{**FOUR, "leaf": 3}), 20)
+        self.assertEqual(refused(points, b"", **FOUR), 20)
+        self.assertEqual(refused(points, b"", **{**FOUR, "leaf": 0}), 2)
+        with self.assertRaises(TypeError):
+            rekvashu.load(points, "a path", **FOUR)
+
+    def test_a_refusals_sentence(self):
+        with self.assertRaises(rekvashu.Refusal) as caught:
+            rekvashu.load([0, 1, 3, 7], b"", **FOUR)
+        self.assertIn("whoever keeps the file can mend it", caught.exception.text)
+
+
+if __name__ == "__main__":
+    unittest.main()
