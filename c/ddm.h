@@ -10,7 +10,7 @@
  *
  * Threads. There is no global state: any number of calls may run at once, as long as no list is lent to two of them. Points may be
  * shared, since they are only read.
- * Stack. Under 16 KiB for any input, but for ddm_store and ddm_load, whose sets of rows take 256 KiB; nothing is allocated.
+ * Stack. Under 16 KiB for any input, but for ddm_store and ddm_load, whose sets of rows take 256 KiB more; nothing is allocated.
  * Memory. A build over n points asks for 768 + 96 * dimensions + 112 * (K + 1) bytes a point in its seven lists, with K neighbours:
  * 2,864 in two dimensions with 16. That is the most that any input can need, and few are touched: 5,000 random wells in two dimensions
  * write some 70 of them a well at the default settings, some 620 at leaf threshold 1. So lists from calloc cost little.
@@ -134,9 +134,9 @@ size_t ddm_load(const double *points, size_t points_len, size_t dimensions, uint
                 size_t domains_len, double *boxes, size_t boxes_len, size_t *borrowed, size_t borrowed_len, size_t *result,
                 size_t result_len);
 
-/* The bytes of a tree's file, exactly: n points, the slot that its build or load wrote, and the rows that its leaves borrow in all (the last
- * domain row's start and count of them, added). They are the head's; the points'; a mark and two counts for each level and domain; each
- * level row and, as an internal row, once more; the borrowed rows; and a box for each domain but the coarse one. */
+/* The bytes of a tree's file, exactly: n points, the slot that its build or load wrote, and the rows that its leaves borrow in all (the
+ * last domain row's start and count of them, added). They are the head's; the points'; a mark and two counts for each level and domain;
+ * each level row and, as an internal row, once more; the borrowed rows; and a box for each domain but the coarse one. */
 static inline size_t ddm_file_size(size_t dimensions, size_t n, const size_t *tree, size_t borrowed) {
     size_t rows = 0, domains = 0, level;
     for (level = 0; level < DDM_MOST_LEVELS; level++) {

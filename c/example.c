@@ -1,4 +1,4 @@
-/* Builds a tree of 1,000 wells and walks its leaves, by ddm_tree.h.
+/* Builds a tree of 1,000 wells, walks its leaves, keeps it as the bytes of a file and loads it again, by ddm_tree.h.
  *
  *   cc -O2 -o example c/example.c target/staticlib/libddm_c.a && ./example
  */
@@ -17,6 +17,19 @@ static void level_line(const ddm_tree *tree, size_t level) {
     }
     printf("level %zu: %zu wells in %zu leaves, at most %zu a leaf, %zu borrowed; own wells %zu\n", level,
            ddm_tree_rows(tree, level).count, ddm_tree_leaves(tree, level), most, lent, own);
+}
+
+/* Stores the tree and loads it again; whether that worked. */
+static int kept(const ddm_tree *tree, const double *points, ddm_params params, ddm_error *error) {
+    size_t bytes;
+    unsigned char *file = ddm_tree_store(tree, points, AXES * WELLS, params, &bytes, error);
+    ddm_tree *again = file ? ddm_tree_load(points, AXES * WELLS, AXES, params, file, bytes, error) : NULL;
+    const int worked = again != NULL;
+    if (worked)
+        printf("file of %zu bytes, loaded again: levels %zu\n", bytes, ddm_tree_levels(again));
+    ddm_tree_free(again);
+    free(file);
+    return worked;
 }
 
 int main(void) {
@@ -41,6 +54,10 @@ int main(void) {
     printf("levels %zu\n", ddm_tree_levels(tree));
     for (size_t level = 0; level < ddm_tree_levels(tree); level++)
         level_line(tree, level);
+    if (!kept(tree, points, params, &error)) {
+        fprintf(stderr, "not kept: %s (number %zu, place %zu)\n", ddm_error_text(error), error.number, error.place);
+        return 1;
+    }
     ddm_tree_free(tree);
     return 0;
 }

@@ -7,6 +7,7 @@ import sys
 
 sys.path.insert(0, os.path.join(os.path.dirname(os.path.abspath(__file__)), "..", "tools"))
 import model
+import stored_model
 
 WELLS, AXES, NEAR = 1000, 2, 8
 
@@ -22,3 +23,7 @@ for number, (rows, leaves) in enumerate(levels):
     assert own == rows, "the leaves do not share out the level"
     print("level %d: %d wells in %d leaves, at most %d a leaf, %d borrowed; own wells %d" % (
         number, len(rows), len(leaves), max(len(leaf[0]) for leaf in leaves), sum(len(leaf[1]) for leaf in leaves), len(own)))
+
+settings, bits = (AXES, 32, NEAR, 4, 1, 60), stored_model.bits_of(points)
+file = stored_model.file_bytes(settings, bits, stored_model.built(settings, bits))
+print("file of %d bytes, loaded again: levels %d" % (len(file), len(stored_model.read_file(file)[2])))

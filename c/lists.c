@@ -62,6 +62,22 @@ int main(void) {
     const size_t *row = domains;
     for (size_t level = 0; level < result[DDM_SLOT_LEVELS]; level++)
         row = level_line(level, result, row, sizes);
+    const size_t lent = (row - DDM_ROW_NUMBERS)[DDM_COLUMN_BORROWED_START] + (row - DDM_ROW_NUMBERS)[DDM_COLUMN_BORROWED_COUNT];
+    size_t bytes = ddm_file_size(AXES, WELLS, result, lent), told[DDM_STORE_SLOT];
+    unsigned char *file = list(bytes, 1);
+    refused = ddm_store(points, AXES * WELLS, AXES, 32, NEAR, 4, DDM_POLICY_FIXED, 60, result, DDM_BUILD_SLOT, level_points,
+                        sizes[DDM_SIZES_LEVEL_POINTS], internals, sizes[DDM_SIZES_INTERNALS], domains, sizes[DDM_SIZES_DOMAINS], boxes,
+                        sizes[DDM_SIZES_BOXES], borrowed, sizes[DDM_SIZES_BORROWED], file, bytes, told, DDM_STORE_SLOT);
+    if (!refused)
+        refused = ddm_load(points, AXES * WELLS, AXES, 32, NEAR, 4, DDM_POLICY_FIXED, 60, file, told[DDM_STORE_BYTES], level_points,
+                           sizes[DDM_SIZES_LEVEL_POINTS], internals, sizes[DDM_SIZES_INTERNALS], domains, sizes[DDM_SIZES_DOMAINS], boxes,
+                           sizes[DDM_SIZES_BOXES], borrowed, sizes[DDM_SIZES_BORROWED], result, DDM_BUILD_SLOT);
+    if (refused) {
+        fprintf(stderr, "refused %zu: %s\n", refused, ddm_refusal_text(refused));
+        return 1;
+    }
+    printf("file of %zu bytes, loaded again: levels %zu\n", told[DDM_STORE_BYTES], result[DDM_SLOT_LEVELS]);
+    free(file);
     free(points), free(boxes), free(floats), free(level_points), free(internals), free(domains), free(borrowed), free(wholes);
     return 0;
 }

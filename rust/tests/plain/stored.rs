@@ -94,6 +94,48 @@ pub fn store(coords: &[f64], d: usize, s: &Settings, lists: &Packed) -> Vec<u8> 
     out
 }
 
+/// Whether packed lists hold a tree that passes the tests, and their stretches follow one another.
+pub fn passes(coords: &[f64], d: usize, s: &Settings, lists: &Packed) -> bool {
+    let n = coords.len() / d;
+    let (mut row, mut domain, mut lent, mut above) = (0, 0, 0, vec![true; n]);
+    for (t, (&rows, &leaves)) in lists.rows.iter().zip(&lists.leaves).enumerate() {
+        let last = t + 1 == lists.rows.len();
+        let fits = if t == 0 { rows == n } else { 0 < rows && rows < lists.rows[t - 1] };
+        let listed = &lists.level_points[row..row + rows];
+        if !fits || (leaves == 1) != last || in_set(listed, &above).is_none() {
+            return false;
+        }
+        above.iter_mut().for_each(|x| *x = false);
+        listed.iter().for_each(|&i| above[i] = true);
+        let (mut left, mut own_at) = (above.clone(), row);
+        for j in domain..domain + leaves {
+            let at = &lists.domains[4 * j..4 * j + 4];
+            if at[0] != own_at || at[2] != lent || at[1] > row + rows - own_at || at[3] > lists.borrowed.len() - lent {
+                return false;
+            }
+            let (own, borrowed) = (&lists.internals[own_at..own_at + at[1]], &lists.borrowed[lent..lent + at[3]]);
+            if in_set(own, &left).is_none() {
+                return false;
+            }
+            own.iter().for_each(|&i| (left[i], above[i]) = (false, false));
+            if in_set(borrowed, &above).is_none() {
+                return false;
+            }
+            own.iter().for_each(|&i| above[i] = true);
+            let bounds = &lists.boxes[2 * d * j..2 * d * (j + 1)];
+            if bounds.iter().any(|x| if last { x.to_bits() != 0 } else { x.is_nan() }) {
+                return false;
+            }
+            (own_at, lent) = (own_at + at[1], lent + at[3]);
+        }
+        if own_at != row + rows {
+            return false;
+        }
+        (row, domain) = (row + rows, domain + leaves);
+    }
+    super::refusal(coords, d, s).is_none() && domain <= 6 * n + 1 && lent <= 6 * n * (s.neighbours as usize + 1)
+}
+
 pub fn file(coords: &[f64], d: usize, s: &Settings, tree: &[Level]) -> Vec<u8> {
     store(coords, d, s, &packed(tree, d))
 }
@@ -148,7 +190,19 @@ fn settings_in(bytes: &[u8; 18]) -> Option<(usize, Settings)> {
     Some((bytes[0] as usize, Settings { leaf: four(1), neighbours: four(5), factor: four(9), policy }))
 }
 
-/// Rows that ascend and are all in the set.
+/// Whether rows ascend and are all in the set.
+fn in_set(rows: &[usize], set: &[bool]) -> Option<()> {
+    let mut least = 0;
+    for &row in rows {
+        if row < least || !*set.get(row)? {
+            return None;
+        }
+        least = row + 1;
+    }
+    Some(())
+}
+
+/// Rows that ascend and are all in the set, kept.
 fn rows_in(rows: impl Iterator<Item = usize>, set: &[bool], out: &mut Vec<usize>) -> Option<()> {
     let mut least = 0;
     for row in rows {
