@@ -1,0 +1,101 @@
+// Replays stored calls of the loader and the writer: reads the file that the first argument names, makes each call there, and says how
+// many of the calls differ from their stored outcomes, in their answers or in an entry of a list. tools/make_stored_calls.py makes the
+// file, and its head says the form of a record.
+mod fields;
+mod fronts;
+mod given;
+mod loads;
+mod stores;
+
+ghost use Prim.Native.Nat.{_≤_};
+ghost use lib.ListN.{length};
+
+// More records than this are not replayed.
+const MOST: u64 = 100000;
+
+// The kinds of a record.
+const LOAD: usize = 1;
+
+const STORE: usize = 2;
+
+// Whether the file has a further record, whether it is whole, and how many bytes it has.
+struct Next {
+    found: bool,
+    whole: bool,
+    size: usize,
+}
+
+// How many calls were made, and how many of them differ.
+struct Tally {
+    calls: u64,
+    differ: u64,
+}
+
+// Reads the next record to the front of `room`.
+fn read_next(fd: i32, room: &mut [u8]) -> Next
+    ensures { λ r. ⌜ r .size ≤ length (now (room .exit)) ⌝ }
+{
+    let mut front = [0u8; 4];
+    let got = io::read_full(fd, &mut front);
+    let size = fields::number(&front, 0);
+    let found = got != 0;
+    if got != 4 || room.len() < size {
+        return Next {
+            found,
+            whole: false,
+            size: 0,
+        };
+    }
+    let whole = io::read_full(fd, &mut room[..size]) == size;
+    Next { found, whole, size }
+}
+
+// Whether the call of a record has the record's outcome.
+fn agrees(record: &[u8]) -> bool {
+    let kind = fields::byte(record, 0);
+    if kind == LOAD {
+        return loads::agrees(record);
+    }
+    if kind == STORE {
+        return stores::agrees(record);
+    }
+    false
+}
+
+// All records of the file. One that cannot be read whole counts as one that differs, and is the last.
+fn replay(fd: i32, room: &mut [u8]) -> Tally {
+    let mut calls: u64 = 0;
+    let mut differ: u64 = 0;
+    while calls < MOST {
+        let next = read_next(fd, room);
+        if !next.found {
+            break;
+        }
+        calls += 1;
+        if !next.whole {
+            differ += 1;
+            break;
+        }
+        if !agrees(&room[..next.size]) {
+            differ += 1;
+        }
+    }
+    Tally { calls, differ }
+}
+
+fn main() {
+    let mut path = io::buffer();
+    let length = os::arg(1, &mut path);
+    let fd = os::open_read(&path[..length]);
+    if fd < 0 {
+        os::fail(b"open");
+        return;
+    }
+    let mut room = io::buffer();
+    let tally = replay(fd, &mut room);
+    libc::close(fd);
+    io::print_decimal(libc::STDOUT_FILENO, tally.calls);
+    io::write_all(libc::STDOUT_FILENO, b" calls, ");
+    io::print_decimal(libc::STDOUT_FILENO, tally.differ);
+    io::write_all(libc::STDOUT_FILENO, b" differ\n");
+}
