@@ -1,0 +1,2 @@
+-- What the contracts of keeping a tree cite.
+pub mod Keeping
