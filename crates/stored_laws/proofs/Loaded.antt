@@ -1,7 +1,8 @@
 -- The loader on a written file, and what an accepted load hands out. Assumes nothing.
 -- Holds: fileTests, tests-passed, load-accepts, load-answers, load-lists, loaded-own, loaded-well, loaded-settings, loaded-count,
---   loaded-points, loaded-file, loaded-sound
-use mathlib.Core.Path.{_≡_, sym, ap, ap₂, _∙_}
+--   loaded-points, loaded-file, loaded-sound, load-accepted-iff
+use mathlib.Core.Path.{_≡_, sym, ap, ap₂, subst, _∙_}
+use mathlib.Core.Logic.{_↔_}
 use Prim.Native.Nat.{ℕ}
 use native.Mathlib.Omega.{arith}
 use mathlib.Core.Bool.{true, false, not}
@@ -24,10 +25,10 @@ use Rattle.stored.specs.Sound.{same, sound}
 use Rattle.stored.specs.Stored.{countIn, pointsIn, treeIn, wellFormed}
 use Rattle.stored.specs.Outcome.{ownTests, sameSettings, samePoints, loadVerdict, loadAnswer, loadLists}
 use Rattle.tree_tests.proofs.AllRows.{same-is, same-self}
-use Rattle.stored_laws.specs.Writable.{NumberFits, FloatFits, SettingsFit, Writable}
+use Rattle.stored_laws.specs.Writable.{NumberFits, FloatFits, SettingsFit, Writable, Stores}
 use Rattle.stored_laws.proofs.Front.{SmallSettings, settings-read, count-read, points-read}
 use Rattle.stored_laws.proofs.ReadBack.{buildable-passed, passed-small, written-well, back-tree}
-use Rattle.stored_laws.proofs.WellFormed.{well-formed-file, well-formed-sound}
+use Rattle.stored_laws.proofs.WellFormed.{well-formed-file, well-formed-sound, well-formed-writable}
 use Rattle.stored_laws.proofs.Verdicts.{own-whole, own-takes}
 
 -- ---- the loader's own tests
@@ -134,3 +135,20 @@ module _ (s : Settings) (cs : List Float) (bs : List ℕ) (old : TreeLists) (fit
 
   pub loaded-sound : sound s n (treeIn bs) ≡ true
   loaded-sound = sym (ap₂ (λ (t : Settings) (m : ℕ). sound t m (treeIn bs)) loaded-settings loaded-count) ∙ well-formed-sound bs loaded-well
+
+-- ---- accepted exactly where the build's own tests pass and the bytes are the file of these settings, these points and some tree
+pub load-accepted-iff : (s : Settings) (cs : List Float) (bs : List ℕ) (old : TreeLists) → SettingsFit s → All FloatFits cs
+    → (loadVerdict s cs bs old ≡ accepted) ↔ ((verdict (ownTests s cs old) ≡ accepted) × ((ls : List Level) × Stores bs s cs ls))
+load-accepted-iff s cs bs old fit held = (to, back)
+  where
+    writes : loadVerdict s cs bs old ≡ accepted → Writable s cs (treeIn bs)
+    writes e =
+        subst (λ (c : List Float). Writable s c (treeIn bs)) (loaded-points s cs bs old fit held e)
+        (subst (λ (t : Settings). Writable t (pointsIn bs) (treeIn bs)) (loaded-settings s cs bs old fit held e)
+        (well-formed-writable bs (loaded-well s cs bs old fit held e)))
+
+    to : loadVerdict s cs bs old ≡ accepted → (verdict (ownTests s cs old) ≡ accepted) × ((ls : List Level) × Stores bs s cs ls)
+    to e = (loaded-own s cs bs old fit held e, (treeIn bs, record { writable = writes e; file = sym (loaded-file s cs bs old fit held e) }))
+
+    back : (verdict (ownTests s cs old) ≡ accepted) × ((ls : List Level) × Stores bs s cs ls) → loadVerdict s cs bs old ≡ accepted
+    back k = ap (λ (x : List ℕ). loadVerdict s cs x old) (sym (k .1 .1 .file)) ∙ load-accepts s cs (k .1 .0) old (k .0) (k .1 .1 .writable)
