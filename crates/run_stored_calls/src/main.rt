@@ -1,12 +1,6 @@
 // Replays stored calls of the loader and the writer: reads the file that the first argument names, makes each call there, and says how
 // many of the calls differ from their stored outcomes, in their answers or in an entry of a list. tools/make_stored_calls.py makes the
 // file, and its head says the form of a record.
-mod fields;
-mod fronts;
-mod given;
-mod loads;
-mod stores;
-
 ghost use Prim.Native.Nat.{_≤_};
 ghost use lib.ListN.{length};
 
@@ -37,7 +31,7 @@ fn read_next(fd: i32, room: &mut [u8]) -> Next
 {
     let mut front = [0u8; 4];
     let got = io::read_full(fd, &mut front);
-    let size = fields::number(&front, 0);
+    let size = call_records::number(&front, 0);
     let found = got != 0;
     if got != 4 || room.len() < size {
         return Next {
@@ -52,12 +46,12 @@ fn read_next(fd: i32, room: &mut [u8]) -> Next
 
 // Whether the call of a record has the record's outcome.
 fn agrees(record: &[u8]) -> bool {
-    let kind = fields::byte(record, 0);
+    let kind = call_records::byte(record, 0);
     if kind == LOAD {
-        return loads::agrees(record);
+        return replay_loads::agrees(record);
     }
     if kind == STORE {
-        return stores::agrees(record);
+        return replay_stores::agrees(record);
     }
     false
 }
