@@ -132,6 +132,28 @@ static void refused_store(const lent *l, const size_t *tree, size_t tree_len, si
     EXPECT(slot < DDM_STORE_SLOT ? result[DDM_STORE_PLACE] == 7 : result[DDM_STORE_PLACE] == 0 && result[DDM_STORE_BYTES] == 0);
 }
 
+/* One point more than the library takes, before anything is looked at in file or lists. */
+static void too_many_points(const lent *built, const size_t *tree) {
+    static lent before, after;
+    const size_t many = (size_t)DDM_MOST_POINTS + 1;
+    double *points = (double *)calloc(many, sizeof *points);
+    size_t told[DDM_STORE_SLOT];
+    memset(&before, 0x5a, sizeof before);
+    memset(&after, 0x5a, sizeof after);
+    EXPECT(points != NULL);
+    if (!points)
+        return;
+    EXPECT(ddm_load(points, many, 1, 2, NEAR, 2, DDM_POLICY_FIXED, 2, built->file, 270, after.level_points, 1, after.internals, 1,
+                    after.domains, 1, after.boxes, 1, after.borrowed, 1, after.result, DDM_BUILD_SLOT) == 8);
+    memcpy(before.result, after.result, sizeof before.result);
+    EXPECT(after.result[DDM_SLOT_PLACE] == 0 && after.result[DDM_SLOT_LEVELS] == 0);
+    EXPECT(ddm_store(points, many, 1, 2, NEAR, 2, DDM_POLICY_FIXED, 2, tree, DDM_BUILD_SLOT, built->level_points, 1, built->internals, 1,
+                     built->domains, 1, built->boxes, 1, built->borrowed, 1, after.file, FILE_BYTES, told, DDM_STORE_SLOT) == 8);
+    EXPECT(told[DDM_STORE_PLACE] == 0 && told[DDM_STORE_BYTES] == 0);
+    EXPECT(memcmp(&before, &after, sizeof before) == 0);
+    free(points);
+}
+
 static void refusals(void) {
     static lent built, other;
     size_t slot[DDM_STORE_SLOT], tree[DDM_BUILD_SLOT];
@@ -142,6 +164,7 @@ static void refusals(void) {
     EXPECT(ddm_file_size(1, WELLS, tree, 6) == 270);
     EXPECT(load_into(&other, built.file, 270, 2, 6 * WELLS * (NEAR + 1), tree, DDM_BUILD_SLOT) == 0);
     EXPECT(memcmp(tree, built.result, sizeof tree) == 0);
+    too_many_points(&built, tree);
     refused_load(built.file, 270, 3, 6 * WELLS * (NEAR + 1), DDM_BUILD_SLOT, 18);
     refused_load(built.file, 269, 3, 6 * WELLS * (NEAR + 1), DDM_BUILD_SLOT, 20);
     refused_load(built.file, 270, 0, 6 * WELLS * (NEAR + 1), DDM_BUILD_SLOT, 2);

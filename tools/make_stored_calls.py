@@ -10,8 +10,8 @@ A record: its length after these 4 bytes; a kind, 1 load or 2 store; the 18 sett
     bytes; the file
 Numbers have 4 bytes but for kind and refusal number (1), counts given to the writer, entries of the lists and floats' bits (8), all
 little-endian; files and fronts have their count before them. Before the call each list holds 9 (the float 9) past its front, and the file
-list holds 9; what the outcome does not name stays so. Every refusal of the two calls is there but 8, which takes 1,048,577 points: the
-tests of the C and Rust callers have it.
+list holds 9; what the outcome does not name stays so. Every refusal of the two calls is there but 8, which takes 1,048,577 points:
+c/stored.c has it.
 """
 import collections
 import itertools
