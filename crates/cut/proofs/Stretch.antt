@@ -13,7 +13,8 @@ use Rattle.definition.specs.Points.{coordinate}
 use Rattle.definition.specs.Cut.{longestAxis, planeOf, plane, cutKeys}
 use Rattle.definition.proofs.Cuts.{axis-below}
 use Rattle.rows.specs.Rows.{Inside, GoodRows}
-use Rattle.halving.specs.Cuts.{MiddleRow, Halved}
+use Rattle.middle_row.specs.Middle.{MiddleRow}
+use Rattle.halving.specs.Cuts.{Halved}
 use Rattle.rows.proofs.Good.{good-inside, good-place}
 
 -- the plane is the coordinate of the middle row

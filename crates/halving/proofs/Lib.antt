@@ -1,4 +1,3 @@
 -- Laws of the cut.
-pub mod Ranks
 pub mod Turns
 pub mod Cutting

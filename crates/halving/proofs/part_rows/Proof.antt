@@ -4,7 +4,7 @@ use mathlib.Core.Path.{sym, _∙_}
 use Prim.Native.Nat.{_-_}
 use native.Mathlib.Omega.{arith}
 use mathlib.Core.Bool.{true}
-use Rattle.halving.specs.Cuts.{onSide}
+use Rattle.middle_row.specs.Middle.{onSide}
 use Rattle.argsort.proofs.Orders.{row-inside}
 use Rattle.halving.proofs.Turns.{Parted, parted-first, parted-row, parted-left, parted-right, parted-end}
 use Rattle.halving.proofs.part_rows.Statement.{statement}

@@ -1,9 +1,9 @@
--- `halving::narrow` meets its contract. Assumes nothing.
+-- `middle_row::narrow` meets its contract. Assumes nothing.
 use borrow.Author.Needs.{needs}
 use mathlib.Core.Path.{sym}
-use Rattle.halving.proofs.Cutting.{round-front, round-finite, round-inside, round-found, round-low, round-high}
-use Rattle.halving.proofs.narrow.Statement.{statement}
-use Rattle.halving.proofs.narrow.Tie as tie
+use Rattle.middle_row.proofs.Rounds.{round-front, round-finite, round-inside, round-found, round-low, round-high}
+use Rattle.middle_row.proofs.narrow.Statement.{statement}
+use Rattle.middle_row.proofs.narrow.Tie as tie
 
 mul-p : tie.Need-mul-p
 mul-p c = search needs

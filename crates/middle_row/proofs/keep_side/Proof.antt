@@ -1,12 +1,12 @@
--- `halving::keep_side` meets its contract. Assumes nothing.
+-- `middle_row::keep_side` meets its contract. Assumes nothing.
 use borrow.Author.Needs.{needs}
 use mathlib.Core.Path.{sym, _∙_}
 use Prim.Native.Nat.{_-_}
-use Rattle.halving.specs.Cuts.{onSide}
+use Rattle.middle_row.specs.Middle.{onSide}
 use Rattle.argsort.proofs.Orders.{row-inside}
-use Rattle.halving.proofs.Turns.{KeptFront, kept-first, kept-row, kept-in, kept-out, kept-end}
-use Rattle.halving.proofs.keep_side.Statement.{statement}
-use Rattle.halving.proofs.keep_side.Tie as tie
+use Rattle.middle_row.proofs.Turns.{KeptFront, kept-first, kept-row, kept-in, kept-out, kept-end}
+use Rattle.middle_row.proofs.keep_side.Statement.{statement}
+use Rattle.middle_row.proofs.keep_side.Tie as tie
 
 abbrev Inv-loop : tie.InvT-loop
 Inv-loop points d axis rows₀ m p low n₀ t₀ rows n t = KeptFront (onSide d points axis p low) rows₀ m rows n t

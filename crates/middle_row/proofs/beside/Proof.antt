@@ -1,7 +1,7 @@
--- `halving::beside` meets its contract. Assumes nothing.
+-- `middle_row::beside` meets its contract. Assumes nothing.
 use borrow.Author.Needs.{needs}
-use Rattle.halving.proofs.beside.Statement.{statement}
-use Rattle.halving.proofs.beside.Tie as tie
+use Rattle.middle_row.proofs.beside.Statement.{statement}
+use Rattle.middle_row.proofs.beside.Tie as tie
 
 comes-before-requires : tie.Need-comes-before-requires
 comes-before-requires c κs = search needs

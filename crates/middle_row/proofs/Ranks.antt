@@ -32,7 +32,7 @@ use Rattle.rows.specs.Rows.{FiniteAt, FiniteOn}
 use Rattle.argsort.specs.Rows.{keyOn, NoLater}
 use Rattle.sort.specs.Heap.{Sorted}
 use Rattle.argsort.proofs.Orders.{row-or, not-both, sorted-before}
-use Rattle.halving.specs.Cuts.{MiddleRow, Ranked}
+use Rattle.middle_row.specs.Middle.{MiddleRow, Ranked}
 
 module _ (d : ℕ) (cs : List Float) (axis : ℕ) where
   abbrev key : ℕ → Key

@@ -1,15 +1,15 @@
--- `halving::count_before` meets its contract. Assumes nothing.
+-- `middle_row::count_before` meets its contract. Assumes nothing.
 use borrow.Author.Needs.{needs}
 use mathlib.Core.Path.{sym, _∙_}
 use Prim.Native.Nat.{_-_}
 use lib.ListN.{length}
 use Rattle.lists.proofs.All.{all-at}
 use mathlib.Core.Bool.{true}
-use Rattle.halving.specs.Cuts.{onSide}
+use Rattle.middle_row.specs.Middle.{onSide}
 use Rattle.argsort.proofs.Orders.{row-inside}
-use Rattle.halving.proofs.Turns.{CountedTo, counted-first, counted-in, counted-out, counted-end}
-use Rattle.halving.proofs.count_before.Statement.{statement}
-use Rattle.halving.proofs.count_before.Tie as tie
+use Rattle.middle_row.proofs.Turns.{CountedTo, counted-first, counted-in, counted-out, counted-end}
+use Rattle.middle_row.proofs.count_before.Statement.{statement}
+use Rattle.middle_row.proofs.count_before.Tie as tie
 
 abbrev Inv-loop : tie.InvT-loop
 Inv-loop points d axis rows p n₀ t₀ n t = CountedTo (onSide d points axis p true) rows n t

@@ -1,4 +1,4 @@
--- `halving::middle` meets its contract. Assumes nothing.
+-- `middle_row::middle` meets its contract. Assumes nothing.
 use borrow.Author.Needs.{needs}
 use mathlib.Core.Path.{_≡_, refl, sym}
 use Prim.Native.Nat.{_+_, _*_, _/_, _≤_}
@@ -6,11 +6,11 @@ use native.Mathlib.Nat.{mod-lt}
 use native.Mathlib.Omega.{arith}
 use borrow.Author.Tests.{leb-true}
 use lib.ListN.{length}
-use Rattle.halving.specs.Cuts.{Narrows}
+use Rattle.middle_row.specs.Middle.{Narrows}
 use Rattle.definition.specs.Refusals.{mostPoints}
-use Rattle.halving.proofs.Cutting.{search-first, search-more, end-asks, end-front, end-inside, end-middle}
-use Rattle.halving.proofs.middle.Statement.{statement}
-use Rattle.halving.proofs.middle.Tie as tie
+use Rattle.middle_row.proofs.Rounds.{search-first, search-more, end-asks, end-front, end-inside, end-middle}
+use Rattle.middle_row.proofs.middle.Statement.{statement}
+use Rattle.middle_row.proofs.middle.Tie as tie
 
 abbrev Inv-loop : tie.InvT-loop
 Inv-loop points d axis rows₀ m₀ k₀ left₀ round₀ rows m k left round =
