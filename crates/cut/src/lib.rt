@@ -1,13 +1,12 @@
-// The cut of a domain: its axis, its plane, and its rows in place in the working room.
+// The cut of a domain: its axis, its plane, and its rows in place.
 ghost use mathlib.Core.Path.{_≡_};
-ghost use Prim.Native.Nat.{_+_, _≤_, _<_};
+ghost use Prim.Native.Nat.{_≤_, _<_};
 ghost use lib.ListN.{length};
-ghost use Rattle.lists.specs.Lists.{part};
 ghost use Rattle.lists.specs.Ascends.{All};
 ghost use Rattle.definition.specs.Points.{extent};
 ghost use Rattle.definition.specs.Cut.{longestAxis, plane};
 ghost use Rattle.rows.specs.Rows.{Inside, GoodRows};
-ghost use Rattle.halving.specs.Cuts.{Halved};
+ghost use Rattle.halving.specs.Cuts.{halved};
 
 // Where a domain is cut: the axis, and the coordinate of the right row that comes first.
 pub struct Plane {
@@ -43,24 +42,22 @@ pub fn longest_axis(points: &[f64], dimensions: usize, rows: &[usize]) -> usize
     longest
 }
 
-// Cuts the `count` rows of `wholes` from `start` on in place: the left half comes first, then the right half. What stands in the
-// `count` entries from `spare` on is lost.
+// Cuts the rows in place: the left half comes first, then the right half. The room is one whole number for each row; what stood in
+// it is lost.
 pub fn cut_stretch(
     points: &[f64],
     dimensions: usize,
-    wholes: &mut [usize],
-    start: usize,
-    count: usize,
-    spare: usize,
+    rows: &mut [usize],
+    room: &mut [usize],
 ) -> Plane
-    requires { ⌜ (0 < dimensions) × (1 ≤ count) × GoodRows dimensions (now points) (part (now wholes) start count) ⌝ }
-    requires { ⌜ (start + count ≤ spare) × (spare + count ≤ length (now wholes)) ⌝ }
-    ensures wholes { λ _. ⌜ Halved dimensions (now (points .entry)) (longestAxis dimensions (now (points .entry)) (part (now (wholes .entry)) start count)) (now (wholes .entry)) start count spare (now (wholes .exit)) ⌝ }
-    ensures plane { λ r. ⌜ (r .axis ≡ longestAxis dimensions (now (points .entry)) (part (now (wholes .entry)) start count)) × (r .value ≡ plane dimensions (now (points .entry)) (part (now (wholes .entry)) start count)) ⌝ }
+    requires { ⌜ (0 < dimensions) × (1 ≤ length (now rows)) × GoodRows dimensions (now points) (now rows)
+        × (length (now room) ≡ length (now rows)) ⌝ }
+    ensures rows { λ _. ⌜ now (rows .exit) ≡ halved dimensions (now (points .entry)) (longestAxis dimensions (now (points .entry)) (now (rows .entry))) (now (rows .entry)) ⌝ }
+    ensures room { λ _. ⌜ length (now (room .exit)) ≡ length (now (room .entry)) ⌝ }
+    ensures plane { λ r. ⌜ (r .axis ≡ longestAxis dimensions (now (points .entry)) (now (rows .entry))) × (r .value ≡ plane dimensions (now (points .entry)) (now (rows .entry))) ⌝ }
 {
-    let end = start + count;
-    let axis = longest_axis(points, dimensions, &wholes[start..end]);
-    let row = halving::halves(points, dimensions, axis, wholes, start, count, spare);
+    let axis = longest_axis(points, dimensions, rows);
+    let row = halving::halves(points, dimensions, axis, rows, room);
     let value = points[row * dimensions + axis];
     Plane { axis, value }
 }

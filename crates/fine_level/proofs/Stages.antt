@@ -17,7 +17,6 @@ use Rattle.lists.specs.Lists.{put, part, joined, keep}
 use Rattle.lists.proofs.Tests.{true-or-false}
 use Rattle.lists.proofs.Put.{part-put-same, length-put}
 use Rattle.lists.proofs.Count.{length-keep}
-use Rattle.lists.proofs.Joined.{length-joined}
 use Rattle.lists.proofs.From.{map-below-same}
 use Rattle.lists.specs.Times.{times}
 use Rattle.lists.proofs.Times.{times-keep-in, times-keep-out, once-keep, once-length}
@@ -28,10 +27,11 @@ use Rattle.definition.specs.Quotas.{quotas}
 use Rattle.definition.specs.Sampling.{sentBy}
 use Rattle.definition.specs.Tree.{Leaf, fineLevel, sentLists}
 use Rattle.definition.specs.Packed.{rowNumbers, rowFloats, stretches}
-use Rattle.definition.proofs.Cuts.{Good, leaves-times, leaves-sum}
+use Rattle.definition.proofs.Cuts.{Good, leaves-times}
 use Rattle.definition.proofs.Steps.{fineLeaf}
 use Rattle.definition_laws.proofs.Shape.{leaves-most}
 use Rattle.queue.specs.Rows.{withOwn}
+use Rattle.leaves.proofs.Domains.{leaves-fill}
 use Rattle.rows.proofs.Good.{good-good}
 use Rattle.packed.specs.Reading.{ownAt, readOwn, ownIn}
 use Rattle.overlap_owners.specs.Own.{SharedOut, Leaves}
@@ -91,9 +91,7 @@ module _ (d : ℕ) (cs : List Float) (leaf neighbours : ℕ) (active : List ℕ)
   own-number = length-map (leavesOf d cs leaf active) (λ q. q .rows)
 
   pub own-whole : length (joined (levelRows (leavesOf d cs leaf active))) ≡ length active
-  own-whole =
-      length-joined own ∙ rw (map-map length (λ (q : Domain). q .rows) (leavesOf d cs leaf active))
-      (leaves-sum d cs (g .axes) leaf (g .leaf-some) active good (g .rows-some))
+  own-whole = leaves-fill d cs (g .axes) leaf (g .leaf-some) active (g .good) (g .rows-some)
 
   own-kept : (p : ℕ → Bool) (r : ℕ) → times r (keep p (joined own)) ≡ times r (keep p active)
   own-kept p r =

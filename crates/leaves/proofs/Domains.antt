@@ -1,17 +1,18 @@
 -- The definition's domains as a kind of domain for the queue, and the definition's leaves as the queue's. Assumes nothing.
--- Holds: leavesFrom, Waiting, from-wait, from-done, from-none, kind, leaves-are
+-- Holds: leavesFrom, Waiting, from-wait, from-done, from-none, kind, leaves-are, leaves-fill
 use mathlib.Core.Path.{_≡_, sym, ap, _∙_}
-use mathlib.Core.List.{List, [], _∷_, _++_}
+use mathlib.Core.List.{List, [], _∷_, _++_, map, map-map}
 use Prim.Native.Nat.{ℕ, suc, _*_, _≤_, _<_}
 use native.Mathlib.Omega.{arith}
 use lib.ListN.{length}
 use lib.Ieee.{Float}
-use Rattle.lists.specs.Lists.{total}
+use Rattle.lists.specs.Lists.{total, joined}
 use Rattle.lists.specs.Ascends.{All}
 use Rattle.lists.proofs.All.{all-imp}
+use Rattle.lists.proofs.Joined.{length-joined}
 use Rattle.definition.specs.Cut.{Domain, rootDomain, leftOf, rightOf, queueLeaves, leavesOf}
 use Rattle.definition.proofs.Steps.{queue-empty, queue-wait, queue-done}
-use Rattle.definition.proofs.Cuts.{Good, cutsFor, left-length, right-length, queue-enough, full-wait, cuts-wait, cuts-done}
+use Rattle.definition.proofs.Cuts.{Good, cutsFor, left-length, right-length, queue-enough, full-wait, cuts-wait, cuts-done, leaves-sum}
 use Rattle.definition_laws.proofs.Shape.{leaves-enough}
 use Rattle.queue.proofs.Kind.{Kind, MayWait}
 use Rattle.rows.specs.Rows.{GoodRows}
@@ -78,3 +79,9 @@ module _ (d : ℕ) (cs : List Float) (pos : 0 < d) (leaf : ℕ) (lp : 1 ≤ leaf
   pub leaves-are : (active : List ℕ) → GoodRows d cs active → 1 ≤ length active → leavesOf d cs leaf active ≡ leavesFrom d cs leaf (rootDomain d cs active ∷ [])
   unfolding leavesFrom rootDomain total
   leaves-are active g some = sym (leaves-enough d cs pos leaf lp active (good-good active g) some (cutsFor (rootDomain d cs active ∷ [])) (omega arith))
+
+  -- their rows, joined, are as many as the active ones
+  pub leaves-fill : (active : List ℕ) → GoodRows d cs active → 1 ≤ length active → length (joined (map (λ (q : Domain). q .rows) (leavesOf d cs leaf active))) ≡ length active
+  leaves-fill active g some =
+      length-joined (map (λ (q : Domain). q .rows) (leavesOf d cs leaf active))
+      ∙ rw (map-map length (λ (q : Domain). q .rows) (leavesOf d cs leaf active)) (leaves-sum d cs pos leaf lp active (good-good active g) some)

@@ -1,3 +1,5 @@
 -- Laws of a level's leaves.
 pub mod Domains
+pub mod Found
+pub mod Place
 pub mod Turns

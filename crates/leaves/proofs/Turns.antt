@@ -1,16 +1,18 @@
--- The loop over the queue of the definition's domains: rows, queue and spare room in one list, the boxes of what waits in another.
--- Where it begins, its two turns, and where it ends. Assumes nothing.
--- Holds: domainBox, Run, Known, headStart, headCount, Front, front, known, axis-fit, wait, wait-less, next-leaves,
---   next-leaves-less, run-end, length-extents, width-most, run-first, KeptLengths, kept-next
+-- The loop over the queue of the definition's domains: the rows in one list; room for an ordering, packed leaves and queue in another;
+-- the boxes of what waits in a third. Where it begins, its two turns, and where it ends. Assumes nothing.
+-- Holds: domainBox, Run, Known, headStart, headCount, Lent, filled, Front, front, known, lent-good, lent-some, spare-length,
+--   lent-room, rows-kept, room-kept, axis-fit, wait, wait-less, next-leaves, next-leaves-less, run-end, length-extents, width-most, run-first, found-all, KeptLengths, kept-next
 use mathlib.Core.Path.{_≡_, refl, sym, ap, _∙_}
-use Prim.Native.Nat.{ℕ, _+_, _*_, _/_, _^_, _≤_, _<_}
+use Prim.Native.Nat.{ℕ, _+_, _-_, _*_, _/_, _^_, _≤_, _<_}
 use native.Mathlib.Nat.{mul-add, mul-one, mul-le-mul-left}
 use native.Mathlib.Omega.{arith}
 use mathlib.Core.List.{List, [], _∷_, _++_, map}
-use lib.ListN.{length, getD, set, length-set, length-append, length-map}
+use lib.ListN.{length, getD, set, take, drop, length-set, length-append, length-drop, length-map}
+use lib.Seq.{length-take-le, take-all}
 use lib.Ieee.{Float}
+use borrow.Rule.Slice.PartMut.{putMid}
 use Rattle.lists.specs.Lists.{put, part, joined}
-use Rattle.lists.proofs.Put.{length-part, length-put, part-put-same}
+use Rattle.lists.proofs.Put.{put-zero, length-part, length-put, part-put-same, part-lent, part-back, front-put}
 use Rattle.lists.proofs.From.{length-from}
 use Rattle.definition.specs.Packed.{rowNumbers, rowFloats}
 use Rattle.definition.specs.Points.{extents}
@@ -19,38 +21,49 @@ use Rattle.definition.proofs.Cuts.{axis-below}
 use Rattle.queue.specs.Rows.{twoHalves, twoOwn, withOwn}
 use Rattle.queue.proofs.Loop.{Inv, cutsLeft, inv-first, inv-next, inv-end, inv-wait, inv-done, less-wait, less-done}
 use Rattle.queue.proofs.Loop.{turn-inside, turn-good, turn-same, turn-left, turn-right, turn-full, turn-rows, turn-leaves, turn-room, turn-end, turn-wait, turn-done}
-use Rattle.queue.proofs.View.{rowsIn, roomIn, rows-part, rows-length, room-length, start-at, view-count, rows-kept, room-put, view-first-rows, first-room, spare-length, spare-rows, spare-room}
+use Rattle.queue.proofs.View.{packedIn, roomIn, packed-length, room-length, start-at, view-count, spare-room, spare-packed, packed-put, packed-room, room-put, room-packed, first-room}
 use Rattle.queue.proofs.Columns.{Boxes, boxes-first, boxes-now, boxes-wait, boxes-done, boxes-end}
 use Rattle.rows.specs.Rows.{GoodRows}
-use Rattle.halving.specs.Cuts.{Halved}
+use Rattle.halving.specs.Cuts.{halved}
 use Rattle.cut.proofs.Halves.{cut-is}
-use Rattle.leaves.proofs.Domains.{kind, leavesFrom, leaves-are}
+use Rattle.leaves.specs.Room.{AsFoundFrom}
+use Rattle.leaves.proofs.Domains.{kind, leavesFrom, leaves-are, leaves-fill}
+use Rattle.leaves.proofs.Found.{found-on, found-put}
 
 abbrev pub domainBox : Domain → List Float
 domainBox q = q .box
 
--- where the loop is, from the lists as it found them (I₀, O₀, B₀) to the lists as they are
-pub record Run (d : ℕ) (cs : List Float) (leaf : ℕ) (active I₀ O₀ : List ℕ) (B₀ : List Float) (at₀ k₀ : ℕ) (w I O : List ℕ) (floats B : List Float) (head tail at k : ℕ) : Type 0 where
+-- Where the loop is. It began with the rows `active`, and with the lists O₀, B₀, w₀ and floats₀; `done` rows are packed, and the domain
+-- rows are written up to the k-th. What it has not used of the room yet is as found.
+pub record Run (d : ℕ) (cs : List Float) (leaf : ℕ) (active O₀ : List ℕ) (B₀ : List Float) (w₀ : List ℕ) (floats₀ : List Float) (at₀ k₀ : ℕ)
+    (rows w O : List ℕ) (floats B : List Float) (head tail done k : ℕ) : Type 0 where
   pub pos : 0 < d
   pub few : d ≤ 3
   pub lp : 1 ≤ leaf
   pub some : 1 ≤ length active
   pub good : GoodRows d cs active
+  pub same : length rows ≡ length active
   pub qs : List Domain
-  pub inv : Inv (kind d cs pos leaf lp) (length active) (rootDomain d cs active) I₀ O₀ at₀ k₀ (rowsIn (length active) w) (roomIn (length active) w) I O qs head tail at k
+  pub inv :
+      Inv (kind d cs pos leaf lp) (length active) (rootDomain d cs active) (packedIn (length active) w₀) O₀ at₀ k₀
+      rows (roomIn (length active) w) (packedIn (length active) w) O qs head tail done k
   pub boxes :
       Boxes (kind d cs pos leaf lp) domainBox (rowFloats d) (put B₀ (rowFloats d * k₀) (joined (map domainBox (leavesFrom d cs leaf (rootDomain d cs active ∷ []))))) floats B qs head tail k
   pub fit-w : 6 * length active ≤ length w
   pub fit-floats : rowFloats d * (2 * length active) ≤ length floats
   pub fit-B : rowFloats d * (k₀ + 2 * length active) ≤ length B
+  pub begun : 1 ≤ tail
+  pub turns : tail + k ≡ 2 * head + 1 + k₀
+  pub found-w : AsFoundFrom (2 * length active + 2 * tail) w₀ w
+  pub found-floats : AsFoundFrom (rowFloats d * tail) floats₀ floats
 
 -- what is known in a turn: n rows, of which the first stretch has c from s on
-pub record Known (d : ℕ) (cs : List Float) (leaf n : ℕ) (w I O : List ℕ) (floats B : List Float) (head tail at k s c : ℕ) : Type 0 where
+pub record Known (d : ℕ) (leaf n : ℕ) (rows w O : List ℕ) (floats B : List Float) (head tail done k s c : ℕ) : Type 0 where
   pub inside : s + c ≤ n
+  pub same : length rows ≡ n
   pub full : 1 ≤ c
-  pub good : GoodRows d cs (part w s c)
   pub fit-w : 6 * n ≤ length w
-  pub rows-fit : at + c ≤ length I
+  pub rows-fit : done + c ≤ n
   pub leaves-fit : rowNumbers * (k + 2) ≤ length O
   pub room-fit : leaf ≤ c / 2 → 2 * tail + 4 ≤ 4 * n
   pub read-fit : rowFloats d * head + rowFloats d ≤ rowFloats d * tail
@@ -60,10 +73,18 @@ pub record Known (d : ℕ) (cs : List Float) (leaf n : ℕ) (w I O : List ℕ) (
 
 -- the stretch that stands first in the queue
 abbrev pub headStart : ℕ → List ℕ → ℕ → ℕ
-headStart n w head = getD w (n + 2 * head) 0
+headStart n w head = getD w (2 * n + 2 * head) 0
 
 abbrev pub headCount : ℕ → List ℕ → ℕ → ℕ
-headCount n w head = getD w (n + 2 * head + 1) 0
+headCount n w head = getD w (2 * n + 2 * head + 1) 0
+
+-- the rows that are lent to the cut: those of the stretch
+abbrev pub Lent : List ℕ → ℕ → ℕ → List ℕ
+Lent rows s c = take (s + c - s) (drop s rows)
+
+-- what was put over a whole list is all that it holds
+pub filled : (l m xs : List ℕ) → length l ≡ length xs → l ≡ put m 0 xs → l ≡ xs
+filled l m xs h e = sym (take-all (length xs) l (omega arith)) ∙ ap (take (length xs)) e ∙ front-put m xs (length xs) refl
 
 -- products of the width
 wider : (w a b : ℕ) → a + 1 ≤ b → w * a + w ≤ w * b
@@ -82,30 +103,35 @@ unfolding rightOf
 box-right d cs q = refl
 
 -- the same where q is the domain that stands first
-pub record Front (d : ℕ) (cs : List Float) (leaf : ℕ) (active I₀ O₀ : List ℕ) (B₀ : List Float) (at₀ k₀ : ℕ) (w I O : List ℕ) (floats B : List Float) (head tail at k : ℕ) : Type 0 where
-  pub run : Run d cs leaf active I₀ O₀ B₀ at₀ k₀ w I O floats B head tail at k
+pub record Front (d : ℕ) (cs : List Float) (leaf : ℕ) (active O₀ : List ℕ) (B₀ : List Float) (w₀ : List ℕ) (floats₀ : List Float) (at₀ k₀ : ℕ)
+    (rows w O : List ℕ) (floats B : List Float) (head tail done k : ℕ) : Type 0 where
+  pub run : Run d cs leaf active O₀ B₀ w₀ floats₀ at₀ k₀ rows w O floats B head tail done k
   pub more : head < tail
   pub q : Domain
   pub rest : List Domain
   pub inv :
-      Inv (kind d cs (run .pos) leaf (run .lp)) (length active) (rootDomain d cs active) I₀ O₀ at₀ k₀ (rowsIn (length active) w) (roomIn (length active) w) I O (q ∷ rest) head tail at k
+      Inv (kind d cs (run .pos) leaf (run .lp)) (length active) (rootDomain d cs active) (packedIn (length active) w₀) O₀ at₀ k₀
+      rows (roomIn (length active) w) (packedIn (length active) w) O (q ∷ rest) head tail done k
   pub boxes :
       Boxes (kind d cs (run .pos) leaf (run .lp)) domainBox (rowFloats d) (put B₀ (rowFloats d * k₀) (joined (map domainBox (leavesFrom d cs leaf (rootDomain d cs active ∷ []))))) floats B (q ∷ rest) head tail k
 
-module _ {d : ℕ} {cs : List Float} {leaf : ℕ} {active I₀ O₀ : List ℕ} {B₀ : List Float} {at₀ k₀ : ℕ} {w I O : List ℕ} {floats B : List Float} {head tail at k : ℕ} where
+module _ {d : ℕ} {cs : List Float} {leaf : ℕ} {active O₀ : List ℕ} {B₀ : List Float} {w₀ : List ℕ} {floats₀ : List Float} {at₀ k₀ : ℕ}
+    {rows w O : List ℕ} {floats B : List Float} {head tail done k : ℕ} where
   -- as long as the loop goes on, a domain waits
-  pub front : Run d cs leaf active I₀ O₀ B₀ at₀ k₀ w I O floats B head tail at k → head < tail → Front d cs leaf active I₀ O₀ B₀ at₀ k₀ w I O floats B head tail at k
+  pub front : Run d cs leaf active O₀ B₀ w₀ floats₀ at₀ k₀ rows w O floats B head tail done k → head < tail
+      → Front d cs leaf active O₀ B₀ w₀ floats₀ at₀ k₀ rows w O floats B head tail done k
   front x h = go (x .qs) (x .inv) (x .boxes)
     where
       go : (qs : List Domain)
-          → Inv (kind d cs (x .pos) leaf (x .lp)) (length active) (rootDomain d cs active) I₀ O₀ at₀ k₀ (rowsIn (length active) w) (roomIn (length active) w) I O qs head tail at k
+          → Inv (kind d cs (x .pos) leaf (x .lp)) (length active) (rootDomain d cs active) (packedIn (length active) w₀) O₀ at₀ k₀
+          rows (roomIn (length active) w) (packedIn (length active) w) O qs head tail done k
           → Boxes (kind d cs (x .pos) leaf (x .lp)) domainBox (rowFloats d) (put B₀ (rowFloats d * k₀) (joined (map domainBox (leavesFrom d cs leaf (rootDomain d cs active ∷ []))))) floats B qs head tail k
-          → Front d cs leaf active I₀ O₀ B₀ at₀ k₀ w I O floats B head tail at k
+          → Front d cs leaf active O₀ B₀ w₀ floats₀ at₀ k₀ rows w O floats B head tail done k
       go [] inv b = absurd (inv-next inv h)
       go (q ∷ qs) inv b = record { run = x; more = h; q = q; rest = qs; inv = inv; boxes = b }
 
   -- ---- a turn
-  module _ (x : Front d cs leaf active I₀ O₀ B₀ at₀ k₀ w I O floats B head tail at k) where
+  module _ (x : Front d cs leaf active O₀ B₀ w₀ floats₀ at₀ k₀ rows w O floats B head tail done k) where
     abbrev n : ℕ
     n = length active
 
@@ -118,20 +144,20 @@ module _ {d : ℕ} {cs : List Float} {leaf : ℕ} {active I₀ O₀ : List ℕ} 
     abbrev q : Domain
     q = x .q
 
-    five : 5 * n ≤ length w
-    five = omega (arith, x .run .fit-w)
+    six : 6 * n ≤ length w
+    six = x .run .fit-w
 
     e-s : getD (roomIn n w) (2 * head) 0 ≡ s
-    e-s = start-at n w five head (omega (arith, x .more, x .inv .fits))
+    e-s = start-at n w six head (omega (arith, x .more, x .inv .fits))
 
     e-c : getD (roomIn n w) (2 * head + 1) 0 ≡ c
-    e-c = view-count n w five head (omega (arith, x .more, x .inv .fits))
+    e-c = view-count n w six head (omega (arith, x .more, x .inv .fits))
 
     inside : s + c ≤ n
-    inside = omega (arith, turn-inside (x .inv) (x .more) e-s e-c, rows-length n w five)
+    inside = omega (arith, turn-inside (x .inv) (x .more) e-s e-c, x .run .same)
 
-    rows-q : part w s c ≡ q .rows
-    rows-q = sym (rows-part n w five s c inside) ∙ turn-same (x .inv) (x .more) e-s e-c
+    lent-q : Lent rows s c ≡ q .rows
+    lent-q = part-lent rows s c ∙ turn-same (x .inv) (x .more) e-s e-c
 
     box-q : part floats (rowFloats d * head) (rowFloats d) ≡ q .box
     box-q = boxes-now (x .more) (x .boxes)
@@ -139,14 +165,14 @@ module _ {d : ℕ} {cs : List Float} {leaf : ℕ} {active I₀ O₀ : List ℕ} 
     floats-all : rowFloats d * tail ≤ length floats
     floats-all = let e : rowFloats d * tail ≤ rowFloats d * (2 * n) = mul-le-mul-left (rowFloats d) (omega (arith, x .inv .fits)) in omega (arith, x .run .fit-floats)
 
-    pub known : Known d cs leaf n w I O floats B head tail at k s c
+    pub known : Known d leaf n rows w O floats B head tail done k s c
     known =
         record {
           inside = inside;
+          same = x .run .same;
           full = turn-full (x .inv) (x .more) e-s e-c;
-          good = rw rows-q (turn-good (x .inv) (x .more) e-s e-c);
-          fit-w = x .run .fit-w;
-          rows-fit = turn-rows (x .inv) (x .more) e-s e-c;
+          fit-w = six;
+          rows-fit = omega (arith, turn-rows (x .inv) (x .more) e-s e-c, packed-length n w six);
           leaves-fit = turn-leaves (x .inv) (x .more) e-s e-c;
           room-fit = λ g. omega (arith, turn-room (x .inv) (x .more) e-s e-c g);
           read-fit = wider (rowFloats d) head tail (omega (arith, x .more));
@@ -155,8 +181,33 @@ module _ {d : ℕ} {cs : List Float} {leaf : ℕ} {active I₀ O₀ : List ℕ} 
           boxes-fit = omega (arith, x .run .fit-B, wider2 (rowFloats d) k (k₀ + 2 * n) (turn-end (x .inv) (x .more) e-s e-c));
         }
 
-    pub axis-fit : (y : ℕ) → y ≡ longestAxis d cs (part w s c) → y < d
-    axis-fit y e = rw e (axis-below d cs (part w s c) (x .run .pos))
+    -- the rows that are lent to the cut, and its room
+    pub lent-good : GoodRows d cs (Lent rows s c)
+    lent-good = rw lent-q (turn-good (x .inv) (x .more) e-s e-c)
+
+    lent-length : length (Lent rows s c) ≡ c
+    lent-length = ap length (part-lent rows s c) ∙ length-part rows s c (omega (arith, inside, x .run .same))
+
+    pub lent-some : 1 ≤ length (Lent rows s c)
+    lent-some = omega (arith, lent-length, turn-full (x .inv) (x .more) e-s e-c)
+
+    pub spare-length : length (take c w) ≡ c
+    spare-length = length-take-le c w (omega (arith, inside, six))
+
+    pub lent-room : length (take c w) ≡ length (Lent rows s c)
+    lent-room = spare-length ∙ sym lent-length
+
+    -- the lists that were lent in part keep their lengths
+    pub rows-kept : (ys : List ℕ) → length ys ≡ length (Lent rows s c) → length (putMid s (s + c - s) rows ys) ≡ length rows
+    rows-kept ys e =
+        let m = e ∙ lent-length in
+        ap length (part-back rows s c ys m) ∙ length-put rows s ys (omega (arith, inside, x .run .same))
+
+    pub room-kept : (zs : List ℕ) → length zs ≡ length (take c w) → length (zs ++ drop c w) ≡ length w
+    room-kept zs e = simp (length-append, length-drop) (omega (arith, spare-length, inside, six))
+
+    pub axis-fit : (y : ℕ) → y ≡ longestAxis d cs (Lent rows s c) → y < d
+    axis-fit y e = rw e (axis-below d cs (Lent rows s c) (x .run .pos))
 
     -- the boxes of the halves
     abbrev l-box : List Float
@@ -179,46 +230,72 @@ module _ {d : ℕ} {cs : List Float} {leaf : ℕ} {active I₀ O₀ : List ℕ} 
     both-wide : length (l-box ++ r-box) ≡ 2 * rowFloats d
     both-wide = length-append l-box r-box ∙ omega (arith, l-wide, r-wide)
 
-    -- what the cut and the loads bring: the room w₁ after the cut; axis and plane; and the floats and the dimension of the domain's box
-    module _ (w₁ : List ℕ) (h : Halved d cs (longestAxis d cs (part w s c)) w s c (5 * n) w₁) (y : ℕ) (p : Float) (b : List Float) (bd : ℕ)
-        (ey : y ≡ longestAxis d cs (part w s c)) (ep : p ≡ plane d cs (part w s c)) (eb : b ≡ part floats (rowFloats d * head) (rowFloats d)) (ed : bd ≡ d) where
+    -- What the cut and the loads bring: the lent rows as ys and the lent room as zs; axis and plane; and the floats and the dimension of
+    -- the domain's box. Where both lists are again whole, they are rows₁ and w₁.
+    module _ (ys zs : List ℕ) (ey : ys ≡ halved d cs (longestAxis d cs (Lent rows s c)) (Lent rows s c)) (ez : length zs ≡ length (take c w))
+        (y : ℕ) (p : Float) (b : List Float) (bd : ℕ)
+        (ea : y ≡ longestAxis d cs (Lent rows s c)) (ep : p ≡ plane d cs (Lent rows s c)) (eb : b ≡ part floats (rowFloats d * head) (rowFloats d)) (ed : bd ≡ d) where
       abbrev both : List ℕ
       both = leftOf d cs q .rows ++ rightOf d cs q .rows
 
+      abbrev rows₁ : List ℕ
+      rows₁ = putMid s (s + c - s) rows ys
+
+      abbrev w₁ : List ℕ
+      w₁ = zs ++ drop c w
+
       both-boxes : set b (bd + y) p ++ set b y p ≡ l-box ++ r-box
-      both-boxes = rw (eb, ed, ey, ep, rows-q, box-q, box-left d cs q, box-right d cs q)
+      both-boxes = rw (eb, ed, ea, ep, lent-q, box-q, box-left d cs q, box-right d cs q)
 
-      both-inside : s + length both ≤ n
-      both-inside = omega (arith, length-append (leftOf d cs q .rows) (rightOf d cs q .rows), turn-left (x .inv) (x .more) e-s e-c, turn-right (x .inv) (x .more) e-s e-c, inside)
+      both-length : length both ≡ c
+      both-length =
+          length-append (leftOf d cs q .rows) (rightOf d cs q .rows)
+          ∙ omega (arith, turn-left (x .inv) (x .more) e-s e-c, turn-right (x .inv) (x .more) e-s e-c)
 
-      e-w : w₁ ≡ put (put w s both) (5 * n) (h .rest)
-      e-w = cut-is q w w₁ s c (5 * n) rows-q (omega (arith, inside, five)) h
+      ys-is : ys ≡ both
+      ys-is = ey ∙ cut-is d cs q (Lent rows s c) lent-q
 
-      spare-fit : 5 * n + length (h .rest) ≤ length w
-      spare-fit = omega (arith, h .long, inside, x .run .fit-w)
+      rows-cut : rows₁ ≡ put rows s both
+      rows-cut = part-back rows s c ys (ap length ys-is ∙ both-length) ∙ ap (put rows s) ys-is
+
+      rows-same : length rows₁ ≡ length active
+      rows-same = ap length rows-cut ∙ length-put rows s both (omega (arith, both-length, inside, x .run .same)) ∙ x .run .same
+
+      -- the room's front holds something else
+      zs-length : length zs ≡ c
+      zs-length = ez ∙ spare-length
+
+      spent : w₁ ≡ put w 0 zs
+      spent = sym (rw zs-length at (put-zero w zs))
 
       same-w : length w₁ ≡ length w
-      same-w = spare-length n w w₁ five s both (5 * n) (h .rest) both-inside (omega arith) spare-fit e-w
+      same-w = room-kept zs ez
 
-      five₁ : 5 * n ≤ length w₁
-      five₁ = omega (arith, same-w, five)
-
-      rows₁ : rowsIn n w₁ ≡ put (rowsIn n w) s both
-      rows₁ = spare-rows n w w₁ five s both (5 * n) (h .rest) both-inside (omega arith) spare-fit e-w
+      six₁ : 6 * n ≤ length w₁
+      six₁ = omega (arith, same-w, six)
 
       room₁ : roomIn n w₁ ≡ roomIn n w
-      room₁ = spare-room n w w₁ five s both (5 * n) (h .rest) both-inside (omega arith) spare-fit e-w
+      room₁ = rw spent (spare-room n w six zs (omega (arith, zs-length, inside)))
+
+      packed₁ : packedIn n w₁ ≡ packedIn n w
+      packed₁ = rw spent (spare-packed n w six zs (omega (arith, zs-length, inside)))
+
+      found₁ : AsFoundFrom (2 * n + 2 * tail) w₀ w₁
+      found₁ = rw spent (found-put (2 * n + 2 * tail) w₀ w 0 zs (x .run .found-w) (omega arith) (omega (arith, zs-length, inside)))
 
       -- the halves wait: w₂ is the room after they joined the queue, and floats₁ the boxes of what waits
-      module _ (g : leaf ≤ c / 2) (w₂ : List ℕ) (f : w₂ ≡ put w₁ (n + 2 * tail) (twoHalves s c)) where
-        rows₂ : rowsIn n w₂ ≡ put (rowsIn n w) s both
-        rows₂ = rw f (rows-kept n w₁ five₁ (2 * tail) (twoHalves s c) (omega (arith, turn-room (x .inv) (x .more) e-s e-c g)) ∙ rows₁)
+      module _ (g : leaf ≤ c / 2) (w₂ : List ℕ) (f : w₂ ≡ put w₁ (2 * n + 2 * tail) (twoHalves s c)) where
+        joins : 2 * tail + 4 ≤ 4 * n
+        joins = known .room-fit g
 
         room₂ : roomIn n w₂ ≡ put (roomIn n w) (2 * tail) (twoHalves s c)
-        room₂ = rw f (room-put n w₁ five₁ (2 * tail) (twoHalves s c) (omega (arith, turn-room (x .inv) (x .more) e-s e-c g)) ∙ rw room₁)
+        room₂ = rw f (room-put n w₁ six₁ (2 * tail) (twoHalves s c) joins ∙ rw room₁)
+
+        packed₂ : packedIn n w₂ ≡ packedIn n w
+        packed₂ = rw f (room-packed n w₁ six₁ (2 * tail) (twoHalves s c) joins ∙ packed₁)
 
         pub wait : (floats₁ : List Float) → floats₁ ≡ put floats (rowFloats d * tail) (set b (bd + y) p ++ set b y p)
-            → Run d cs leaf active I₀ O₀ B₀ at₀ k₀ w₂ I O floats₁ B (head + 1) (tail + 2) at k
+            → Run d cs leaf active O₀ B₀ w₀ floats₀ at₀ k₀ rows₁ w₂ O floats₁ B (head + 1) (tail + 2) done k
         wait floats₁ i =
             let u = known in
             let j : floats₁ ≡ put floats (rowFloats d * tail) (l-box ++ r-box) = i ∙ ap (put floats (rowFloats d * tail)) both-boxes in
@@ -228,52 +305,89 @@ module _ {d : ℕ} {cs : List Float} {leaf : ℕ} {active I₀ O₀ : List ℕ} 
               lp = x .run .lp;
               some = x .run .some;
               good = x .run .good;
+              same = rows-same;
               qs = x .rest ++ leftOf d cs q ∷ rightOf d cs q ∷ [];
-              inv = inv-wait (x .inv) (x .more) e-s e-c g (rowsIn n w₂) (roomIn n w₂) rows₂ room₂;
+              inv = rw packed₂ (inv-wait (x .inv) (x .more) e-s e-c g rows₁ (roomIn n w₂) rows-cut room₂);
               boxes = boxes-wait (x .more) (x .boxes) l-wide r-wide floats₁ (turn-wait (x .inv) (x .more) e-s e-c g) floats-all j;
-              fit-w = rw (f, length-put w₁ (n + 2 * tail) (twoHalves s c) (omega (arith, u .room-fit g, five₁)), same-w) (x .run .fit-w);
+              fit-w = rw (f, length-put w₁ (2 * n + 2 * tail) (twoHalves s c) (omega (arith, joins, six₁)), same-w) six;
               fit-floats = rw (j, length-put floats (rowFloats d * tail) (l-box ++ r-box) (omega (arith, both-wide, u .floats-fit g))) (x .run .fit-floats);
               fit-B = x .run .fit-B;
+              begun = omega arith;
+              turns = omega (arith, x .run .turns);
+              found-w =
+                  rw f (found-put (2 * n + 2 * (tail + 2)) w₀ w₁ (2 * n + 2 * tail) (twoHalves s c)
+                  (found-on (2 * n + 2 * tail) (2 * n + 2 * (tail + 2)) w₀ w₁ found₁ (omega arith)) (omega (arith, joins, six₁)) (omega arith));
+              found-floats =
+                  let e = mul-add (rowFloats d) tail 2 in
+                  rw j (found-put (rowFloats d * (tail + 2)) floats₀ floats (rowFloats d * tail) (l-box ++ r-box)
+                  (found-on (rowFloats d * tail) (rowFloats d * (tail + 2)) floats₀ floats (x .run .found-floats) (omega arith)) floats-all (omega (arith, both-wide)));
             }
 
         pub wait-less : cutsLeft (roomIn n w₂) (head + 1) (tail + 2) < cutsLeft (roomIn n w) head tail
         wait-less = less-wait (x .inv) (x .more) e-s e-c g (roomIn n w₂) room₂
 
-      -- they are the next two leaves
-      pub next-leaves : c / 2 < leaf → (I₁ O₁ : List ℕ) (B₁ : List Float) → I₁ ≡ put I at (part w₁ s c) → O₁ ≡ twoOwn O k at c
-          → B₁ ≡ put B (rowFloats d * k) (set b (bd + y) p ++ set b y p)
-          → Run d cs leaf active I₀ O₀ B₀ at₀ k₀ w₁ I₁ O₁ floats B₁ (head + 1) tail (at + c) (k + 2)
-      next-leaves g I₁ O₁ B₁ f o i =
-          let u = known in
-          let j : B₁ ≡ put B (rowFloats d * k) (l-box ++ r-box) = i ∙ ap (put B (rowFloats d * k)) both-boxes in
-          record {
-            pos = x .run .pos;
-            few = x .run .few;
-            lp = x .run .lp;
-            some = x .run .some;
-            good = x .run .good;
-            qs = x .rest;
-            inv =
-                rw room₁ (inv-done (x .inv) (x .more) e-s e-c g (rowsIn n w₁) I₁ O₁ rows₁ (f ∙ ap (put I at) (sym (rows-part n w₁ five₁ s c inside))) o);
-            boxes = boxes-done (x .more) (x .boxes) l-wide r-wide B₁ (turn-done (x .inv) (x .more) e-s e-c g) (omega (arith, u .boxes-fit)) j;
-            fit-w = rw same-w (x .run .fit-w);
-            fit-floats = x .run .fit-floats;
-            fit-B = rw (j, length-put B (rowFloats d * k) (l-box ++ r-box) (omega (arith, both-wide, u .boxes-fit))) (x .run .fit-B);
-          }
+      -- they are the next two leaves: w₂ is the room after they were packed
+      module _ (g : c / 2 < leaf) (w₂ : List ℕ) (f : w₂ ≡ put w₁ (n + done) (part rows₁ s c)) where
+        stretch : part rows₁ s c ≡ both
+        stretch = ap (λ (z : List ℕ). part z s c) rows-cut ∙ part-put-same rows s both c (omega (arith, inside, x .run .same)) both-length
 
-      pub next-leaves-less : cutsLeft (roomIn n w₁) (head + 1) tail < cutsLeft (roomIn n w) head tail
-      next-leaves-less = rw room₁ (less-done (x .inv) (x .more) e-s e-c)
+        two-length : length (part rows₁ s c) ≡ c
+        two-length = ap length stretch ∙ both-length
 
-  -- ---- the loop ends with what is due
-  pub run-end : Run d cs leaf active I₀ O₀ B₀ at₀ k₀ w I O floats B head tail at k → tail ≤ head
-      → (k ≡ k₀ + length (leavesOf d cs leaf active)) × (I ≡ put I₀ at₀ (joined (map (λ (q : Domain). q .rows) (leavesOf d cs leaf active))))
+        fits₂ : done + length (part rows₁ s c) ≤ n
+        fits₂ = omega (arith, two-length, known .rows-fit)
+
+        room₃ : roomIn n w₂ ≡ roomIn n w
+        room₃ = rw f (packed-room n w₁ six₁ done (part rows₁ s c) fits₂ ∙ room₁)
+
+        packed₃ : packedIn n w₂ ≡ put (packedIn n w) done (part rows₁ s c)
+        packed₃ = rw f (packed-put n w₁ six₁ done (part rows₁ s c) fits₂ ∙ rw packed₁)
+
+        pub next-leaves : (O₁ : List ℕ) (B₁ : List Float) → O₁ ≡ twoOwn O k (at₀ + done) c → B₁ ≡ put B (rowFloats d * k) (set b (bd + y) p ++ set b y p)
+            → Run d cs leaf active O₀ B₀ w₀ floats₀ at₀ k₀ rows₁ w₂ O₁ floats B₁ (head + 1) tail (done + c) (k + 2)
+        next-leaves O₁ B₁ o i =
+            let u = known in
+            let j : B₁ ≡ put B (rowFloats d * k) (l-box ++ r-box) = i ∙ ap (put B (rowFloats d * k)) both-boxes in
+            record {
+              pos = x .run .pos;
+              few = x .run .few;
+              lp = x .run .lp;
+              some = x .run .some;
+              good = x .run .good;
+              same = rows-same;
+              qs = x .rest;
+              inv = rw room₃ (inv-done (x .inv) (x .more) e-s e-c g rows₁ (packedIn n w₂) O₁ rows-cut packed₃ o);
+              boxes = boxes-done (x .more) (x .boxes) l-wide r-wide B₁ (turn-done (x .inv) (x .more) e-s e-c g) (omega (arith, u .boxes-fit)) j;
+              fit-w = rw (f, length-put w₁ (n + done) (part rows₁ s c) (omega (arith, fits₂, six₁)), same-w) six;
+              fit-floats = x .run .fit-floats;
+              fit-B = rw (j, length-put B (rowFloats d * k) (l-box ++ r-box) (omega (arith, both-wide, u .boxes-fit))) (x .run .fit-B);
+              begun = x .run .begun;
+              turns = omega (arith, x .run .turns);
+              found-w = rw f (found-put (2 * n + 2 * tail) w₀ w₁ (n + done) (part rows₁ s c) found₁ (omega (arith, fits₂, six₁)) (omega (arith, fits₂)));
+              found-floats = x .run .found-floats;
+            }
+
+        pub next-leaves-less : cutsLeft (roomIn n w₂) (head + 1) tail < cutsLeft (roomIn n w) head tail
+        next-leaves-less = rw room₃ (less-done (x .inv) (x .more) e-s e-c)
+
+  -- ---- the loop ends with what is due; the packed leaves fill the place of the rows
+  pub run-end : (x : Run d cs leaf active O₀ B₀ w₀ floats₀ at₀ k₀ rows w O floats B head tail done k) → tail ≤ head
+      → (k ≡ k₀ + length (leavesOf d cs leaf active)) × (packedIn (length active) w ≡ joined (map (λ (q : Domain). q .rows) (leavesOf d cs leaf active)))
       × (O ≡ withOwn at₀ (map (λ (q : Domain). q .rows) (leavesOf d cs leaf active)) k₀ O₀)
-      × (B ≡ put B₀ (rowFloats d * k₀) (joined (map domainBox (leavesOf d cs leaf active))))
+      × (B ≡ put B₀ (rowFloats d * k₀) (joined (map domainBox (leavesOf d cs leaf active)))) × (k ≡ k₀ + tail + 1)
   run-end x h =
       let e = inv-end (x .inv) h in
-      rw (leaves-are d cs (x .pos) leaf (x .lp) active (x .good) (x .some)) (e .0, e .1, e .2, boxes-end h (x .qs) (x .boxes))
+      let are = leaves-are d cs (x .pos) leaf (x .lp) active (x .good) (x .some) in
+      let full = leaves-fill d cs (x .pos) leaf (x .lp) active (x .good) (x .some) in (
+        rw are (e .0),
+        filled (packedIn (length active) w) (packedIn (length active) w₀) (joined (map (λ (q : Domain). q .rows) (leavesOf d cs leaf active)))
+            (packed-length (length active) w (x .fit-w) ∙ sym full) (rw are (e .1)),
+        rw are (e .2),
+        rw are (boxes-end h (x .qs) (x .boxes)),
+        omega (arith, x .turns, x .inv .order),
+      )
 
--- ---- where it begins: the active rows and the first stretch are in the room, and the root's box in the other list
+-- ---- where it begins: the first stretch is in the room, and the root's box in the other list
 pub length-extents : (d : ℕ) (cs : List Float) (rows : List ℕ) → length (extents d cs rows) ≡ rowFloats d
 unfolding extents
 length-extents d cs rows = simp (length-append, length-map, length-from) (omega arith)
@@ -291,27 +405,12 @@ width-most d n h = let a : rowFloats d * 1 ≤ rowFloats d * (2 * n) = mul-le-mu
 
 module _ (d : ℕ) (cs : List Float) (pos : 0 < d) (few : d ≤ 3) (leaf : ℕ) (lp : 1 ≤ leaf) (active : List ℕ) (some : 1 ≤ length active) (good : GoodRows d cs active)
     (w w₁ : List ℕ) (floats floats₁ : List Float) (fw : 6 * length active ≤ length w) (fh : rowFloats d * (2 * length active) ≤ length floats)
-    (ew : w₁ ≡ put (put w 0 active) (length active) (0 ∷ length active ∷ [])) (eh : floats₁ ≡ put floats 0 (extents d cs active)) where
+    (ew : w₁ ≡ put w (2 * length active) (0 ∷ length active ∷ [])) (eh : floats₁ ≡ put floats 0 (extents d cs active)) where
   abbrev m : ℕ
   m = length active
 
-  abbrev wₐ : List ℕ
-  wₐ = put w 0 active
-
-  length-a : length wₐ ≡ length w
-  length-a = length-put w 0 active (omega arith)
-
-  rows-a : rowsIn m wₐ ≡ active
-  rows-a = part-put-same w 0 active m (omega arith) refl
-
-  fit-a : 5 * m ≤ length wₐ
-  fit-a = omega (arith, length-a)
-
-  rows-first : rowsIn m w₁ ≡ active
-  rows-first = view-first-rows m wₐ w₁ fit-a some ew ∙ rows-a
-
   length-w : length w₁ ≡ length w
-  length-w = ap length ew ∙ length-put wₐ m (0 ∷ m ∷ []) (omega (arith, length-a)) ∙ length-a
+  length-w = ap length ew ∙ length-put w (2 * m) (0 ∷ m ∷ []) (omega arith)
 
   length-floats : length floats₁ ≡ length floats
   length-floats = ap length eh ∙ length-put floats 0 (extents d cs active) (omega (arith, length-extents d cs active, width-most d m some))
@@ -319,52 +418,63 @@ module _ (d : ℕ) (cs : List Float) (pos : 0 < d) (few : d ≤ 3) (leaf : ℕ) 
   floats-box : part floats₁ 0 (rowFloats d) ≡ rootDomain d cs active .box
   floats-box = rw (eh, part-put-same floats 0 (extents d cs active) (rowFloats d) (omega arith) (length-extents d cs active), root-box d cs active)
 
-  pub run-first : (I₀ O₀ : List ℕ) (B₀ : List Float) (at₀ k₀ : ℕ) → at₀ + m ≤ length I₀ → rowNumbers * (k₀ + 2 * m) ≤ length O₀ → rowFloats d * (k₀ + 2 * m) ≤ length B₀
-      → Run d cs leaf active I₀ O₀ B₀ at₀ k₀ w₁ I₀ O₀ floats₁ B₀ 0 1 at₀ k₀
-  run-first I₀ O₀ B₀ at₀ k₀ f o z =
+  pub run-first : (O₀ : List ℕ) (B₀ : List Float) (at₀ k₀ : ℕ) → rowNumbers * (k₀ + 2 * m) ≤ length O₀ → rowFloats d * (k₀ + 2 * m) ≤ length B₀
+      → Run d cs leaf active O₀ B₀ w₁ floats₁ at₀ k₀ active w₁ O₀ floats₁ B₀ 0 1 0 k₀
+  run-first O₀ B₀ at₀ k₀ o z =
       let K = kind d cs pos leaf lp in
       let root = rootDomain d cs active in
+      let six = rw (← length-w) at fw in
       record {
         pos = pos;
         few = few;
         lp = lp;
         some = some;
         good = good;
+        same = refl;
         qs = root ∷ [];
         inv =
-            inv-first K m root I₀ O₀ at₀ k₀ (rowsIn m w₁) (roomIn m wₐ) (roomIn m w₁) lp (rows-first ∙ sym (root-rows d cs active)) (rw (root-rows d cs active) good)
-            (ap length rows-first) some (omega (arith, room-length m wₐ fit-a)) f o (first-room m wₐ w₁ fit-a some ew);
+            inv-first K m root (packedIn m w₁) O₀ at₀ k₀ active (roomIn m w) (roomIn m w₁) lp (sym (root-rows d cs active)) (rw (root-rows d cs active) good)
+            refl some (omega (arith, room-length m w fw)) (omega (arith, packed-length m w₁ six)) o (first-room m w w₁ fw some ew);
         boxes = boxes-first K domainBox (rowFloats d) floats₁ B₀ root k₀ floats-box;
-        fit-w = rw length-w fw;
+        fit-w = six;
         fit-floats = rw length-floats fh;
         fit-B = z;
+        begun = omega arith;
+        turns = omega arith;
+        found-w = refl;
+        found-floats = refl;
       }
 
+  -- from the lists as the function found them to those that the loop ends with
+  pub found-all : (w₂ : List ℕ) (floats₂ : List Float) (t : ℕ) → 1 ≤ t → AsFoundFrom (2 * length active + 2 * t) w₁ w₂ → AsFoundFrom (rowFloats d * t) floats₁ floats₂
+      → AsFoundFrom (2 * length active + 2 * t) w w₂ × AsFoundFrom (rowFloats d * t) floats floats₂
+  found-all w₂ floats₂ t h f g =
+      let e : rowFloats d * 1 ≤ rowFloats d * t = mul-le-mul-left (rowFloats d) h in (
+        f ∙ rw ew (found-put (2 * m + 2 * t) w w (2 * m) (0 ∷ m ∷ []) refl (omega arith) (omega arith)),
+        g ∙ rw eh (found-put (rowFloats d * t) floats floats 0 (extents d cs active) refl (omega arith) (omega (arith, length-extents d cs active, mul-one (rowFloats d)))),
+      )
+
 -- ---- the lists keep their lengths, which the loop's sums need
-pub record KeptLengths (w₀ I₀ O₀ : List ℕ) (floats₀ B₀ : List Float) (w I O : List ℕ) (floats B : List Float) : Type 0 where
+pub record KeptLengths (w₀ O₀ : List ℕ) (floats₀ B₀ : List Float) (w O : List ℕ) (floats B : List Float) : Type 0 where
   pub same-w : length w ≡ length w₀
-  pub same-I : length I ≡ length I₀
   pub same-O : length O ≡ length O₀
   pub same-floats : length floats ≡ length floats₀
   pub same-B : length B ≡ length B₀
   pub cap-w : length w₀ < 2 ^ 64
-  pub cap-I : length I₀ < 2 ^ 64
   pub cap-O : length O₀ < 2 ^ 64
   pub cap-floats : length floats₀ < 2 ^ 64
   pub cap-B : length B₀ < 2 ^ 64
 
-pub kept-next : {w₀ I₀ O₀ : List ℕ} {floats₀ B₀ : List Float} {w I O : List ℕ} {floats B : List Float} → KeptLengths w₀ I₀ O₀ floats₀ B₀ w I O floats B
-    → {w₁ I₁ O₁ : List ℕ} {floats₁ B₁ : List Float} → length w₁ ≡ length w → length I₁ ≡ length I → length O₁ ≡ length O → length floats₁ ≡ length floats → length B₁ ≡ length B
-    → KeptLengths w₀ I₀ O₀ floats₀ B₀ w₁ I₁ O₁ floats₁ B₁
-kept-next h a b c d e =
+pub kept-next : {w₀ O₀ : List ℕ} {floats₀ B₀ : List Float} {w O : List ℕ} {floats B : List Float} → KeptLengths w₀ O₀ floats₀ B₀ w O floats B
+    → {w₁ O₁ : List ℕ} {floats₁ B₁ : List Float} → length w₁ ≡ length w → length O₁ ≡ length O → length floats₁ ≡ length floats → length B₁ ≡ length B
+    → KeptLengths w₀ O₀ floats₀ B₀ w₁ O₁ floats₁ B₁
+kept-next h a c d e =
     record {
       same-w = a ∙ h .same-w;
-      same-I = b ∙ h .same-I;
       same-O = c ∙ h .same-O;
       same-floats = d ∙ h .same-floats;
       same-B = e ∙ h .same-B;
       cap-w = h .cap-w;
-      cap-I = h .cap-I;
       cap-O = h .cap-O;
       cap-floats = h .cap-floats;
       cap-B = h .cap-B;

@@ -1,7 +1,8 @@
-// The leaves of a level: domains are cut in place in the working room, wait in a queue behind the rows, and are packed as leaves.
+// The leaves of a level: the rows are cut in place where they are to stand, domains wait in a queue in the working room, and leaves are
+// packed there.
 ghost use mathlib.Core.Path.{_≡_};
 ghost use mathlib.Core.List.{[], _∷_, map};
-ghost use Prim.Native.Nat.{_+_, _*_, _≤_, _<_};
+ghost use Prim.Native.Nat.{_+_, _*_, _^_, _≤_, _<_};
 ghost use lib.ListN.{length};
 ghost use Rattle.lists.specs.Lists.{put, joined};
 ghost use Rattle.lists.specs.Ascends.{All};
@@ -10,33 +11,94 @@ ghost use Rattle.definition.specs.Points.{extents};
 ghost use Rattle.definition.specs.Cut.{leavesOf};
 ghost use Rattle.queue.specs.Rows.{withOwn};
 ghost use Rattle.rows.specs.Rows.{Inside, GoodRows};
+ghost use Rattle.leaves.specs.Room.{AsFoundFrom, touchedWholes, touchedFloats};
 
-// Puts the root domain into the working room: the active rows, then its stretch as the first of the queue, and its box.
+// Puts the root domain into the queue: all rows as its first stretch, and its box.
 fn put_root(
     points: &[f64],
     dimensions: usize,
-    active: &[usize],
+    rows: &[usize],
     floats: &mut [f64],
     wholes: &mut [usize],
 )
-    requires { ⌜ (dimensions ≤ 3) × (0 < length (now active)) × All (Inside dimensions (now points)) (now active) ⌝ }
-    requires { ⌜ (length (now active) + 2 ≤ length (now wholes)) × (rowFloats dimensions ≤ length (now floats)) ⌝ }
-    ensures floats { λ _. ⌜ now (floats .exit) ≡ put (now (floats .entry)) 0 (extents dimensions (now (points .entry)) (now (active .entry))) ⌝ }
-    ensures wholes { λ _. ⌜ now (wholes .exit) ≡ put (put (now (wholes .entry)) 0 (now (active .entry))) (length (now (active .entry))) (0 ∷ length (now (active .entry)) ∷ []) ⌝ }
+    requires { ⌜ (dimensions ≤ 3) × (0 < length (now rows)) × All (Inside dimensions (now points)) (now rows) ⌝ }
+    requires { ⌜ (2 * length (now rows) + 2 ≤ length (now wholes)) × (rowFloats dimensions ≤ length (now floats)) ⌝ }
+    ensures floats { λ _. ⌜ now (floats .exit) ≡ put (now (floats .entry)) 0 (extents dimensions (now (points .entry)) (now (rows .entry))) ⌝ }
+    ensures wholes { λ _. ⌜ now (wholes .exit) ≡ put (now (wholes .entry)) (2 * length (now (rows .entry))) (0 ∷ length (now (rows .entry)) ∷ []) ⌝ }
 {
-    let n = active.len();
-    stretches::copy_rows(active, 0, n, wholes, 0);
-    stretches::put_pair(wholes, n, 0, n);
+    let n = rows.len();
+    stretches::put_pair(wholes, 2 * n, 0, n);
     boxes::write_box(
-        extents::get_pointarray_extents(points, dimensions, active),
+        extents::get_pointarray_extents(points, dimensions, rows),
         floats,
         0,
     );
 }
 
+// Cuts the rows into the leaves of a level, which stand in their place in the end, packed. The domain rows from the `first` on get start
+// and count of each, where the rows stand from `at` on in their list; `boxes` gets their boxes from the `first` on. The answer is their
+// number. Of the room: `wholes` holds one number a row for the ordering, one a row for the packed leaves, and the queue, two for each
+// cut; `floats` the boxes of the queue. All past these is as found.
+fn cut_leaves(
+    points: &[f64],
+    dimensions: usize,
+    leaf: usize,
+    rows: &mut [usize],
+    at: usize,
+    domains: &mut [usize],
+    first: usize,
+    boxes: &mut [f64],
+    floats: &mut [f64],
+    wholes: &mut [usize],
+) -> usize
+    requires { ⌜ (0 < dimensions) × (dimensions ≤ 3) × (1 ≤ leaf) × (1 ≤ length (now rows)) × GoodRows dimensions (now points) (now rows) ⌝ }
+    requires { ⌜ (6 * length (now rows) ≤ length (now wholes)) × (rowFloats dimensions * (2 * length (now rows)) ≤ length (now floats)) ⌝ }
+    requires { ⌜ (at + length (now rows) < 2 ^ 64) × (rowNumbers * (first + 2 * length (now rows)) ≤ length (now domains)) × (rowFloats dimensions * (first + 2 * length (now rows)) ≤ length (now boxes)) ⌝ }
+    ensures number { λ r. ⌜ r ≡ length (leavesOf dimensions (now (points .entry)) leaf (now (rows .entry))) ⌝ }
+    ensures rows { λ _. ⌜ now (rows .exit) ≡ joined (map (λ q. q .rows) (leavesOf dimensions (now (points .entry)) leaf (now (rows .entry)))) ⌝ }
+    ensures domains { λ _. ⌜ now (domains .exit) ≡ withOwn at (map (λ q. q .rows) (leavesOf dimensions (now (points .entry)) leaf (now (rows .entry)))) first (now (domains .entry)) ⌝ }
+    ensures boxes { λ _. ⌜ now (boxes .exit) ≡ put (now (boxes .entry)) (rowFloats dimensions * first) (joined (map (λ q. q .box) (leavesOf dimensions (now (points .entry)) leaf (now (rows .entry))))) ⌝ }
+    ensures floats { λ r. ⌜ AsFoundFrom (touchedFloats dimensions r) (now (floats .entry)) (now (floats .exit)) ⌝ }
+    ensures wholes { λ r. ⌜ AsFoundFrom (touchedWholes (length (now (rows .entry))) r) (now (wholes .entry)) (now (wholes .exit)) ⌝ }
+{
+    let n = rows.len();
+    let stride = packed::row_floats(dimensions);
+    put_root(points, dimensions, rows, floats, wholes);
+    let mut head: usize = 0;
+    let mut tail: usize = 1;
+    let mut done: usize = 0;
+    let mut k = first;
+    while head < tail {
+        let start = wholes[2 * n + 2 * head];
+        let count = wholes[2 * n + 2 * head + 1];
+        let end = start + count;
+        let whole = boxes::read_box(floats, stride * head, dimensions);
+        let plane = cut::cut_stretch(
+            points,
+            dimensions,
+            &mut rows[start..end],
+            &mut wholes[..count],
+        );
+        head += 1;
+        if leaf <= count / 2 {
+            queue::put_halves(wholes, 2 * n + 2 * tail, start, count);
+            boxes::write_halves(whole, plane.axis, plane.value, floats, stride * tail);
+            tail += 2;
+        } else {
+            stretches::copy_rows(rows, start, count, wholes, n + done);
+            queue::put_leaves(domains, k, at + done, count);
+            boxes::write_halves(whole, plane.axis, plane.value, boxes, stride * k);
+            done += count;
+            k += 2;
+        }
+    }
+    stretches::copy_rows(wholes, n, n, rows, 0);
+    k - first
+}
+
 // The leaves of the active rows. Their rows go to `internals` from `at` on, packed; start and count of each to the domain rows from
-// the `first` on, and their boxes to `boxes` from the `first` on. The answer is their number. The working room: `wholes` holds the
-// rows, then the queue (four numbers a row), then spare room (one a row); `floats` the boxes of the queue (two a row).
+// the `first` on, and their boxes to `boxes` from the `first` on. The answer is their number. Of the working room it touches the
+// stated fronts and nothing more.
 pub fn leaves(
     points: &[f64],
     dimensions: usize,
@@ -57,30 +119,22 @@ pub fn leaves(
     ensures internals { λ _. ⌜ now (internals .exit) ≡ put (now (internals .entry)) at (joined (map (λ q. q .rows) (leavesOf dimensions (now (points .entry)) leaf (now (active .entry))))) ⌝ }
     ensures domains { λ _. ⌜ now (domains .exit) ≡ withOwn at (map (λ q. q .rows) (leavesOf dimensions (now (points .entry)) leaf (now (active .entry)))) first (now (domains .entry)) ⌝ }
     ensures boxes { λ _. ⌜ now (boxes .exit) ≡ put (now (boxes .entry)) (rowFloats dimensions * first) (joined (map (λ q. q .box) (leavesOf dimensions (now (points .entry)) leaf (now (active .entry))))) ⌝ }
+    ensures floats { λ r. ⌜ AsFoundFrom (touchedFloats dimensions r) (now (floats .entry)) (now (floats .exit)) ⌝ }
+    ensures wholes { λ r. ⌜ AsFoundFrom (touchedWholes (length (now (active .entry))) r) (now (wholes .entry)) (now (wholes .exit)) ⌝ }
 {
     let n = active.len();
-    let stride = packed::row_floats(dimensions);
-    put_root(points, dimensions, active, floats, wholes);
-    let mut head: usize = 0;
-    let mut tail: usize = 1;
-    let mut end = at;
-    let mut k = first;
-    while head < tail {
-        let start = wholes[n + 2 * head];
-        let count = wholes[n + 2 * head + 1];
-        let whole = boxes::read_box(floats, stride * head, dimensions);
-        let plane = cut::cut_stretch(points, dimensions, wholes, start, count, 5 * n);
-        head += 1;
-        if leaf <= count / 2 {
-            queue::put_halves(wholes, n + 2 * tail, start, count);
-            boxes::write_halves(whole, plane.axis, plane.value, floats, stride * tail);
-            tail += 2;
-        } else {
-            queue::pack_leaves(wholes, start, count, internals, end, domains, k);
-            boxes::write_halves(whole, plane.axis, plane.value, boxes, stride * k);
-            end += count;
-            k += 2;
-        }
-    }
-    k - first
+    let end = at + n;
+    stretches::copy_rows(active, 0, n, internals, at);
+    cut_leaves(
+        points,
+        dimensions,
+        leaf,
+        &mut internals[at..end],
+        at,
+        domains,
+        first,
+        boxes,
+        floats,
+        wholes,
+    )
 }

@@ -26,44 +26,44 @@ cutsLeft room head tail = queueCuts (queued room head tail)
 
 -- the state, where the loop began with the domain d₀ of n rows, and with the lists I₀ and O₀
 abbrev pub StateOf : {D : Type 0} {leaf : ℕ} → Kind D leaf → ℕ → D → List ℕ → List ℕ → ℕ → ℕ → List ℕ → List ℕ → List ℕ → List Stretch → List D → ℕ → ℕ → ℕ → Type 0
-StateOf K n d₀ I₀ O₀ at₀ k₀ rows I O qs ds head at k =
-    State K n (at₀ + n) (k₀ + 2 * n)
-    (put I₀ at₀ (joined (leafRows K (d₀ ∷ [])))) (withOwn at₀ (leafRows K (d₀ ∷ [])) k₀ O₀) (k₀ + length (K .leaves (d₀ ∷ [])))
+StateOf K n d₀ I₀ O₀ base k₀ rows I O qs ds head at k =
+    State K base n n (k₀ + 2 * n)
+    (put I₀ 0 (joined (leafRows K (d₀ ∷ [])))) (withOwn base (leafRows K (d₀ ∷ [])) k₀ O₀) (k₀ + length (K .leaves (d₀ ∷ [])))
     rows I O qs ds head at k
 
-pub record Inv {D : Type 0} {leaf : ℕ} (K : Kind D leaf) (n : ℕ) (d₀ : D) (I₀ O₀ : List ℕ) (at₀ k₀ : ℕ) (rows room I O : List ℕ) (ds : List D) (head tail at k : ℕ) : Type 0 where
+pub record Inv {D : Type 0} {leaf : ℕ} (K : Kind D leaf) (n : ℕ) (d₀ : D) (I₀ O₀ : List ℕ) (base k₀ : ℕ) (rows room I O : List ℕ) (ds : List D) (head tail at k : ℕ) : Type 0 where
   pub order : head ≤ tail
   pub wide : 4 * n ≤ length room
   pub fits : tail < 2 * n
   pub up : k₀ ≤ k
-  pub state : StateOf K n d₀ I₀ O₀ at₀ k₀ rows I O (queued room head tail) ds head at k
+  pub state : StateOf K n d₀ I₀ O₀ base k₀ rows I O (queued room head tail) ds head at k
 
-pub inv-first : {D : Type 0} {leaf : ℕ} (K : Kind D leaf) (n : ℕ) (d₀ : D) (I₀ O₀ : List ℕ) (at₀ k₀ : ℕ) (rows room room₁ : List ℕ) → 1 ≤ leaf → rows ≡ K .rowsOf d₀ → K .Good d₀
-    → length rows ≡ n → 1 ≤ n → 4 * n ≤ length room → at₀ + n ≤ length I₀ → rowNumbers * (k₀ + 2 * n) ≤ length O₀ → room₁ ≡ put room 0 (0 ∷ n ∷ [])
-    → Inv K n d₀ I₀ O₀ at₀ k₀ rows room₁ I₀ O₀ (d₀ ∷ []) 0 1 at₀ k₀
-inv-first K n d₀ I₀ O₀ at₀ k₀ rows room room₁ p r g l h w f o e =
+pub inv-first : {D : Type 0} {leaf : ℕ} (K : Kind D leaf) (n : ℕ) (d₀ : D) (I₀ O₀ : List ℕ) (base k₀ : ℕ) (rows room room₁ : List ℕ) → 1 ≤ leaf → rows ≡ K .rowsOf d₀ → K .Good d₀
+    → length rows ≡ n → 1 ≤ n → 4 * n ≤ length room → n ≤ length I₀ → rowNumbers * (k₀ + 2 * n) ≤ length O₀ → room₁ ≡ put room 0 (0 ∷ n ∷ [])
+    → Inv K n d₀ I₀ O₀ base k₀ rows room₁ I₀ O₀ (d₀ ∷ []) 0 1 0 k₀
+inv-first K n d₀ I₀ O₀ base k₀ rows room room₁ p r g l h w f o e =
     record {
       order = omega arith;
       wide = rw (e, length-put room 0 (0 ∷ n ∷ []) (omega arith)) w;
       fits = omega arith;
       up = omega arith;
-      state = rw (e, waiting-first room n (omega arith), ← l) (state-first K d₀ rows I₀ O₀ at₀ k₀ p r g (rw l h) (rw l f) (rw l o));
+      state = rw (e, waiting-first room n (omega arith), ← l) (state-first K d₀ rows I₀ O₀ base k₀ p r g (rw l h) (rw l f) (rw l o));
     }
 
-module _ {D : Type 0} {leaf : ℕ} {K : Kind D leaf} {n : ℕ} {d₀ : D} {I₀ O₀ : List ℕ} {at₀ k₀ : ℕ} {rows room I O : List ℕ} where
+module _ {D : Type 0} {leaf : ℕ} {K : Kind D leaf} {n : ℕ} {d₀ : D} {I₀ O₀ : List ℕ} {base k₀ : ℕ} {rows room I O : List ℕ} where
   -- the loop ends with what is due
-  pub inv-end : {ds : List D} {head tail at k : ℕ} → Inv K n d₀ I₀ O₀ at₀ k₀ rows room I O ds head tail at k → tail ≤ head
-      → (k ≡ k₀ + length (K .leaves (d₀ ∷ []))) × (I ≡ put I₀ at₀ (joined (leafRows K (d₀ ∷ []))))
-      × (O ≡ withOwn at₀ (leafRows K (d₀ ∷ [])) k₀ O₀)
+  pub inv-end : {ds : List D} {head tail at k : ℕ} → Inv K n d₀ I₀ O₀ base k₀ rows room I O ds head tail at k → tail ≤ head
+      → (k ≡ k₀ + length (K .leaves (d₀ ∷ []))) × (I ≡ put I₀ 0 (joined (leafRows K (d₀ ∷ []))))
+      × (O ≡ withOwn base (leafRows K (d₀ ∷ [])) k₀ O₀)
   inv-end {ds} {head} {tail} inv h = state-end ds (rw (waiting-none room head tail h) at (inv .state))
 
   -- as long as a stretch waits, so does a domain
-  pub inv-next : {head tail at k : ℕ} → Inv K n d₀ I₀ O₀ at₀ k₀ rows room I O [] head tail at k → head < tail → ⊥
+  pub inv-next : {head tail at k : ℕ} → Inv K n d₀ I₀ O₀ base k₀ rows room I O [] head tail at k → head < tail → ⊥
   unfolding Holds
   inv-next {head} {tail} inv h = rw (waiting-next room head tail h) at (inv .state .holds)
 
   -- a turn, with the stretch (s, c) and the domain d that stand first
-  module _ {d : D} {ds : List D} {head tail at k : ℕ} (inv : Inv K n d₀ I₀ O₀ at₀ k₀ rows room I O (d ∷ ds) head tail at k)
+  module _ {d : D} {ds : List D} {head tail at k : ℕ} (inv : Inv K n d₀ I₀ O₀ base k₀ rows room I O (d ∷ ds) head tail at k)
       (h : head < tail) {s c : ℕ} (es : getD room (2 * head) 0 ≡ s) (ec : getD room (2 * head + 1) 0 ≡ c) where
     abbrev q : Stretch
     q = record { start = s; count = c }
@@ -75,7 +75,7 @@ module _ {D : Type 0} {leaf : ℕ} {K : Kind D leaf} {n : ℕ} {d₀ : D} {I₀ 
     abbrev cutRows : List ℕ
     cutRows = put rows s (K .rowsOf (K .left d) ++ K .rowsOf (K .right d))
 
-    st : StateOf K n d₀ I₀ O₀ at₀ k₀ rows I O (q ∷ rest) (d ∷ ds) head at k
+    st : StateOf K n d₀ I₀ O₀ base k₀ rows I O (q ∷ rest) (d ∷ ds) head at k
     st = rw (es, ec) at (rw (waiting-next room head tail h) at (inv .state))
 
     pub turn-inside : s + c ≤ length rows
@@ -117,7 +117,7 @@ module _ {D : Type 0} {leaf : ℕ} {K : Kind D leaf} {n : ℕ} {d₀ : D} {I₀ 
     cuts-now = rw (waiting-next room head tail h, ec)
 
     module _ (g : leaf ≤ c / 2) where
-      waited : StateOf K n d₀ I₀ O₀ at₀ k₀ cutRows I O (rest ++ halvesAt q) (ds ++ halvesOf K d) (head + 1) at k
+      waited : StateOf K n d₀ I₀ O₀ base k₀ cutRows I O (rest ++ halvesAt q) (ds ++ halvesOf K d) (head + 1) at k
       waited = state-wait st (omega arith)
 
       pub turn-room : tail + 2 < 2 * n
@@ -126,7 +126,7 @@ module _ {D : Type 0} {leaf : ℕ} {K : Kind D leaf} {n : ℕ} {d₀ : D} {I₀ 
           omega (arith, w .room-left, cuts-length (rest ++ halvesAt q) (w .waits .full), length-append rest (halvesAt q), waiting-length room (head + 1) (tail - (head + 1)))
 
       pub inv-wait : (rows₁ room₁ : List ℕ) → rows₁ ≡ cutRows → room₁ ≡ put room (2 * tail) (twoHalves s c)
-          → Inv K n d₀ I₀ O₀ at₀ k₀ rows₁ room₁ I O (ds ++ halvesOf K d) (head + 1) (tail + 2) at k
+          → Inv K n d₀ I₀ O₀ base k₀ rows₁ room₁ I O (ds ++ halvesOf K d) (head + 1) (tail + 2) at k
       inv-wait rows₁ room₁ e f =
           let r = turn-room in
           record {
@@ -144,8 +144,8 @@ module _ {D : Type 0} {leaf : ℕ} {K : Kind D leaf} {n : ℕ} {d₀ : D} {I₀ 
           rw (f, waiting-join room (head + 1) tail s c (omega arith) (omega (arith, inv .wide)))
           (omega (arith, sum-append (λ (p : Stretch). 2 * p .count - 1) rest (halvesAt q), cuts-now, turn-full, inv .state .pos))
 
-    pub inv-done : c / 2 < leaf → (rows₁ I₁ O₁ : List ℕ) → rows₁ ≡ cutRows → I₁ ≡ put I at (part rows₁ s c) → O₁ ≡ twoOwn O k at c
-        → Inv K n d₀ I₀ O₀ at₀ k₀ rows₁ room I₁ O₁ ds (head + 1) tail (at + c) (k + 2)
+    pub inv-done : c / 2 < leaf → (rows₁ I₁ O₁ : List ℕ) → rows₁ ≡ cutRows → I₁ ≡ put I at (part rows₁ s c) → O₁ ≡ twoOwn O k (base + at) c
+        → Inv K n d₀ I₀ O₀ base k₀ rows₁ room I₁ O₁ ds (head + 1) tail (at + c) (k + 2)
     inv-done g rows₁ I₁ O₁ e f o =
         record {
           order = omega arith;

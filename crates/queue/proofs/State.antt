@@ -4,6 +4,7 @@
 --   now-left, now-right, now-wait, now-done, state-wait, state-done, state-first, state-end, cuts-length
 use mathlib.Core.Path.{_≡_, refl, sym, ap, _∙_}
 use Prim.Native.Nat.{ℕ, _+_, _-_, _*_, _/_, _≤_, _<_}
+use native.Mathlib.Nat.{add-assoc, add-zero}
 use native.Mathlib.Omega.{arith}
 use mathlib.Core.List.{List, [], _∷_, _++_, map, append-assoc}
 use lib.ListN.{length, length-append}
@@ -39,8 +40,9 @@ Holds K rows (q ∷ qs) [] = ⊥
 Holds K rows (q ∷ qs) (d ∷ ds) = ((rowsAt rows q ≡ K .rowsOf d) × K .Good d) × Holds K rows qs ds
 
 -- Where the loop is: `rows` are the rows, `I` and `O` the leaves' rows and the domain rows, written up to `at` and to the k-th row,
--- and `head` stretches were taken from the queue. The final lists and number are what is due.
-pub record State {D : Type 0} {leaf : ℕ} (K : Kind D leaf) (n endI endK : ℕ) (finalI finalO : List ℕ) (finalK : ℕ)
+-- and `head` stretches were taken from the queue. The domain rows name the leaves' rows `base` entries further on, where they are to stand
+-- in the end. The final lists and number are what is due.
+pub record State {D : Type 0} {leaf : ℕ} (K : Kind D leaf) (base n endI endK : ℕ) (finalI finalO : List ℕ) (finalK : ℕ)
     (rows I O : List ℕ) (qs : List Stretch) (ds : List D) (head at k : ℕ) : Type 0 where
   pub pos : 1 ≤ leaf
   pub all : length rows ≡ n
@@ -52,7 +54,7 @@ pub record State {D : Type 0} {leaf : ℕ} (K : Kind D leaf) (n endI endK : ℕ)
   pub fit-I : endI ≤ length I
   pub fit-O : rowNumbers * endK ≤ length O
   pub out-I : put I at (joined (leafRows K ds)) ≡ finalI
-  pub out-O : withOwn at (leafRows K ds) k O ≡ finalO
+  pub out-O : withOwn (base + at) (leafRows K ds) k O ≡ finalO
   pub out-K : k + length (K .leaves ds) ≡ finalK
 
 -- ---- small laws of the parts
@@ -118,9 +120,9 @@ module _ {D : Type 0} {leaf : ℕ} (K : Kind D leaf) where
       ((after-other rows q l r i el er p (a .0) ∙ h .0 .0, h .0 .1), holds-after rows q l r i el er qs ds (a .1) (h .1))
 
 -- ---- the two turns
-module _ {D : Type 0} {leaf : ℕ} {K : Kind D leaf} {n endI endK : ℕ} {finalI finalO : List ℕ} {finalK : ℕ} {rows I O : List ℕ}
+module _ {D : Type 0} {leaf : ℕ} {K : Kind D leaf} {base n endI endK : ℕ} {finalI finalO : List ℕ} {finalK : ℕ} {rows I O : List ℕ}
     {q : Stretch} {qs : List Stretch} {d : D} {ds : List D} {head at k : ℕ}
-    (st : State K n endI endK finalI finalO finalK rows I O (q ∷ qs) (d ∷ ds) head at k) where
+    (st : State K base n endI endK finalI finalO finalK rows I O (q ∷ qs) (d ∷ ds) head at k) where
   abbrev s : ℕ
   s = q .start
 
@@ -193,7 +195,7 @@ module _ {D : Type 0} {leaf : ℕ} {K : Kind D leaf} {n endI endK : ℕ} {finalI
   now-done h = K .leaves-done d ds full-here (rw now-size h)
 
   -- the first domain's halves wait
-  pub state-wait : 2 * leaf ≤ c → State K n endI endK finalI finalO finalK cutRows I O (qs ++ halvesAt q) (ds ++ halvesOf K d) (head + 1) at k
+  pub state-wait : 2 * leaf ≤ c → State K base n endI endK finalI finalO finalK cutRows I O (qs ++ halvesAt q) (ds ++ halvesOf K d) (head + 1) at k
   unfolding total Holds
   state-wait h =
       let e = now-wait h in
@@ -220,7 +222,7 @@ module _ {D : Type 0} {leaf : ℕ} {K : Kind D leaf} {n endI endK : ℕ} {finalI
 
   -- they are the next two leaves
   pub state-done : c < 2 * leaf
-      → State K n endI endK finalI finalO finalK cutRows (put I at (part cutRows s c)) (twoOwn O k at c) qs ds (head + 1) (at + c) (k + 2)
+      → State K base n endI endK finalI finalO finalK cutRows (put I at (part cutRows s c)) (twoOwn O k (base + at) c) qs ds (head + 1) (at + c) (k + 2)
   unfolding total
   state-done h =
       let e = now-done h in
@@ -240,22 +242,24 @@ module _ {D : Type 0} {leaf : ℕ} {K : Kind D leaf} {n endI endK : ℕ} {finalI
         rows-left = omega (arith, st .rows-left);
         leaves-left = omega (arith, st .leaves-left);
         fit-I = rw both (rw (length-put I at (l ++ r) (omega (arith, st .fit-I, now-rows))) (st .fit-I));
-        fit-O = rw (length-two O k at c (omega (arith, st .fit-O, now-leaves, f))) (st .fit-O);
+        fit-O = rw (length-two O k (base + at) c (omega (arith, st .fit-O, now-leaves, f))) (st .fit-O);
         out-I =
             rw both (put-next-at I at (l ++ r) (joined ls) (at + c) (omega (arith, st .fit-I, now-rows)) (omega arith)
             ∙ ap (put I at) (sym (two-joined l r ls)) ∙ ap (λ (x : List (List ℕ)). put I at (joined x)) (sym m) ∙ st .out-I);
-        out-O = sym (two-leaves at c k O l r ls el er) ∙ ap (λ (x : List (List ℕ)). withOwn at x k O) (sym m) ∙ st .out-O;
+        out-O =
+            ap (λ (x : ℕ). withOwn x ls (k + 2) (twoOwn O k (base + at) c)) (sym (add-assoc base at c)) ∙ sym (two-leaves (base + at) c k O l r ls el er)
+            ∙ ap (λ (x : List (List ℕ)). withOwn (base + at) x k O) (sym m) ∙ st .out-O;
         out-K = let g = ap length e in omega (arith, st .out-K);
       }
 
 -- ---- where the loop begins, with one domain, and where it ends
-pub state-first : {D : Type 0} {leaf : ℕ} (K : Kind D leaf) (d : D) (rows I O : List ℕ) (at k : ℕ) → 1 ≤ leaf → rows ≡ K .rowsOf d → K .Good d → 1 ≤ length rows
-    → at + length rows ≤ length I → rowNumbers * (k + 2 * length rows) ≤ length O
-    → State K (length rows) (at + length rows) (k + 2 * length rows)
-    (put I at (joined (leafRows K (d ∷ [])))) (withOwn at (leafRows K (d ∷ [])) k O) (k + length (K .leaves (d ∷ [])))
-    rows I O (record { start = 0; count = length rows } ∷ []) (d ∷ []) 0 at k
+pub state-first : {D : Type 0} {leaf : ℕ} (K : Kind D leaf) (d : D) (rows I O : List ℕ) (base k : ℕ) → 1 ≤ leaf → rows ≡ K .rowsOf d → K .Good d → 1 ≤ length rows
+    → length rows ≤ length I → rowNumbers * (k + 2 * length rows) ≤ length O
+    → State K base (length rows) (length rows) (k + 2 * length rows)
+    (put I 0 (joined (leafRows K (d ∷ [])))) (withOwn base (leafRows K (d ∷ [])) k O) (k + length (K .leaves (d ∷ [])))
+    rows I O (record { start = 0; count = length rows } ∷ []) (d ∷ []) 0 0 k
 unfolding total All Apart Holds
-state-first K d rows I O at k p e g h f o =
+state-first K d rows I O base k p e g h f o =
     record {
       pos = p;
       all = refl;
@@ -267,12 +271,12 @@ state-first K d rows I O at k p e g h f o =
       fit-I = f;
       fit-O = o;
       out-I = refl;
-      out-O = refl;
+      out-O = ap (λ (x : ℕ). withOwn x (leafRows K (d ∷ [])) k O) (add-zero base);
       out-K = refl;
     }
 
-pub state-end : {D : Type 0} {leaf : ℕ} {K : Kind D leaf} {n endI endK : ℕ} {finalI finalO : List ℕ} {finalK : ℕ} {rows I O : List ℕ} (ds : List D) {head at k : ℕ}
-    → State K n endI endK finalI finalO finalK rows I O [] ds head at k → (k ≡ finalK) × (I ≡ finalI) × (O ≡ finalO)
+pub state-end : {D : Type 0} {leaf : ℕ} {K : Kind D leaf} {base n endI endK : ℕ} {finalI finalO : List ℕ} {finalK : ℕ} {rows I O : List ℕ} (ds : List D) {head at k : ℕ}
+    → State K base n endI endK finalI finalO finalK rows I O [] ds head at k → (k ≡ finalK) × (I ≡ finalI) × (O ≡ finalO)
 unfolding joined withOwn Holds
 state-end {K} {I} [] {at} st =
     let e = K .leaves-none in (omega (arith, rw e at (st .out-K)), sym (put-nil I at) ∙ (rw e at (st .out-I)), rw e at (st .out-O))

@@ -2,7 +2,7 @@
 ghost use mathlib.Core.Path.{_≡_};
 ghost use Prim.Native.Nat.{_+_, _*_, _^_, _≤_, _<_};
 ghost use lib.ListN.{length};
-ghost use Rattle.lists.specs.Lists.{put, part};
+ghost use Rattle.lists.specs.Lists.{put};
 ghost use Rattle.definition.specs.Packed.{rowNumbers};
 ghost use Rattle.queue.specs.Rows.{twoHalves, twoOwn};
 
@@ -16,31 +16,12 @@ pub fn put_halves(wholes: &mut [usize], at: usize, start: usize, count: usize)
     stretches::put_pair(wholes, at + 2, start + half, count - half);
 }
 
-// Writes start and count of two leaves to the domain rows from the k-th on. They take up `count` rows from `start` on.
-fn put_leaves(domains: &mut [usize], k: usize, start: usize, count: usize)
+// Writes start and count of two leaves to the domain rows from the k-th on: the halves of the `count` rows from `start` on.
+pub fn put_leaves(domains: &mut [usize], k: usize, start: usize, count: usize)
     requires { ⌜ (rowNumbers * (k + 2) ≤ length (now domains)) × (start + count < 2 ^ 64) ⌝ }
     ensures { λ _. ⌜ now (domains .exit) ≡ twoOwn (now (domains .entry)) k start count ⌝ }
 {
     let half = count / 2;
     packed::put_own(domains, k, start, half);
     packed::put_own(domains, k + 1, start + half, count - half);
-}
-
-// Packs two leaves, the halves of the `count` rows from `start` on: their rows go to `internals` from `at` on, and start and count of
-// each to the domain rows from the k-th on.
-pub fn pack_leaves(
-    rows: &[usize],
-    start: usize,
-    count: usize,
-    internals: &mut [usize],
-    at: usize,
-    domains: &mut [usize],
-    k: usize,
-)
-    requires { ⌜ (start + count ≤ length (now rows)) × (at + count ≤ length (now internals)) × (rowNumbers * (k + 2) ≤ length (now domains)) ⌝ }
-    ensures internals { λ _. ⌜ now (internals .exit) ≡ put (now (internals .entry)) at (part (now (rows .entry)) start count) ⌝ }
-    ensures domains { λ _. ⌜ now (domains .exit) ≡ twoOwn (now (domains .entry)) k at count ⌝ }
-{
-    stretches::copy_rows(rows, start, count, internals, at);
-    put_leaves(domains, k, at, count);
 }

@@ -67,7 +67,7 @@ returns c =
         (
           rows,
           (
-            l .1 .1 .1 ∙ ap (λ (z : List (List Float)). put (P .boxes .now) (2 * P .plan .dimensions * P .place .first) (joined z)) (sym (level-box _ _ _ (P .plan .neighbours) _)),
+            l .1 .1 .1 .0 ∙ ap (λ (z : List (List Float)). put (P .boxes .now) (2 * P .plan .dimensions * P .place .first) (joined z)) (sym (level-box _ _ _ (P .plan .neighbours) _)),
             lent .1 .0,
           ),
         ),

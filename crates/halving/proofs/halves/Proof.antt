@@ -1,83 +1,50 @@
 -- `halving::halves` meets its contract. Assumes nothing.
 use borrow.Author.Needs.{needs}
-use mathlib.Core.Logic.{inr}
-use mathlib.Core.List.{List}
-use Prim.Native.Nat.{ℕ, _+_, _≤_, _<_}
+use mathlib.Core.Path.{_∙_}
 use native.Mathlib.Omega.{arith}
-use lib.ListN.{length}
-use lib.Ieee.{Float}
-use Rattle.lists.specs.Lists.{part}
-use Rattle.rows.specs.Rows.{GoodRows}
-use Rattle.halving.specs.Cuts.{CutRoom}
-use Rattle.halving.proofs.Cutting.{spent-finite, spent-room, middle-inside, low-most, parted-length, cut-halved}
+use Rattle.rows.proofs.Good.{good-finite}
+use Rattle.halving.proofs.Cutting.{middle-inside, low-most, rows-cut}
 use Rattle.halving.proofs.halves.Statement.{statement}
 use Rattle.halving.proofs.halves.Tie as tie
 
--- what the function asks, by name
-room : (d : ℕ) (cs : List Float) (axis : ℕ) (wholes : List ℕ) (start count spare : ℕ)
-    → (axis < d) × (1 ≤ count) × (start + count ≤ spare) × (spare + count ≤ length wholes) × GoodRows d cs (part wholes start count)
-    → CutRoom d cs axis wholes start count spare
-room d cs axis wholes start count spare p = record { axis-in = p .0; some = p .1; apart = p .2; fit = p .3; good = p .4 }
-
 middle-of-requires : tie.Need-middle-of-requires
-middle-of-requires c κs =
-    let a = c .before .before .before .args in
-    let r = room (a .d) (a .points .now) (a .axis) (a .wholes .now) (a .start) (a .count) (a .spare) (c .before .before .before .pre) in
-    r
+middle-of-requires c κs = let p = c .before .before .before .before .before .pre in (p .0, p .1, p .2, p .3)
 
 part-rows-requires : tie.Need-part-rows-requires
 part-rows-requires c κs =
-    let a = c .before .before .before .before .before .before .before .args in
-    let r =
-    room (a .d) (a .points .now) (a .axis) (a .wholes .now) (a .start) (a .count) (a .spare)
-    (c .before .before .before .before .before .before .before .pre) in
-    let e = c .before .before .before .middle-of .ensures in
-    (r .apart, spent-room r (e .1) (e .0), spent-finite r (e .1) (e .0), middle-inside r (e .1) (e .0))
+    let p = c .before .before .before .before .before .before .before .before .before .before .pre in
+    let m = c .before .before .before .before .middle-of in
+    (m .kept .1 .1 .1 .1 .0 ∙ p .3, good-finite _ (p .2) _ (p .0), middle-inside (m .ensures) (p .0) (p .2))
 
-sub-copy : tie.Need-sub-copy
-sub-copy c =
-    let a = c .before .before .before .before .before .before .before .before .before .before .before .args in
-    let r =
-    room (a .d) (a .points .now) (a .axis) (a .wholes .now) (a .start) (a .count) (a .spare)
-    (c .before .before .before .before .before .before .before .before .before .before .before .pre) in
-    let e = c .before .before .before .before .before .before .before .middle-of .ensures in
-    let f = c .before .before .before .part-rows .ensures in
-    low-most r (e .1) (e .0) (f .0) (f .1)
+sub-copy-rows : tie.Need-sub-copy-rows
+sub-copy-rows c =
+    let f = c .before .before .before .before .before .part-rows in
+    omega (arith, low-most (c .before .before .before .before .before .before .before .before .before .before .middle-of .ensures) (f .ensures .0), f .kept .1 .1 .1 .1 .0)
 
-add-copy : tie.Need-add-copy
-add-copy c =
-    let a = c .before .before .before .before .before .before .before .before .before .before .before .args in
-    let r =
-    room (a .d) (a .points .now) (a .axis) (a .wholes .now) (a .start) (a .count) (a .spare)
-    (c .before .before .before .before .before .before .before .before .before .before .before .pre) in
-    let e = c .before .before .before .before .before .before .before .middle-of .ensures in
-    let f = c .before .before .before .part-rows .ensures in
-    omega (arith, low-most r (e .1) (e .0) (f .0) (f .1))
-
-copy-requires : tie.Need-copy-requires
-copy-requires c κs =
-    let a = c .before .before .before .before .before .before .before .before .before .before .before .args in
-    let r =
-    room (a .d) (a .points .now) (a .axis) (a .wholes .now) (a .start) (a .count) (a .spare)
-    (c .before .before .before .before .before .before .before .before .before .before .before .pre) in
-    let e = c .before .before .before .before .before .before .before .middle-of .ensures in
-    let f = c .before .before .before .part-rows .ensures in
-    let h = low-most r (e .1) (e .0) (f .0) (f .1) in
-    let n = parted-length r (e .1) (e .0) (f .0) (f .1) in
-    (omega arith, omega arith, inr (omega arith))
+copy-rows-requires : tie.Need-copy-rows-requires
+copy-rows-requires c κs =
+    let p = c .before .before .before .before .before .before .before .before .before .before .before .before .before .before .before .before .before .pre in
+    let m = c .before .before .before .before .before .before .before .before .before .before .before .middle-of in
+    let f = c .before .before .before .before .before .before .part-rows in
+    let h = low-most (m .ensures) (f .ensures .0) in
+    (omega (arith, p .3, m .kept .1 .1 .1 .1 .0, f .kept .1 .1 .1 .1 .0, f .kept .1 .1 .1 .1 .1 .0), omega (arith, f .kept .1 .1 .1 .1 .0))
 
 same-length : tie.Need-same-length
 same-length c = search needs
 
+same-length-2 : tie.Need-same-length-2
+same-length-2 c = search needs
+
 returns : tie.Need-returns
 returns c =
-    let a = c .before .before .before .before .before .before .before .before .before .before .before .before .before .before .args in
-    let r =
-    room (a .d) (a .points .now) (a .axis) (a .wholes .now) (a .start) (a .count) (a .spare)
-    (c .before .before .before .before .before .before .before .before .before .before .before .before .before .before .pre) in
-    let e = c .before .before .before .before .before .before .before .before .before .before .middle-of .ensures in
-    let f = c .before .before .before .before .before .before .part-rows .ensures in
-    (cut-halved r (e .1) (e .0) (f .0) (f .1) _ (c .before .before .copy .ensures), e .1)
+    let p = c .before .before .before .before .before .before .before .before .before .before .before .before .before .before .before .before .before .before .before .before .pre in
+    let m = c .before .before .before .before .before .before .before .before .before .before .before .before .before .before .middle-of in
+    let f = c .before .before .before .before .before .before .before .before .before .part-rows in
+    let e = f .ensures in
+    let k = m .kept .1 .1 .1 .1 .0 in (
+      rows-cut (m .ensures) (p .0) (p .2) _ (k ∙ p .3) (e .0) (e .1 .0) (e .1 .1) (c .before .before .copy-rows .ensures),
+      (f .kept .1 .1 .1 .1 .1 .0 ∙ k, m .ensures),
+    )
 
 pub halves-spec : {M : Type 1} → statement M
 halves-spec =
@@ -85,8 +52,8 @@ halves-spec =
     (tie.spec
     middle-of-requires
     part-rows-requires
-    sub-copy
-    add-copy
-    copy-requires
+    sub-copy-rows
+    copy-rows-requires
     same-length
+    same-length-2
     returns)

@@ -3,6 +3,7 @@ use borrow.Author.Needs.{needs}
 use mathlib.Core.Path.{sym, _∙_}
 use Prim.Native.Nat.{_-_}
 use native.Mathlib.Omega.{arith}
+use lib.ListN.{length}
 use mathlib.Core.Bool.{true}
 use Rattle.middle_row.specs.Middle.{onSide}
 use Rattle.argsort.proofs.Orders.{row-inside}
@@ -11,17 +12,13 @@ use Rattle.halving.proofs.part_rows.Statement.{statement}
 use Rattle.halving.proofs.part_rows.Tie as tie
 
 abbrev Inv-loop : tie.InvT-loop
-Inv-loop points d axis m wholes₀ start count spare lo₀ hi₀ i₀ wholes lo hi i =
-    Parted (onSide d points axis m true) wholes₀ start count spare wholes lo hi i
+Inv-loop points d axis m rows₀ room₀ lo₀ hi₀ i₀ rows room lo hi i = Parted (onSide d points axis m true) rows₀ room₀ rows room lo hi i
 
 abbrev μ-loop : tie.MeasureT-loop
-μ-loop points d axis m wholes₀ start count spare lo₀ hi₀ i₀ wholes lo hi i = count - i
+μ-loop points d axis m rows₀ room₀ lo₀ hi₀ i₀ rows room lo hi i = length rows₀ - i
 
 loop-holds : tie.Need-loop-holds Inv-loop μ-loop
-loop-holds c = parted-first _ _ _ _ _ (c .before .before .pre .0) (c .before .before .pre .1)
-
-add-r : tie.Need-add-r Inv-loop μ-loop
-add-r c = search needs
+loop-holds c = parted-first _ _ _ (c .before .before .before .pre .0)
 
 mul-r : tie.Need-mul-r Inv-loop μ-loop
 mul-r c = search needs
@@ -34,22 +31,19 @@ add-i c = search needs
 
 comes-before-requires : tie.Need-comes-before-requires Inv-loop μ-loop
 comes-before-requires c κs =
-    let s = c .before .before .before .before .before in
+    let s = c .before .before .before .before .before .before in
     let a = s .args in
-    let i =
+    let r =
     row-inside (a .d) (a .points .now) (a .axis) _
-    (parted-row (c .before .before .loop .inv) (c .before .loop-test .taken) _ (s .pre .2)) in
-    let m = s .pre .3 in
+    (parted-row (c .before .before .loop .inv) (c .before .loop-test .taken) _ (s .pre .1)) in
+    let m = s .pre .2 in
     (omega arith, omega arith)
 
-add-wholes : tie.Need-add-wholes Inv-loop μ-loop
-add-wholes c = search needs
+mul-rows : tie.Need-mul-rows Inv-loop μ-loop
+mul-rows c = search needs
 
-mul-wholes : tie.Need-mul-wholes Inv-loop μ-loop
-mul-wholes c = search needs
-
-slice-write-wholes : tie.Need-slice-write-wholes Inv-loop μ-loop
-slice-write-wholes c = search needs
+slice-write-rows : tie.Need-slice-write-rows Inv-loop μ-loop
+slice-write-rows c = search needs
 
 add-lo : tie.Need-add-lo Inv-loop μ-loop
 add-lo c = search needs
@@ -62,14 +56,11 @@ loop-again c =
     parted-left (c .before .before .before .before .loop .inv) (c .before .before .before .loop-test .taken)
     (sym (c .before .comes-before .ensures) ∙ c .if1 .taken)
 
-add-wholes-2 : tie.Need-add-wholes-2 Inv-loop μ-loop
-add-wholes-2 c = search needs
+mul-room : tie.Need-mul-room Inv-loop μ-loop
+mul-room c = search needs
 
-mul-wholes-2 : tie.Need-mul-wholes-2 Inv-loop μ-loop
-mul-wholes-2 c = search needs
-
-slice-write-wholes-2 : tie.Need-slice-write-wholes-2 Inv-loop μ-loop
-slice-write-wholes-2 c = search needs
+slice-write-room : tie.Need-slice-write-room Inv-loop μ-loop
+slice-write-room c = search needs
 
 add-hi : tie.Need-add-hi Inv-loop μ-loop
 add-hi c = search needs
@@ -85,6 +76,9 @@ loop-again-2 c =
 same-length : tie.Need-same-length Inv-loop μ-loop
 same-length c = search needs
 
+same-length-2 : tie.Need-same-length-2 Inv-loop μ-loop
+same-length-2 c = search needs
+
 returns : tie.Need-returns Inv-loop μ-loop
 returns c = parted-end (c .before .loop .inv) (c .loop-test .left)
 
@@ -95,22 +89,20 @@ part-rows-spec =
     Inv-loop
     μ-loop
     loop-holds
-    add-r
     mul-r
     slice-read-r
     add-i
     comes-before-requires
-    add-wholes
-    mul-wholes
-    slice-write-wholes
+    mul-rows
+    slice-write-rows
     add-lo
     loop-less
     loop-again
-    add-wholes-2
-    mul-wholes-2
-    slice-write-wholes-2
+    mul-room
+    slice-write-room
     add-hi
     loop-less-2
     loop-again-2
     same-length
+    same-length-2
     returns)

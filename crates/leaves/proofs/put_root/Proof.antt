@@ -1,12 +1,10 @@
 -- `leaves::put_root` meets its contract. Assumes nothing.
-use mathlib.Core.Path.{refl}
 use borrow.Author.Needs.{needs}
-use Rattle.lists.proofs.Put.{part-whole}
 use Rattle.leaves.proofs.put_root.Statement.{statement}
 use Rattle.leaves.proofs.put_root.Tie as tie
 
-copy-rows-requires : tie.Need-copy-rows-requires
-copy-rows-requires c κs = search needs
+mul-put-pair : tie.Need-mul-put-pair
+mul-put-pair c = search needs
 
 put-pair-requires : tie.Need-put-pair-requires
 put-pair-requires c κs = search needs
@@ -28,16 +26,13 @@ returns c =
     let boxed = c .before .before in
     let measured = boxed .before .before in
     let second = measured .before .before .before in
-    let first = second .before .before .before .before in (
-      rw (measured .get-pointarray-extents .ensures .1) at (boxed .write-box .ensures),
-      rw (first .copy-rows .ensures, part-whole _ _ refl) at (second .put-pair .ensures),
-    )
+    (rw (measured .get-pointarray-extents .ensures .1) at (boxed .write-box .ensures), second .put-pair .ensures)
 
 pub put-root-spec : {M : Type 1} → statement M
 put-root-spec =
     tie.close
     (tie.spec
-    copy-rows-requires
+    mul-put-pair
     put-pair-requires
     get-pointarray-extents-requires
     write-box-requires

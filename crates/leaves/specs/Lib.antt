@@ -1,0 +1,2 @@
+-- What the contracts of a level's leaves cite.
+pub mod Room
