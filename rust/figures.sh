@@ -1,15 +1,60 @@
 #!/bin/sh
-# The figures: the library against plain Rust, whole and stage by stage. Not a test, and nothing that the gate runs.
+# The figures: the library against plain Rust, whole and stage by stage; or the cut stage against that of an earlier commit, in one
+# run. Not a test, and nothing that the gate runs.
+#
+#   rust/figures.sh [--against COMMIT]
+#
 # The stages are inner functions that ask something of their callers, so the product exports none of them: a copy of the repository
-# gets the crate of rust/stages, which exports them, and is built apart. Needs rt and cargo, on x86-64; takes some minutes.
+# gets the crate of rust/stages, which exports them, and is built apart. Needs rt and cargo, on x86-64, and for --against a C compiler
+# (CC names another one) and git; takes some minutes.
 set -eu
 cd "$(dirname "$0")/.."
+case "$#${1-}" in
+0) against= ;;
+2--against) against=$(git rev-parse --verify "$2^{commit}") ;;
+*) echo "use: rust/figures.sh [--against COMMIT]" >&2; exit 2 ;;
+esac
 made=$(mktemp -d)
 trap 'rm -rf "$made"' EXIT
-cp -r crates crates.txt "$made"
-[ -d target ] && cp -r target "$made"
-mkdir -p "$made/crates/ddm_stages/src"
-cp rust/stages/lib.rt.txt "$made/crates/ddm_stages/src/lib.rt"
-echo 'ddm_stages: lists definition rows leaves overlaps coarse_points' >> "$made/crates.txt"
-(cd "$made" && rt staticlib ddm_c && rt staticlib ddm_stages)
-REKVASHU_LIB="$made/target/staticlib" cargo run --manifest-path rust/Cargo.toml --release --offline --features figures --example figures
+
+# Gives the copy $1 the crate of its rust/stages, which cites the crates that its text names, and what is proved here already.
+add_stages() {
+    if [ -d target ]; then cp -r target "$1"; fi
+    mkdir -p "$1/crates/ddm_stages/src"
+    cp "$1/rust/stages/lib.rt.txt" "$1/crates/ddm_stages/src/lib.rt"
+    cited=$(sed -n 's/.*Rattle·\([a-z0-9_]*\)\..*/\1/p; s/^ *\([a-z0-9_]*\)::.*/\1/p' "$1/rust/stages/lib.rt.txt" | sort -u | tr '\n' ' ')
+    echo "ddm_stages: $cited" >> "$1/crates.txt"
+}
+
+# The shared library $2 out of the stages of the copy $1.
+share() {
+    "${CC:-cc}" -shared -o "$2" -Wl,-z,defs -Wl,-z,noexecstack -Wl,--whole-archive "$1/target/staticlib/libddm_stages.a" \
+        -Wl,--no-whole-archive
+}
+
+# Runs the example $1.
+run() {
+    example=$1
+    shift
+    REKVASHU_LIB="$made/now/target/staticlib" \
+        cargo run --manifest-path rust/Cargo.toml --release --offline --features figures --example "$example" -- "$@"
+}
+
+mkdir -p "$made/now/rust"
+cp -r crates crates.txt "$made/now"
+cp -r rust/stages "$made/now/rust"
+add_stages "$made/now"
+(cd "$made/now" && rt staticlib ddm_c && rt staticlib ddm_stages)
+if [ -z "$against" ]; then
+    run figures
+else
+    mkdir "$made/before"
+    git archive -o "$made/before.tar" "$against" crates crates.txt rust/stages
+    tar -xf "$made/before.tar" -C "$made/before"
+    add_stages "$made/before"
+    (cd "$made/before" && rt staticlib ddm_stages)
+    share "$made/before" "$made/before.so"
+    share "$made/now" "$made/now.so"
+    git log -1 --format='before: %h %s' "$against"
+    run cut_figures "$made/before.so" "$made/now.so"
+fi

@@ -3,11 +3,14 @@
 //!     rust/figures.sh
 //!
 //! For each size it prints processor milliseconds of the whole build and of each stage of the first level (cut, neighbours,
-//! sampling), and the ratio library / plain Rust; then the root against the hardware's, and how much of the room is touched.
+//! sampling), the ratio library / plain Rust, and how much of the room is touched, by the cut and by all three; at the end the root
+//! against the hardware's.
 #[path = "../tests/plain/mod.rs"]
 mod plain;
+mod stage;
 
 use rekvashu::{build, build_sizes, square_root, DDMParams, SizePolicy};
+use stage::{compared, touched_floats, touched_wholes, units, Lent};
 use std::hint::black_box;
 
 #[link(name = "ddm_stages", kind = "static")]
@@ -27,34 +30,24 @@ extern "C" {
         a: usize, internals: *const usize, internals_len: usize, domains: *const usize, domains_len: usize, m: usize,
         floats: *mut f64, floats_len: usize, wholes: *mut usize, wholes_len: usize,
     ) -> usize;
-    fn clock_gettime(id: i32, time: *mut [i64; 2]) -> i32;
-}
-
-/// Processor milliseconds of this process.
-fn cpu() -> f64 {
-    let mut t = [0i64; 2];
-    unsafe { clock_gettime(2, &mut t) };
-    t[0] as f64 * 1e3 + t[1] as f64 * 1e-6
-}
-
-fn timed<T>(mut work: impl FnMut() -> T) -> (f64, T) {
-    let start = cpu();
-    let out = work();
-    (cpu() - start, out)
-}
-
-/// Both kinds of work in turns, the best of several each.
-fn compared<A, B>(turns: usize, mut ours: impl FnMut() -> A, mut theirs: impl FnMut() -> B) -> (f64, f64) {
-    let (mut a, mut b) = (f64::INFINITY, f64::INFINITY);
-    for _ in 0..turns {
-        a = a.min(timed(|| black_box(ours())).0);
-        b = b.min(timed(|| black_box(theirs())).0);
-    }
-    (a, b)
 }
 
 fn line(what: &str, (ours, theirs): (f64, f64)) {
     println!("  {what:<28} {ours:>10.3} ms {theirs:>10.3} ms   ratio {:.2}", ours / theirs);
+}
+
+/// What one cut writes of its room, for a rows and m leaves: whole numbers of the ordering (one a row), of the packed leaves (one a
+/// row) and of the queue (two for each of the m - 1 domains that wait), and floats of the queue (their boxes). It writes no others.
+fn cut_room(coords: &[f64], d: usize, leaf: usize, rows: &[usize]) {
+    let a = rows.len();
+    let mut lent = Lent::for_cut(a, d);
+    let m = lent.cut(stage_leaves, coords, d, leaf, rows);
+    let (wholes, floats) = (2 * a + 2 * (m - 1), 2 * d * (m - 1));
+    let [ordering, packed, queue] = [0..a, a..2 * a, 2 * a..wholes].map(|range| touched_wholes(&lent.wholes[range]));
+    let boxes = touched_floats(&lent.floats[..floats]);
+    println!("  room touched by the cut: ordering {ordering}, packed leaves {packed}, queue {queue} whole numbers and {boxes} floats");
+    let past = (touched_wholes(&lent.wholes[wholes..]), touched_floats(&lent.floats[floats..]));
+    assert_eq!(past, (0, 0), "whole numbers and floats past the room of the cut");
 }
 
 /// The three stages of the first level, each on the same input as the plain ones.
@@ -63,19 +56,13 @@ fn stages(coords: &[f64], d: usize, s: &plain::Settings, turns: usize) {
     let sizes = build_sizes(n, d, s.neighbours).unwrap();
     let rows: Vec<usize> = (0..n).collect();
     let points = plain::Points { coords, d };
-    // entries that no stage writes keep these values
-    let (mut wholes, mut floats) = (vec![usize::MAX; sizes.wholes], vec![-7.5f64; sizes.floats]);
-    let (mut internals, mut domains, mut boxes) = (vec![0usize; n], vec![0usize; sizes.domains], vec![0.0; sizes.boxes]);
+    let mut lent = Lent::new(n, sizes.domains, sizes.boxes, sizes.floats, sizes.wholes);
     let mut m = 0;
-    let cut = compared(turns, || unsafe {
-        m = stage_leaves(
-            coords.as_ptr(), coords.len(), d, s.leaf as usize, rows.as_ptr(), n, internals.as_mut_ptr(), n, domains.as_mut_ptr(),
-            domains.len(), boxes.as_mut_ptr(), boxes.len(), floats.as_mut_ptr(), floats.len(), wholes.as_mut_ptr(), wholes.len(),
-        )
-    }, || plain::leaves(&points, s.leaf, &rows));
-    line("cut", cut);
+    let ours = || m = lent.cut(stage_leaves, coords, d, s.leaf as usize, &rows);
+    line("cut", compared(turns, ours, || plain::leaves(&points, s.leaf, &rows)));
     let leaves = plain::leaves(&points, s.leaf, &rows);
     assert_eq!(m, leaves.len());
+    let Lent { internals, mut domains, mut floats, mut wholes, .. } = lent;
     let mut borrowed = vec![0usize; sizes.borrowed];
     let turns = if n > 20_000 { 1 } else { turns };
     let overlaps = compared(turns, || unsafe {
@@ -102,8 +89,9 @@ fn stages(coords: &[f64], d: usize, s: &plain::Settings, turns: usize) {
     }, || plain::send(&points, &leaves, size));
     assert_eq!(&level_points[n..n + next], &plain::send(&points, &leaves, size)[..]);
     line("quotas and sampling", sampling);
-    let (whole, float) = (wholes.iter().filter(|x| **x != usize::MAX).count(), floats.iter().filter(|x| **x != -7.5).count());
-    println!("  room touched: {whole} of {} whole numbers, {float} of {} floats", wholes.len(), floats.len());
+    let (whole, float) = (touched_wholes(&wholes), touched_floats(&floats));
+    cut_room(coords, d, s.leaf as usize, &rows);
+    println!("  room touched by all three: {whole} of {} whole numbers, {float} of {} floats", wholes.len(), floats.len());
 }
 
 fn main() {
@@ -114,13 +102,7 @@ fn main() {
         factor: params.coarse_reduction_factor,
         policy: plain::Policy::Auto,
     };
-    let mut state = 0x9e37_79b9_7f4a_7c15u64;
-    let mut unit = || {
-        state ^= state << 13;
-        state ^= state >> 7;
-        state ^= state << 17;
-        (state >> 11) as f64 / (1u64 << 53) as f64
-    };
+    let mut unit = units();
     println!("leaf {}, neighbours {}, factor {}, Auto; library, plain Rust", s.leaf, s.neighbours, s.factor);
     for n in [1_000usize, 10_000, 50_000] {
         for d in [2, 3] {

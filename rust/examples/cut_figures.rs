@@ -1,0 +1,92 @@
+//! Figures, not a test: the cut stage of an earlier commit and the present one, in one run, on the same input.
+//!
+//!     rust/figures.sh --against COMMIT
+//!
+//! For each input it prints the processor milliseconds of both, the ratio now / before, and the entries of the working room that each
+//! wrote; at the end the greatest ratio. Both must give the same leaves.
+mod stage;
+
+use stage::{compared, touched_floats, touched_wholes, units, Cut, Lent};
+use std::cell::RefCell;
+use std::ffi::{c_char, c_int, c_void, CStr, CString};
+
+extern "C" {
+    fn dlopen(path: *const c_char, flags: c_int) -> *mut c_void;
+    fn dlsym(library: *mut c_void, name: *const c_char) -> *mut c_void;
+    fn dlerror() -> *const c_char;
+}
+
+const RTLD_LOCAL: c_int = 0;
+const RTLD_NOW: c_int = 2;
+
+/// The cut stage of the shared library at this path.
+fn opened(path: &str) -> Cut {
+    let name = CString::new(path).unwrap();
+    unsafe {
+        let library = dlopen(name.as_ptr(), RTLD_NOW | RTLD_LOCAL);
+        assert!(!library.is_null(), "{}", CStr::from_ptr(dlerror()).to_string_lossy());
+        let stage = dlsym(library, c"stage_leaves".as_ptr());
+        assert!(!stage.is_null(), "{path} has no stage_leaves");
+        std::mem::transmute::<*mut c_void, Cut>(stage)
+    }
+}
+
+/// Points of a grid, row by row: many coordinates are equal on each axis.
+fn lattice(n: usize, d: usize) -> Vec<f64> {
+    let side = (1..).find(|side: &usize| side.pow(d as u32) >= n).unwrap();
+    (0..n).flat_map(|i| (0..d).map(move |axis| (i / side.pow(axis as u32) % side) as f64)).collect()
+}
+
+/// Both stages once, on lists of their own: the same leaves, and what each wrote of the room (whole numbers, floats).
+fn same_leaves(stages: [Cut; 2], coords: &[f64], d: usize, leaf: usize, rows: &[usize]) -> [(usize, usize); 2] {
+    let [(m, before), (k, now)] = stages.map(|stage| {
+        let mut lent = Lent::for_cut(rows.len(), d);
+        (lent.cut(stage, coords, d, leaf, rows), lent)
+    });
+    assert_eq!(m, k, "the numbers of leaves differ");
+    assert!(before.internals == now.internals, "the internals differ");
+    assert!(before.domains == now.domains, "the domain rows differ");
+    assert!(before.boxes == now.boxes, "the boxes differ");
+    [before, now].map(|lent| (touched_wholes(&lent.wholes), touched_floats(&lent.floats)))
+}
+
+/// Compares the stages on one input and prints its line. The answer is the ratio now / before.
+fn line(stages: [Cut; 2], kind: &str, coords: &[f64], d: usize, leaf: usize, turns: usize) -> f64 {
+    let n = coords.len() / d;
+    let rows: Vec<usize> = (0..n).collect();
+    let [before, now] = same_leaves(stages, coords, d, leaf, &rows);
+    // the same lists for both, so that no address favours either
+    let lent = RefCell::new(Lent::for_cut(n, d));
+    let cut = |stage| lent.borrow_mut().cut(stage, coords, d, leaf, &rows);
+    let (a, b) = compared(turns, || cut(stages[0]), || cut(stages[1]));
+    println!(
+        "{n:>9} {d:>4} {leaf:>5} {kind:<8} {a:>10.4} {b:>10.4} {:>7.3} {:>14} {:>11} {:>14} {:>11}",
+        b / a, before.0, now.0, before.1, now.1
+    );
+    b / a
+}
+
+fn main() {
+    let paths: Vec<String> = std::env::args().skip(1).collect();
+    let [before, now] = &paths[..] else {
+        eprintln!("use: cut_figures BEFORE NOW, two shared libraries");
+        std::process::exit(2);
+    };
+    let stages = [opened(before), opened(now)];
+    assert!(stages[0] as usize != stages[1] as usize, "one library twice");
+    let mut unit = units();
+    let mut greatest = 0.0f64;
+    println!("the cut stage: processor milliseconds, and the whole numbers and floats of the room that were written");
+    println!("     rows  dim  leaf points    before ms     now ms   ratio  wholes before  wholes now  floats before  floats now");
+    for (n, turns, leaves) in [(1_000, 200, &[64, 1][..]), (10_000, 40, &[64]), (100_000, 15, &[64, 1]), (1_048_576, 7, &[64])] {
+        for d in [2, 3] {
+            let random: Vec<f64> = (0..n * d).map(|_| unit() * 1000.0).collect();
+            for (kind, coords) in [("random", random), ("lattice", lattice(n, d))] {
+                for leaf in leaves {
+                    greatest = greatest.max(line(stages, kind, &coords, d, *leaf, turns));
+                }
+            }
+        }
+    }
+    println!("greatest ratio: {greatest:.3}");
+}

@@ -1,0 +1,104 @@
+//! What the figures share: processor time, work in turns, random numbers, and the cut stage with the lists that it is lent.
+use std::hint::black_box;
+
+extern "C" {
+    fn clock_gettime(id: i32, time: *mut [i64; 2]) -> i32;
+}
+
+/// Processor milliseconds of this process.
+fn cpu() -> f64 {
+    let mut t = [0i64; 2];
+    unsafe { clock_gettime(2, &mut t) };
+    t[0] as f64 * 1e3 + t[1] as f64 * 1e-6
+}
+
+fn timed<T>(mut work: impl FnMut() -> T) -> f64 {
+    let start = cpu();
+    black_box(work());
+    cpu() - start
+}
+
+/// Both kinds of work in turns, the best of several each. Which goes first is swapped each turn.
+pub fn compared<A, B>(turns: usize, mut one: impl FnMut() -> A, mut other: impl FnMut() -> B) -> (f64, f64) {
+    let (mut a, mut b) = (f64::INFINITY, f64::INFINITY);
+    for turn in 0..turns {
+        if turn % 2 == 0 {
+            a = a.min(timed(&mut one));
+        }
+        b = b.min(timed(&mut other));
+        if turn % 2 == 1 {
+            a = a.min(timed(&mut one));
+        }
+    }
+    (a, b)
+}
+
+/// Random numbers from 0 up to 1, the same in each run.
+pub fn units() -> impl FnMut() -> f64 {
+    let mut state = 0x9e37_79b9_7f4a_7c15u64;
+    move || {
+        state ^= state << 13;
+        state ^= state >> 7;
+        state ^= state << 17;
+        (state >> 11) as f64 / (1u64 << 53) as f64
+    }
+}
+
+/// The cut stage as rust/stages exports it.
+pub type Cut = unsafe extern "C" fn(
+    points: *const f64, points_len: usize, dimensions: usize, leaf: usize, active: *const usize, active_len: usize,
+    internals: *mut usize, internals_len: usize, domains: *mut usize, domains_len: usize, boxes: *mut f64, boxes_len: usize,
+    floats: *mut f64, floats_len: usize, wholes: *mut usize, wholes_len: usize,
+) -> usize;
+
+/// The room is filled with these, which no stage writes: the points have no negative coordinate.
+const NO_WHOLE: usize = usize::MAX;
+const NO_FLOAT: f64 = -7.5;
+
+/// The lists of a level: what the cut writes, and its working room (`floats`, `wholes`).
+pub struct Lent {
+    pub internals: Vec<usize>,
+    pub domains: Vec<usize>,
+    pub boxes: Vec<f64>,
+    pub floats: Vec<f64>,
+    pub wholes: Vec<usize>,
+}
+
+impl Lent {
+    /// Lists of these lengths.
+    pub fn new(internals: usize, domains: usize, boxes: usize, floats: usize, wholes: usize) -> Lent {
+        Lent {
+            internals: vec![0; internals],
+            domains: vec![0; domains],
+            boxes: vec![0.0; boxes],
+            floats: vec![NO_FLOAT; floats],
+            wholes: vec![NO_WHOLE; wholes],
+        }
+    }
+
+    /// Lists that are long enough to cut `n` rows.
+    pub fn for_cut(n: usize, d: usize) -> Lent {
+        Lent::new(n, 4 * 2 * n, 2 * d * 2 * n, 2 * d * 2 * n, 6 * n)
+    }
+
+    /// Cuts the rows into leaves. The answer is their number.
+    pub fn cut(&mut self, stage: Cut, coords: &[f64], d: usize, leaf: usize, rows: &[usize]) -> usize {
+        unsafe {
+            stage(
+                coords.as_ptr(), coords.len(), d, leaf, rows.as_ptr(), rows.len(), self.internals.as_mut_ptr(), self.internals.len(),
+                self.domains.as_mut_ptr(), self.domains.len(), self.boxes.as_mut_ptr(), self.boxes.len(), self.floats.as_mut_ptr(),
+                self.floats.len(), self.wholes.as_mut_ptr(), self.wholes.len(),
+            )
+        }
+    }
+}
+
+/// The whole numbers of the room that were written.
+pub fn touched_wholes(room: &[usize]) -> usize {
+    room.iter().filter(|x| **x != NO_WHOLE).count()
+}
+
+/// The floats of the room that were written.
+pub fn touched_floats(room: &[f64]) -> usize {
+    room.iter().filter(|x| **x != NO_FLOAT).count()
+}
