@@ -2,28 +2,23 @@
 -- Holds: copied, low-most, middle-inside, rows-cut
 use mathlib.Core.Path.{_≡_, refl, sym, ap, ap₂, _∙_}
 use mathlib.Core.Bool.{Bool, true, not}
-use mathlib.Core.List.{List, _++_, append-nil}
+use mathlib.Core.List.{List, _++_}
 use Prim.Native.Nat.{ℕ, _+_, _-_, _*_, _/_, _≤_, _<_}
 use native.Mathlib.Omega.{arith}
 use lib.ListN.{length, length-append}
-use lib.Seq.{drop-length}
 use lib.Ieee.{Float}
 use Rattle.lists.specs.Lists.{keep, part, put}
 use Rattle.lists.proofs.Count.{length-both}
-use Rattle.lists.proofs.Put.{put-zero, length-put, put-next-at, part-put-same, part-whole}
+use Rattle.lists.proofs.Put.{put-whole, length-put, put-next-at, part-put-same, part-whole}
 use Rattle.rows.specs.Rows.{GoodRows}
 use Rattle.middle_row.specs.Middle.{onSide, MiddleRow}
 use Rattle.halving.specs.Cuts.{halved}
 use Rattle.rows.proofs.Good.{good-once, good-finite, good-place}
 use Rattle.middle_row.proofs.Ranks.{middle-ranked, lefts-are, rights-are}
 
--- what is written over a whole list
-put-all : (l xs : List ℕ) → length xs ≡ length l → put l 0 xs ≡ xs
-put-all l xs e = put-zero l xs ∙ rw (e, drop-length l) (append-nil xs)
-
 -- the rows copied to the room
 pub copied : (l s z : List ℕ) → length s ≡ length l → z ≡ put s 0 (part l 0 (length l)) → z ≡ l
-copied l s z e f = let w = part-whole l (length l) refl in f ∙ rw w (put-all s l (sym e))
+copied l s z e f = let w = part-whole l (length l) refl in f ∙ rw w (put-whole s l (omega arith))
 
 module _ {d : ℕ} {cs : List Float} {axis : ℕ} {l : List ℕ} {m : ℕ} (M : MiddleRow d cs axis l m) where
   -- the two sides of the middle row
@@ -59,4 +54,4 @@ module _ {d : ℕ} {cs : List Float} {axis : ℕ} {l : List ℕ} {m : ℕ} (M : 
         let n : length l₁ - lo ≡ length R = omega (arith, ap length f, length-put l 0 L (omega arith)) in
         k
         ∙ rw (n, f, h, part-put-same s 0 R (length R) (omega arith) refl)
-        (put-next-at l 0 L R lo (omega arith) (omega arith) ∙ put-all l (L ++ R) (length-append L R ∙ b) ∙ sides-are)
+        (put-next-at l 0 L R lo (omega arith) (omega arith) ∙ put-whole l (L ++ R) (omega (arith, length-append L R)) ∙ sides-are)

@@ -1,5 +1,4 @@
 -- Laws of a level's leaves.
 pub mod Domains
-pub mod Found
 pub mod Place
 pub mod Turns

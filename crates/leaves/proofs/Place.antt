@@ -1,5 +1,4 @@
 -- The active rows are copied to their place in a list, and that part of the list is lent. Assumes nothing.
--- Holds: place-lent, place-back
 use mathlib.Core.Path.{_≡_, refl, sym, ap, _∙_}
 use Prim.Native.Nat.{ℕ, _+_, _-_, _≤_}
 use native.Mathlib.Omega.{arith}

@@ -1,18 +1,21 @@
 -- The loop over the queue of the definition's domains: the rows in one list; room for an ordering, packed leaves and queue in another;
 -- the boxes of what waits in a third. Where it begins, its two turns, and where it ends. Assumes nothing.
--- Holds: domainBox, Run, Known, headStart, headCount, Lent, filled, Front, front, known, lent-good, lent-some, spare-length,
---   lent-room, rows-kept, room-kept, axis-fit, wait, wait-less, next-leaves, next-leaves-less, run-end, length-extents, width-most, run-first, found-all, KeptLengths, kept-next
+-- Holds: domainBox, Run, Known, headStart, headCount, Lent, Front, front, known, lent-good, lent-some, spare-length, lent-room,
+--   rows-kept, room-kept, axis-fit, wait, wait-less, next-leaves, next-leaves-less, run-end, length-extents, width-most,
+--   run-first, found-all, KeptLengths, kept-next
 use mathlib.Core.Path.{_≡_, refl, sym, ap, _∙_}
 use Prim.Native.Nat.{ℕ, _+_, _-_, _*_, _/_, _^_, _≤_, _<_}
 use native.Mathlib.Nat.{mul-add, mul-one, mul-le-mul-left}
 use native.Mathlib.Omega.{arith}
 use mathlib.Core.List.{List, [], _∷_, _++_, map}
 use lib.ListN.{length, getD, set, take, drop, length-set, length-append, length-drop, length-map}
-use lib.Seq.{length-take-le, take-all}
+use lib.Seq.{length-take-le}
 use lib.Ieee.{Float}
 use borrow.Rule.Slice.PartMut.{putMid}
 use Rattle.lists.specs.Lists.{put, part, joined}
-use Rattle.lists.proofs.Put.{put-zero, length-part, length-put, part-put-same, part-lent, part-back, front-put}
+use Rattle.lists.specs.Found.{AsFoundFrom}
+use Rattle.lists.proofs.Put.{put-zero, put-whole, length-part, length-put, part-put-same, part-lent, part-back}
+use Rattle.lists.proofs.Found.{found-on, found-put}
 use Rattle.lists.proofs.From.{length-from}
 use Rattle.definition.specs.Packed.{rowNumbers, rowFloats}
 use Rattle.definition.specs.Points.{extents}
@@ -21,14 +24,12 @@ use Rattle.definition.proofs.Cuts.{axis-below}
 use Rattle.queue.specs.Rows.{twoHalves, twoOwn, withOwn}
 use Rattle.queue.proofs.Loop.{Inv, cutsLeft, inv-first, inv-next, inv-end, inv-wait, inv-done, less-wait, less-done}
 use Rattle.queue.proofs.Loop.{turn-inside, turn-good, turn-same, turn-left, turn-right, turn-full, turn-rows, turn-leaves, turn-room, turn-end, turn-wait, turn-done}
-use Rattle.queue.proofs.View.{packedIn, roomIn, packed-length, room-length, start-at, view-count, spare-room, spare-packed, packed-put, packed-room, room-put, room-packed, first-room}
+use Rattle.queue.proofs.View.{packedIn, roomIn, packed-most, packed-length, room-length, start-at, view-count, spare-room, spare-packed, packed-put, packed-room, room-put, room-packed, first-room}
 use Rattle.queue.proofs.Columns.{Boxes, boxes-first, boxes-now, boxes-wait, boxes-done, boxes-end}
 use Rattle.rows.specs.Rows.{GoodRows}
 use Rattle.halving.specs.Cuts.{halved}
 use Rattle.cut.proofs.Halves.{cut-is}
-use Rattle.leaves.specs.Room.{AsFoundFrom}
 use Rattle.leaves.proofs.Domains.{kind, leavesFrom, leaves-are, leaves-fill}
-use Rattle.leaves.proofs.Found.{found-on, found-put}
 
 abbrev pub domainBox : Domain → List Float
 domainBox q = q .box
@@ -81,10 +82,6 @@ headCount n w head = getD w (2 * n + 2 * head + 1) 0
 -- the rows that are lent to the cut: those of the stretch
 abbrev pub Lent : List ℕ → ℕ → ℕ → List ℕ
 Lent rows s c = take (s + c - s) (drop s rows)
-
--- what was put over a whole list is all that it holds
-pub filled : (l m xs : List ℕ) → length l ≡ length xs → l ≡ put m 0 xs → l ≡ xs
-filled l m xs h e = sym (take-all (length xs) l (omega arith)) ∙ ap (take (length xs)) e ∙ front-put m xs (length xs) refl
 
 -- products of the width
 wider : (w a b : ℕ) → a + 1 ≤ b → w * a + w ≤ w * b
@@ -380,8 +377,7 @@ module _ {d : ℕ} {cs : List Float} {leaf : ℕ} {active O₀ : List ℕ} {B₀
       let are = leaves-are d cs (x .pos) leaf (x .lp) active (x .good) (x .some) in
       let full = leaves-fill d cs (x .pos) leaf (x .lp) active (x .good) (x .some) in (
         rw are (e .0),
-        filled (packedIn (length active) w) (packedIn (length active) w₀) (joined (map (λ (q : Domain). q .rows) (leavesOf d cs leaf active)))
-            (packed-length (length active) w (x .fit-w) ∙ sym full) (rw are (e .1)),
+        rw are (e .1) ∙ put-whole (packedIn (length active) w₀) _ (omega (arith, packed-most (length active) w₀, full)),
         rw are (e .2),
         rw are (boxes-end h (x .qs) (x .boxes)),
         omega (arith, x .turns, x .inv .order),

@@ -1,13 +1,6 @@
 -- What the cut stage touches of the working room. Definitions only.
 use Prim.Native.Nat.{ℕ, _+_, _-_, _*_}
-use mathlib.Core.Path.{_≡_}
-use mathlib.Core.List.{List}
-use lib.ListN.{drop}
 use Rattle.definition.specs.Packed.{rowFloats}
-
--- the list is as it was, from its k-th entry on
-abbrev pub AsFoundFrom : {A : Type 0} → ℕ → List A → List A → Type 0
-AsFoundFrom k before after = drop k after ≡ drop k before
 
 -- The whole numbers that the stage touches, for `a` rows that end as m leaves: one a row for the ordering, one a row for the packed
 -- leaves, and the queue, two for each of the m - 1 cuts.

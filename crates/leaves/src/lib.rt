@@ -6,12 +6,13 @@ ghost use Prim.Native.Nat.{_+_, _*_, _^_, _≤_, _<_};
 ghost use lib.ListN.{length};
 ghost use Rattle.lists.specs.Lists.{put, joined};
 ghost use Rattle.lists.specs.Ascends.{All};
+ghost use Rattle.lists.specs.Found.{AsFoundFrom};
 ghost use Rattle.definition.specs.Packed.{rowNumbers, rowFloats};
 ghost use Rattle.definition.specs.Points.{extents};
 ghost use Rattle.definition.specs.Cut.{leavesOf};
 ghost use Rattle.queue.specs.Rows.{withOwn};
 ghost use Rattle.rows.specs.Rows.{Inside, GoodRows};
-ghost use Rattle.leaves.specs.Room.{AsFoundFrom, touchedWholes, touchedFloats};
+ghost use Rattle.leaves.specs.Room.{touchedWholes, touchedFloats};
 
 // Puts the root domain into the queue: all rows as its first stretch, and its box.
 fn put_root(

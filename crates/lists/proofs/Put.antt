@@ -2,10 +2,9 @@
 -- Holds: put-zero, put-nil, length-put, length-part, take-put, length-head, take-put-end, drop-put-end, drop-put, drop-put-past,
 --   set-put, put-def, put-next, put-next-at, put-over, put-snoc, getD-put-in, getD-put-before, getD-put-after, part-put-in,
 --   part-whole, part-put-same, part-put-after, part-take, part-put-before, part-part, part-append, part-nil, part-snoc,
---   part-cons, part-drop, getD-part, part-around, put-part, put-left, put-right, put-tail, put-within, put-inside, put-comm,
---   part-first, part-second, take-put-front, view-put, part-lent, copy-none, copy-more, copy-on, copy-back, set-two, put-before,
---   put-set, getD-put-at, front-put, part-grown, mid-back, part-back, read-more, write-more, put-same-more, put-again, spliced,
---   put-spliced, map-spliced
+--   part-cons, part-drop, getD-part, part-around, put-part, put-left, put-right, put-tail, put-comm, part-first, part-second,
+--   take-put-front, view-put, part-lent, copy-none, copy-more, set-two, put-before, put-set, getD-put-at, front-put, put-whole,
+--   part-grown, mid-back, part-back, read-more, write-more, put-same-more, put-again, spliced, put-spliced, map-spliced
 use mathlib.Core.Path.{_≡_, refl, sym, ap, _∙_, ap₂}
 use Prim.Native.Nat.{ℕ, zero, suc, _+_, _-_, _≤_, _<_}
 use native.Mathlib.Nat.{not-suc-le-zero, suc-add, zero-add, add-zero, add-assoc}
@@ -13,7 +12,7 @@ use native.Mathlib.Numerals.{add-one}
 use native.Mathlib.Omega.{arith}
 use mathlib.Core.List.{List, [], _∷_, _++_, append-assoc, append-nil, map}
 use lib.ListN.{length, getD, set, take, drop, length-append, length-drop, take-append-drop, List·getD-append, length-set, replicate, length-replicate, replicate-append-replicate}
-use lib.Seq.{length-take-le, drop-append-add, take-append-le, drop-append-le, getD-drop, getD-take, drop-drop, take-at, drop-at, set-split, take-add, take-length, take-take, take-suc, take-append-add, drop-cons, take-set-le, drop-set-lt, take-suc-set}
+use lib.Seq.{length-take-le, take-all, drop-append-add, take-append-le, drop-append-le, getD-drop, getD-take, drop-drop, take-at, drop-at, set-split, take-add, take-length, take-take, take-suc, take-append-add, drop-cons, take-set-le, drop-set-lt, take-suc-set}
 use borrow.Rule.Slice.PartMut.{putMid}
 use Rattle.lists.specs.Lists.{put, part}
 use Rattle.lists.proofs.Take.{drop-take}
@@ -188,19 +187,6 @@ module _ {A : Type 0} where
   put-tail l at i xs h =
       ap (λ (r : List A). put r (at + i) xs) (sym (take-append-drop at l)) ∙ put-right (take at l) (drop at l) at i xs (length-take-le at l h)
 
-  -- the same for a part, `&mut l[at..at + n]`: what was done to it is written back
-  pub put-within : (l : List A) (at n : ℕ) (xs : List A) → length xs ≡ n → put l at xs ≡ take at l ++ xs ++ drop (at + n) l
-  put-within l at n xs e = rw (← e) (put-def l at xs)
-
-  -- a stretch written into a stretch
-  pub put-inside : (l : List A) (at : ℕ) (xs : List A) (i : ℕ) (ys : List A) → at ≤ length l → i + length ys ≤ length xs → put (put l at xs) (at + i) ys ≡ put l at (put xs i ys)
-  put-inside l at xs i ys h g =
-      ap (λ (r : List A). put r (at + i) ys) (put-def l at xs ∙ append-assoc (take at l) xs _)
-      ∙ put-right (take at l) _ at i ys (length-take-le at l h)
-      ∙ ap (λ (r : List A). take at l ++ r) (put-left xs _ i ys g)
-      ∙ sym (append-assoc (take at l) (put xs i ys) _)
-      ∙ sym (put-within l at (length xs) (put xs i ys) (length-put xs i ys g))
-
   -- stretches apart may be written in either order
   pub put-comm : (l : List A) (a : ℕ) (xs : List A) (b : ℕ) (ys : List A) → a + length xs ≤ b → b ≤ length l → put (put l a xs) b ys ≡ put (put l b ys) a xs
   put-comm l a xs b ys h g =
@@ -257,19 +243,6 @@ module _ {A : Type 0} where
       put-snoc out to (part l at i) (getD l (at + i) d) (to + i) (omega (arith, length-part l at i (omega arith))) g
       ∙ ap (put out to) (sym (part-snoc l at i d h) ∙ ap (part l at) (sym (add-one i)))
 
-  pub copy-on : (l m : List A) (to at w i : ℕ) (d : A) → i < w → at + w ≤ to → to + w ≤ length l → m ≡ put l to (part l at i)
-      → set m (to + i) (getD m (at + i) d) ≡ put l to (part l at (i + 1))
-  copy-on l m to at w i d h a f e =
-      rw (e, getD-put-before l to (part l at i) (at + i) d (omega arith) (omega arith))
-      (copy-more l to l at i d (omega arith) (omega arith))
-
-  pub copy-back : (l m : List A) (to at w i : ℕ) (d : A) → i < w → to + w ≤ at → at + w ≤ length l → m ≡ put l to (part l at i)
-      → set m (to + i) (getD m (at + i) d) ≡ put l to (part l at (i + 1))
-  copy-back l m to at w i d h a f e =
-      let k = length-part l at i (omega arith) in
-      rw (e, getD-put-after l to (part l at i) (at + i) d (omega arith) (omega arith))
-      (copy-more l to l at i d (omega arith) (omega arith))
-
   -- ---- two stores next to each other, one in front of a stretch, and one that a stretch is written over
   pub set-two : (l : List A) (k : ℕ) (a b : A) → k + 2 ≤ length l → set (set l k a) (k + 1) b ≡ put l k (a ∷ b ∷ [])
   set-two l k a b h =
@@ -294,6 +267,12 @@ module _ {A : Type 0} where
   -- what is written to the front of a list
   pub front-put : (l xs : List A) (n : ℕ) → n ≡ length xs → take n (put l 0 xs) ≡ xs
   front-put l xs n e = ap (λ (k : ℕ). take k (put l 0 xs)) (e ∙ sym (zero-add (length xs))) ∙ take-put-end l 0 xs (omega arith)
+
+  -- what is written over a whole list is all that it holds then
+  pub put-whole : (l xs : List A) → length l ≤ length xs → put l 0 xs ≡ xs
+  put-whole l xs h =
+      let e : length (put l 0 xs) ≤ length xs = rw (put-zero l xs) (simp (length-append, length-drop) (omega arith)) in
+      sym (take-all (length xs) (put l 0 xs) e) ∙ front-put l xs (length xs) refl
 
   -- a stretch that grows at its end
   pub part-grown : (l new xs : List A) (a n r : ℕ) → a ≤ n → n + length xs ≤ length l → r ≡ n + length xs → new ≡ put l n xs → part new a (r - a) ≡ part l a (n - a) ++ xs

@@ -4,3 +4,4 @@ pub mod Ascends
 pub mod Times
 pub mod Same
 pub mod Columns
+pub mod Found

@@ -1,13 +1,13 @@
 -- One list of working room that holds spare room for an ordering (one entry a row), the packed leaves (one a row), and behind them the queue
 -- (four numbers a row): what the code writes to the one list, as the loop's laws have it of each. Assumes nothing.
--- Holds: packedIn, roomIn, packed-length, room-length, start-at, view-count, spare-room, spare-packed, packed-put, packed-room,
---   room-put, room-packed, first-room
+-- Holds: packedIn, roomIn, packed-most, packed-length, room-length, start-at, view-count, spare-room, spare-packed, packed-put,
+--   packed-room, room-put, room-packed, first-room
 use mathlib.Core.Path.{_≡_, sym, ap, _∙_}
 use Prim.Native.Nat.{ℕ, _+_, _*_, _≤_, _<_}
 use native.Mathlib.Nat.{add-zero, add-assoc}
 use native.Mathlib.Omega.{arith}
 use mathlib.Core.List.{List, [], _∷_}
-use lib.ListN.{length, getD}
+use lib.ListN.{length, getD, drop, length-take}
 use Rattle.lists.specs.Lists.{put, part}
 use Rattle.lists.proofs.Put.{length-part, view-put, part-put-after, part-put-before, getD-part}
 
@@ -16,6 +16,10 @@ packedIn n w = part w n n
 
 abbrev pub roomIn : ℕ → List ℕ → List ℕ
 roomIn n w = part w (2 * n) (4 * n)
+
+pub packed-most : (n : ℕ) (w : List ℕ) → length (packedIn n w) ≤ n
+unfolding part
+packed-most n w = omega (arith, length-take n (drop n w))
 
 module _ (n : ℕ) (w : List ℕ) (fit : 6 * n ≤ length w) where
   pub packed-length : length (packedIn n w) ≡ n

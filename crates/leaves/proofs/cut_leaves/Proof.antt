@@ -5,12 +5,13 @@ use Prim.Native.Nat.{ℕ, _-_, _*_}
 use native.Mathlib.Omega.{arith}
 use lib.ListN.{length}
 use borrow.Author.Needs.{needs}
+use Rattle.lists.proofs.Put.{put-whole}
 use Rattle.rows.proofs.Good.{good-inside}
 use Rattle.queue.proofs.Loop.{cutsLeft}
 use Rattle.queue.proofs.View.{roomIn, packed-length}
 use Rattle.definition.specs.Packed.{rowFloats}
 use Rattle.boxes.specs.Boxes.{floatsOf}
-use Rattle.leaves.proofs.Turns.{Run, KeptLengths, kept-next, run-first, run-end, found-all, front, known, filled}
+use Rattle.leaves.proofs.Turns.{Run, KeptLengths, kept-next, run-first, run-end, found-all, front, known}
 use Rattle.leaves.proofs.Turns.{lent-good, lent-some, spare-length, lent-room, rows-kept, room-kept, wait, wait-less, next-leaves, next-leaves-less, width-most, axis-fit}
 use Rattle.leaves.proofs.cut_leaves.Statement.{statement}
 use Rattle.leaves.proofs.cut_leaves.Tie as tie
@@ -386,7 +387,7 @@ returns c =
     let back = c .before .before .copy-rows2 in (
       omega (arith, en .0),
       (
-        filled _ _ _ (back .kept .1 .1 .1 .0 ∙ r .same ∙ sym (packed-length _ _ (r .fit-w))) (back .ensures) ∙ en .1,
+        back .ensures ∙ put-whole (l .rows) _ (omega (arith, r .same, packed-length (length (a .args .rows .now)) (l .wholes) (r .fit-w))) ∙ en .1,
         (en .2, (en .3, (rw e (found .1), rw e (found .0)))),
       ),
     )
