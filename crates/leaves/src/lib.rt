@@ -63,6 +63,7 @@ fn cut_leaves(
     ensures wholes { λ r. ⌜ AsFoundFrom (touchedWholes (length (now (rows .entry))) r) (now (wholes .entry)) (now (wholes .exit)) ⌝ }
 {
     let n = rows.len();
+    let base = 2 * n;
     let stride = packed::row_floats(dimensions);
     put_root(points, dimensions, rows, floats, wholes);
     let mut head: usize = 0;
@@ -70,8 +71,9 @@ fn cut_leaves(
     let mut done: usize = 0;
     let mut k = first;
     while head < tail {
-        let start = wholes[2 * n + 2 * head];
-        let count = wholes[2 * n + 2 * head + 1];
+        let place = base + 2 * head;
+        let start = wholes[place];
+        let count = wholes[place + 1];
         let end = start + count;
         let whole = boxes::read_box(floats, stride * head, dimensions);
         let plane = cut::cut_stretch(
@@ -82,7 +84,7 @@ fn cut_leaves(
         );
         head += 1;
         if leaf <= count / 2 {
-            queue::put_halves(wholes, 2 * n + 2 * tail, start, count);
+            queue::put_halves(wholes, base + 2 * tail, start, count);
             boxes::write_halves(whole, plane.axis, plane.value, floats, stride * tail);
             tail += 2;
         } else {

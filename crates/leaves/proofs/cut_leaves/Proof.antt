@@ -17,13 +17,16 @@ use Rattle.leaves.proofs.cut_leaves.Statement.{statement}
 use Rattle.leaves.proofs.cut_leaves.Tie as tie
 
 abbrev Inv-loop : tie.InvT-loop
-Inv-loop points dimensions leaf rows₀ at domains₀ first boxes₀ floats₀ wholes₀ n stride head₀ tail₀ done₀ k₀ rows domains boxes floats wholes head tail done k =
+Inv-loop points dimensions leaf rows₀ at domains₀ first boxes₀ floats₀ wholes₀ n base stride head₀ tail₀ done₀ k₀ rows domains boxes floats wholes head tail done k =
     Run dimensions points leaf rows₀ domains₀ boxes₀ wholes₀ floats₀ at first rows wholes domains floats boxes head tail done k
     × KeptLengths wholes₀ domains₀ floats₀ boxes₀ wholes domains floats boxes × (stride ≡ rowFloats dimensions)
 
 abbrev μ-loop : tie.MeasureT-loop
-μ-loop points dimensions leaf rows₀ at domains₀ first boxes₀ floats₀ wholes₀ n stride head₀ tail₀ done₀ k₀ rows domains boxes floats wholes head tail done k =
+μ-loop points dimensions leaf rows₀ at domains₀ first boxes₀ floats₀ wholes₀ n base stride head₀ tail₀ done₀ k₀ rows domains boxes floats wholes head tail done k =
     cutsLeft (roomIn (length rows₀) wholes) head tail
+
+mul-base : tie.Need-mul-base Inv-loop μ-loop
+mul-base c = search needs
 
 row-floats-requires : tie.Need-row-floats-requires Inv-loop μ-loop
 row-floats-requires c κs = search needs
@@ -54,35 +57,23 @@ loop-holds c =
       c .before .before .before .before .before .before .before .before .row-floats .ensures,
     )
 
+mul-place : tie.Need-mul-place Inv-loop μ-loop
+mul-place c = search needs
+
+add-place : tie.Need-add-place Inv-loop μ-loop
+add-place c = search needs
+
 mul-start : tie.Need-mul-start Inv-loop μ-loop
 mul-start c = search needs
-
-mul-start-2 : tie.Need-mul-start-2 Inv-loop μ-loop
-mul-start-2 c = search needs
-
-add-start : tie.Need-add-start Inv-loop μ-loop
-add-start c = search needs
-
-mul-start-3 : tie.Need-mul-start-3 Inv-loop μ-loop
-mul-start-3 c = search needs
 
 slice-read-start : tie.Need-slice-read-start Inv-loop μ-loop
 slice-read-start c = search needs
 
-mul-count : tie.Need-mul-count Inv-loop μ-loop
-mul-count c = search needs
-
-mul-count-2 : tie.Need-mul-count-2 Inv-loop μ-loop
-mul-count-2 c = search needs
-
 add-count : tie.Need-add-count Inv-loop μ-loop
 add-count c = search needs
 
-add-count-2 : tie.Need-add-count-2 Inv-loop μ-loop
-add-count-2 c = search needs
-
-mul-count-3 : tie.Need-mul-count-3 Inv-loop μ-loop
-mul-count-3 c = search needs
+mul-count : tie.Need-mul-count Inv-loop μ-loop
+mul-count c = search needs
 
 slice-read-count : tie.Need-slice-read-count Inv-loop μ-loop
 slice-read-count c = search needs
@@ -160,14 +151,6 @@ add-head c = search needs
 
 mul-put-halves : tie.Need-mul-put-halves Inv-loop μ-loop
 mul-put-halves c =
-    let t = c .before .before .before .before .before .before .before .before .before .before .before .before .before in
-    let i = t .before .loop .inv in
-    let x = front (i .0) (t .loop-test .taken) in
-    let u = known x in
-    omega (arith, u .fit-w, i .1 .same-w, i .1 .cap-w)
-
-mul-put-halves-2 : tie.Need-mul-put-halves-2 Inv-loop μ-loop
-mul-put-halves-2 c =
     let t = c .before .before .before .before .before .before .before .before .before .before .before .before .before in
     let i = t .before .loop .inv in
     let x = front (i .0) (t .loop-test .taken) in
@@ -398,19 +381,16 @@ cut-leaves-spec =
     (tie.spec
     Inv-loop
     μ-loop
+    mul-base
     row-floats-requires
     put-root-requires
     loop-holds
+    mul-place
+    add-place
     mul-start
-    mul-start-2
-    add-start
-    mul-start-3
     slice-read-start
-    mul-count
-    mul-count-2
     add-count
-    add-count-2
-    mul-count-3
+    mul-count
     slice-read-count
     add-end
     mul-read-box
@@ -424,7 +404,6 @@ cut-leaves-spec =
     cut-stretch-requires
     add-head
     mul-put-halves
-    mul-put-halves-2
     add-put-halves
     put-halves-requires
     mul-write-halves
