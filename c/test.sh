@@ -50,7 +50,7 @@ right_example() {
 
 # ---- strides and slots stand by name in every program: a request that widens a row changes the headers alone
 literal='(row|result)\[[0-9]|[0-9] \+ level|[^0-9]4 \* |2 \* (d|dimensions?|AXES)[^a-z]'
-! grep -nE "$literal" c/*.c c/*.cpp c/ddm_tree.h rust/src/[!p]*.rs rust/examples/*.rs rust/tests/*.rs \
+! grep -nE "$literal" c/*.c c/*.cpp c/ddm_tree.h rust/src/[!p]*.rs rust/examples/*.rs rust/examples/*/*.rs rust/tests/*.rs \
     || failed "a stride or a slot without its name"
 
 # ---- C and C++, plain and under the sanitizers

@@ -1,4 +1,10 @@
 //! What the figures share: processor time, work in turns, random numbers, and the cut stage with the lists that it is lent.
+#[path = "../../src/packed.rs"]
+#[allow(dead_code)]
+mod packed;
+
+pub use packed::row_floats;
+use packed::ROW_NUMBERS;
 use std::hint::black_box;
 
 extern "C" {
@@ -78,7 +84,8 @@ impl Lent {
 
     /// Lists that are long enough to cut `n` rows.
     pub fn for_cut(n: usize, d: usize) -> Lent {
-        Lent::new(n, 4 * 2 * n, 2 * d * 2 * n, 2 * d * 2 * n, 6 * n)
+        let leaves = 2 * n;
+        Lent::new(n, ROW_NUMBERS * leaves, row_floats(d) * leaves, row_floats(d) * leaves, 6 * n)
     }
 
     /// Cuts the rows into leaves. The answer is their number.
