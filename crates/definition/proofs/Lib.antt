@@ -19,3 +19,4 @@ pub mod WorkedSamples
 pub mod WorkedExamples
 pub mod WrongLookalikes
 pub mod RefusedCalls
+pub mod WorkedRecords

@@ -11,6 +11,9 @@ pub mod Tree
 pub mod Packed
 pub mod Refusals
 pub mod Outcome
+-- The cut record, and the build that writes it (document 02, request 2).
+pub mod Record
+pub mod DepthFirst
 -- What the laws of level sizes and quotas say.
 pub mod SeatCut
 pub mod Fair
