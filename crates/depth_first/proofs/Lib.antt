@@ -1,0 +1,2 @@
+-- Laws of the depth-first engine.
+pub mod Level

@@ -1,0 +1,4 @@
+-- Laws of the numbering.
+pub mod Entries
+pub mod Turns
+pub mod Passes

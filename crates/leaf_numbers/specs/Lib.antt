@@ -1,0 +1,2 @@
+-- What the contracts of the numbering cite.
+pub mod Numbering

@@ -1,0 +1,2 @@
+-- What the contracts of a node cite.
+pub mod Nodes

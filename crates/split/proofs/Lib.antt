@@ -1,0 +1,4 @@
+-- Laws of the depth-first cut.
+pub mod Under
+pub mod Laws
+pub mod Turns

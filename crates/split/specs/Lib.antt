@@ -1,0 +1,2 @@
+-- What the contracts of the depth-first cut cite.
+pub mod Written
