@@ -15,7 +15,7 @@ static void expect(bool fact, const char *what) {
 
 #define EXPECT(fact) expect(fact, #fact)
 
-// The functions of ddm.h, apart from the build, which ddm_tree.h calls.
+// The functions of ddm.h, apart from the builds, which ddm_tree.h calls.
 static void calls() {
     const double points[4] = {0.0, 1.0, 2.0, 10.0};
     const std::size_t sizes[2] = {3, 5};
@@ -43,6 +43,13 @@ static void trees() {
     EXPECT(ddm_tree_own(tree, 0, 1).rows[1] == 3 && ddm_tree_borrowed(tree, 0, 1).rows[0] == 0);
     const double *box = ddm_tree_box(tree, 0, 1);
     EXPECT(box != nullptr && box[0] == 2.0 && box[1] == 10.0 && ddm_tree_box(tree, 1, 0) == nullptr);
+    EXPECT(ddm_tree_record(tree, 0).count == 0 && ddm_tree_record(tree, 0).cuts == nullptr);
+    ddm_tree_free(tree);
+    tree = ddm_tree_build_depth_first(points, 4, 1, params, &error);
+    EXPECT(tree != nullptr && error.number == 0 && ddm_tree_leaves(tree, 0) == 2);
+    const ddm_record record = ddm_tree_record(tree, 0);
+    EXPECT(record.count == DDM_RECORD_NODES(2) && record.cuts[0] == 0 && record.planes[0] == 2.0);
+    EXPECT(ddm_record_is_leaf(record, 2) && record.cuts[2] == DDM_RECORD_LEAF + 1 && ddm_record_behind(record, 1) == 2);
     ddm_tree_free(tree);
     EXPECT(ddm_tree_build(points, 0, 1, params, &error) == nullptr && std::strcmp(ddm_error_text(error), "there are no points") == 0);
 }

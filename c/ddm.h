@@ -13,7 +13,8 @@
  * Stack. Under 16 KiB for any input, but for ddm_store and ddm_load, whose sets of rows take 256 KiB more; nothing is allocated.
  * Memory. A build over n points asks for 768 + 96 * dimensions + 112 * (K + 1) bytes a point in its seven lists, with K neighbours:
  * 2,864 in two dimensions with 16. That is the most that any input can need, and few are touched: 5,000 random wells in two dimensions
- * write some 70 of them a well at the default settings, some 620 at leaf threshold 1. So lists from calloc cost little.
+ * write some 70 of them a well at the default settings, some 620 at leaf threshold 1. So lists from calloc cost little. The two lists of
+ * ddm_build_depth_first's cut record are 192 bytes a point more.
  * Machine. x86-64 Linux only.
  * Floating environment. Round to nearest, and no flush to zero (the state in which a program starts). A program linked with -Ofast or
  * -ffast-math turns flush to zero on and gets another tree; the smallest input that shows it is the points 5e-324 and 0 with leaf
@@ -31,7 +32,7 @@ extern "C" {
 
 /* major * 10000 + minor * 100 + patch, of this header; ddm_version gives that of the library. Another minor version may have wider rows
  * and more lists, so that a program which loads the shared library tests ddm_version() / 100 == DDM_VERSION / 100 first. */
-#define DDM_VERSION 300
+#define DDM_VERSION 400
 
 /* ---- limits and settings */
 
@@ -56,6 +57,21 @@ extern "C" {
 #define DDM_BOX_FLOATS(dimensions) (2 * (dimensions))
 /* What a domain row has in `boxes`: the box comes first. */
 #define DDM_ROW_FLOATS(dimensions) DDM_BOX_FLOATS(dimensions)
+
+/* ---- the cut record of ddm_build_depth_first: the cuts of each fine level, from the root downwards */
+
+/* A node is a whole number in `cuts` and a float in `planes`. A whole number below DDM_RECORD_LEAF is a cut on that axis, and the float
+ * is its plane: the coordinate, with its bits, of the right row that came first in the cut's order. Any other is a leaf: DDM_RECORD_LEAF
+ * plus its number, and the float is +0. Leaves are numbered from 0 in their level, by depth and then from left to right, which is the
+ * order of the level's domains. Each cut stands before its halves, and the left half completely before the right. */
+#define DDM_RECORD_LEAF 3
+/* How many nodes a fine level's record has, by the level's domains. The coarse level has none. The records of the fine levels stand one
+ * after the other from the front of both lists, so no count of them comes back. */
+#define DDM_RECORD_NODES(domains) (2 * (domains) - 1)
+/* No leaf of a record is deeper than this many cuts. */
+#define DDM_RECORD_DEEPEST 21
+/* The entries that each of the two lists needs, for n points. */
+#define DDM_RECORD_ENTRIES(n) (12 * (n))
 
 /* ---- the result slots: how many entries they have, and what stands where */
 
@@ -114,6 +130,17 @@ size_t ddm_build(const double *points, size_t points_len, size_t dimensions, uin
                  size_t level_points_len, size_t *internals, size_t internals_len, size_t *domains, size_t domains_len,
                  double *boxes, size_t boxes_len, size_t *borrowed, size_t borrowed_len, double *floats, size_t floats_len,
                  size_t *wholes, size_t wholes_len, size_t *result, size_t result_len);
+
+/* Builds the tree of ddm_build, entry for entry in its five lists and its slot, by cutting the left half of a domain completely before
+ * the right; and writes the cut record of each fine level.
+ *   cuts, planes  the nodes of the records, at least DDM_RECORD_ENTRIES(n) entries each; what stands past them stays as it was
+ * All else is as for ddm_build, the refusals too; 11 is one test over all nine lists. */
+size_t ddm_build_depth_first(const double *points, size_t points_len, size_t dimensions, uint32_t leaf_threshold, uint32_t overlap_knn,
+                             uint32_t coarse_reduction_factor, uint32_t policy, uint32_t coarse_threshold, size_t *level_points,
+                             size_t level_points_len, size_t *internals, size_t internals_len, size_t *domains, size_t domains_len,
+                             double *boxes, size_t boxes_len, size_t *borrowed, size_t borrowed_len, double *floats,
+                             size_t floats_len, size_t *wholes, size_t wholes_len, size_t *cuts, size_t cuts_len, double *planes,
+                             size_t planes_len, size_t *result, size_t result_len);
 
 /* Writes a tree as the bytes of a file, with the points and settings that it was built or loaded for. tree: the slot that the build or
  * load wrote (DDM_BUILD_SLOT; a shorter one is refused with 11 before all but the result slot). The lists are those of the tree, as long as

@@ -13,11 +13,12 @@
  *       }
  *   ddm_tree_free(tree);
  *
- * ddm_tree_store gives a tree as the bytes of a file, and ddm_tree_load takes them for the same points and settings.
+ * ddm_tree_build_depth_first builds the same tree and keeps its cuts: ddm_tree_record. ddm_tree_store gives a tree as the bytes of a file,
+ * which holds no cuts, and ddm_tree_load takes them for the same points and settings.
  *
  * The lists come from calloc, so that what the build does not touch costs nothing; afterwards the working room is given back and the
  * others are cut to what they hold. A tree is only read by the functions that walk it: any number of threads may do so at once. A level
- * or leaf that is not there has no rows, no leaves and no box.
+ * or leaf that is not there has no rows, no leaves, no box and no record.
  */
 #ifndef DDM_TREE_H
 #define DDM_TREE_H
@@ -56,13 +57,23 @@ typedef struct ddm_rows {
     size_t count;
 } ddm_rows;
 
-/* A tree. Its fields are for the functions below. */
+/* The cut record of a level: `count` nodes, of which node i is cuts[i] and planes[i], as ddm.h says (DDM_RECORD_LEAF). They stand in the
+ * tree and end with it. */
+typedef struct ddm_record {
+    const size_t *cuts;
+    const double *planes;
+    size_t count;
+} ddm_record;
+
+/* A tree; cuts and planes are NULL where it has no record. Its fields are for the functions below. */
 typedef struct ddm_tree {
     size_t dimensions;
     size_t result[DDM_BUILD_SLOT];
     size_t *level_points, *internals, *domains;
     double *boxes;
     size_t *borrowed;
+    size_t *cuts;
+    double *planes;
 } ddm_tree;
 
 /* ---- settings and errors */
@@ -137,6 +148,18 @@ static inline size_t ddm_lists_build(ddm_lists *lists, const double *points, siz
                      sizes[DDM_SIZES_WHOLES], result, DDM_BUILD_SLOT);
 }
 
+/* The same depth first, with two lists of so many entries for the record. */
+static inline size_t ddm_lists_build_depth_first(ddm_lists *lists, const double *points, size_t points_len, size_t dimensions,
+                                                 ddm_params params, size_t *cuts, double *planes, size_t entries, size_t *result) {
+    const size_t *sizes = lists->sizes;
+    return ddm_build_depth_first(points, points_len, dimensions, params.leaf_threshold, params.overlap_knn,
+                                 params.coarse_reduction_factor, params.policy, params.coarse_threshold, lists->level_points,
+                                 sizes[DDM_SIZES_LEVEL_POINTS], lists->internals, sizes[DDM_SIZES_INTERNALS], lists->domains,
+                                 sizes[DDM_SIZES_DOMAINS], lists->boxes, sizes[DDM_SIZES_BOXES], lists->borrowed,
+                                 sizes[DDM_SIZES_BORROWED], lists->floats, sizes[DDM_SIZES_FLOATS], lists->wholes,
+                                 sizes[DDM_SIZES_WHOLES], cuts, entries, planes, entries, result, DDM_BUILD_SLOT);
+}
+
 /* The refusal of these settings and counts, 0 for none: where they are good, a build that is lent nothing is refused with 11. */
 static inline size_t ddm_lists_test(const double *points, size_t points_len, size_t dimensions, ddm_params params, size_t *result) {
     size_t whole = 0, number;
@@ -172,7 +195,15 @@ static inline size_t ddm_tree_sum(const size_t *counts, size_t many) {
     return sum;
 }
 
-/* The tree takes what the lists hold, and gives the working room back. */
+/* How many nodes the records of the first so many levels have, the coarse level not being one of them. */
+static inline size_t ddm_tree_nodes(const ddm_tree *tree, size_t levels) {
+    size_t nodes = 0;
+    while (levels--)
+        nodes += DDM_RECORD_NODES(tree->result[DDM_SLOT_DOMAINS + levels]);
+    return nodes;
+}
+
+/* The tree takes what the lists hold, and gives the working room back. Its record, where it has one, is cut to its nodes. */
 static inline void ddm_tree_take(ddm_tree *tree, ddm_lists *lists) {
     const size_t rows = ddm_tree_sum(tree->result + DDM_SLOT_ROWS, DDM_MOST_LEVELS);
     const size_t leaves = ddm_tree_sum(tree->result + DDM_SLOT_DOMAINS, DDM_MOST_LEVELS);
@@ -184,11 +215,24 @@ static inline void ddm_tree_take(ddm_tree *tree, ddm_lists *lists) {
     tree->domains = ddm_cut_wholes(lists->domains, DDM_ROW_NUMBERS * leaves);
     tree->boxes = ddm_cut_floats(lists->boxes, DDM_ROW_FLOATS(tree->dimensions) * leaves);
     tree->borrowed = ddm_cut_wholes(lists->borrowed, lent);
+    if (tree->cuts) {
+        const size_t nodes = ddm_tree_nodes(tree, tree->result[DDM_SLOT_LEVELS] - 1);
+        tree->cuts = ddm_cut_wholes(tree->cuts, nodes);
+        tree->planes = ddm_cut_floats(tree->planes, nodes);
+    }
 }
 
-/* Builds the tree over points_len / dimensions points, or gives NULL and says why in *error, which may be NULL. What the settings and
- * the counts refuse is refused before a list is made. */
-static inline ddm_tree *ddm_tree_build(const double *points, size_t points_len, size_t dimensions, ddm_params params, ddm_error *error) {
+static inline void ddm_tree_free(ddm_tree *tree) {
+    if (!tree)
+        return;
+    free(tree->level_points), free(tree->internals), free(tree->domains), free(tree->boxes), free(tree->borrowed);
+    free(tree->cuts), free(tree->planes);
+    free(tree);
+}
+
+/* A tree by the build that records its cuts, or by the other. */
+static inline ddm_tree *ddm_tree_built(const double *points, size_t points_len, size_t dimensions, ddm_params params, int recorded,
+                                       ddm_error *error) {
     ddm_error kept;
     ddm_lists lists;
     ddm_tree *tree = NULL;
@@ -198,12 +242,19 @@ static inline ddm_tree *ddm_tree_build(const double *points, size_t points_len, 
     if (!kept.number)
         kept.number = ddm_build_sizes(points_len / dimensions, dimensions, params.overlap_knn, lists.sizes, DDM_SIZES_SLOT);
     if (!kept.number) {
+        const size_t entries = DDM_RECORD_ENTRIES(points_len / dimensions);
         tree = (ddm_tree *)calloc(1, sizeof(ddm_tree));
-        if (!tree || !ddm_lists_make(&lists)) {
+        if (tree && recorded) {
+            tree->cuts = ddm_list_of_wholes(entries);
+            tree->planes = ddm_list_of_floats(entries);
+        }
+        if (!tree || (recorded && !(tree->cuts && tree->planes)) || !ddm_lists_make(&lists)) {
             kept.number = DDM_NO_MEMORY;
         } else {
             tree->dimensions = dimensions;
-            kept.number = ddm_lists_build(&lists, points, points_len, dimensions, params, tree->result);
+            kept.number = recorded ? ddm_lists_build_depth_first(&lists, points, points_len, dimensions, params, tree->cuts, tree->planes,
+                                                                 entries, tree->result)
+                                   : ddm_lists_build(&lists, points, points_len, dimensions, params, tree->result);
             kept.place = tree->result[DDM_SLOT_PLACE];
             if (kept.number)
                 ddm_lists_free(&lists);
@@ -215,8 +266,20 @@ static inline ddm_tree *ddm_tree_build(const double *points, size_t points_len, 
         *error = kept;
     if (!kept.number)
         return tree;
-    free(tree);
+    ddm_tree_free(tree);
     return NULL;
+}
+
+/* Builds the tree over points_len / dimensions points, or gives NULL and says why in *error, which may be NULL. What the settings and
+ * the counts refuse is refused before a list is made. */
+static inline ddm_tree *ddm_tree_build(const double *points, size_t points_len, size_t dimensions, ddm_params params, ddm_error *error) {
+    return ddm_tree_built(points, points_len, dimensions, params, 0, error);
+}
+
+/* The same tree, with the cut record of each fine level: ddm_tree_record. */
+static inline ddm_tree *ddm_tree_build_depth_first(const double *points, size_t points_len, size_t dimensions, ddm_params params,
+                                                   ddm_error *error) {
+    return ddm_tree_built(points, points_len, dimensions, params, 1, error);
 }
 
 /* ---- storing and loading */
@@ -328,13 +391,6 @@ static inline ddm_tree *ddm_tree_load(const double *points, size_t points_len, s
     return NULL;
 }
 
-static inline void ddm_tree_free(ddm_tree *tree) {
-    if (!tree)
-        return;
-    free(tree->level_points), free(tree->internals), free(tree->domains), free(tree->boxes), free(tree->borrowed);
-    free(tree);
-}
-
 /* ---- walking */
 
 static inline size_t ddm_tree_dimensions(const ddm_tree *tree) {
@@ -392,6 +448,38 @@ static inline const double *ddm_tree_box(const ddm_tree *tree, size_t level, siz
     if (level + 1 >= ddm_tree_levels(tree) || leaf >= ddm_tree_leaves(tree, level))
         return NULL;
     return tree->boxes + DDM_ROW_FLOATS(tree->dimensions) * ddm_tree_domain(tree, level, leaf);
+}
+
+/* A level's cut record, of DDM_RECORD_NODES(leaves) nodes. It is empty at the coarse level, and in a tree that ddm_tree_build built or
+ * ddm_tree_load loaded. */
+static inline ddm_record ddm_tree_record(const ddm_tree *tree, size_t level) {
+    ddm_record record = {NULL, NULL, 0};
+    if (tree->cuts && level < ddm_tree_levels(tree) - 1) {
+        const size_t from = ddm_tree_nodes(tree, level);
+        record.cuts = tree->cuts + from;
+        record.planes = tree->planes + from;
+        record.count = DDM_RECORD_NODES(ddm_tree_leaves(tree, level));
+    }
+    return record;
+}
+
+/* Whether a node of a record is a leaf; its number is record.cuts[node] - DDM_RECORD_LEAF. */
+static inline int ddm_record_is_leaf(ddm_record record, size_t node) {
+    return record.cuts[node] >= DDM_RECORD_LEAF;
+}
+
+/* The node behind all that stands under this one. The left half of a cut is the node behind the cut, and its right half the one behind
+ * that half: ddm_record_behind(record, cut + 1). */
+static inline size_t ddm_record_behind(ddm_record record, size_t node) {
+    /* how many are still to come: a leaf is one of them, and a cut brings another */
+    size_t open = 1;
+    for (; open && node < record.count; node++) {
+        if (ddm_record_is_leaf(record, node))
+            open--;
+        else
+            open++;
+    }
+    return node;
 }
 
 #ifdef __cplusplus

@@ -1,4 +1,4 @@
-"""What c/example.c and c/lists.c print, by tools/model.py, which shares nothing with the library:
+"""What c/example.c prints (and c/lists.c but for the line of a well), by tools/model.py, which shares nothing with the library:
 
     python3 c/example_out.py > c/example.out
 """
@@ -9,7 +9,7 @@ sys.path.insert(0, os.path.join(os.path.dirname(os.path.abspath(__file__)), ".."
 import model
 import stored_model
 
-WELLS, AXES, NEAR = 1000, 2, 8
+WELLS, AXES, NEAR, WELL = 1000, 2, 8, 500
 
 state, points = 12345, []
 for _ in range(AXES * WELLS):
@@ -23,6 +23,16 @@ for number, (rows, leaves) in enumerate(levels):
     assert own == rows, "the leaves do not share out the level"
     print("level %d: %d wells in %d leaves, at most %d a leaf, %d borrowed; own wells %d" % (
         number, len(rows), len(leaves), max(len(leaf[0]) for leaf in leaves), sum(len(leaf[1]) for leaf in leaves), len(own)))
+
+rows, steps, leaf = list(range(WELLS)), [], [WELL in own for own, _, _ in levels[0][1]].index(True)
+while True:
+    axis, plane, left, right = model.halves(points, AXES, rows)
+    steps.append("%s of %s %.2f" % ("left" if WELL in left else "right", "xy"[axis], plane))
+    if len(rows) < 2 * 32:
+        break
+    rows = left if WELL in left else right
+print("well %d: %s, leaf %d; the record has %d nodes" % (
+    WELL, ", ".join(steps), leaf, len(model.record(points, AXES, 32, levels[0][0]))))
 
 settings, bits = (AXES, 32, NEAR, 4, 1, 60), stored_model.bits_of(points)
 file = stored_model.file_bytes(settings, bits, stored_model.built(settings, bits))

@@ -65,6 +65,12 @@ static void round_trip(void) {
     unsigned char *twice = loaded ? ddm_tree_store(loaded, points, d * n, params, &again, &error) : NULL;
     EXPECT(twice && same_trees(tree, loaded));
     EXPECT(twice && bytes == again && memcmp(file, twice, bytes) == 0);
+    EXPECT(!loaded || ddm_tree_record(loaded, 0).count == 0);
+    ddm_tree *recorded = ddm_tree_build_depth_first(points, d * n, d, params, &error);
+    unsigned char *same = recorded ? ddm_tree_store(recorded, points, d * n, params, &again, &error) : NULL;
+    EXPECT(same && bytes == again && memcmp(file, same, bytes) == 0);
+    free(same);
+    ddm_tree_free(recorded);
     if (file) {
         points[0] += 1.0;
         EXPECT(!ddm_tree_load(points, d * n, d, params, file, bytes, &error) && error.number == 19);

@@ -49,20 +49,23 @@ right_example() {
 }
 
 # ---- strides and slots stand by name in every program: a request that widens a row changes the headers alone
-literal='(row|result)\[[0-9]|[0-9] \+ level|[^0-9]4 \* |2 \* (d|dimensions?|AXES)[^a-z]'
+literal='(row|result)\[[0-9]|[0-9] \+ level|[^0-9](4|12) \* |2 \* (d|dimensions?|AXES|domains|leaves)[^a-z]'
 ! grep -nE "$literal" c/*.c c/*.cpp c/ddm_tree.h rust/src/[!p]*.rs rust/examples/*.rs rust/examples/*/*.rs rust/tests/*.rs \
     || failed "a stride or a slot without its name"
 
 # ---- C and C++, plain and under the sanitizers
 programs() {
-    for name in example lists slots tree stored; do
+    for name in example lists slots tree stored record; do
         compile "$name" "$@"
     done
     right_example "$made/example"
-    right_example "$made/lists"
+    # c/lists.c follows no cuts, and has no line of a well
+    grep -v '^well ' c/example.out > "$made/lists.out"
+    "$made/lists" | diff "$made/lists.out" - || failed "c/lists.c printed something else than c/example.out"
     "$made/slots"
     "$made/tree"
     "$made/stored"
+    "$made/record"
     there "$cxx" || { skipped "the C++ program (there is no '$cxx')"; return; }
     # shellcheck disable=SC2086
     "$cxx" -std=c++11 $strict "$@" -o "$made/both" c/both.cpp "$lib"

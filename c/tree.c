@@ -1,4 +1,4 @@
-/* ddm_tree.h: its trees against lists read by hand, refusals, what is not there, and memory that is not to be had.
+/* ddm_tree.h: its trees and records against lists read by hand, refusals, what is not there, and memory that is not to be had.
  *
  *   cc -O2 -o tree c/tree.c target/staticlib/libddm_c.a && ./tree
  */
@@ -82,7 +82,22 @@ static void same_tree(const ddm_tree *tree, const ddm_lists *lists, const size_t
     }
 }
 
+/* The records of the fine levels, one after the other; the coarse level and a level that is not there have none. */
+static void same_record(const ddm_tree *tree, const size_t *cuts, const double *planes) {
+    for (size_t level = 0; level < ddm_tree_levels(tree) - 1; level++) {
+        const ddm_record record = ddm_tree_record(tree, level);
+        EXPECT(record.count == DDM_RECORD_NODES(ddm_tree_leaves(tree, level)) && ddm_record_behind(record, 0) == record.count);
+        EXPECT(memcmp(record.cuts, cuts, record.count * sizeof *cuts) == 0);
+        EXPECT(memcmp(record.planes, planes, record.count * sizeof *planes) == 0);
+        cuts += record.count, planes += record.count;
+    }
+    for (size_t level = ddm_tree_levels(tree) - 1; level <= DDM_MOST_LEVELS; level++)
+        EXPECT(ddm_tree_record(tree, level).count == 0 && !ddm_tree_record(tree, level).cuts && !ddm_tree_record(tree, level).planes);
+}
+
 static void random_tree(void) {
+    static size_t cuts[DDM_RECORD_ENTRIES(120)];
+    static double planes[DDM_RECORD_ENTRIES(120)];
     double points[3 * 120];
     const size_t d = 1 + below(3), n = 1 + below(120);
     ddm_params params = ddm_default_params();
@@ -100,10 +115,20 @@ static void random_tree(void) {
     refused = ddm_lists_build(&lists, points, n * d, d, params, result);
     cutting = below(2) == 0;
     ddm_tree *tree = ddm_tree_build(points, n * d, d, params, &error);
-    cutting = 1;
     EXPECT(error.number == refused && error.place == 0 && !tree == (refused != 0));
-    if (tree)
+    if (tree) {
         same_tree(tree, &lists, result);
+        EXPECT(ddm_tree_record(tree, 0).count == 0 && !ddm_tree_record(tree, 0).cuts);
+    }
+    ddm_tree_free(tree);
+    EXPECT(ddm_lists_build_depth_first(&lists, points, n * d, d, params, cuts, planes, DDM_RECORD_ENTRIES(n), result) == refused);
+    tree = ddm_tree_build_depth_first(points, n * d, d, params, &error);
+    EXPECT(error.number == refused && error.place == 0 && !tree == (refused != 0));
+    if (tree) {
+        same_tree(tree, &lists, result);
+        same_record(tree, cuts, planes);
+    }
+    cutting = 1;
     ddm_tree_free(tree);
     ddm_lists_free(&lists);
 }
@@ -114,6 +139,9 @@ static ddm_error refusal(const double *points, size_t points_len, size_t dimensi
     ddm_error error;
     ddm_tree *tree = ddm_tree_build(points, points_len, dimensions, params, &error);
     EXPECT(!tree && !ddm_tree_build(points, points_len, dimensions, params, NULL));
+    ddm_error again;
+    EXPECT(!ddm_tree_build_depth_first(points, points_len, dimensions, params, &again));
+    EXPECT(again.number == error.number && again.place == error.place);
     return error;
 }
 
@@ -137,20 +165,26 @@ static void refusals(void) {
 
 /* ---- memory */
 
-static void memory(void) {
+/* How many lists it takes until this build has a tree: with one fewer there is none. */
+static size_t lists_of(ddm_tree *(*build)(const double *, size_t, size_t, ddm_params, ddm_error *)) {
     const double points[4] = {0.0, 1.0, 2.0, 10.0};
     ddm_error error;
     ddm_tree *tree;
     size_t lists = 0;
-    for (allowed = 0; !(tree = ddm_tree_build(points, 4, 1, ddm_default_params(), &error)); allowed = ++lists)
+    for (allowed = 0; !(tree = build(points, 4, 1, ddm_default_params(), &error)); allowed = ++lists)
         EXPECT(error.number == DDM_NO_MEMORY && error.place == 0);
     EXPECT(strcmp(ddm_error_text(error), "nothing was refused") == 0);
     ddm_tree_free(tree);
-    error.number = DDM_NO_MEMORY;
-    EXPECT(strcmp(ddm_error_text(error), "there is no memory for the lists") == 0);
-    /* the tree itself and its lists: with one fewer there is none */
-    EXPECT(lists == 1 + DDM_SIZES_SLOT);
     allowed = (size_t)-1;
+    return lists;
+}
+
+static void memory(void) {
+    const ddm_error error = {DDM_NO_MEMORY, 0};
+    EXPECT(strcmp(ddm_error_text(error), "there is no memory for the lists") == 0);
+    /* the tree itself and its lists, and two more for the record */
+    EXPECT(lists_of(ddm_tree_build) == 1 + DDM_SIZES_SLOT);
+    EXPECT(lists_of(ddm_tree_build_depth_first) == 1 + DDM_SIZES_SLOT + 2);
 }
 
 /* ---- what ddm.h says of the lent bytes: how many they are, and that few are touched */
@@ -184,6 +218,7 @@ static void lent_bytes(uint32_t leaf_threshold, size_t most) {
         memset(all[i], 0xff, lists.sizes[i] * sizeof(uint64_t));
     }
     EXPECT(bytes / WELLS == 768 + 96 * AXES + 112 * (params.overlap_knn + 1));
+    EXPECT(DDM_RECORD_ENTRIES(WELLS) * (sizeof(size_t) + sizeof(double)) / WELLS == 192);
     EXPECT(ddm_lists_build(&lists, points, AXES * WELLS, AXES, params, result) == 0);
     for (size_t i = 0; i < DDM_SIZES_SLOT; i++)
         touched += changed(all[i], lists.sizes[i]) * sizeof(uint64_t);
@@ -219,6 +254,10 @@ static void nowhere(void) {
     EXPECT(ddm_tree_own(tree, 0, 2).count == 0 && ddm_tree_own(tree, far, 0).count == 0 && ddm_tree_own(tree, 0, far).count == 0);
     EXPECT(ddm_tree_borrowed(tree, 0, 2).count == 0 && ddm_tree_borrowed(tree, 2, 0).count == 0);
     EXPECT(ddm_tree_box(tree, 0, 1) && !ddm_tree_box(tree, 0, 2) && !ddm_tree_box(tree, 1, 0) && !ddm_tree_box(tree, far, 0));
+    ddm_tree_free(tree);
+    tree = ddm_tree_build_depth_first(points, 4, 1, params, &error);
+    EXPECT(tree && ddm_tree_record(tree, 0).count == DDM_RECORD_NODES(2));
+    EXPECT(ddm_tree_record(tree, 1).count == 0 && ddm_tree_record(tree, 2).count == 0 && ddm_tree_record(tree, far).count == 0);
     ddm_tree_free(tree);
     ddm_tree_free(NULL);
 }

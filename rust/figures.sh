@@ -1,18 +1,20 @@
 #!/bin/sh
-# The figures: the library against plain Rust, whole and stage by stage; or the cut stage against that of an earlier commit, in one
-# run. Not a test, and nothing that the gate runs.
+# The figures: the library against plain Rust, whole and stage by stage; or the build that cuts depth first against the queue's, whole
+# and its cut stage; or the cut stage against that of an earlier commit. Each in one run. Not a test, and nothing that the gate runs.
 #
-#   rust/figures.sh [--against COMMIT]
+#   rust/figures.sh [--engines | --against COMMIT]
 #
 # The stages are inner functions that ask something of their callers, so the product exports none of them: a copy of the repository
 # gets the crate of rust/stages, which exports them, and is built apart. Needs rt and cargo, on x86-64, and for --against a C compiler
 # (CC names another one) and git; takes some minutes.
 set -eu
 cd "$(dirname "$0")/.."
+against=
 case "$#${1-}" in
-0) against= ;;
-2--against) against=$(git rev-parse --verify "$2^{commit}") ;;
-*) echo "use: rust/figures.sh [--against COMMIT]" >&2; exit 2 ;;
+0) figures=figures ;;
+1--engines) figures=engine_figures ;;
+2--against) figures=cut_figures against=$(git rev-parse --verify "$2^{commit}") ;;
+*) echo "use: rust/figures.sh [--engines | --against COMMIT]" >&2; exit 2 ;;
 esac
 made=$(mktemp -d)
 trap 'rm -rf "$made"' EXIT
@@ -46,7 +48,7 @@ cp -r rust/stages "$made/now/rust"
 add_stages "$made/now"
 (cd "$made/now" && rt staticlib ddm_c && rt staticlib ddm_stages)
 if [ -z "$against" ]; then
-    run figures
+    run "$figures"
 else
     mkdir "$made/before"
     git archive -o "$made/before.tar" "$against" crates crates.txt rust/stages
@@ -56,5 +58,5 @@ else
     share "$made/before" "$made/before.so"
     share "$made/now" "$made/now.so"
     git log -1 --format='before: %h %s' "$against"
-    run cut_figures "$made/before.so" "$made/now.so"
+    run "$figures" "$made/before.so" "$made/now.so"
 fi

@@ -135,7 +135,8 @@ def seed_of(cs, d, rows):
 
 # ---- one level
 
-def cut(cs, d, rows, box):
+def halves(cs, d, rows):
+    """A cut of these rows: its axis, its plane, and the rows to the left and to the right of it."""
     low, high = bounds(cs, d, rows)
     axis = 0
     for a in range(1, d):
@@ -143,11 +144,15 @@ def cut(cs, d, rows, box):
             axis = a
     order = sorted(rows, key=lambda i: (coordinate(cs, d, i, axis), i))
     half = len(rows) // 2
-    plane = coordinate(cs, d, order[half], axis)
+    return axis, coordinate(cs, d, order[half], axis), sorted(order[:half]), sorted(order[half:])
+
+
+def cut(cs, d, rows, box):
+    axis, plane, left_rows, right_rows = halves(cs, d, rows)
     left, right = (list(box[0]), list(box[1])), (list(box[0]), list(box[1]))
     left[1][axis] = plane
     right[0][axis] = plane
-    return (sorted(order[:half]), left), (sorted(order[half:]), right)
+    return (left_rows, left), (right_rows, right)
 
 
 def leaves_of(cs, d, leaf, active):
@@ -218,6 +223,36 @@ def build(cs, d, leaf, neighbours, f, policy, number):
         active = sorted(sent)
     levels.append((active, [(active, [], None)]))
     return levels
+
+
+# ---- the cut record (document 02, request 2)
+
+# A node of at least this is a leaf: this plus its number. One below it is a cut: its axis.
+RECORD_LEAF = 3
+
+
+def nodes(cs, d, leaf, rows, depth=0):
+    """The cuts of a domain from its own downwards, the left half completely before the right: (depth, axis, plane) for a cut, and
+    (depth, None, None) for a leaf."""
+    axis, plane, left, right = halves(cs, d, rows)
+    out = [(depth, axis, plane)]
+    for half in (left, right):
+        out += nodes(cs, d, leaf, half, depth + 1) if len(rows) >= 2 * leaf else [(depth + 1, None, None)]
+    return out
+
+
+def record(cs, d, leaf, active):
+    """The record of a fine level with these active rows: (whole number, float) for each node. Its leaves are numbered by depth, and then
+    from left to right."""
+    found = nodes(cs, d, leaf, active)
+    by_depth = sorted((depth, place) for place, (depth, axis, _) in enumerate(found) if axis is None)
+    number = {place: k for k, (_, place) in enumerate(by_depth)}
+    return [(RECORD_LEAF + number[place], 0.0) if axis is None else (axis, plane) for place, (_, axis, plane) in enumerate(found)]
+
+
+def records(cs, d, leaf, levels):
+    """The records of a tree's fine levels, which are all but the last."""
+    return [record(cs, d, leaf, active) for active, _ in levels[:-1]]
 
 
 # ---- job stream and printout

@@ -6,6 +6,8 @@
         for leaf in level.leaves:
             print(leaf.own, leaf.borrowed, leaf.box)
 
+`rekvashu.build(.., engine="depth-first")` builds the same tree and keeps its cuts: `level.cuts` has them from the root downwards.
+
 `tree.to_bytes()` gives a tree as the bytes of a file, and `rekvashu.load(points, data, ..)` takes them for the same points and settings.
 
 The shared library is made by python/make_shared.sh. Arrays are numpy's where numpy is there, otherwise plain lists.
@@ -13,8 +15,8 @@ The shared library is made by python/make_shared.sh. Arrays are numpy's where nu
 from .calls import build, build_sizes, level_size, library_version, load, quotas, row_test, sample, square_root
 from .library import LibraryError
 from .refusals import Refusal
-from .tree import Leaf, Level, Tree
+from .tree import Leaf, Level, Node, Tree
 from .version import VERSION as __version__
 
 __all__ = ["build", "build_sizes", "level_size", "library_version", "load", "quotas", "row_test", "sample", "square_root", "LibraryError",
-           "Refusal", "Leaf", "Level", "Tree", "__version__"]
+           "Refusal", "Leaf", "Level", "Node", "Tree", "__version__"]

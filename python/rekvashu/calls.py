@@ -1,6 +1,7 @@
 """The public calls: each lends the lists that the library asks for, calls it, and reads what it wrote."""
 import ctypes
 import numbers
+import reprlib
 
 from . import layout, library, settings
 from .coordinates import coordinates
@@ -10,7 +11,7 @@ from .settings import size, uint32
 from .tree import Packed, Tree
 
 NO_ROOM = 11
-KINDS = {"boxes": ctypes.c_double, "floats": ctypes.c_double}
+KINDS = {"boxes": ctypes.c_double, "floats": ctypes.c_double, "planes": ctypes.c_double}
 
 
 def slot(entries):
@@ -46,6 +47,27 @@ def build_into(given, params, lists):
     return number, result
 
 
+def depth_first_into(given, params, lists):
+    """One call of the build that cuts depth first: the same, with the lists of the record too."""
+    result = slot(layout.BUILD_SLOT)
+    number = library.load().ddm_build_depth_first(given.c, given.length, given.dimension, *params,
+                                                  *lent_of(lists, layout.LISTS + layout.RECORD_LISTS), result, len(result))
+    return number, result
+
+
+# The builds by name: the call, and the lists that it is lent.
+ENGINES = {"queue": (build_into, layout.LISTS), "depth-first": (depth_first_into, layout.LISTS + layout.RECORD_LISTS)}
+
+
+def engine_of(name):
+    """The build of this name."""
+    if not isinstance(name, str):
+        raise TypeError(f"engine is {reprlib.repr(name)}, and has to be 'queue' or 'depth-first'")
+    if name not in ENGINES:
+        raise ValueError(f"engine is {name!r}, and has to be 'queue' or 'depth-first'")
+    return ENGINES[name]
+
+
 def load_into(data):
     """One call of the loader with these bytes, as a function like build_into."""
     def call(given, params, lists):
@@ -66,7 +88,9 @@ def tree_by(call, names, given, params, neighbours):
     number, result = call(given, params, lists_of({}, names))
     if number != NO_ROOM:
         passed(number, result[layout.SLOT_PLACE])
-    lists = lists_of(build_sizes(given.rows, given.dimension, neighbours), names)
+    lengths = build_sizes(given.rows, given.dimension, neighbours)
+    lengths.update({name: layout.record_entries(given.rows) for name in layout.RECORD_LISTS})
+    lists = lists_of(lengths, names)
     number, result = call(given, params, lists)
     passed(number, result[layout.SLOT_PLACE])
     return Tree(Packed(given.dimension, lists, result), lambda packed: stored(given, params, packed))
@@ -83,18 +107,21 @@ def stored(given, params, packed):
 
 
 def build(points, leaf=settings.LEAF, neighbours=settings.NEIGHBOURS, factor=settings.FACTOR, coarse=settings.COARSE, *,
-          dimension=None):
+          dimension=None, engine="queue"):
     """The tree over the points.
 
     points: rows of one to three numbers (a list of lists, an array), or numbers alone for one axis. With `dimension`, a flat list
-    of coordinates, that many for each row. coarse: "auto" or a whole number. A Refusal says what the library refused."""
+    of coordinates, that many for each row. coarse: "auto" or a whole number. engine: "queue" or "depth-first"; both give the same tree,
+    and "depth-first" keeps the record of its cuts (`Level.cuts`). A Refusal says what the library refused."""
+    call, names = engine_of(engine)
     given = coordinates(points, dimension)
-    return tree_by(build_into, layout.LISTS, given, params_of(leaf, neighbours, factor, coarse), neighbours)
+    return tree_by(call, names, given, params_of(leaf, neighbours, factor, coarse), neighbours)
 
 
 def load(points, data, leaf=settings.LEAF, neighbours=settings.NEIGHBOURS, factor=settings.FACTOR, coarse=settings.COARSE, *,
          dimension=None):
-    """The tree that `Tree.to_bytes` gave as these bytes, for the points and settings that it was built for; others are refused."""
+    """The tree that `Tree.to_bytes` gave as these bytes, for the points and settings that it was built for; others are refused. A file
+    holds no record of the cuts."""
     if not isinstance(data, (bytes, bytearray, memoryview)):
         raise TypeError(f"the stored tree is {type(data).__name__}, and has to be bytes")
     given = coordinates(points, dimension)

@@ -6,6 +6,9 @@ LISTS = ("level_points", "internals", "domains", "boxes", "borrowed", "floats", 
 # Those that hold a tree; the others are working room.
 TREE_LISTS = LISTS[:5]
 
+# Those that take the cut record, after the others.
+RECORD_LISTS = ("cuts", "planes")
+
 # A domain row: its numbers, and the floats that belong to it.
 ROW_NUMBERS = 4
 COLUMN_OWN_START, COLUMN_OWN_COUNT, COLUMN_BORROWED_START, COLUMN_BORROWED_COUNT = range(4)
@@ -19,6 +22,22 @@ def box_floats(dimension):
 def row_floats(dimension):
     """What a domain row has among the boxes: the box comes first."""
     return box_floats(dimension)
+
+
+# The cut record: a node of at least RECORD_LEAF is a leaf (that plus its number), one below it a cut on that axis. No leaf is deeper than
+# RECORD_DEEPEST cuts.
+RECORD_LEAF = 3
+RECORD_DEEPEST = 21
+
+
+def record_nodes(domains):
+    """The nodes of a fine level's record, by the level's domains. The coarse level has none."""
+    return 2 * domains - 1
+
+
+def record_entries(rows):
+    """The entries that each list of a record needs, for so many points."""
+    return 12 * rows
 
 
 # The slot of a build: place, levels, rows of each level, domains of each level.

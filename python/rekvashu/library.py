@@ -20,6 +20,7 @@ FUNCTIONS = {
     "ddm_version": [],
     "ddm_build_sizes": [SIZE, SIZE, UINT32] + WHOLES,
     "ddm_build": POINTS + [UINT32] * 5 + TREE + FLOATS + WHOLES + WHOLES,
+    "ddm_build_depth_first": POINTS + [UINT32] * 5 + TREE + FLOATS + WHOLES + WHOLES + FLOATS + WHOLES,
     "ddm_store": POINTS + [UINT32] * 5 + WHOLES + TREE + BYTES + WHOLES,
     "ddm_load": POINTS + [UINT32] * 5 + BYTES + TREE + WHOLES,
     "ddm_sample": POINTS + [SIZE] * 2 + WHOLES + FLOATS + WHOLES + WHOLES,

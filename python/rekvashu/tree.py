@@ -1,7 +1,15 @@
 """A tree as it stands in the lent lists: levels, leaves, and the wells of each. Nothing is copied until it is asked for."""
+from collections import namedtuple
 from collections.abc import Sequence
 
 from . import layout
+
+Node = namedtuple("Node", "depth axis plane leaf")
+Node.__doc__ = """A node of a level's cut record, `depth` cuts below the root.
+
+A cut has an axis, from 0, and a plane, the coordinate of the right row that came first in its order; its leaf is None. A leaf has its
+number in the level, and neither axis nor plane. Rows below the plane are to the left of the cut and rows above it to the right; rows on
+the plane are shared out by their numbers, so such a row may be on either side."""
 
 
 class Packed:
@@ -19,6 +27,11 @@ class Packed:
         self.domains = lists["domains"].cut(layout.ROW_NUMBERS * domains)
         self.boxes = lists["boxes"].cut(layout.row_floats(dimension) * domains)
         self.borrowed = lists["borrowed"].cut(self.borrowed_end(domains - 1))
+        # the nodes of each level's record; the coarse level has none, and no level where the cuts were not recorded
+        self.recorded, self.nodes = "cuts" in lists, [0] * levels
+        if self.recorded:
+            self.nodes[:-1] = [layout.record_nodes(leaves) for leaves in self.leaves[:-1]]
+            self.cuts, self.planes = lists["cuts"].cut(sum(self.nodes)), lists["planes"].cut(sum(self.nodes))
 
     def numbers(self, domain, first, last):
         """Numbers of a domain row."""
@@ -52,7 +65,8 @@ class Tree:
 
 
 class Level:
-    """A level: its active rows (`points`), ascending, and its leaves. The coarse level has one domain that holds all of them."""
+    """A level: its active rows (`points`), ascending, its leaves, and its cuts where these are recorded. The coarse level has one domain
+    that holds all rows."""
 
     def __init__(self, packed, number):
         self._packed, self.number = packed, number
@@ -64,8 +78,33 @@ class Level:
         start = sum(self._packed.rows[:self.number])
         return self._packed.level_points[start:start + self._packed.rows[self.number]]
 
+    @property
+    def cuts(self):
+        """The level's cut record: a list of its nodes from the root downwards, each cut before its halves, and the left half completely
+        before the right. A level with m leaves has 2m - 1 nodes, and the coarse level none. None where the tree was built by the queue
+        or loaded, and keeps no record.
+
+        Leaves are numbered by depth, and then from left to right, which is the order of `leaves`."""
+        if not self._packed.recorded:
+            return None
+        start = sum(self._packed.nodes[:self.number])
+        end = start + self._packed.nodes[self.number]
+        # the depth of the next node, and those of the right halves that are still to come
+        out, depth, right = [], 0, []
+        for whole, plane in zip(self._packed.cuts[start:end], self._packed.planes[start:end]):
+            if whole < layout.RECORD_LEAF:
+                out.append(Node(depth, int(whole), float(plane), None))
+                depth += 1
+                right.append(depth)
+            else:
+                out.append(Node(depth, None, None, int(whole) - layout.RECORD_LEAF))
+                depth = right.pop() if right else 0
+        return out
+
     def __repr__(self):
-        return f"<Level {self.number}: {len(self.points)} rows in {len(self.leaves)} {'leaf' if len(self.leaves) == 1 else 'leaves'}>"
+        leaves, nodes = "leaf" if len(self.leaves) == 1 else "leaves", self._packed.nodes[self.number]
+        recorded = f", {nodes} nodes" if nodes else ""
+        return f"<Level {self.number}: {len(self.points)} rows in {len(self.leaves)} {leaves}{recorded}>"
 
 
 class Leaves(Sequence):

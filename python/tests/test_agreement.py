@@ -43,10 +43,11 @@ class Header(unittest.TestCase):
         said = {name: int(eval(value.replace("DDM_", ""), dict(NAMED)))
                 for name, value in defined.items() if "(" not in name}
         self.assertEqual(said, NAMED)
-        for d in (1, 2, 3):
-            for name, ours in (("BOX_FLOATS", layout.box_floats), ("ROW_FLOATS", layout.row_floats)):
-                words = re.search(rf"#define DDM_{name}\(dimensions\) (.+)", header()).group(1)
-                self.assertEqual(eval(words, {"dimensions": d, "DDM_BOX_FLOATS": layout.box_floats}), ours(d))
+        for x in (1, 2, 3):
+            for name, ours in (("BOX_FLOATS", layout.box_floats), ("ROW_FLOATS", layout.row_floats), ("RECORD_NODES", layout.record_nodes),
+                               ("RECORD_ENTRIES", layout.record_entries)):
+                argument, words = re.search(rf"#define DDM_{name}\((\w+)\) (.+)", header()).groups()
+                self.assertEqual(eval(words, {argument: x, "DDM_BOX_FLOATS": layout.box_floats}), ours(x))
 
     def test_sentences(self):
         said = {int(number): words for number, words in re.findall(r'case (\d+): return "(.*)";', header())}

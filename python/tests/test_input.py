@@ -32,6 +32,10 @@ WRONG = [
     (TypeError, "leaf is 2.0", lambda: rekvashu.build(TWO, leaf=2.0)),
     (TypeError, "leaf is '2'", lambda: rekvashu.build(TWO, leaf="2")),
     (TypeError, "leaf is True", lambda: rekvashu.build(TWO, leaf=True)),
+    (ValueError, "engine is 'stack'", lambda: rekvashu.build(TWO, engine="stack")),
+    (ValueError, "engine is 'Queue'", lambda: rekvashu.build(TWO, engine="Queue")),
+    (TypeError, "engine is None", lambda: rekvashu.build(TWO, engine=None)),
+    (TypeError, "engine is ['queue']", lambda: rekvashu.build(TWO, engine=["queue"])),
     (ValueError, "wanted is -1", lambda: rekvashu.sample(TWO, -1, 0)),
     (ValueError, "seed is 18446744073709551616", lambda: rekvashu.sample(TWO, 1, 2 ** 64)),
     (ValueError, "active is -3", lambda: rekvashu.level_size(-3, 1, 1)),
@@ -71,6 +75,7 @@ class Given(unittest.TestCase):
     def test_what_is_taken_where_nothing_is_given(self):
         taken = {name: p.default for name, p in inspect.signature(rekvashu.build).parameters.items()}
         self.assertEqual(list(taken.items())[1:5], [("leaf", 256), ("neighbours", 16), ("factor", 128), ("coarse", "auto")])
+        self.assertEqual(taken["engine"], "queue")
 
     @both
     def test_the_same_points_in_many_forms(self):

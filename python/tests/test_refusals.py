@@ -5,7 +5,7 @@ import support
 from support import both
 
 import rekvashu
-from rekvashu import calls, refusals
+from rekvashu import calls, layout, refusals
 from rekvashu.coordinates import coordinates
 
 NAN, INF = float("nan"), float("inf")
@@ -26,7 +26,12 @@ ROUND_TRIPS = [
     (9, 0, lambda: rekvashu.build(range(9), leaf=1, factor=2, coarse=1)),
     (10, 3, lambda: rekvashu.build([[0.0, 0.0], [1.0, NAN]])),
     (10, 0, lambda: rekvashu.build([-INF, NAN])),
+    (10, 3, lambda: rekvashu.build([[0.0, 0.0], [1.0, NAN]], engine="depth-first")),
+    (2, 0, lambda: rekvashu.build([NAN], leaf=0, engine="depth-first")),
     (11, 0, lambda: short_build()),
+    (11, 0, lambda: short_record("cuts", TWO)),
+    (11, 0, lambda: short_record("planes", TWO)),
+    (11, 0, lambda: short_record("planes", [[0.0, NAN], [1.0, 1.0]])),
     (12, 0, lambda: rekvashu.row_test(3, 2, 4)),
     (12, 0, lambda: rekvashu.row_test(2 ** 64 - 1, 2, 4)),
     (13, 0, lambda: rekvashu.sample(TWO, 3, 0)),
@@ -66,6 +71,14 @@ def short_build():
     given = coordinates(TWO)
     lengths = {name: length - 1 for name, length in rekvashu.build_sizes(2, 2, 1).items()}
     number, slot = calls.build_into(given, [1, 1, 2, 1, 1], calls.lists_of(lengths))
+    calls.passed(number, slot[0])
+
+
+def short_record(name, points):
+    """A build that records its cuts, where one list of the record is one entry too short."""
+    lengths = dict(rekvashu.build_sizes(2, 2, 1), cuts=layout.record_entries(2), planes=layout.record_entries(2))
+    lengths[name] -= 1
+    number, slot = calls.depth_first_into(coordinates(points), [1, 1, 2, 1, 1], calls.lists_of(lengths, layout.LISTS + layout.RECORD_LISTS))
     calls.passed(number, slot[0])
 
 

@@ -6,7 +6,7 @@
 //! wrote; at the end the greatest ratio. Both must give the same leaves.
 mod stage;
 
-use stage::{compared, touched_floats, touched_wholes, units, Cut, Lent};
+use stage::{compared, lattice, touched_floats, touched_wholes, units, Cut, Lent};
 use std::cell::RefCell;
 use std::ffi::{c_char, c_int, c_void, CStr, CString};
 
@@ -29,12 +29,6 @@ fn opened(path: &str) -> Cut {
         assert!(!stage.is_null(), "{path} has no stage_leaves");
         std::mem::transmute::<*mut c_void, Cut>(stage)
     }
-}
-
-/// Points of a grid, row by row: many coordinates are equal on each axis.
-fn lattice(n: usize, d: usize) -> Vec<f64> {
-    let side = (1..).find(|side: &usize| side.pow(d as u32) >= n).unwrap();
-    (0..n).flat_map(|i| (0..d).map(move |axis| (i / side.pow(axis as u32) % side) as f64)).collect()
 }
 
 /// Both stages once, on lists of their own: the same leaves, and what each wrote of the room (whole numbers, floats).

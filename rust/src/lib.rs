@@ -19,6 +19,8 @@
 //! # Ok::<(), rekvashu::Error>(())
 //! ```
 //!
+//! [`build_depth_first`] builds the same tree and keeps its cuts, which [`Level::nodes`] gives from the root downwards.
+//!
 //! [`Tree::to_bytes`] gives a tree as the bytes of a file, with the points and settings that it was built for, and [`load`] takes them: a tree
 //! is handed out only where the file is whole and sound and the present points and settings are its own, bit for bit.
 //!
@@ -34,12 +36,14 @@ mod calls;
 mod lists;
 mod packed;
 mod params;
+mod record;
 mod refusal;
 mod sys;
 mod tree;
 
-pub use calls::{build, build_sizes, level_size, load, quotas, sample, square_root, version};
+pub use calls::{build, build_depth_first, build_sizes, level_size, load, quotas, sample, square_root, version};
 pub use lists::BuildSizes;
 pub use params::{DDMParams, SizePolicy};
+pub use record::{Node, NodeKind};
 pub use refusal::{Error, Mender, Refusal};
 pub use tree::{Leaf, Level, Tree};

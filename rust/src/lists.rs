@@ -43,7 +43,7 @@ impl BuildSizes {
     }
 }
 
-/// The lists of one build.
+/// The lists of one build. Those of the record stay empty where none is asked for.
 #[derive(Default)]
 pub struct Lists {
     pub level_points: Vec<usize>,
@@ -53,10 +53,12 @@ pub struct Lists {
     pub borrowed: Vec<usize>,
     pub floats: Vec<f64>,
     pub wholes: Vec<usize>,
+    pub cuts: Vec<usize>,
+    pub planes: Vec<f64>,
 }
 
 impl Lists {
-    /// Room for these sizes.
+    /// Room for these sizes, and none for a record.
     pub fn reserved(sizes: &BuildSizes) -> Result<Self, TryReserveError> {
         Ok(Lists {
             level_points: reserved(sizes.level_points)?,
@@ -66,7 +68,13 @@ impl Lists {
             borrowed: reserved(sizes.borrowed)?,
             floats: reserved(sizes.floats)?,
             wholes: reserved(sizes.wholes)?,
+            ..Lists::default()
         })
+    }
+
+    /// The same lists with room for the cut record over `n` points.
+    pub fn with_record(self, n: usize) -> Result<Self, TryReserveError> {
+        Ok(Lists { cuts: reserved(record_entries(n))?, planes: reserved(record_entries(n))?, ..self })
     }
 }
 

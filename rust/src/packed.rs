@@ -17,6 +17,22 @@ pub const fn row_floats(dimension: usize) -> usize {
     box_floats(dimension)
 }
 
+/// The cut record: a node of at least this is a leaf, and one below it a cut on that axis.
+pub const RECORD_LEAF: usize = 3;
+
+/// No leaf of a record is deeper than this many cuts.
+pub const RECORD_DEEPEST: usize = 21;
+
+/// The nodes of a fine level's record, by the level's domains. The coarse level has none.
+pub const fn record_nodes(domains: usize) -> usize {
+    2 * domains - 1
+}
+
+/// The entries that each list of a record needs, for so many points.
+pub const fn record_entries(points: usize) -> usize {
+    12 * points
+}
+
 /// The most levels of a tree.
 pub const MOST_LEVELS: usize = 4;
 
@@ -83,6 +99,8 @@ mod tests {
             ("COLUMN_BORROWED_START", BORROWED_START),
             ("COLUMN_BORROWED_COUNT", BORROWED_COUNT),
             ("ROW_NUMBERS", ROW_NUMBERS),
+            ("RECORD_LEAF", RECORD_LEAF),
+            ("RECORD_DEEPEST", RECORD_DEEPEST),
             ("MOST_LEVELS", MOST_LEVELS),
             ("SLOT_PLACE", SLOT_PLACE),
             ("SLOT_LEVELS", SLOT_LEVELS),

@@ -1,9 +1,13 @@
 //! A tree of domains, read from the lists that a build has written.
 use crate::lists::{BuildSizes, Lists};
 use crate::packed::*;
+use crate::record::{Node, Nodes};
 use std::collections::TryReserveError;
 
 /// A tree of domains over the points.
+///
+/// Two trees are equal where their levels and leaves are, with or without a record of the cuts: [`build`](crate::build) and
+/// [`build_depth_first`](crate::build_depth_first) give equal trees for the same input.
 ///
 /// ```
 /// use rekvashu::{build, DDMParams, SizePolicy};
@@ -18,7 +22,7 @@ use std::collections::TryReserveError;
 /// assert!(coarse.is_coarse() && coarse.leaf(0).unwrap().bounds().is_none());
 /// # Ok::<(), rekvashu::Error>(())
 /// ```
-#[derive(Clone, Debug, PartialEq)]
+#[derive(Clone, Debug)]
 pub struct Tree {
     dimension: usize,
     levels: usize,
@@ -29,6 +33,19 @@ pub struct Tree {
     domains: Vec<usize>,
     boxes: Vec<f64>,
     borrowed: Vec<usize>,
+    // the record of the cuts, empty where there is none
+    cuts: Vec<usize>,
+    planes: Vec<f64>,
+}
+
+impl PartialEq for Tree {
+    fn eq(&self, other: &Tree) -> bool {
+        // every field by its name, so that none is forgotten; the record is left out
+        let Tree { dimension, levels, rows, leaves, level_points, internals, domains, boxes, borrowed, cuts: _, planes: _ } = other;
+        (self.dimension, self.levels, self.rows, self.leaves) == (*dimension, *levels, *rows, *leaves)
+            && (&self.level_points, &self.internals, &self.domains) == (level_points, internals, domains)
+            && (&self.boxes, &self.borrowed) == (boxes, borrowed)
+    }
 }
 
 /// A level of a tree: level 0 has all points, and the last one is the coarse level.
@@ -60,11 +77,14 @@ impl Tree {
             domains: lists.domains,
             boxes: lists.boxes,
             borrowed: lists.borrowed,
+            cuts: lists.cuts,
+            planes: lists.planes,
         };
-        for list in [&mut tree.level_points, &mut tree.internals, &mut tree.domains, &mut tree.borrowed] {
+        for list in [&mut tree.level_points, &mut tree.internals, &mut tree.domains, &mut tree.borrowed, &mut tree.cuts] {
             list.shrink_to_fit();
         }
         tree.boxes.shrink_to_fit();
+        tree.planes.shrink_to_fit();
         tree
     }
 
@@ -126,6 +146,35 @@ impl<'a> Level<'a> {
     /// The leaf of this number, from 0, where there is one.
     pub fn leaf(&self, number: usize) -> Option<Leaf<'a>> {
         (number < self.len()).then(|| Leaf { tree: self.tree, level: self.number, domain: self.first() + number })
+    }
+
+    /// The level's cut record: the cuts from the root downwards, each before its halves, and the left half completely before the right.
+    /// A level with m leaves has 2m - 1 nodes. The coarse level has none, and neither has a tree that [`build`](crate::build) built or
+    /// [`load`](crate::load) loaded.
+    ///
+    /// Leaves are numbered by depth, and then from left to right, which is the order of [`leaves`](Level::leaves).
+    ///
+    /// ```
+    /// use rekvashu::{build_depth_first, DDMParams, Node, NodeKind, SizePolicy};
+    ///
+    /// let params = DDMParams { leaf_threshold: 3, overlap_knn: 1, coarse_reduction_factor: 2, coarse_threshold: SizePolicy::Fixed(2) };
+    /// let tree = build_depth_first(&[0.0, 1.0, 3.0, 7.0], 1, params)?;
+    /// let nodes: Vec<Node> = tree.level(0).unwrap().nodes().collect();
+    /// assert_eq!(nodes, [
+    ///     Node { depth: 0, kind: NodeKind::Cut { axis: 0, plane: 3.0 } },
+    ///     Node { depth: 1, kind: NodeKind::Leaf(0) },
+    ///     Node { depth: 1, kind: NodeKind::Leaf(1) },
+    /// ]);
+    /// assert_eq!(tree.level(1).unwrap().nodes().len(), 0);
+    /// # Ok::<(), rekvashu::Error>(())
+    /// ```
+    pub fn nodes(&self) -> impl ExactSizeIterator<Item = Node> + Clone + 'a {
+        if self.is_coarse() || self.tree.cuts.is_empty() {
+            return Nodes::new(&[], &[]);
+        }
+        let from: usize = self.tree.leaves[..self.number].iter().map(|&leaves| record_nodes(leaves)).sum();
+        let to = from + record_nodes(self.len());
+        Nodes::new(&self.tree.cuts[from..to], &self.tree.planes[from..to])
     }
 
     /// Whether this is the coarse level, with one domain and no box.

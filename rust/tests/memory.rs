@@ -1,5 +1,5 @@
 //! Calls of 1,048,576 points under a memory limit: they answer, and nothing is aborted.
-use rekvashu::{build, sample, DDMParams, Error, Refusal, SizePolicy};
+use rekvashu::{build, build_depth_first, sample, DDMParams, Error, Refusal, SizePolicy};
 use std::process::Command;
 
 /// A limit on the address space in KiB: it holds the points (8 MiB), and no list of a build (32 MiB and more).
@@ -25,6 +25,8 @@ fn large_calls() {
     assert_eq!(build(full, 1, fixed(1, 2)), Err(refused(9)));
     // nothing is wrong with this call, and the lists that it needs can't be had
     assert_eq!(build(full, 1, params), Err(Error::OutOfMemory));
+    assert_eq!(build_depth_first(full, 1, params), Err(Error::OutOfMemory));
+    assert_eq!(build_depth_first(&points, 1, params), Err(refused(8)));
     assert_eq!(sample(full, 1, MOST + 1, 0), Err(refused(13)));
     assert_eq!(sample(full, 1, MOST, MOST), Err(refused(13)));
     println!("all calls answered");

@@ -1,5 +1,5 @@
 //! The tree's ways to be read, the settings' defaults, and the words of its refusals.
-use rekvashu::{build, DDMParams, Error, Leaf, Level, Mender, Refusal, SizePolicy, Tree};
+use rekvashu::{build, build_depth_first, load, DDMParams, Error, Leaf, Level, Mender, Refusal, SizePolicy, Tree};
 
 /// Forty wells on a bent line, three levels.
 fn tree() -> Tree {
@@ -70,6 +70,23 @@ fn only_the_coarse_domain_has_no_box() {
                 assert!(lower.len() == 2 && upper.len() == 2 && lower.iter().zip(upper).all(|(l, u)| l <= u));
             }
         }
+    }
+}
+
+#[test]
+fn trees_are_equal_with_and_without_a_record() {
+    let (points, params) = ([0.0, 1.0, 3.0, 7.0], DDMParams { coarse_threshold: SizePolicy::Fixed(2), ..DDMParams::default() });
+    let (queue, deep) = (build(&points, 1, params).unwrap(), build_depth_first(&points, 1, params).unwrap());
+    assert_eq!(queue, deep);
+    assert_eq!(queue.to_bytes(&points, params), deep.to_bytes(&points, params));
+    let loaded = load(&points, 1, params, &deep.to_bytes(&points, params).unwrap()).unwrap();
+    assert_eq!(loaded, deep);
+    let nodes = |tree: &Tree| tree.levels().map(|level| level.nodes().count()).collect::<Vec<_>>();
+    assert_eq!([nodes(&queue), nodes(&deep), nodes(&loaded)], [[0, 0], [3, 0], [0, 0]]);
+    let other = |points| build_depth_first(points, 1, params).unwrap();
+    // other rows, another box, and another count of levels
+    for points in [&[3.0, 1.0, 0.0, 7.0][..], &[0.0, 1.0, 3.0, 8.0], &[0.0, 1.0]] {
+        assert_ne!(other(points), deep);
     }
 }
 

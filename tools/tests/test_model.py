@@ -1,4 +1,5 @@
 """Tests of the plain model: document 01's example and edges."""
+import struct
 import unittest
 
 import support
@@ -39,6 +40,53 @@ class Model(unittest.TestCase):
     def test_sampling(self):
         self.assertEqual(model.sample([0.0, 1.0, 3.0, 7.0], 1, range(4), 3, 1), [1, 3, 2])
         self.assertEqual(model.sample([5.0] * 3, 1, range(3), 3, 2), [2, 0, 1])
+
+
+def bits(numbers):
+    return [struct.pack(">d", x).hex() for x in numbers]
+
+
+def records(cs, leaf, coarse):
+    """The records of a tree over points on a line, with one neighbour and factor 2: whole numbers and bits of the planes, by level."""
+    found = model.records(cs, 1, leaf, model.build(cs, 1, leaf, 1, 2, 1, coarse))
+    return [([whole for whole, _ in level], bits(plane for _, plane in level)) for level in found]
+
+
+def leaves_from_the_left(cs, d, leaf, rows):
+    """The rows of each leaf, by plain recursion."""
+    _, _, left, right = model.halves(cs, d, rows)
+    if len(rows) < 2 * leaf:
+        return [left, right]
+    return leaves_from_the_left(cs, d, leaf, left) + leaves_from_the_left(cs, d, leaf, right)
+
+
+class Record(unittest.TestCase):
+    def test_the_papers_example(self):
+        self.assertEqual(records([0.0, 1.0, 3.0, 7.0], 2, 2), [([0, 0, 3, 4, 0, 5, 6], bits([3.0, 1.0, 0.0, 0.0, 7.0, 0.0, 0.0]))])
+
+    def test_numbers_go_by_depth_and_are_not_places_from_the_left(self):
+        (wholes, _), = records([float(i) for i in range(6)], 1, 3)
+        self.assertEqual(wholes, [0, 0, 0, 3, 4, 0, 0, 7, 8, 0, 9, 10, 0, 0, 5, 6, 0, 0, 11, 12, 0, 13, 14])
+
+    def test_a_plane_keeps_the_sign_of_a_zero(self):
+        # equal coordinates go by row: the first right row is row 1 at the root, and below it the one row that each half has
+        for first, second in ((-0.0, 0.0), (0.0, -0.0)):
+            planes = [second, first, 0.0, 0.0, second, 0.0, 0.0]
+            self.assertEqual(records([first, second], 1, 1), [([0, 0, 3, 4, 0, 5, 6], bits(planes))])
+
+    def test_the_leaf_that_a_node_names_is_the_domain_of_that_number(self):
+        for n in range(2, 40):
+            cs = [float((7 * i * i + 3 * i) % 23) for i in range(2 * n)]
+            for leaf in (1, 2, 3):
+                record = model.record(cs, 2, leaf, range(n))
+                domains = [rows for rows, _ in model.leaves_of(cs, 2, leaf, range(n))]
+                numbers = [whole - model.RECORD_LEAF for whole, _ in record if whole >= model.RECORD_LEAF]
+                self.assertEqual([domains[k] for k in numbers], leaves_from_the_left(cs, 2, leaf, list(range(n))))
+                self.assertEqual(len(record), 2 * len(domains) - 1)
+
+    def test_each_fine_level_has_one_and_the_coarse_level_none(self):
+        self.assertEqual([len(wholes) for wholes, _ in records([float(i) for i in range(8)], 1, 1)], [31, 15, 7])
+        self.assertEqual(records([0.0, 1.0], 1, 2), [])
 
 
 if __name__ == "__main__":

@@ -1,8 +1,8 @@
 -- The tests of a build, group by group and refusal by refusal. Assumes nothing.
 -- Holds: andThen, verdict-append, build-groups, settings-low, settings-high, settings-2, settings-3, settings-4, settings-5,
 --   settings-fine, rowsGiven, lacks, points-6, points-7, points-8, points-9, points-fine, reductions-many, checked-reductions,
---   short-1, short-2, short-3, short-4, short-5, short-6, short-7, bad-test, last-11, last-10, last-fine, refused-settings,
---   refused-points, passed-both
+--   short-1, short-2, short-3, short-4, short-5, short-6, short-7, bad-test, last-11, last-10, last-fine, fault-first,
+--   fault-second, tests-stop, tests-pass, refused-first, passed-first
 use mathlib.Core.Path.{_≡_, refl, sym, ap, _∙_}
 use mathlib.Core.Bool.{Bool, true, false, not, _||_, cond, and-false}
 use mathlib.Core.List.{List, [], _∷_, _++_}
@@ -221,24 +221,45 @@ module _ (short : Bool) (cs : List Float) where
   last-fine h g = simp (h, bad-test 0 cs, le-ltb (firstBad 0 cs) (0 + length cs) (omega arith))
 
 -- ---- the whole verdict from what the groups came to
-stops : (k : ℕ) (v w : Verdict) → numberedVerdict k ≡ v → 0 < k → refused (record { number = k; place = 0 }) ≡ andThen v w
+stops : (k : ℕ) (v w : Verdict) → numberedVerdict k ≡ v → 0 < k → numberedVerdict k ≡ andThen v w
 stops zero v w e h = absurd (omega arith)
 stops (suc k) v w e h = ap (λ (u : Verdict). andThen u w) e
 
-module _ (s : Settings) (cs : List Float) (lent : BuildSizes) (k : ℕ) (e : numberedVerdict k ≡ verdict (settingsTests s)) where
-  pub refused-settings : 0 < k → refused (record { number = k; place = 0 }) ≡ buildVerdict s cs lent
-  refused-settings h = stops k _ _ e h ∙ sym (build-groups s cs lent)
+passes : (k : ℕ) (v : Verdict) → numberedVerdict k ≡ v → k ≤ 0 → accepted ≡ v
+passes k v e h = let z : k ≡ 0 = omega arith in rw z at e
 
-  module _ (fine : k ≤ 0) (j : ℕ) (f : numberedVerdict j ≡ verdict (pointsTests s (pointCount (s .dimension) cs) (coordinatesMissing (s .dimension) cs))) where
-    settings-pass : accepted ≡ verdict (settingsTests s)
-    settings-pass = let z : k ≡ 0 = omega arith in rw z at e
+numbered : (k : ℕ) → 0 < k → refused (record { number = k; place = 0 }) ≡ numberedVerdict k
+numbered zero h = absurd (omega arith)
+numbered (suc k) h = refl
 
-    pub refused-points : 0 < j → refused (record { number = j; place = 0 }) ≡ buildVerdict s cs lent
-    refused-points h = rw (build-groups s cs lent, ← settings-pass) (stops j _ _ f h)
+-- two groups, by the numbers of their faults
+module _ (ts us : List Test) (k : ℕ) (e : numberedVerdict k ≡ verdict ts) where
+  pub fault-first : 0 < k → numberedVerdict k ≡ verdict (ts ++ us)
+  fault-first h = stops k _ _ e h ∙ sym (verdict-append ts us)
 
-    pub passed-both : j ≤ 0 → buildVerdict s cs lent
-        ≡ verdict (on (buildShort lent (buildStated (s .dimension) (pointCount (s .dimension) cs) (s .neighbours))) 11 ∷ notFinite cs ∷ [])
-    passed-both h =
-        let z : j ≡ 0 = omega arith in
-        let p : accepted ≡ verdict (pointsTests s (pointCount (s .dimension) cs) (coordinatesMissing (s .dimension) cs)) = rw z at f in
-        rw (build-groups s cs lent, ← settings-pass, ← p)
+  pub fault-second : k ≤ 0 → (j : ℕ) → numberedVerdict j ≡ verdict us → numberedVerdict j ≡ verdict (ts ++ us)
+  fault-second h j f = f ∙ ap (λ (u : Verdict). andThen u (verdict us)) (passes k _ e h) ∙ sym (verdict-append ts us)
+
+-- a build over n rows: the number of the first of 1 to 9 whose condition is met, or 0
+module _ (s : Settings) (n : ℕ) (missing lacking : Bool) (judged : Test) (k : ℕ) (e : numberedVerdict k ≡ verdict (settingsTests s ++ pointsTests s n missing)) where
+  pub tests-stop : 0 < k → refused (record { number = k; place = 0 }) ≡ verdict (buildTests s n missing lacking judged)
+  unfolding buildTests
+  tests-stop h = numbered k h ∙ fault-first (settingsTests s ++ pointsTests s n missing) _ k e h
+
+  pub tests-pass : k ≤ 0 → verdict (buildTests s n missing lacking judged) ≡ verdict (on lacking 11 ∷ judged ∷ [])
+  unfolding buildTests
+  tests-pass h =
+      verdict-append (settingsTests s ++ pointsTests s n missing) (on lacking 11 ∷ judged ∷ [])
+      ∙ ap (λ (u : Verdict). andThen u (verdict (on lacking 11 ∷ judged ∷ []))) (sym (passes k _ e h))
+
+-- the build over all points
+module _ (s : Settings) (cs : List Float) (lent : BuildSizes) (k : ℕ)
+    (e : numberedVerdict k ≡ verdict (settingsTests s ++ pointsTests s (pointCount (s .dimension) cs) (coordinatesMissing (s .dimension) cs))) where
+  pub refused-first : 0 < k → refused (record { number = k; place = 0 }) ≡ buildVerdict s cs lent
+  unfolding buildVerdict
+  refused-first h = tests-stop s _ _ _ _ k e h
+
+  pub passed-first : k ≤ 0 → (short : Bool) → short ≡ buildShort lent (buildStated (s .dimension) (pointCount (s .dimension) cs) (s .neighbours))
+      → verdict (on short 11 ∷ notFinite cs ∷ []) ≡ buildVerdict s cs lent
+  unfolding buildVerdict
+  passed-first h short f = rw f (sym (tests-pass s _ _ _ _ k e h))

@@ -1,10 +1,11 @@
 // The refusals of a build, tried in document 01's order before anything is written.
 ghost use mathlib.Core.Path.{_≡_};
 ghost use mathlib.Core.Bool.{not};
+ghost use mathlib.Core.List.{[], _∷_, _++_};
 ghost use Prim.Native.Nat.{_/_, _%_, _≤_};
 ghost use lib.Dec.{eqb};
 ghost use Rattle.definition.specs.Packed.{buildStated};
-ghost use Rattle.definition.specs.Refusals.{mostPoints, mostNeighbours, verdict, settingsTests, pointsTests, zeroThreshold, buildShort, buildVerdict};
+ghost use Rattle.definition.specs.Refusals.{mostPoints, mostNeighbours, on, verdict, settingsTests, pointsTests, notFinite, zeroThreshold, buildShort, buildVerdict};
 ghost use Rattle.config.specs.Params.{thresholdPolicy, settingsOf};
 ghost use Rattle.build_sizes.specs.Sizes.{sizesOf};
 ghost use Rattle.build_checks.specs.Verdicts.{numberedVerdict, verdictOf};
@@ -81,8 +82,20 @@ pub fn points_fault(count: usize, dimensions: usize, params: DDMParams) -> usize
     0
 }
 
+// Settings and points, of `count` coordinates: the number of the first of 1 to 9 whose condition is met, or 0.
+pub fn first_fault(count: usize, dimensions: usize, params: DDMParams) -> usize
+    ensures number { λ r. ⌜ numberedVerdict r ≡ verdict (settingsTests (settingsOf dimensions params) ++ pointsTests (settingsOf dimensions params) (count / dimensions) (not (eqb (count % dimensions) 0))) ⌝ }
+    ensures fine { λ r. ⌜ (r ≡ 0 → (1 ≤ dimensions) × (dimensions ≤ 3) × (count / dimensions ≤ mostPoints) × (params .«overlap_knn» ≤ mostNeighbours)) ⌝ }
+{
+    let settings = settings_fault(dimensions, params);
+    if 0 < settings {
+        return settings;
+    }
+    points_fault(count, dimensions, params)
+}
+
 // Whether one of the lists is shorter than n points on `dimensions` axes with this neighbour count ask for.
-fn is_short(lent: BuildSizes, dimensions: usize, n: usize, neighbours: usize) -> bool
+pub fn is_short(lent: BuildSizes, dimensions: usize, n: usize, neighbours: usize) -> bool
     requires { ⌜ (dimensions ≤ 3) × (n ≤ mostPoints) × (neighbours ≤ mostNeighbours) ⌝ }
     ensures { λ r. ⌜ r ≡ buildShort (sizesOf lent) (buildStated dimensions n neighbours) ⌝ }
 {
@@ -108,6 +121,20 @@ fn is_short(lent: BuildSizes, dimensions: usize, n: usize, neighbours: usize) ->
     lent.wholes < stated.wholes
 }
 
+// The last tests, over lists of which one may be short: 11, and then 10.
+pub fn last_check(points: &[f64], short: bool) -> Checked
+    ensures { λ r. ⌜ verdictOf r ≡ verdict (on short 11 ∷ notFinite (now (points .entry)) ∷ []) ⌝ }
+{
+    if short {
+        return Checked::Refused(11, 0);
+    }
+    let bad = finite::first_not_finite(points);
+    if bad < points.len() {
+        return Checked::Refused(10, bad);
+    }
+    Checked::Accepted
+}
+
 // The tests of a build over all points, with lists of these lengths.
 pub fn check_build(
     points: &[f64],
@@ -117,21 +144,11 @@ pub fn check_build(
 ) -> Checked
     ensures { λ r. ⌜ verdictOf r ≡ buildVerdict (settingsOf dimensions params) (now (points .entry)) (sizesOf lent) ⌝ }
 {
-    let settings = settings_fault(dimensions, params);
-    if 0 < settings {
-        return Checked::Refused(settings, 0);
-    }
-    let given = points_fault(points.len(), dimensions, params);
-    if 0 < given {
-        return Checked::Refused(given, 0);
+    let number = first_fault(points.len(), dimensions, params);
+    if 0 < number {
+        return Checked::Refused(number, 0);
     }
     let n = points.len() / dimensions;
-    if is_short(lent, dimensions, n, params.overlap_knn as usize) {
-        return Checked::Refused(11, 0);
-    }
-    let bad = finite::first_not_finite(points);
-    if bad < points.len() {
-        return Checked::Refused(10, bad);
-    }
-    Checked::Accepted
+    let short = is_short(lent, dimensions, n, params.overlap_knn as usize);
+    last_check(points, short)
 }

@@ -1,3 +1,3 @@
--- Laws of the build.
-pub mod Grown
+-- Laws of the build, and of both builds together.
 pub mod Outcomes
+pub mod BothBuilds

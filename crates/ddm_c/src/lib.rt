@@ -5,14 +5,15 @@ ghost use mathlib.Core.Path.{_≡_};
 ghost use Rattle.definition.specs.Refusals.{stretchVerdict};
 ghost use Rattle.definition.specs.Outcome.{numberOf, rootAnswer, sizeAnswer, sizesAnswer};
 ghost use Rattle.tree_answer.specs.Answers.{listsOf};
+ghost use Rattle.depth_first_build.specs.Outcome.{recordsOf};
 ghost use Rattle.slots.specs.Settings.{settingsFrom};
 ghost use Rattle.slots.specs.Slots.{valueSlot, sizesSlot, versionNumber};
-ghost use Rattle.slots.specs.Told.{Told, QuotasTold, SampleTold, BuildTold, StoreTold, LoadTold};
+ghost use Rattle.slots.specs.Told.{Told, QuotasTold, SampleTold, BuildTold, DepthFirstTold, StoreTold, LoadTold};
 
 // The version as one number: major * 10000 + minor * 100 + patch.
 #[no_mangle]
 pub extern "C" fn ddm_version() -> usize
-    ensures { λ r. ⌜ r ≡ versionNumber 0 3 0 ⌝ }
+    ensures { λ r. ⌜ r ≡ versionNumber 0 4 0 ⌝ }
 {
     slots::version()
 }
@@ -163,6 +164,58 @@ pub extern "C" fn ddm_build(
         borrowed,
         floats,
         wholes,
+    );
+    let rows = tree.rows;
+    let each = tree.domains;
+    slots::put_counts(result, tree.place, tree.levels, rows, each);
+    tree.number
+}
+
+// Builds the tree depth first, and writes the records of its cuts: an axis, or 3 plus a leaf's number, to `cuts`, and the plane or +0 to
+// `planes`. Each of them is lent 12 entries a point. The slot is that of a build. Refusals 1 to 11.
+#[no_mangle]
+pub extern "C" fn ddm_build_depth_first(
+    points: &[f64],
+    dimensions: usize,
+    leaf: u32,
+    neighbours: u32,
+    factor: u32,
+    policy: u32,
+    threshold: u32,
+    level_points: &mut [usize],
+    internals: &mut [usize],
+    domains: &mut [usize],
+    boxes: &mut [f64],
+    borrowed: &mut [usize],
+    floats: &mut [f64],
+    wholes: &mut [usize],
+    cuts: &mut [usize],
+    planes: &mut [f64],
+    result: &mut [usize],
+) -> usize
+    ensures { λ r. ⌜ DepthFirstTold (settingsFrom dimensions leaf neighbours factor policy threshold) (now (points .entry))
+        (listsOf (now («level_points» .entry)) (now (internals .entry)) (now (domains .entry)) (now (boxes .entry)) (now (borrowed .entry)))
+        (listsOf (now («level_points» .exit)) (now (internals .exit)) (now (domains .exit)) (now (boxes .exit)) (now (borrowed .exit)))
+        (now (floats .entry)) (now (floats .exit)) (now (wholes .entry)) (now (wholes .exit))
+        (recordsOf (now (cuts .entry)) (now (planes .entry))) (recordsOf (now (cuts .exit)) (now (planes .exit))) (now (result .entry)) (now (result .exit)) r ⌝ }
+{
+    if result.len() < 10 {
+        return 11;
+    }
+    let params = slots::params_of(leaf, neighbours, factor, policy, threshold);
+    let tree = depth_first_build::build_depth_first(
+        points,
+        dimensions,
+        params,
+        level_points,
+        internals,
+        domains,
+        boxes,
+        borrowed,
+        floats,
+        wholes,
+        cuts,
+        planes,
     );
     let rows = tree.rows;
     let each = tree.domains;

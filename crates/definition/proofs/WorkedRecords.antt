@@ -3,13 +3,12 @@
 use Prim.Native.Nat.{ℕ, _*_}
 use mathlib.Core.Path.{_≡_, refl}
 use mathlib.Core.List.{List, [], _∷_, _++_, map}
-use lib.ListN.{replicate}
+use lib.ListN.{take, replicate}
 use lib.Ieee.{Float, nan, binary64, ofBits}
 use Rattle.lists.specs.Lists.{from}
 use Rattle.definition.specs.Number.{plusZero}
-use Rattle.definition.specs.Outcome.{Answer, zeroCounts, TreeLists, buildAnswer, buildLists}
-use Rattle.definition.specs.Packed.{Counts}
-use Rattle.definition.specs.Record.{cutsOf, levelCuts, leavesUnder, leafNumber, wholeOf, floatOf, nodesFrom, recordOf, fineLevels, nodesIn, packedCuts, packedPlanes}
+use Rattle.definition.specs.Outcome.{zeroCounts, buildAnswer, buildLists}
+use Rattle.definition.specs.Record.{cutsOf, levelCuts, leavesUnder, leafNumber, leafNode, wholeOf, floatOf, nodesFrom, recordOf, fineLevels, nodesIn, packedCuts, packedPlanes}
 use Rattle.definition.specs.DepthFirst.{RecordLists, recordShort, depthFirstVerdict, depthFirstAnswer, depthFirstLists, recordListsAfter, depthFirstRecords}
 use Rattle.definition.proofs.WorkedSamples.{opened, line, onLine, nines, floatRoom, wholeRoom}
 
@@ -48,6 +47,10 @@ abbrev four : List Float
 four = line (0 ∷ 1 ∷ 3 ∷ 7 ∷ [])
 
 pub record Records : Type 0 where
+  -- a leaf stands as 3 plus its number
+  leaf-from-3 : wholeOf (leafNode 0) ≡ 3
+  -- the root's cut comes first
+  root-first : take 1 (wholesOver 2 four 4) ≡ 0 ∷ []
   -- document 01's example: seven nodes, and what stands past them stays
   example-cuts : recordsOf 2 2 4 four .cuts ≡ (0 ∷ 0 ∷ 3 ∷ 4 ∷ 0 ∷ 5 ∷ 6 ∷ []) ++ replicate 41 9
   example-planes : recordsOf 2 2 4 four .planes ≡ line (3 ∷ 1 ∷ []) ++ (plusZero ∷ plusZero ∷ []) ++ line (7 ∷ []) ++ (plusZero ∷ plusZero ∷ []) ++ line (replicate 41 9)
@@ -86,6 +89,8 @@ pub records : Records
 unfolding recordsOpened
 records =
     record {
+      leaf-from-3 = refl;
+      root-first = refl;
       example-cuts = refl;
       example-planes = refl;
       example-answer = refl;

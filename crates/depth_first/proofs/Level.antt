@@ -1,39 +1,39 @@
 -- A level, cut depth first: what the cut of its root has left is what the numbering asks for, and what the numbering makes of it are the
 -- level's leaves and its record. Assumes nothing.
--- Holds: planes-same, root-is, root-wide, root-space, level-tabled, level-rows, level-boxes, level-cuts-are, level-planes, level-many
-use mathlib.Core.Path.{_≡_, refl, sym, ap, subst, _∙_}
+-- Holds: planes-same, root-is, root-wide, root-space, level-tabled, level-rows, level-boxes, level-cuts-are, level-planes,
+--   level-many
+use mathlib.Core.Path.{_≡_, refl, sym, ap, _∙_}
 use mathlib.Core.Logic.{_⊎_}
-use mathlib.Core.List.{List, [], _∷_, _++_, map, map-append}
+use mathlib.Core.List.{List, map, map-append}
 use Prim.Native.Nat.{ℕ, zero, suc, _+_, _*_, _^_, _≤_, _<_}
 use native.Mathlib.Nat.{mul-zero, mul-le-mul-left, zero-add}
 use native.Mathlib.Omega.{arith}
-use lib.ListN.{length, getD, take, drop, length-map, length-append, length-drop}
+use lib.ListN.{length, getD, take, drop, length-map}
 use lib.Ieee.{Float}
 use Rattle.lists.specs.Lists.{put, part, joined}
 use Rattle.lists.specs.Ascends.{All}
-use Rattle.lists.proofs.Put.{front-put, part-put-same, length-put}
+use Rattle.lists.proofs.Put.{front-put, part-put-same}
 use Rattle.lists.proofs.All.{all-imp, all-map, map-all, all-at}
 use Rattle.lists.proofs.Joined.{joined-map-even}
 use Rattle.definition.specs.Packed.{rowNumbers, rowFloats}
 use Rattle.definition.specs.Points.{extents, boxWidth}
 use Rattle.definition.specs.Cut.{Domain, rootDomain, leavesOf}
-use Rattle.definition.specs.Record.{Cuts, uncut, cutAt, Deep, depthsOf, Node, wholeOf, floatOf, levelCuts, leavesUnder, nodesFrom, leafNumber, recordOf}
+use Rattle.definition.specs.Record.{Cuts, uncut, cutAt, Deep, depthsOf, wholeOf, floatOf, levelCuts, nodesFrom, leafNumber, recordOf}
 use Rattle.rows.specs.Rows.{GoodRows}
 use Rattle.rows.proofs.Good.{good-good}
 use Rattle.boxes.specs.declared.Extents.{Extents}
 use Rattle.boxes.specs.Boxes.{floatsOf}
-use Rattle.queue.specs.Rows.{withOwn}
 use Rattle.leaves.proofs.Turns.{length-extents}
 use Rattle.record_laws.specs.ByDepth.{atDepth}
-use Rattle.record_laws.specs.Table.{Entry, entryWidth, entryNumbers, entriesIn, entriesUnder, cutsAt, unnumbered, nodeCount, leafCount, rowsUnder, boxesUnder, rowsAtDepth, boxesAtDepth}
+use Rattle.record_laws.specs.Table.{Entry, entryWidth, entryNumbers, entriesIn, entriesUnder, cutsAt, unnumbered, nodeCount, leafCount, rowsUnder, boxesUnder, rowsAtDepth}
 use Rattle.record_laws.proofs.Steps.{level-cuts}
 use Rattle.record_laws.proofs.Depths.{leastDepth, levelLeaves, two-depths, depth-most, some-leaf, by-two}
 use Rattle.record_laws.proofs.Entries.{nodes-leaf, nodes-cut, leaf-count-at, entries-depths, entries-count, entries-places, entries-total, entries-read, rows-at, boxes-at, boxes-under-length}
 use Rattle.record_laws.proofs.Numbers.{numbered-record}
 use Rattle.record_laws.proofs.Long.{level-count}
-use Rattle.split.specs.Written.{domainOf, Written, Space}
-use Rattle.split.proofs.Under.{cuts-small, cuts-wide}
-use Rattle.leaf_numbers.specs.Numbering.{tableOf, firstDepth, rowsIn, rowsByNumber, boxesByNumber, allNumbered, Room, Full, Tabled}
+use Rattle.cut_nodes.specs.Written.{domainOf, Written, Space}
+use Rattle.record_laws.proofs.Under.{cuts-small, cuts-wide}
+use Rattle.leaf_numbers.specs.Numbering.{tableOf, firstDepth, rowsByNumber, boxesByNumber, allNumbered, Tabled}
 
 -- a leaf's float is +0 whatever its number
 pub planes-same : (f g : ℕ → ℕ) (j k : ℕ) (t : Cuts) → map floatOf (nodesFrom f j t) ≡ map floatOf (nodesFrom g k t)

@@ -9,7 +9,7 @@ ghost use Rattle.definition.specs.Cut.{leavesOf};
 ghost use Rattle.definition.specs.Record.{recordOf, wholeOf, floatOf};
 ghost use Rattle.queue.specs.Rows.{withOwn};
 ghost use Rattle.rows.specs.Rows.{GoodRows};
-use split::Next;
+use cut_nodes::Next;
 
 // Cuts the rows into the leaves of a level, which stand in their place in the end, packed by number. The domain rows from the `first` on
 // get start and count of each, where the rows stand from `at` on in their list; `boxes` gets their boxes from the `first` on, and both

@@ -1,9 +1,12 @@
 -- The words of Fine by a plan and a place. Definitions only.
-use Prim.Native.Nat.{ℕ}
+use Prim.Native.Nat.{ℕ, _+_, _≤_}
 use mathlib.Core.List.{List}
+use lib.ListN.{length}
 use lib.Ieee.{Float}
 use Rattle.lists.specs.Lists.{part}
 use Rattle.definition.specs.Tree.{Leaf}
+use Rattle.definition.specs.Record.{Node}
+use Rattle.cut_engine.specs.Engines.{recordBy, nodesFor}
 use Rattle.fine_level.specs.declared.Plan.{Plan}
 use Rattle.fine_level.specs.declared.Place.{Place}
 use Rattle.fine_level.specs.Fine.{leavesAt, Given, Fits}
@@ -23,3 +26,11 @@ GivenBy p cs active = Given (p .dimensions) cs (p .leaf) (p .neighbours) active
 -- the lists are long enough for a level over `a` rows at this place
 abbrev pub FitsAt : Plan → Place → ℕ → List ℕ → List ℕ → List Float → List ℕ → Type 0
 FitsAt p w a I D B L = Fits (p .dimensions) (p .neighbours) a I D B L (w .from) (w .first) (w .bat)
+
+-- the nodes that are written of the level's record
+abbrev pub nodesBy : Plan → List Float → List ℕ → List Node
+nodesBy p cs active = recordBy (p .engine) (p .dimensions) cs (p .leaf) active
+
+-- both lists of the record are long enough for that of a level over `a` rows at this place
+abbrev pub RecordFits : Plan → Place → ℕ → List ℕ → List Float → Type 0
+RecordFits p w a C Q = (w .node + nodesFor (p .engine) a ≤ length C) × (w .node + nodesFor (p .engine) a ≤ length Q)

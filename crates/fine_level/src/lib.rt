@@ -1,36 +1,43 @@
-// One fine level: the leaves of the active rows, what they borrow, and the rows that they send up.
+// One fine level: the leaves of the active rows, by either engine, what they borrow, and the rows that they send up.
 ghost use mathlib.Core.Path.{_≡_};
+ghost use mathlib.Core.List.{map};
 ghost use Prim.Native.Nat.{_+_, _*_, _≤_};
 ghost use lib.ListN.{length};
 ghost use Rattle.lists.specs.Lists.{put};
 ghost use Rattle.definition.specs.Packed.{stretches, rowNumbers, rowFloats};
+ghost use Rattle.definition.specs.Record.{wholeOf, floatOf};
 ghost use Rattle.packed.specs.Reading.{ownIn, borrowedIn, boxesIn};
+ghost use Rattle.cut_engine.specs.Engines.{nodesFor};
 ghost use Rattle.fine_level.specs.Fine.{nextAt, Room};
-ghost use Rattle.fine_level.specs.Planned.{leavesBy, activeAt, GivenBy, FitsAt};
+ghost use Rattle.fine_level.specs.Planned.{leavesBy, nodesBy, activeAt, GivenBy, FitsAt, RecordFits};
+use cut_engine::Engine;
 
-// What every level of a build shares: the axes, the leaf threshold and the neighbour count.
+// What every level of a build shares: how it is cut, the axes, the leaf threshold and the neighbour count.
 pub struct Plan {
+    pub engine: Engine,
     pub dimensions: usize,
     pub leaf: usize,
     pub neighbours: usize,
 }
 
-// Where a level stands in the lists: its `a` active rows from `from` on, its leaves' rows likewise, its first domain row, and its
-// first borrowed row.
+// Where a level stands in the lists: its `a` active rows from `from` on, its leaves' rows likewise, its first domain row, its
+// first borrowed row, and the first node of its record.
 pub struct Place {
     pub from: usize,
     pub a: usize,
     pub first: usize,
     pub bat: usize,
+    pub node: usize,
 }
 
-// How many leaves a level has, and how many rows they borrow.
+// How many leaves a level has, how many rows they borrow, and how many nodes of its record are written.
 pub struct Parts {
     pub leaves: usize,
     pub borrowed: usize,
+    pub nodes: usize,
 }
 
-// The leaves of the active rows, and what they borrow.
+// The leaves of the active rows, with the record, and what they borrow.
 fn divide(
     points: &[f64],
     plan: Plan,
@@ -42,17 +49,25 @@ fn divide(
     borrowed: &mut [usize],
     floats: &mut [f64],
     wholes: &mut [usize],
+    cuts: &mut [usize],
+    planes: &mut [f64],
 ) -> Parts
     requires { ⌜ GivenBy plan (now points) (now active) ⌝ }
     requires { ⌜ FitsAt plan place (length (now active)) (now internals) (now domains) (now boxes) (now borrowed) ⌝ }
     requires { ⌜ Room (plan .neighbours) (length (now active)) (now floats) (now wholes) ⌝ }
-    ensures counts { λ r. ⌜ (r .leaves ≡ length (leavesBy plan (now (points .entry)) (now (active .entry)))) × (r .borrowed ≡ length (borrowedIn (leavesBy plan (now (points .entry)) (now (active .entry))))) ⌝ }
+    requires { ⌜ RecordFits plan place (length (now active)) (now cuts) (now planes) ⌝ }
+    ensures counts { λ r. ⌜ (r .leaves ≡ length (leavesBy plan (now (points .entry)) (now (active .entry)))) × (r .borrowed ≡ length (borrowedIn (leavesBy plan (now (points .entry)) (now (active .entry)))))
+        × (r .nodes ≡ length (nodesBy plan (now (points .entry)) (now (active .entry)))) × (r .nodes ≤ nodesFor (plan .engine) (length (now (active .entry)))) ⌝ }
     ensures internals { λ _. ⌜ now (internals .exit) ≡ put (now (internals .entry)) (place .from) (ownIn (leavesBy plan (now (points .entry)) (now (active .entry)))) ⌝ }
     ensures domains { λ _. ⌜ now (domains .exit) ≡ put (now (domains .entry)) (rowNumbers * place .first) (stretches (place .from) (place .bat) (leavesBy plan (now (points .entry)) (now (active .entry)))) ⌝ }
     ensures boxes { λ _. ⌜ now (boxes .exit) ≡ put (now (boxes .entry)) (rowFloats (plan .dimensions) * place .first) (boxesIn (leavesBy plan (now (points .entry)) (now (active .entry)))) ⌝ }
     ensures borrowed { λ _. ⌜ now (borrowed .exit) ≡ put (now (borrowed .entry)) (place .bat) (borrowedIn (leavesBy plan (now (points .entry)) (now (active .entry)))) ⌝ }
+    ensures cuts { λ _. ⌜ now (cuts .exit) ≡ put (now (cuts .entry)) (place .node) (map wholeOf (nodesBy plan (now (points .entry)) (now (active .entry)))) ⌝ }
+    ensures planes { λ _. ⌜ now (planes .exit) ≡ put (now (planes .entry)) (place .node) (map floatOf (nodesBy plan (now (points .entry)) (now (active .entry)))) ⌝ }
 {
-    let m = leaves::leaves(
+    let engine = plan.engine;
+    let cut = cut_engine::cut_level(
+        engine,
         points,
         plan.dimensions,
         plan.leaf,
@@ -64,7 +79,11 @@ fn divide(
         boxes,
         floats,
         wholes,
+        cuts,
+        planes,
+        place.node,
     );
+    let m = cut.leaves;
     let b = overlaps::overlaps(
         points,
         plan.dimensions,
@@ -81,14 +100,17 @@ fn divide(
     Parts {
         leaves: m,
         borrowed: b,
+        nodes: cut.nodes,
     }
 }
 
-// How many leaves a level has, how many rows they borrow, and how many active rows the next level has.
+// How many leaves a level has, how many rows they borrow, how many active rows the next level has, and how many nodes of its record
+// are written.
 pub struct Written {
     pub leaves: usize,
     pub borrowed: usize,
     pub next: usize,
+    pub nodes: usize,
 }
 
 // The fine level over the active rows of its place in the level points. Its leaves' rows go to the same place in the internals, and
@@ -105,18 +127,24 @@ pub fn fine_level(
     borrowed: &mut [usize],
     floats: &mut [f64],
     wholes: &mut [usize],
+    cuts: &mut [usize],
+    planes: &mut [f64],
 ) -> Written
     requires { ⌜ (place .from + 2 * place .a ≤ length (now «level_points»)) × (size ≤ place .a) × GivenBy plan (now points) (activeAt place (now «level_points»)) ⌝ }
     requires { ⌜ FitsAt plan place (place .a) (now internals) (now domains) (now boxes) (now borrowed) ⌝ }
     requires { ⌜ Room (plan .neighbours) (place .a) (now floats) (now wholes) ⌝ }
+    requires { ⌜ RecordFits plan place (place .a) (now cuts) (now planes) ⌝ }
     ensures counts { λ r. ⌜ (r .leaves ≡ length (leavesBy plan (now (points .entry)) (activeAt place (now («level_points» .entry)))))
         × (r .borrowed ≡ length (borrowedIn (leavesBy plan (now (points .entry)) (activeAt place (now («level_points» .entry))))))
-        × (r .next ≡ length (nextAt (plan .dimensions) (now (points .entry)) (plan .leaf) size (activeAt place (now («level_points» .entry))))) ⌝ }
+        × (r .next ≡ length (nextAt (plan .dimensions) (now (points .entry)) (plan .leaf) size (activeAt place (now («level_points» .entry)))))
+        × (r .nodes ≡ length (nodesBy plan (now (points .entry)) (activeAt place (now («level_points» .entry))))) × (r .nodes ≤ nodesFor (plan .engine) (place .a)) ⌝ }
     ensures level_points { λ _. ⌜ now («level_points» .exit) ≡ put (now («level_points» .entry)) (place .from + place .a) (nextAt (plan .dimensions) (now (points .entry)) (plan .leaf) size (activeAt place (now («level_points» .entry)))) ⌝ }
     ensures internals { λ _. ⌜ now (internals .exit) ≡ put (now (internals .entry)) (place .from) (ownIn (leavesBy plan (now (points .entry)) (activeAt place (now («level_points» .entry))))) ⌝ }
     ensures domains { λ _. ⌜ now (domains .exit) ≡ put (now (domains .entry)) (rowNumbers * place .first) (stretches (place .from) (place .bat) (leavesBy plan (now (points .entry)) (activeAt place (now («level_points» .entry))))) ⌝ }
     ensures boxes { λ _. ⌜ now (boxes .exit) ≡ put (now (boxes .entry)) (rowFloats (plan .dimensions) * place .first) (boxesIn (leavesBy plan (now (points .entry)) (activeAt place (now («level_points» .entry))))) ⌝ }
     ensures borrowed { λ _. ⌜ now (borrowed .exit) ≡ put (now (borrowed .entry)) (place .bat) (borrowedIn (leavesBy plan (now (points .entry)) (activeAt place (now («level_points» .entry))))) ⌝ }
+    ensures cuts { λ _. ⌜ now (cuts .exit) ≡ put (now (cuts .entry)) (place .node) (map wholeOf (nodesBy plan (now (points .entry)) (activeAt place (now («level_points» .entry))))) ⌝ }
+    ensures planes { λ _. ⌜ now (planes .exit) ≡ put (now (planes .entry)) (place .node) (map floatOf (nodesBy plan (now (points .entry)) (activeAt place (now («level_points» .entry))))) ⌝ }
 {
     let from = place.from;
     let a = place.a;
@@ -132,6 +160,8 @@ pub fn fine_level(
         borrowed,
         floats,
         wholes,
+        cuts,
+        planes,
     );
     let m = parts.leaves;
     let next = coarse_points::coarse_points(
@@ -152,5 +182,6 @@ pub fn fine_level(
         leaves: m,
         borrowed: parts.borrowed,
         next: next,
+        nodes: parts.nodes,
     }
 }

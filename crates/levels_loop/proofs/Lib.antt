@@ -3,3 +3,5 @@ pub mod Spaces
 pub mod Fine
 pub mod Coarse
 pub mod Loop
+pub mod Records
+pub mod Noted

@@ -1,7 +1,7 @@
 -- The loop over the levels. What is written, with what the levels that are left will write, is what is due. Assumes nothing.
--- Holds: rowCount, leafCount, Outs, Long, Inv, levels-first, rows-few, end-points, end-internals, end-domains, end-boxes,
---   end-borrowed, end-rows, end-counts, end-number, built-below, level-above, level-points-fit, level-fits, level-room,
---   first-fits, bat-fits, size-few, levels-next
+-- Holds: rowCount, leafCount, Outs, Long, Inv, levels-first, rows-few, end-rest, end-points, end-internals, end-domains,
+--   end-boxes, end-borrowed, end-rows, end-counts, end-number, built-below, level-above, levels-left, level-points-fit,
+--   level-fits, level-room, first-fits, bat-fits, size-few, next-rest, next-fewer, levels-next
 use mathlib.Core.Path.{_≡_, refl, sym, ap, _∙_}
 use mathlib.Core.Bool.{true, false, _&&_}
 use mathlib.Core.List.{List, [], _∷_, _++_, map}
@@ -113,33 +113,33 @@ module _ {d : ℕ} {cs : List Float} {leaf q n : ℕ} {P I D : List ℕ} {B : Li
       abbrev all : List Level
       all = levelsAfter d cs leaf q c k 0 (part P 0 n)
 
-      last : levelsAfter d cs leaf q c k built (part P₁ at a) ≡ coarseLevel d active ∷ []
-      last = after-coarse (levelSettings d leaf q) cs c k built active a many no
+      pub end-rest : levelsAfter d cs leaf q c k built (part P₁ at a) ≡ coarseLevel d (part P₁ at a) ∷ []
+      end-rest = after-coarse (levelSettings d leaf q) cs c k built active a many no
 
       pub end-points : P₁ ≡ put P 0 (packedLevelPoints (levelsAfter d cs leaf q c k 0 (part P 0 n)))
-      end-points = sym (put-part P₁ at a (coarse-fits (v .space) .0)) ∙ rw (last, coarse-points d active) at (v .outs .level-points)
+      end-points = sym (put-part P₁ at a (coarse-fits (v .space) .0)) ∙ rw (end-rest, coarse-points d active) at (v .outs .level-points)
 
       pub end-internals : I₂ ≡ put I 0 (packedInternals (levelsAfter d cs leaf q c k 0 (part P 0 n)))
-      end-internals = eI ∙ rw (last, coarse-own d active) at (v .outs .internals)
+      end-internals = eI ∙ rw (end-rest, coarse-own d active) at (v .outs .internals)
 
       pub end-domains : D₂ ≡ put D 0 (packedDomains (levelsAfter d cs leaf q c k 0 (part P 0 n)))
-      end-domains = eD ∙ rw (last, coarse-rows d active at bat, many) at (v .outs .domains)
+      end-domains = eD ∙ rw (end-rest, coarse-rows d active at bat, many) at (v .outs .domains)
 
       pub end-boxes : B₂ ≡ put B 0 (packedBoxes (levelsAfter d cs leaf q c k 0 (part P 0 n)))
-      end-boxes = eB ∙ rw (last, coarse-boxes d active) at (v .outs .boxes)
+      end-boxes = eB ∙ rw (end-rest, coarse-boxes d active) at (v .outs .boxes)
 
       pub end-borrowed : L₁ ≡ put L 0 (packedBorrowed (levelsAfter d cs leaf q c k 0 (part P 0 n)))
-      end-borrowed = sym (put-nil L₁ bat) ∙ rw (last, coarse-borrowed d active) at (v .outs .borrowed)
+      end-borrowed = sym (put-nil L₁ bat) ∙ rw (end-rest, coarse-borrowed d active) at (v .outs .borrowed)
 
       pub end-rows : set rows built a ≡ put (replicate 4 0) 0 (map rowCount (levelsAfter d cs leaf q c k 0 (part P 0 n)))
       end-rows =
-          set-put rows built a (omega (arith, v .few, v .slots)) ∙ rw (last, coarse-row-count d active, many) at (v .outs .row-counts)
+          set-put rows built a (omega (arith, v .few, v .slots)) ∙ rw (end-rest, coarse-row-count d active, many) at (v .outs .row-counts)
 
       pub end-counts : set counts built 1 ≡ put (replicate 4 0) 0 (map leafCount (levelsAfter d cs leaf q c k 0 (part P 0 n)))
-      end-counts = set-put counts built 1 (omega (arith, v .few, v .slots-too)) ∙ rw (last, coarse-domain-count d active) at (v .outs .leaf-counts)
+      end-counts = set-put counts built 1 (omega (arith, v .few, v .slots-too)) ∙ rw (end-rest, coarse-domain-count d active) at (v .outs .leaf-counts)
 
       pub end-number : built + 1 ≡ length (levelsAfter d cs leaf q c k 0 (part P 0 n))
-      end-number = rw last at (v .outs .number)
+      end-number = rw end-rest at (v .outs .number)
 
     -- ---- one more fine level
     module _ (yes : (ltb built mostFine && ltb c a) ≡ true) (some : 1 ≤ c) where
@@ -149,11 +149,11 @@ module _ {d : ℕ} {cs : List Float} {leaf q n : ℕ} {P I D : List ℕ} {B : Li
       pub level-above : c < a
       level-above = ltb-true c a (and-snd (ltb built mostFine) (ltb c a) yes)
 
-      left : mostFine - built ≡ suc (mostFine - (built + 1))
-      left = omega (arith, built-below)
+      pub levels-left : mostFine - built ≡ suc (mostFine - (built + 1))
+      levels-left = omega (arith, built-below)
 
       space : Space d q a (suc (mostFine - (built + 1))) P₁ I₁ D₁ B₁ L₁ F₁ W₁ at first bat
-      space = rw left at (v .space)
+      space = rw levels-left at (v .space)
 
       pub level-points-fit : at + 2 * a ≤ length P₁
       level-points-fit = fine-level-points space
@@ -219,6 +219,12 @@ module _ {d : ℕ} {cs : List Float} {leaf q n : ℕ} {P I D : List ℕ} {B : Li
           now-first : levelsAfter d cs leaf q c k built (part P₁ at a) ≡ fineOf s cs active ∷ rest
           now-first = after-fine s cs c k built active a many yes
 
+          pub next-rest : levelsAfter d cs leaf q c k built (part P₁ at a) ≡ fineOf (levelSettings d leaf q) cs (part P₁ at a) ∷ levelsAfter d cs leaf q c k (built + 1) (part P₂ (at + a) b)
+          next-rest = rw next-read now-first
+
+          pub next-fewer : b ≤ a
+          next-fewer = omega (arith, next-is, sizes .1)
+
           own-is : length (ownIn (leavesAt d cs leaf q active)) ≡ a
           own-is = own-all d cs leaf q active (v .given) ∙ many
 
@@ -276,7 +282,7 @@ module _ {d : ℕ} {cs : List Float} {leaf q n : ℕ} {P I D : List ℕ} {B : Li
                 slots-too = length-set counts built m ∙ v .slots-too;
                 given = rw (next-read, ← next-same) (next-given d cs leaf q active (v .given) size small (sizes .0));
                 space =
-                    space-next space b m z (omega (arith, next-is, sizes .1)) few-leaves few-borrowed P₂ I₂ D₂ B₂ L₂ F₂ W₂
+                    space-next space b m z next-fewer few-leaves few-borrowed P₂ I₂ D₂ B₂ L₂ F₂ W₂
                     (l .level-points) (l .internals) (l .domains) (l .boxes) (l .borrowed) eF eW;
                 long = record {
                   level-points = l .level-points ∙ w .level-points;

@@ -1,5 +1,5 @@
 -- The room for the levels that are left: a level fits in it, and what is left of it is enough for the others. Assumes nothing.
--- Holds: coarse-fits, fine-fits, fine-level-points, fine-room, space-next
+-- Holds: part-less, coarse-fits, fine-fits, fine-level-points, fine-room, space-next
 use mathlib.Core.Path.{_≡_}
 use mathlib.Core.List.{List}
 use Prim.Native.Nat.{ℕ, suc, _+_, _*_, _≤_}
@@ -12,7 +12,7 @@ use Rattle.fine_level.specs.Fine.{Fits, Room}
 use Rattle.levels_loop.specs.After.{Space}
 
 -- t parts of at most w each, after one of them of which y was taken
-part-less : (x y w v t : ℕ) → y ≤ w → v ≤ w → x + y + t * v ≤ x + suc t * w
+pub part-less : (x y w v t : ℕ) → y ≤ w → v ≤ w → x + y + t * v ≤ x + suc t * w
 part-less x y w v t h g = omega (arith, suc-mul t w, mul-le-mul-left t g)
 
 module _ {d q a t : ℕ} {P I D : List ℕ} {B : List Float} {L : List ℕ} {F : List Float} {W : List ℕ} {at first bat : ℕ} where

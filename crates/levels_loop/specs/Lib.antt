@@ -1,2 +1,3 @@
 -- What the contracts of the levels cite.
 pub mod After
+pub mod Records

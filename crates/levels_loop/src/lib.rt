@@ -10,8 +10,11 @@ ghost use Rattle.definition.specs.Levels.{levelSize};
 ghost use Rattle.definition.specs.Tree.{reductionsLeft, mostFine};
 ghost use Rattle.definition.specs.Refusals.{mostPoints};
 ghost use Rattle.definition.specs.Packed.{packedLevelPoints, packedInternals, packedDomains, packedBoxes, packedBorrowed};
+ghost use Rattle.definition.specs.Record.{wholeOf, floatOf};
 ghost use Rattle.fine_level.specs.Fine.{Given};
-ghost use Rattle.levels_loop.specs.After.{levelsAfter, Space};
+ghost use Rattle.levels_loop.specs.After.{levelSettings, levelsAfter, Space};
+ghost use Rattle.levels_loop.specs.Records.{recordsBy, RecordRoom};
+use cut_engine::Engine;
 use fine_level::Place;
 use fine_level::Plan;
 
@@ -46,8 +49,9 @@ fn next_size(a: usize, c: usize, k: u32, built: usize) -> usize
 }
 
 // All levels over the n rows at the front of the level points. Each level is written behind the last: its active rows, its leaves'
-// rows, its domain rows, their boxes, and the borrowed rows.
+// rows, its domain rows, their boxes, the borrowed rows, and the nodes of its record that this engine writes.
 pub fn all_levels(
+    engine: Engine,
     points: &[f64],
     dimensions: usize,
     leaf: usize,
@@ -62,9 +66,12 @@ pub fn all_levels(
     borrowed: &mut [usize],
     floats: &mut [f64],
     wholes: &mut [usize],
+    cuts: &mut [usize],
+    planes: &mut [f64],
 ) -> Counts
     requires { ⌜ (1 ≤ c) × (k ≤ 3) × Given dimensions (now points) leaf neighbours (part (now «level_points») 0 n) ⌝ }
     requires { ⌜ Space dimensions neighbours n mostFine (now «level_points») (now internals) (now domains) (now boxes) (now borrowed) (now floats) (now wholes) 0 0 0 ⌝ }
+    requires { ⌜ RecordRoom engine n (now cuts) (now planes) ⌝ }
     ensures counts { λ r. ⌜ (r .levels ≡ length (levelsAfter dimensions (now (points .entry)) leaf neighbours c k 0 (part (now («level_points» .entry)) 0 n)))
         × (r .rows ≡ put (replicate 4 0) 0 (map (λ l. length (l .points)) (levelsAfter dimensions (now (points .entry)) leaf neighbours c k 0 (part (now («level_points» .entry)) 0 n))))
         × (r .domains ≡ put (replicate 4 0) 0 (map (λ l. length (l .leaves)) (levelsAfter dimensions (now (points .entry)) leaf neighbours c k 0 (part (now («level_points» .entry)) 0 n)))) ⌝ }
@@ -73,12 +80,15 @@ pub fn all_levels(
     ensures domains { λ _. ⌜ now (domains .exit) ≡ put (now (domains .entry)) 0 (packedDomains (levelsAfter dimensions (now (points .entry)) leaf neighbours c k 0 (part (now («level_points» .entry)) 0 n))) ⌝ }
     ensures boxes { λ _. ⌜ now (boxes .exit) ≡ put (now (boxes .entry)) 0 (packedBoxes (levelsAfter dimensions (now (points .entry)) leaf neighbours c k 0 (part (now («level_points» .entry)) 0 n))) ⌝ }
     ensures borrowed { λ _. ⌜ now (borrowed .exit) ≡ put (now (borrowed .entry)) 0 (packedBorrowed (levelsAfter dimensions (now (points .entry)) leaf neighbours c k 0 (part (now («level_points» .entry)) 0 n))) ⌝ }
+    ensures cuts { λ _. ⌜ now (cuts .exit) ≡ put (now (cuts .entry)) 0 (map wholeOf (recordsBy engine (levelSettings dimensions leaf neighbours) (now (points .entry)) (levelsAfter dimensions (now (points .entry)) leaf neighbours c k 0 (part (now («level_points» .entry)) 0 n)))) ⌝ }
+    ensures planes { λ _. ⌜ now (planes .exit) ≡ put (now (planes .entry)) 0 (map floatOf (recordsBy engine (levelSettings dimensions leaf neighbours) (now (points .entry)) (levelsAfter dimensions (now (points .entry)) leaf neighbours c k 0 (part (now («level_points» .entry)) 0 n)))) ⌝ }
 {
     let mut built: usize = 0;
     let mut from: usize = 0;
     let mut a = n;
     let mut first: usize = 0;
     let mut bat: usize = 0;
+    let mut node: usize = 0;
     let mut rows = [0; 4];
     let mut counts = [0; 4];
     while is_fine(built, a, c) {
@@ -86,6 +96,7 @@ pub fn all_levels(
         let level = fine_level::fine_level(
             points,
             Plan {
+                engine: engine,
                 dimensions: dimensions,
                 leaf: leaf,
                 neighbours: neighbours,
@@ -96,6 +107,7 @@ pub fn all_levels(
                 a: a,
                 first: first,
                 bat: bat,
+                node: node,
             },
             level_points,
             internals,
@@ -104,6 +116,8 @@ pub fn all_levels(
             borrowed,
             floats,
             wholes,
+            cuts,
+            planes,
         );
         rows[built] = a;
         counts[built] = level.leaves;
@@ -111,6 +125,7 @@ pub fn all_levels(
         a = level.next;
         first += level.leaves;
         bat += level.borrowed;
+        node += level.nodes;
         built += 1;
     }
     coarse_level::coarse_level(

@@ -1,6 +1,6 @@
 -- The queue's leaves are the leaves of the cuts by depth, and then from left to right: over any kind of domain, and for a level. Assumes
 -- nothing.
--- Holds: deepLeaves, deep-more, deep-done, at-append, at-nil, at-one, at-other, queue-by-depth, leaves-under, level-by-depth
+-- Holds: at-nil, at-append, at-one, at-other, deepLeaves, deep-more, deep-done, queue-by-depth, leaves-under, level-by-depth
 use mathlib.Core.Path.{_≡_, refl, sym, ap, _∙_}
 use mathlib.Core.Logic.{⊎-elim}
 use mathlib.Core.Bool.{Bool, cond}
@@ -18,8 +18,8 @@ use Rattle.lists.proofs.All.{all-append, all-left, all-right}
 use Rattle.lists.proofs.Count.{keep-append}
 use Rattle.lists.proofs.Map.{map-same}
 use Rattle.lists.proofs.From.{from-mem}
-use Rattle.definition.specs.Cut.{Domain, rootDomain, longestAxis, plane, leftOf, rightOf, leavesOf}
-use Rattle.definition.specs.Record.{Deep, uncut, cutAt, cutsOf, levelCuts, leavesUnder}
+use Rattle.definition.specs.Cut.{Domain, rootDomain, leftOf, rightOf, leavesOf}
+use Rattle.definition.specs.Record.{Deep, cutsOf, levelCuts, leavesUnder}
 use Rattle.queue.proofs.Kind.{Kind, MayWait, sizeOf}
 use Rattle.rows.specs.Rows.{GoodRows}
 use Rattle.leaves.proofs.Domains.{kind, leaves-are}

@@ -1,7 +1,7 @@
 -- The depths of a level's leaves: at most two, one apart, the first leaf being one of the least deep; and none is deeper than 21. So the
 -- level's leaves are those at the one depth, and then those at the next. Assumes nothing.
--- Holds: leastDepth, TwoDepths, height, deep-some, deep-near, deep-first, deep-most, at-none, two-of, levelLeaves,
---   level-leaves, two-depths, depth-most, some-leaf, by-two
+-- Holds: leastDepth, TwoDepths, height, deep-some, deep-near, deep-first, deep-most, at-none, two-of, levelLeaves, level-leaves,
+--   two-depths, depth-most, some-leaf, by-two
 use mathlib.Core.Path.{_≡_, refl, ap, _∙_, subst}
 use mathlib.Core.Logic.{_⊎_, inl, inr, ⊎-elim}
 use mathlib.Core.Bool.{cond}

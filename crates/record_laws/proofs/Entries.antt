@@ -1,9 +1,10 @@
 -- The leaves of cuts, their nodes and their entries in the table: how many, their depths, places and rows; the table read back from its
 -- numbers; and the rows and boxes of one depth. Assumes nothing.
--- Holds: leaves-leaf, leaves-cut, nodes-leaf, nodes-cut, entries-leaf, entries-cut, leaf-count-at, leaf-count-leaf, leaf-count-cut,
---   leaf-count-some, node-count-at, node-count-leaf, node-count-cut, node-count, under-at, rows-under-at, rows-under-leaf,
---   rows-under-cut, boxes-under-at, boxes-under-leaf, boxes-under-cut, boxes-under-length, entries-depths, entries-count,
---   entries-places, entries-total, entries-read, first-part, second-part, rows-append, rows-at, boxes-append, boxes-at
+-- Holds: leaves-leaf, entries-leaf, nodes-leaf, leaves-cut, entries-cut, nodes-cut, leaf-count-at, leaf-count-leaf,
+--   leaf-count-cut, leaf-count-some, node-count-at, node-count-leaf, node-count-cut, node-count, under-at, rows-under-at,
+--   rows-under-leaf, rows-under-cut, boxes-under-at, boxes-under-leaf, boxes-under-cut, boxes-under-length, entries-depths,
+--   entries-count, entries-places, entries-total, entries-read, first-part, second-part, rows-append, rows-at, boxes-append,
+--   boxes-at
 use mathlib.Core.Path.{_≡_, refl, sym, ap, ap₂, _∙_}
 use mathlib.Core.Bool.{Bool, true, false}
 use mathlib.Core.List.{List, [], _∷_, _++_, map, map-append, head-eq-of-cons-eq, tail-eq-of-cons-eq}

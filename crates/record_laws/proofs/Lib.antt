@@ -5,3 +5,4 @@ pub mod Depths
 pub mod Entries
 pub mod Numbers
 pub mod Long
+pub mod Under

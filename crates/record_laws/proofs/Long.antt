@@ -1,6 +1,6 @@
 -- How long the records are: a level's record has one node less than 2 times its domains, so at most 4 times its rows less one, and the
 -- records of a tree fit in what they are to be lent. Assumes nothing.
--- Holds: two-count, level-count, record-nodes, record-long, record-less, level-nodes, fine-cons, fine-all, fine-few, FineIs,
+-- Holds: two-count, record-nodes, level-count, record-long, record-less, level-nodes, fine-cons, fine-few, fine-all, FineIs,
 --   fine-are, fine-long, nodes-length, cuts-length, planes-length, nodes-fit, levels-are, levels-long, records-fit, record-fits
 use mathlib.Core.Path.{_≡_, refl, ap, _∙_}
 use mathlib.Core.Logic.{⊎-elim}

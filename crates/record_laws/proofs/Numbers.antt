@@ -1,7 +1,6 @@
 -- The numbers of the leaves: two passes over the table number them as the record has it, and the number of a leaf is its place among the
 -- leaves by depth, so the leaf that the record calls k is the level's domain k. Assumes nothing.
--- Holds: at-count, passValue, numbered-append, numbered-pass, numbered-record, before-count, at-names, number-names,
---   level-names
+-- Holds: at-count, passValue, numbered-append, numbered-pass, numbered-record, before-count, at-names, number-names, level-names
 use mathlib.Core.Path.{_≡_, refl, sym, ap, ap₂, _∙_}
 use mathlib.Core.Logic.{_⊎_, ⊎-elim}
 use mathlib.Core.Bool.{Bool, true, false, cond}

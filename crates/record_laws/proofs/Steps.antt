@@ -1,6 +1,6 @@
 -- One step of the cuts of a domain, as a proof of the engine uses them. Assumes nothing.
 -- Holds: step-more, step-done, cuts-enough, cuts-more, cuts-done, level-cuts
-use mathlib.Core.Path.{_≡_, refl, sym, ap, _∙_}
+use mathlib.Core.Path.{_≡_, refl, sym, _∙_}
 use mathlib.Core.Logic.{⊎-elim}
 use mathlib.Core.List.{List}
 use Prim.Native.Nat.{ℕ, zero, suc, _*_, _≤_, _<_}
@@ -10,7 +10,7 @@ use lib.ListN.{length}
 use lib.Ieee.{Float}
 use Rattle.lists.proofs.Tests.{le-or-lt}
 use Rattle.definition.specs.Cut.{Domain, rootDomain, longestAxis, plane, leftOf, rightOf}
-use Rattle.definition.specs.Record.{Cuts, uncut, cutAt, cutsOf, levelCuts}
+use Rattle.definition.specs.Record.{uncut, cutAt, cutsOf, levelCuts}
 use Rattle.record_laws.specs.Table.{cutsAt}
 use Rattle.definition.proofs.Cuts.{Good, left-length, right-length, left-good, right-good}
 

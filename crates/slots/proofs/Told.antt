@@ -1,7 +1,7 @@
 -- The whole outcome of each exported call: of one with a short slot, and of one that found its slot long enough, from the outcome of
 -- the call behind it. Assumes nothing.
 -- Holds: told-short, told-long, told-value, quotas-short, quotas-long, sample-short, sample-long, build-short, build-long,
---   store-short, store-tree-short, store-long, load-short, load-long
+--   depth-first-short, depth-first-long, store-short, store-tree-short, store-long, load-short, load-long
 use mathlib.Core.Path.{_≡_, refl, subst, ap, _∙_}
 use mathlib.Core.List.{List, [], _∷_}
 use Prim.Native.Nat.{ℕ, _≤_, _<_}
@@ -13,11 +13,12 @@ use Rattle.lists.proofs.Put.{set-put}
 use Rattle.definition.specs.Tree.{Settings}
 use Rattle.definition.specs.Packed.{Counts}
 use Rattle.definition.specs.Outcome.{Answer, Shared, TreeLists, RoomAfter, buildCall, buildAnswer, buildLists}
+use Rattle.definition.specs.DepthFirst.{RecordLists, depthFirstCall, depthFirstAnswer, depthFirstLists, depthFirstRecords}
 use Rattle.stored.specs.Outcome.{writeAnswer, writeOutput, loadAnswer, loadLists}
 use Rattle.quotas.specs.Outcome.{SeatsShared}
 use Rattle.sampling.specs.Outcome.{RowsSampled}
-use Rattle.slots.specs.Slots.{valueSlot, placedSlot, buildSlot, countsIn, unlessShort}
-use Rattle.slots.specs.Told.{Told, QuotasTold, SampleTold, BuildTold, StoreTold, LoadTold}
+use Rattle.slots.specs.Slots.{valueSlot, placedSlot, buildSlot, countsIn}
+use Rattle.slots.specs.Told.{Told, QuotasTold, SampleTold, BuildTold, DepthFirstTold, StoreTold, LoadTold}
 use Rattle.slots.proofs.Slots.{slot-short, slot-long, slot-written, room-short, room-long, number-long}
 
 -- ---- number and slot
@@ -98,6 +99,34 @@ module _ (cs : List Float) (old : TreeLists) (floats : List Float) (wholes slot 
       record {
         told = told-long 10 buildSlot slot slot′ (a .number) a _ h refl w answers;
         lists = slot-long 10 slot _ _ _ h lists;
+        floats-free = room-long 10 slot _ _ _ h free-floats;
+        wholes-free = room-long 10 slot _ _ _ h free-wholes;
+      }
+
+-- ---- the build that cuts depth first
+module _ (cs : List Float) (old : TreeLists) (floats : List Float) (wholes : List ℕ) (records-old : RecordLists) (slot : List ℕ) where
+  pub depth-first-short : (s : Settings) → length slot < 10 → DepthFirstTold s cs old old floats floats wholes wholes records-old records-old slot slot 11
+  depth-first-short s h =
+      record {
+        told = told-short 10 _ slot _ h;
+        lists = slot-short 10 slot _ _ h;
+        records = slot-short 10 slot _ _ h;
+        floats-free = room-short 10 slot _ _ h;
+        wholes-free = room-short 10 slot _ _ h;
+      }
+
+  -- s is the code's settings, and t the same from the numbers of the call
+  pub depth-first-long : (new : TreeLists) (floats′ : List Float) (wholes′ : List ℕ) (records-new : RecordLists) (slot′ : List ℕ) (a : Answer Counts) (s t : Settings) → s ≡ t
+      → 10 ≤ length slot → slot′ ≡ put slot 0 (buildSlot a) → a ≡ depthFirstAnswer s cs old floats wholes records-old → new ≡ depthFirstLists s cs old floats wholes records-old
+      → records-new ≡ depthFirstRecords s cs old floats wholes records-old
+      → RoomAfter (depthFirstCall s cs old floats wholes records-old) floats floats′ → RoomAfter (depthFirstCall s cs old floats wholes records-old) wholes wholes′
+      → DepthFirstTold t cs old new floats floats′ wholes wholes′ records-old records-new slot slot′ (a .number)
+  depth-first-long new floats′ wholes′ records-new slot′ a s t e h w answers lists records free-floats free-wholes =
+      subst (λ (u : Settings). DepthFirstTold u cs old new floats floats′ wholes wholes′ records-old records-new slot slot′ (a .number)) e
+      record {
+        told = told-long 10 buildSlot slot slot′ (a .number) a _ h refl w answers;
+        lists = slot-long 10 slot _ _ _ h lists;
+        records = slot-long 10 slot _ _ _ h records;
         floats-free = room-long 10 slot _ _ _ h free-floats;
         wholes-free = room-long 10 slot _ _ _ h free-wholes;
       }

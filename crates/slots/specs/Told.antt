@@ -6,6 +6,7 @@ use mathlib.Core.List.{List}
 use lib.Ieee.{Float}
 use Rattle.definition.specs.Tree.{Settings}
 use Rattle.definition.specs.Outcome.{Answer, TreeLists, RoomAfter, quotaCall, quotaAnswer, quotaOutput, sampleCall, sampleAnswer, sampleOutput, buildCall, buildAnswer, buildLists}
+use Rattle.definition.specs.DepthFirst.{RecordLists, depthFirstCall, depthFirstAnswer, depthFirstLists, depthFirstRecords}
 use Rattle.stored.specs.Outcome.{writeAnswer, writeOutput, loadAnswer, loadLists}
 use Rattle.slots.specs.Slots.{unlessShort, numberAfter, slotAfter, slotFirst, quotaSlot, placedSlot, buildSlot, countsIn}
 
@@ -33,6 +34,15 @@ pub record BuildTold (s : Settings) (cs : List Float) (old new : TreeLists) (flo
   pub lists : new ≡ unlessShort 10 slot old (buildLists s cs old floats wholes)
   pub floats-free : RoomAfter (slotFirst 10 slot (buildCall s cs old floats wholes)) floats floats′
   pub wholes-free : RoomAfter (slotFirst 10 slot (buildCall s cs old floats wholes)) wholes wholes′
+
+-- the build that cuts depth first, with the two lists of its records
+pub record DepthFirstTold (s : Settings) (cs : List Float) (old new : TreeLists) (floats floats′ : List Float) (wholes wholes′ : List ℕ) (records-old records-new : RecordLists)
+    (slot slot′ : List ℕ) (returned : ℕ) : Type 0 where
+  pub told : Told 10 buildSlot slot slot′ returned (depthFirstAnswer s cs old floats wholes records-old)
+  pub lists : new ≡ unlessShort 10 slot old (depthFirstLists s cs old floats wholes records-old)
+  pub records : records-new ≡ unlessShort 10 slot records-old (depthFirstRecords s cs old floats wholes records-old)
+  pub floats-free : RoomAfter (slotFirst 10 slot (depthFirstCall s cs old floats wholes records-old)) floats floats′
+  pub wholes-free : RoomAfter (slotFirst 10 slot (depthFirstCall s cs old floats wholes records-old)) wholes wholes′
 
 -- The writer, whose caller hands the counts back as the slot `tree` of a build or a load. One that is too short is refused next, with 11.
 pub record StoreTold (s : Settings) (cs : List Float) (tree : List ℕ) (l : TreeLists) (file file′ slot slot′ : List ℕ) (returned : ℕ) : Type 0 where

@@ -1,7 +1,7 @@
 //! What the figures share: processor time, work in turns, random numbers, and the cut stage with the lists that it is lent.
 #[path = "../../src/packed.rs"]
 #[allow(dead_code)]
-mod packed;
+pub mod packed;
 
 pub use packed::row_floats;
 use packed::ROW_NUMBERS;
@@ -50,6 +50,13 @@ pub fn units() -> impl FnMut() -> f64 {
     }
 }
 
+/// Points of a grid, row by row: many coordinates are equal on each axis.
+#[allow(dead_code)] // figures.rs cuts none
+pub fn lattice(n: usize, d: usize) -> Vec<f64> {
+    let side = (1..).find(|side: &usize| side.pow(d as u32) >= n).unwrap();
+    (0..n).flat_map(|i| (0..d).map(move |axis| (i / side.pow(axis as u32) % side) as f64)).collect()
+}
+
 /// The cut stage as rust/stages exports it.
 pub type Cut = unsafe extern "C" fn(
     points: *const f64, points_len: usize, dimensions: usize, leaf: usize, active: *const usize, active_len: usize,
@@ -58,8 +65,8 @@ pub type Cut = unsafe extern "C" fn(
 ) -> usize;
 
 /// The room is filled with these, which no stage writes: the points have no negative coordinate.
-const NO_WHOLE: usize = usize::MAX;
-const NO_FLOAT: f64 = -7.5;
+pub const NO_WHOLE: usize = usize::MAX;
+pub const NO_FLOAT: f64 = -7.5;
 
 /// The lists of a level: what the cut writes, and its working room (`floats`, `wholes`).
 pub struct Lent {

@@ -58,6 +58,30 @@ pub fn distance_sq(p: &[f64], q: &[f64]) -> f64 {
 // ---- refusals: the number and the place
 
 pub fn refusal(coords: &[f64], d: usize, s: &Settings) -> Option<(usize, usize)> {
+    settings_refusal(coords, d, s).or_else(|| coordinate_refusal(coords))
+}
+
+/// The refusal of a call that is lent these entries of each list: the seven of a build and, where the cuts are recorded, two more.
+pub fn lent_refusal(coords: &[f64], d: usize, s: &Settings, lent: &[usize]) -> Option<(usize, usize)> {
+    let refused = settings_refusal(coords, d, s);
+    if refused.is_some() {
+        return refused;
+    }
+    let short = lent.iter().zip(stated(coords.len() / d, d, s.neighbours)).any(|(lent, stated)| *lent < stated);
+    if short { Some((11, 0)) } else { coordinate_refusal(coords) }
+}
+
+/// The entries that each list needs: level_points, internals, domains, boxes, borrowed, floats, wholes; cuts, planes.
+pub fn stated(n: usize, d: usize, neighbours: u32) -> [usize; 9] {
+    let (domains, near) = (6 * n + 1, neighbours as usize + 1);
+    [4 * n, 4 * n, 4 * domains, 2 * d * domains, 6 * n * near, 32 * n, 32 * n + 8 * n * near, 12 * n, 12 * n]
+}
+
+fn coordinate_refusal(coords: &[f64]) -> Option<(usize, usize)> {
+    coords.iter().position(|x| !x.is_finite()).map(|at| (10, at))
+}
+
+fn settings_refusal(coords: &[f64], d: usize, s: &Settings) -> Option<(usize, usize)> {
     if !(1..=3).contains(&d) {
         return Some((1, 0));
     }
@@ -87,7 +111,7 @@ pub fn refusal(coords: &[f64], d: usize, s: &Settings) -> Option<(usize, usize)>
     if c * (s.factor as u128).pow(3) < n as u128 {
         return Some((9, 0));
     }
-    coords.iter().position(|x| !x.is_finite()).map(|at| (10, at))
+    None
 }
 
 // ---- level arithmetic
@@ -213,7 +237,8 @@ fn bounds(points: &Points, rows: &[usize]) -> (Vec<f64>, Vec<f64>) {
     (lower, upper)
 }
 
-fn cut(points: &Points, domain: &Domain) -> (Domain, Domain) {
+/// The axis and the plane of a domain's cut, and its halves.
+fn cut(points: &Points, domain: &Domain) -> (usize, f64, Domain, Domain) {
     let (low, high) = bounds(points, &domain.rows);
     let mut axis = 0;
     for a in 1..points.d {
@@ -231,7 +256,7 @@ fn cut(points: &Points, domain: &Domain) -> (Domain, Domain) {
     let mut right = Domain { rows: right, lower: domain.lower.clone(), upper: domain.upper.clone() };
     left.upper[axis] = plane;
     right.lower[axis] = plane;
-    (left, right)
+    (axis, plane, left, right)
 }
 
 pub fn leaves(points: &Points, leaf: u32, active: &[usize]) -> Vec<Leaf> {
@@ -239,7 +264,7 @@ pub fn leaves(points: &Points, leaf: u32, active: &[usize]) -> Vec<Leaf> {
     let mut queue = std::collections::VecDeque::from([Domain { rows: active.to_vec(), lower, upper }]);
     let mut out = Vec::new();
     while let Some(domain) = queue.pop_front() {
-        let (left, right) = cut(points, &domain);
+        let (_, _, left, right) = cut(points, &domain);
         for half in [left, right] {
             if domain.rows.len() as u64 >= 2 * leaf as u64 {
                 queue.push_back(half);
@@ -249,6 +274,61 @@ pub fn leaves(points: &Points, leaf: u32, active: &[usize]) -> Vec<Leaf> {
         }
     }
     out
+}
+
+// ---- the cut record of a level (document 02, request 2)
+
+/// A node: how deep it stands, and what it is.
+#[derive(Clone, Copy, Debug, PartialEq)]
+pub enum Node {
+    Cut { depth: usize, axis: usize, plane: f64 },
+    Leaf { depth: usize, number: usize },
+}
+
+impl Node {
+    /// As lent: a whole number and a float.
+    pub fn lent(&self) -> (usize, f64) {
+        match *self {
+            Node::Cut { axis, plane, .. } => (axis, plane),
+            Node::Leaf { number, .. } => (3 + number, 0.0),
+        }
+    }
+}
+
+/// Each cut before its halves, and the left half completely before the right; leaves without their numbers.
+fn cuts(points: &Points, leaf: u32, domain: &Domain, depth: usize, out: &mut Vec<Node>) {
+    let (axis, plane, left, right) = cut(points, domain);
+    out.push(Node::Cut { depth, axis, plane });
+    for half in [left, right] {
+        if domain.rows.len() as u64 >= 2 * leaf as u64 {
+            cuts(points, leaf, &half, depth + 1, out);
+        } else {
+            out.push(Node::Leaf { depth: depth + 1, number: 0 });
+        }
+    }
+}
+
+/// The record of a level with these active rows. Its leaves are numbered by depth, and then from left to right.
+pub fn record(points: &Points, leaf: u32, active: &[usize]) -> Vec<Node> {
+    let (lower, upper) = bounds(points, active);
+    let mut nodes = Vec::new();
+    cuts(points, leaf, &Domain { rows: active.to_vec(), lower, upper }, 0, &mut nodes);
+    let mut leaves: Vec<(usize, usize)> = Vec::new();
+    for (place, node) in nodes.iter().enumerate() {
+        if let Node::Leaf { depth, .. } = node {
+            leaves.push((*depth, place));
+        }
+    }
+    leaves.sort_unstable();
+    for (k, (depth, place)) in leaves.into_iter().enumerate() {
+        nodes[place] = Node::Leaf { depth, number: k };
+    }
+    nodes
+}
+
+/// The records of a tree's fine levels: all but the last.
+pub fn records(coords: &[f64], d: usize, leaf: u32, levels: &[Level]) -> Vec<Vec<Node>> {
+    levels[..levels.len() - 1].iter().map(|level| record(&Points { coords, d }, leaf, &level.rows)).collect()
 }
 
 /// The `many` rows that are first by (squared distance, row), by a scan over the active rows.

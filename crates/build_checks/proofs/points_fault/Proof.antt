@@ -7,10 +7,6 @@ use Rattle.config.specs.Params.{settingsOf}
 use Rattle.build_checks.proofs.Laws.{points-6, points-7, points-8, points-9, points-fine, reductions-many, checked-reductions}
 use Rattle.build_checks.proofs.points_fault.Statement.{statement}
 use Rattle.build_checks.proofs.points_fault.Tie as tie
-use Rattle.build_checks.proofs.points_fault.Reads as reads
-use Rattle.build_checks.proofs.points_fault.Lts as lts
-use Rattle.level_sizes.proofs.get_num_level_reductions.Reads as get-num-level-reductions-reads
-use Rattle.level_sizes.proofs.resolved_coarse_threshold.Reads as resolved-coarse-threshold-reads
 
 returns : tie.Need-returns
 returns c =

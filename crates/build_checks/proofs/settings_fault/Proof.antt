@@ -6,9 +6,6 @@ use Rattle.config.specs.Params.{settingsOf}
 use Rattle.build_checks.proofs.Laws.{settings-low, settings-high, settings-2, settings-3, settings-4, settings-5, settings-fine}
 use Rattle.build_checks.proofs.settings_fault.Statement.{statement}
 use Rattle.build_checks.proofs.settings_fault.Tie as tie
-use Rattle.build_checks.proofs.settings_fault.Reads as reads
-use Rattle.build_checks.proofs.settings_fault.Lts as lts
-use Rattle.build_checks.proofs.zero_threshold.Reads as zero-threshold-reads
 
 returns : tie.Need-returns
 returns c =

@@ -1,8 +1,6 @@
 use borrow.Author.Needs.{needs}
 use Rattle.build_checks.proofs.zero_threshold.Statement.{statement}
 use Rattle.build_checks.proofs.zero_threshold.Tie as tie
-use Rattle.build_checks.proofs.zero_threshold.Reads as reads
-use Rattle.build_checks.proofs.zero_threshold.Lts as lts
 
 -- src/lib.rt:41:29
 enum-told : tie.Need-enum-told

@@ -1,17 +1,16 @@
 -- `ddm::build` meets its contract. Assumes nothing.
 use mathlib.Core.Path.{sym, ap, _∙_}
+use native.Mathlib.Omega.{arith}
 use borrow.Author.Needs.{needs}
+use Rattle.definition.specs.Tree.{levels}
+use Rattle.definition.specs.Outcome.{buildCall}
 use Rattle.config.specs.Params.{settingsOf}
 use Rattle.build_checks.specs.Verdicts.{verdictOf}
 use Rattle.tree_answer.specs.Answers.{listsOf}
-use Rattle.ddm.proofs.Outcomes.{room-refused, room-accepted, answer-refused, lists-refused, answer-accepted, lists-accepted, built, whole-lists}
+use Rattle.grow.proofs.Outcomes.{room-refused, room-accepted, answer-refused, lists-refused, answer-accepted, lists-accepted, whole-lists}
+use Rattle.ddm.proofs.Outcomes.{built}
 use Rattle.ddm.proofs.build.Statement.{statement}
 use Rattle.ddm.proofs.build.Tie as tie
-use Rattle.ddm.proofs.build.Reads as reads
-use Rattle.ddm.proofs.build.Lts as lts
-use Rattle.build_checks.proofs.check_build.Reads as check-build-reads
-use Rattle.ddm.proofs.grow.Reads as grow-reads
-use Rattle.tree_answer.proofs.refusal.Reads as refusal-reads
 
 check-build-requires : tie.Need-check-build-requires
 check-build-requires c κs = search needs
@@ -25,8 +24,14 @@ refusal-requires c κs = search needs
 enum-told : tie.Need-enum-told
 enum-told c = search needs
 
+slice-aggregate-grow : tie.Need-slice-aggregate-grow
+slice-aggregate-grow c = search needs
+
+slice-aggregate-grow-2 : tie.Need-slice-aggregate-grow-2
+slice-aggregate-grow-2 c = search needs
+
 grow-requires : tie.Need-grow-requires
-grow-requires c κs = sym (c .before .before .before .before .before .before .before .before .before .check-build .ensures) ∙ ap verdictOf (c .before .before .before .before .before .before .before .enum-told .given .1)
+grow-requires c κs = (sym (c .before .before .before .before .before .before .before .before .before .before .before .check-build .ensures) ∙ ap verdictOf (c .before .before .before .before .before .before .before .before .before .enum-told .given .1), (omega arith, omega arith))
 
 returns : tie.Need-returns
 returns c =
@@ -35,8 +40,8 @@ returns c =
     let cs = P .points .now in
     let old = listsOf (P .level-points .now) (P .internals .now) (P .domains .now) (P .boxes .now) (P .borrowed .now) in
     let e = sym (c .before .before .before .before .check-build .ensures) ∙ ap verdictOf (c .before .before .checked .given .1) in
-    let l = lists-refused s cs old (P .floats .now) (P .wholes .now) _ e in
-    let answer = c .refusal .ensures ∙ answer-refused s cs old (P .floats .now) (P .wholes .now) _ e in
+    let l = lists-refused (buildCall s cs old (P .floats .now) (P .wholes .now)) (levels s cs) old _ e in
+    let answer = c .refusal .ensures ∙ answer-refused (buildCall s cs old (P .floats .now) (P .wholes .now)) (levels s cs) old _ e in
     built s cs old (P .floats .now) (P .wholes .now) answer l (room-refused _ _ (P .floats .now) e) (room-refused _ _ (P .wholes .now) e)
 
 same-length : tie.Need-same-length
@@ -62,15 +67,15 @@ same-length-7 c = search needs
 
 returns-2 : tie.Need-returns-2
 returns-2 c =
-    let P = c .before .before .before .before .before .before .before .before .before .before .before .before .before .before .before .before .before .before .before .before .before .before .before .before .before .before .before .before .before .before .before .before .before .args in
+    let P = c .before .before .before .before .before .before .before .before .before .before .before .before .before .before .before .before .before .before .before .before .before .before .before .before .before .before .before .before .before .before .before .before .before .before .before .before .before .args in
     let s = settingsOf (P .dimensions) (P .params) in
     let cs = P .points .now in
     let old = listsOf (P .level-points .now) (P .internals .now) (P .domains .now) (P .boxes .now) (P .borrowed .now) in
-    let e = sym (c .before .before .before .before .before .before .before .before .before .before .before .before .before .before .before .before .before .before .before .before .before .before .before .before .check-build .ensures) ∙ ap verdictOf (c .before .before .before .before .before .before .before .before .before .before .before .before .before .before .before .before .before .before .before .before .before .before .enum-told .given .1) in
-    let l = lists-accepted s cs old (P .floats .now) (P .wholes .now) e in
-    let w = c .before .before .before .before .before .before .before .before .before .before .before .before .before .before .grow .ensures in
-    let answer = w .0 ∙ answer-accepted s cs old (P .floats .now) (P .wholes .now) e in
-    let lists = whole-lists (w .1 .0) (w .1 .1 .0) (w .1 .1 .1 .0) (w .1 .1 .1 .1 .0) (w .1 .1 .1 .1 .1) ∙ l in
+    let e = sym (c .before .before .before .before .before .before .before .before .before .before .before .before .before .before .before .before .before .before .before .before .before .before .before .before .before .before .before .before .check-build .ensures) ∙ ap verdictOf (c .before .before .before .before .before .before .before .before .before .before .before .before .before .before .before .before .before .before .before .before .before .before .before .before .before .before .enum-told .given .1) in
+    let l = lists-accepted (buildCall s cs old (P .floats .now) (P .wholes .now)) (levels s cs) old e in
+    let w = c .before .before .before .before .before .before .before .before .before .before .before .before .before .before .before .before .grow .ensures in
+    let answer = w .0 ∙ answer-accepted (buildCall s cs old (P .floats .now) (P .wholes .now)) (levels s cs) old e in
+    let lists = whole-lists (w .1 .0) (w .1 .1 .0) (w .1 .1 .1 .0) (w .1 .1 .1 .1 .0) (w .1 .1 .1 .1 .1 .0) ∙ l in
     built s cs old (P .floats .now) (P .wholes .now) answer lists (room-accepted _ _ _ e (search needs)) (room-accepted _ _ _ e (search needs))
 
 pub build-spec : {M : Type 1} → statement M
@@ -81,6 +86,8 @@ build-spec =
     enum-known-checked
     refusal-requires
     enum-told
+    slice-aggregate-grow
+    slice-aggregate-grow-2
     grow-requires
     returns
     same-length

@@ -1,10 +1,9 @@
 -- `depth_first::cut_leaves` meets its contract. Assumes nothing.
-use mathlib.Core.Path.{_≡_, refl, sym, ap, _∙_}
+use mathlib.Core.Path.{refl, ap, _∙_}
 use mathlib.Core.List.{List}
 use Prim.Native.Nat.{ℕ, _*_}
 use native.Mathlib.Omega.{arith}
 use borrow.Author.Needs.{needs}
-use lib.ListN.{length}
 use lib.Ieee.{Float}
 use Rattle.lists.specs.Lists.{put, joined}
 use Rattle.definition.specs.Packed.{rowFloats}
@@ -12,15 +11,10 @@ use Rattle.queue.specs.Rows.{withOwn}
 use Rattle.rows.proofs.Good.{good-inside}
 use Rattle.record_laws.specs.Table.{rowsUnder}
 use Rattle.record_laws.proofs.Long.{record-long}
-use Rattle.split.proofs.Laws.{written-of}
+use Rattle.cut_nodes.proofs.Laws.{written-of}
 use Rattle.depth_first.proofs.Level as level
 use Rattle.depth_first.proofs.cut_leaves.Statement.{statement}
 use Rattle.depth_first.proofs.cut_leaves.Tie as tie
-use Rattle.depth_first.proofs.cut_leaves.Reads as reads
-use Rattle.depth_first.proofs.cut_leaves.Lts as lts
-use Rattle.extents.proofs.get_pointarray_extents.Reads as get-pointarray-extents-reads
-use Rattle.leaf_numbers.proofs.number_leaves.Reads as number-leaves-reads
-use Rattle.split.proofs.split.Reads as split-reads
 
 get-pointarray-extents-requires : tie.Need-get-pointarray-extents-requires
 get-pointarray-extents-requires c κs =

@@ -1,5 +1,5 @@
 -- `depth_first::leaves` meets its contract. Assumes nothing.
-use mathlib.Core.Path.{_≡_, ap, _∙_}
+use mathlib.Core.Path.{ap, _∙_}
 use native.Mathlib.Omega.{arith}
 use borrow.Author.Needs.{needs}
 use lib.ListN.{length}
@@ -7,10 +7,6 @@ use Rattle.lists.specs.Lists.{put}
 use Rattle.leaves.proofs.Place.{place-lent, place-back}
 use Rattle.depth_first.proofs.leaves.Statement.{statement}
 use Rattle.depth_first.proofs.leaves.Tie as tie
-use Rattle.depth_first.proofs.leaves.Reads as reads
-use Rattle.depth_first.proofs.leaves.Lts as lts
-use Rattle.depth_first.proofs.cut_leaves.Reads as cut-leaves-reads
-use Rattle.stretches.proofs.copy_rows.Reads as copy-rows-reads
 
 add-end : tie.Need-add-end
 add-end c = search needs

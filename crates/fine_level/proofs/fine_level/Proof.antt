@@ -8,10 +8,6 @@ use Rattle.lists.proofs.Put.{length-part, part-lent}
 use Rattle.fine_level.proofs.Stages.{level-number, level-next, number-most, packed-read, packed-sends}
 use Rattle.fine_level.proofs.fine_level.Statement.{statement}
 use Rattle.fine_level.proofs.fine_level.Tie as tie
-use Rattle.fine_level.proofs.fine_level.Reads as reads
-use Rattle.fine_level.proofs.fine_level.Lts as lts
-use Rattle.fine_level.proofs.divide.Reads as divide-reads
-use Rattle.coarse_points.proofs.coarse_points.Reads as coarse-points-reads
 
 add-end : tie.Need-add-end
 add-end c = search needs
@@ -30,22 +26,22 @@ part-divide-end c = search needs
 
 divide-requires : tie.Need-divide-requires
 divide-requires c κs =
-    let p = c .before .before .before .before .before .before .before .before .before .before .before .before .before .before .before .before .pre in
-    let P = c .before .before .before .before .before .before .before .before .before .before .before .before .before .before .before .before .args in
+    let p = c .before .before .before .before .before .before .before .before .before .before .before .before .before .before .before .before .before .before .before .before .pre in
+    let P = c .before .before .before .before .before .before .before .before .before .before .before .before .before .before .before .before .before .before .before .before .args in
     let n : length (part (P .level-points .now) (P .place .from) (P .place .a)) ≡ P .place .a = length-part (P .level-points .now) (P .place .from) (P .place .a) (omega (arith, p .0 .0)) in
     rw (part-lent (P .level-points .now) (P .place .from) (P .place .a), n) (p .0 .2, (p .1 .0, p .1 .1))
 
 coarse-points-requires : tie.Need-coarse-points-requires
 coarse-points-requires c κs =
-    let p = c .before .before .before .before .before .before .before .before .before .before .before .before .before .before .before .before .before .before .before .before .before .before .before .before .before .before .before .before .before .before .before .before .before .before .pre in
-    let P = c .before .before .before .before .before .before .before .before .before .before .before .before .before .before .before .before .before .before .before .before .before .before .before .before .before .before .before .before .before .before .before .before .before .before .args in
+    let p = c .before .before .before .before .before .before .before .before .before .before .before .before .before .before .before .before .before .before .before .before .before .before .before .before .before .before .before .before .before .before .before .before .before .before .before .before .before .before .before .before .before .before .pre in
+    let P = c .before .before .before .before .before .before .before .before .before .before .before .before .before .before .before .before .before .before .before .before .before .before .before .before .before .before .before .before .before .before .before .before .before .before .before .before .before .before .before .before .before .before .args in
     let g = p .0 .2 in
     let n : length (part (P .level-points .now) (P .place .from) (P .place .a)) ≡ P .place .a = length-part (P .level-points .now) (P .place .from) (P .place .a) (omega (arith, p .0 .0)) in
-    let v = rw (part-lent (P .level-points .now) (P .place .from) (P .place .a)) at (c .before .before .before .before .before .before .before .before .before .before .before .before .before .before .before .before .before .divide .ensures) in
+    let v = rw (part-lent (P .level-points .now) (P .place .from) (P .place .a)) at (c .before .before .before .before .before .before .before .before .before .before .before .before .before .before .before .before .before .before .before .before .before .divide .ensures) in
     let many = v .0 .0 ∙ level-number _ _ _ (P .plan .neighbours) _ in
     let sends = packed-sends _ _ _ _ _ g _ _ _ _ _ (rw n (p .1 .0 .internals)) (rw n (p .1 .0 .domains)) _ _ (v .1 .0) (v .1 .1 .0) in (
       rw many sends,
-      (omega (arith, p .0 .1), omega (arith, p .0 .0, p .0 .1), omega (arith, number-most _ _ _ _ _ g, many, n, p .1 .1 .wholes), omega (arith, p .1 .1 .floats)),
+      (omega (arith, p .0 .1), omega (arith, p .0 .0, p .0 .1), omega (arith, number-most _ _ _ _ _ g, many, n, p .1 .1 .0 .wholes), omega (arith, p .1 .1 .0 .floats)),
     )
 
 same-length : tie.Need-same-length
@@ -69,17 +65,23 @@ same-length-6 c = search needs
 same-length-7 : tie.Need-same-length-7
 same-length-7 c = search needs
 
+same-length-8 : tie.Need-same-length-8
+same-length-8 c = search needs
+
+same-length-9 : tie.Need-same-length-9
+same-length-9 c = search needs
+
 returns : tie.Need-returns
 returns c =
-    let p = c .before .before .before .before .before .before .before .before .before .before .before .before .before .before .before .before .before .before .before .before .before .before .before .before .before .before .before .before .before .before .before .before .before .before .before .before .before .before .before .before .before .pre in
-    let P = c .before .before .before .before .before .before .before .before .before .before .before .before .before .before .before .before .before .before .before .before .before .before .before .before .before .before .before .before .before .before .before .before .before .before .before .before .before .before .before .before .before .args in
+    let p = c .before .before .before .before .before .before .before .before .before .before .before .before .before .before .before .before .before .before .before .before .before .before .before .before .before .before .before .before .before .before .before .before .before .before .before .before .before .before .before .before .before .before .before .before .before .before .before .before .before .pre in
+    let P = c .before .before .before .before .before .before .before .before .before .before .before .before .before .before .before .before .before .before .before .before .before .before .before .before .before .before .before .before .before .before .before .before .before .before .before .before .before .before .before .before .before .before .before .before .before .before .before .before .before .args in
     let g = p .0 .2 in
     let n : length (part (P .level-points .now) (P .place .from) (P .place .a)) ≡ P .place .a = length-part (P .level-points .now) (P .place .from) (P .place .a) (omega (arith, p .0 .0)) in
-    let v = rw (part-lent (P .level-points .now) (P .place .from) (P .place .a)) at (c .before .before .before .before .before .before .before .before .before .before .before .before .before .before .before .before .before .before .before .before .before .before .before .before .divide .ensures) in
+    let v = rw (part-lent (P .level-points .now) (P .place .from) (P .place .a)) at (c .before .before .before .before .before .before .before .before .before .before .before .before .before .before .before .before .before .before .before .before .before .before .before .before .before .before .before .before .divide .ensures) in
     let many = v .0 .0 ∙ level-number _ _ _ (P .plan .neighbours) _ in
     let read = rw (← many) at (packed-read _ _ _ _ _ g _ _ _ _ _ (rw n (p .1 .0 .internals)) (rw n (p .1 .0 .domains)) _ _ (v .1 .0) (v .1 .1 .0)) in
     let up = rw (read, level-next (P .plan .dimensions) (P .points .now) (P .plan .leaf) (P .plan .neighbours) (part (P .level-points .now) (P .place .from) (P .place .a)) (P .size)) at (c .before .before .before .before .before .before .coarse-points .ensures) in
-    ((v .0 .0, v .0 .1, up .0 .0), (up .1, v .1))
+    ((v .0 .0, v .0 .1, up .0 .0, v .0 .2, rw n at (v .0 .3)), (up .1, v .1))
 
 pub fine-level-spec : {M : Type 1} → statement M
 fine-level-spec =
@@ -99,4 +101,6 @@ fine-level-spec =
     same-length-5
     same-length-6
     same-length-7
+    same-length-8
+    same-length-9
     returns)

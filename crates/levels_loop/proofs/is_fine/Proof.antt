@@ -3,8 +3,6 @@ use borrow.Author.Tests.{lt-ltb, le-ltb}
 use Rattle.definition.specs.Tree.{mostFine}
 use Rattle.levels_loop.proofs.is_fine.Statement.{statement}
 use Rattle.levels_loop.proofs.is_fine.Tie as tie
-use Rattle.levels_loop.proofs.is_fine.Reads as reads
-use Rattle.levels_loop.proofs.is_fine.Lts as lts
 
 returns : tie.Need-returns
 returns c = rw (lt-ltb (c .before .args .built) mostFine (c .if1 .taken))

@@ -6,9 +6,6 @@ use borrow.Author.Needs.{needs}
 use Rattle.definition.specs.Levels.{levelSize}
 use Rattle.levels_loop.proofs.next_size.Statement.{statement}
 use Rattle.levels_loop.proofs.next_size.Tie as tie
-use Rattle.levels_loop.proofs.next_size.Reads as reads
-use Rattle.levels_loop.proofs.next_size.Lts as lts
-use Rattle.level_sizes.proofs.level_size.Reads as level-size-reads
 
 cast-level-size : tie.Need-cast-level-size
 cast-level-size c = search needs

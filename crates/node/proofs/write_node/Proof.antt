@@ -1,5 +1,6 @@
+-- `node::write_node` meets its contract. Assumes nothing.
 use native.Mathlib.Omega.{arith}
-use mathlib.Core.Path.{_≡_, sym, ap}
+use mathlib.Core.Path.{sym, ap}
 use lib.ListN.{set}
 use denote.Ref.{now}
 use Rattle.definition.specs.Record.{wholeOf, floatOf}
@@ -8,8 +9,6 @@ use Rattle.node.specs.declared.Node.{Node}
 use borrow.Author.Needs.{needs}
 use Rattle.node.proofs.write_node.Statement.{statement}
 use Rattle.node.proofs.write_node.Tie as tie
-use Rattle.node.proofs.write_node.Reads as reads
-use Rattle.node.proofs.write_node.Lts as lts
 
 enum-known-node : tie.Need-enum-known-node
 enum-known-node c = search needs

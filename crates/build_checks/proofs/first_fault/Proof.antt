@@ -1,0 +1,35 @@
+-- `build_checks::first_fault` meets its contract. Assumes nothing.
+use native.Mathlib.Omega.{arith}
+use borrow.Author.Needs.{needs}
+use Rattle.definition.specs.Refusals.{settingsTests}
+use Rattle.config.specs.Params.{settingsOf}
+use Rattle.build_checks.proofs.Laws.{fault-first, fault-second}
+use Rattle.build_checks.proofs.first_fault.Statement.{statement}
+use Rattle.build_checks.proofs.first_fault.Tie as tie
+
+settings-fault-requires : tie.Need-settings-fault-requires
+settings-fault-requires c κs = search needs
+
+returns : tie.Need-returns
+returns c =
+    let P = c .before .before .args in
+    (fault-first (settingsTests (settingsOf (P .dimensions) (P .params))) _ _ (c .before .settings-fault .ensures .0) (c .if1 .taken), λ e. absurd (omega (arith, c .if1 .taken)))
+
+points-fault-requires : tie.Need-points-fault-requires
+points-fault-requires c κs = let f = c .before .settings-fault .ensures .1 (omega (arith, c .if1 .left)) in (f .0, f .2)
+
+returns-2 : tie.Need-returns-2
+returns-2 c =
+    let P = c .before .before .before .args in
+    let f = c .before .before .settings-fault .ensures .1 (omega (arith, c .before .if1 .left)) in
+    let w = c .points-fault .ensures in
+    (fault-second (settingsTests (settingsOf (P .dimensions) (P .params))) _ _ (c .before .before .settings-fault .ensures .0) (c .before .if1 .left) (c .points-fault .result) (w .0), λ e. (f .0, f .1, w .1 e, f .3))
+
+pub first-fault-spec : {M : Type 1} → statement M
+first-fault-spec =
+    tie.close
+    (tie.spec
+    settings-fault-requires
+    returns
+    points-fault-requires
+    returns-2)

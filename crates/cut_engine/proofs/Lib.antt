@@ -1,0 +1,2 @@
+-- Laws of the engines.
+pub mod Written

@@ -1,0 +1,2 @@
+-- What the contracts of the engines cite.
+pub mod Engines

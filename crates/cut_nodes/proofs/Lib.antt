@@ -1,0 +1,2 @@
+-- Laws of what the depth-first cut writes.
+pub mod Laws

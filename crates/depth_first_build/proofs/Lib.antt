@@ -1,0 +1,2 @@
+-- Laws of the build that cuts depth first.
+pub mod Outcomes

@@ -1,0 +1,2 @@
+-- What the contracts of the checks cite.
+pub mod Lengths
