@@ -10,7 +10,8 @@
  *
  * Threads. There is no global state: any number of calls may run at once, as long as no list is lent to two of them. Points may be
  * shared, since they are only read.
- * Stack. Under 16 KiB for any input, but for ddm_store and ddm_load, whose sets of rows take 256 KiB more; nothing is allocated.
+ * Stack. Under 16 KiB for any input (the depth-first build nests 21 calls at most, and takes some 15 KiB then), but for ddm_store and
+ * ddm_load, whose sets of rows take 256 KiB more; nothing is allocated.
  * Memory. A build over n points asks for 768 + 96 * dimensions + 112 * (K + 1) bytes a point in its seven lists, with K neighbours:
  * 2,864 in two dimensions with 16. That is the most that any input can need, and few are touched: 5,000 random wells in two dimensions
  * write some 70 of them a well at the default settings, some 620 at leaf threshold 1. So lists from calloc cost little. The two lists of

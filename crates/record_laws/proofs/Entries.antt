@@ -1,10 +1,9 @@
 -- The leaves of cuts, their nodes and their entries in the table: how many, their depths, places and rows; the table read back from its
 -- numbers; and the rows and boxes of one depth. Assumes nothing.
 -- Holds: leaves-leaf, entries-leaf, nodes-leaf, leaves-cut, entries-cut, nodes-cut, leaf-count-at, leaf-count-leaf,
---   leaf-count-cut, leaf-count-some, node-count-at, node-count-leaf, node-count-cut, node-count, under-at, rows-under-at,
---   rows-under-leaf, rows-under-cut, boxes-under-at, boxes-under-leaf, boxes-under-cut, boxes-under-length, entries-depths,
---   entries-count, entries-places, entries-total, entries-read, first-part, second-part, rows-append, rows-at, boxes-append,
---   boxes-at
+--   leaf-count-cut, leaf-count-some, node-count-at, node-count-leaf, node-count-cut, node-count, under-at, rows-under-leaf,
+--   rows-under-cut, boxes-under-leaf, boxes-under-cut, boxes-under-length, entries-depths, entries-count, entries-places,
+--   entries-total, entries-read, first-part, second-part, rows-append, rows-at, boxes-append, boxes-at
 use mathlib.Core.Path.{_≡_, refl, sym, ap, ap₂, _∙_}
 use mathlib.Core.Bool.{Bool, true, false}
 use mathlib.Core.List.{List, [], _∷_, _++_, map, map-append, head-eq-of-cons-eq, tail-eq-of-cons-eq}
@@ -141,10 +140,6 @@ joined-cut f a p l r =
 joined-leaf : {B : Type 0} (f : Domain → List B) (q : Domain) → joined (map (λ x. f (x .domain)) (leavesUnder 0 (uncut q))) ≡ f q
 joined-leaf f q = rw (leaves-leaf 0 q) (joined-one (f q))
 
-pub rows-under-at : (e : ℕ) (t : Cuts) → joined (map (λ f. f .domain .rows) (leavesUnder e t)) ≡ rowsUnder t
-unfolding rowsUnder
-rows-under-at e t = ap joined (under-at (λ q. q .rows) e t)
-
 pub rows-under-leaf : (q : Domain) → rowsUnder (uncut q) ≡ q .rows
 unfolding rowsUnder
 rows-under-leaf q = joined-leaf (λ q. q .rows) q
@@ -153,7 +148,7 @@ pub rows-under-cut : (a : ℕ) (p : Float) (l r : Cuts) → rowsUnder (cutAt a p
 unfolding rowsUnder
 rows-under-cut a p l r = joined-cut (λ q. q .rows) a p l r
 
-pub boxes-under-at : (e : ℕ) (t : Cuts) → joined (map (λ f. f .domain .box) (leavesUnder e t)) ≡ boxesUnder t
+boxes-under-at : (e : ℕ) (t : Cuts) → joined (map (λ f. f .domain .box) (leavesUnder e t)) ≡ boxesUnder t
 unfolding boxesUnder
 boxes-under-at e t = ap joined (under-at (λ q. q .box) e t)
 
