@@ -1,38 +1,8 @@
 //! The library against a plain implementation of document 01: random jobs, refusals, and the sizes around each limit.
 mod plain;
 
+use plain::random::Random;
 use rekvashu::{build, level_size, quotas, sample, square_root, DDMParams, Error, Refusal, SizePolicy, Tree};
-
-/// A small generator with a fixed seed, so that each run sees the same jobs.
-struct Random(u64);
-
-impl Random {
-    fn next(&mut self) -> u64 {
-        self.0 ^= self.0 << 13;
-        self.0 ^= self.0 >> 7;
-        self.0 ^= self.0 << 17;
-        self.0
-    }
-
-    fn below(&mut self, n: u64) -> u64 {
-        self.next() % n
-    }
-
-    fn unit(&mut self) -> f64 {
-        (self.next() >> 11) as f64 / (1u64 << 53) as f64
-    }
-
-    /// A coordinate: smooth, on a lattice, or one of the values at the edges of the format.
-    fn coordinate(&mut self, kind: u64) -> f64 {
-        match kind {
-            0 => self.unit() * 2000.0 - 1000.0,
-            1 => self.below(5) as f64,
-            2 => [0.0, -0.0, 1.0, 5e-324, -5e-324, 1e308, -1e308, 2.2250738585072014e-308][self.below(8) as usize],
-            3 => self.unit() * 1e-310,
-            _ => (self.unit() - 0.5) * 10f64.powi(self.below(40) as i32 - 20),
-        }
-    }
-}
 
 fn settings(p: DDMParams) -> plain::Settings {
     let policy = match p.coarse_threshold {
@@ -78,8 +48,8 @@ fn check(coords: &[f64], d: usize, p: DDMParams) {
 fn random_jobs() {
     let mut random = Random(0x5eed_0001);
     for _ in 0..20_000 {
-        let d = 1 + random.below(3) as usize;
-        let n = 1 + random.below(90) as usize;
+        let d = 1 + random.below(3);
+        let n = 1 + random.below(90);
         let kind = random.below(5);
         let coords: Vec<f64> = (0..n * d).map(|_| random.coordinate(kind)).collect();
         let p = DDMParams {
@@ -108,13 +78,13 @@ fn refusals() {
     let mut random = Random(0x5eed_0003);
     let odd = [0u32, 1, 2, 3, 64, 65, 4_294_967_295];
     for _ in 0..4_000 {
-        let d = random.below(5) as usize;
+        let d = random.below(5);
         let mut coords: Vec<f64> = (0..random.below(12)).map(|_| random.coordinate(1)).collect();
         if !coords.is_empty() && random.below(3) == 0 {
-            let at = random.below(coords.len() as u64) as usize;
-            coords[at] = [f64::NAN, f64::INFINITY, f64::NEG_INFINITY][random.below(3) as usize];
+            let at = random.below(coords.len());
+            coords[at] = [f64::NAN, f64::INFINITY, f64::NEG_INFINITY][random.below(3)];
         }
-        let mut number = || odd[random.below(7) as usize];
+        let mut number = || odd[random.below(7)];
         let p = DDMParams {
             leaf_threshold: number(),
             overlap_knn: number(),
@@ -143,10 +113,10 @@ fn sizes_around_each_limit() {
 fn other_functions() {
     let mut random = Random(0x5eed_0004);
     for _ in 0..2_000 {
-        let sizes: Vec<usize> = (0..random.below(9)).map(|_| random.below(7) as usize).collect();
-        let s = random.below(40) as usize;
+        let sizes: Vec<usize> = (0..random.below(9)).map(|_| random.below(7)).collect();
+        let s = random.below(40);
         assert_eq!(quotas(&sizes, s).unwrap(), plain::quotas(&sizes, s));
-        let (a, c, r) = (2 + random.below(3000) as usize, random.below(3000) as u32, random.below(5) as u32);
+        let (a, c, r) = (2 + random.below(3000), random.below(3000) as u32, random.below(5) as u32);
         let size = level_size(a, c, r);
         if c == 0 {
             assert_eq!(size.unwrap_err().number, 4);
@@ -157,10 +127,10 @@ fn other_functions() {
         } else {
             assert_eq!(size.unwrap(), plain::level_size(a, c as usize, r));
         }
-        let n = 1 + random.below(30) as usize;
+        let n = 1 + random.below(30);
         let kind = random.below(5);
         let coords: Vec<f64> = (0..2 * n).map(|_| random.coordinate(kind)).collect();
-        let (wanted, seed) = (1 + random.below(n as u64) as usize, random.below(n as u64) as usize);
+        let (wanted, seed) = (1 + random.below(n), random.below(n));
         let rows: Vec<usize> = (0..n).collect();
         let points = plain::Points { coords: &coords, d: 2 };
         assert_eq!(sample(&coords, 2, wanted, seed).unwrap(), plain::sample(&points, &rows, wanted, seed));

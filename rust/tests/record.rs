@@ -2,6 +2,7 @@
 //! else is written.
 mod plain;
 
+use plain::random::Random;
 use plain::{Node, Policy, Settings};
 use rekvashu::{build, build_depth_first, DDMParams, NodeKind, SizePolicy};
 
@@ -30,31 +31,6 @@ extern "C" {
     ) -> usize;
 }
 
-/// A small generator with a fixed seed, so that each run sees the same jobs.
-struct Random(u64);
-
-impl Random {
-    fn next(&mut self) -> u64 {
-        self.0 ^= self.0 << 13;
-        self.0 ^= self.0 >> 7;
-        self.0 ^= self.0 << 17;
-        self.0
-    }
-
-    fn below(&mut self, n: usize) -> usize {
-        (self.next() % n as u64) as usize
-    }
-
-    /// Smooth, on a lattice, or one of the values at the edges of the format.
-    fn coordinate(&mut self, kind: usize) -> f64 {
-        match kind {
-            0 => (self.next() >> 11) as f64 / (1u64 << 42) as f64 - 1000.0,
-            1 => self.below(5) as f64,
-            _ => [0.0, -0.0, 1.0, 5e-324, -5e-324, 1e308, -1e308, 2.2250738585072014e-308][self.below(8)],
-        }
-    }
-}
-
 #[derive(Debug)]
 struct Job {
     coords: Vec<f64>,
@@ -66,7 +42,7 @@ struct Job {
 
 /// Most jobs are good; some have a short list, a bad coordinate, a bad setting, or several of these.
 fn job(random: &mut Random) -> Job {
-    let (n, kind) = (1 + random.below(90), random.below(3));
+    let (n, kind) = (1 + random.below(90), random.below(5));
     let mut d = 1 + random.below(3);
     let mut coords: Vec<f64> = (0..n * d).map(|_| random.coordinate(kind)).collect();
     if random.below(6) == 0 {

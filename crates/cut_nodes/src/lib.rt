@@ -16,9 +16,6 @@ use boxes::Extents;
 use cut::Plane;
 use node::Node;
 
-// The whole numbers of a leaf in the table: its depth, its count of rows, and the place of its node.
-pub const ENTRY: usize = 3;
-
 // Where the next node goes, and how many leaves there are so far.
 pub struct Next {
     pub place: usize,
@@ -45,7 +42,7 @@ fn put_leaf(
 {
     let place = from.place;
     let k = from.leaves;
-    let entry = base + ENTRY * k;
+    let entry = base + node::ENTRY * k;
     wholes[entry] = depth;
     stretches::put_pair(wholes, entry + 1, count, place);
     boxes::write_box(whole, floats, boxes::box_width(whole.dimensions) * k);

@@ -9,6 +9,9 @@ ghost use Rattle.node.specs.Nodes.{asNode, nodeOf};
 // From this number on, a node is a leaf: its number comes on top.
 pub const LEAF: usize = 3;
 
+// The whole numbers of a leaf in the engine's table of leaves: its depth, its count of rows, and the place of its node.
+pub const ENTRY: usize = 3;
+
 // A cut, with its axis and the coordinate of its plane, or a leaf with its number.
 pub enum Node {
     Cut { axis: usize, plane: f64 },

@@ -1,6 +1,7 @@
 //! Document 01 in plain Rust, written from the paper alone: what the library's answers are compared with.
 #![allow(dead_code)]
 
+pub mod random;
 pub mod stored;
 
 #[derive(Clone, Copy, Debug)]
