@@ -6,6 +6,7 @@ use mathlib.Core.List.{List, [], _∷_, _++_}
 use lib.ListN.{replicate}
 use lib.Ieee.{binary64, ofBits}
 use Rattle.lists.specs.Lists.{from}
+use Rattle.definition.specs.Cut.{plane}
 use Rattle.definition.specs.Levels.{auto, threshold}
 use Rattle.definition.specs.Packed.{Counts}
 use Rattle.definition.specs.Outcome.{Answer, Shared, rootAnswer, sizeAnswer, quotaAnswer, quotaOutput, sampleAnswer, sampleOutput, buildAnswer, TreeLists, buildLists}
@@ -28,6 +29,8 @@ abbrev tree4 : TreeLists
 tree4 = buildLists (onLine 2 2) (line (0 ∷ 1 ∷ 3 ∷ 7 ∷ [])) (nines 4) (floatRoom 4) (wholeRoom 4)
 
 pub record Examples : Type 0 where
+  -- the plane of the first cut of the points 0, 1, 3, 7 is the coordinate of the first right row
+  root-plane : plane 1 (line (0 ∷ 1 ∷ 3 ∷ 7 ∷ [])) (from 0 4) ∷ [] ≡ line (3 ∷ [])
   -- the tree of the points 0, 1, 3, 7 in lists that held nines: packed, and what stands past it stays. A row for each list; the
   -- domain rows come last, since they count the rows of the others
   packed-level-points : tree4 .level-points ≡ 0 ∷ 1 ∷ 2 ∷ 3 ∷ 0 ∷ 1 ∷ replicate 10 9
@@ -96,6 +99,7 @@ pub examples : Examples
 unfolding opened
 examples =
     record {
+      root-plane = refl;
       packed-level-points = refl;
       packed-internals = refl;
       packed-boxes = refl;
