@@ -33,7 +33,7 @@ extern "C" {
 
 /* major * 10000 + minor * 100 + patch, of this header; ddm_version gives that of the library. Another minor version may have wider rows
  * and more lists, so that a program which loads the shared library tests ddm_version() / 100 == DDM_VERSION / 100 first. */
-#define DDM_VERSION 400
+#define DDM_VERSION 401
 
 /* ---- limits and settings */
 

@@ -1,6 +1,7 @@
 #!/bin/sh
 # The figures: the library against plain Rust, whole and stage by stage; or the build that cuts depth first against the queue's, whole
-# and its cut stage; or the cut stage against that of an earlier commit. Each in one run. Not a test, and nothing that the gate runs.
+# and its cut stage; or the cut stage and the neighbour stage against those of an earlier commit. Each in one run. Not a test, and nothing
+# that the gate runs.
 #
 #   rust/figures.sh [--engines | --against COMMIT]
 #
@@ -13,7 +14,7 @@ against=
 case "$#${1-}" in
 0) figures=figures ;;
 1--engines) figures=engine_figures ;;
-2--against) figures=cut_figures against=$(git rev-parse --verify "$2^{commit}") ;;
+2--against) figures= against=$(git rev-parse --verify "$2^{commit}") ;;
 *) echo "use: rust/figures.sh [--engines | --against COMMIT]" >&2; exit 2 ;;
 esac
 made=$(mktemp -d)
@@ -58,5 +59,6 @@ else
     share "$made/before" "$made/before.so"
     share "$made/now" "$made/now.so"
     git log -1 --format='before: %h %s' "$against"
-    run "$figures" "$made/before.so" "$made/now.so"
+    run cut_figures "$made/before.so" "$made/now.so"
+    run overlap_figures "$made/before.so" "$made/now.so"
 fi

@@ -174,6 +174,15 @@ def duplicates(rng):
             yield settings(d, 1, 1, 3, 1, number) + points(d, [(-1) ** i * 0.0 for i in range(n * d)])
 
 
+def nested():
+    """More rows at squared distance zero than a row takes, some of them by underflow, on up to three fine levels."""
+    places = ([5, 5], [5, 5, 5], [5, 5, 5, 5], [0, 5e-324, 1e-323], [2e-170, 0, 1e-170], [3, 7, 3, 3, 7, 3, 9])
+    for neighbours in (0, 1, 2):
+        for d in (1, 3):
+            for place in places:
+                yield settings(d, 1, neighbours, 2, 1, 1) + points(d, [x for x in place for _ in range(d)])
+
+
 def value(rng, kind):
     if kind == 0:
         return bits(float(rng.randint(0, 3)))
@@ -226,7 +235,7 @@ def all_streams():
     rng = random.Random(20261009)
     groups = [document(), cut_at_each_byte(), wrong_marks(), policies(), dimensions(), point_counts(), neighbour_counts(),
               refusals(), thresholds(), not_finite(), edge_values(rng), duplicates(rng), trees(rng, 330, 10),
-              trees(rng, 40, 32), flipped(rng, 300), garbage(rng)]
+              trees(rng, 40, 32), flipped(rng, 300), garbage(rng), nested()]
     seen = set()
     for group in groups:
         for stream in group:

@@ -1,7 +1,7 @@
-"""Document 01 as plain Python, for making stored answers and for checking tables by hand.
+"""Document 01 with requests 2 and 4 of document 02 as plain Python, for making stored answers and for checking tables by hand.
 
-It follows the paper rule by rule and shares nothing with the Rattle code. Python's floats are IEEE 754 binary64 and its
-`math.sqrt` is correctly rounded, so every rounded step is the paper's.
+It follows the papers rule by rule and shares nothing with the Rattle code. Python's floats are IEEE 754 binary64 and its
+`math.sqrt` is correctly rounded, so every rounded step is the papers'.
 
     python3 tools/model.py < STREAM      prints what the program prints for a job stream
 """
@@ -164,12 +164,17 @@ def leaves_of(cs, d, leaf, active):
     return leaves
 
 
+def nearest(cs, d, neighbours, active, i):
+    """The rows that row i takes: itself, then as many others as there are neighbours, by (squared distance, row)."""
+    others = sorted((j for j in active if j != i), key=lambda j: (rows_sq(cs, d, i, j), j))
+    return [i] + others[:neighbours]
+
+
 def borrowed_of(cs, d, neighbours, active, leaves):
     owner = {i: t for t, (rows, _) in enumerate(leaves) for i in rows}
     borrowed = [set() for _ in leaves]
     for i in active:
-        near = sorted(active, key=lambda j: (rows_sq(cs, d, i, j), j))[:neighbours + 1]
-        for j in near:
+        for j in nearest(cs, d, neighbours, active, i):
             if owner[i] != owner[j]:
                 borrowed[owner[i]].add(j)
                 borrowed[owner[j]].add(i)

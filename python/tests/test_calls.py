@@ -46,6 +46,12 @@ class Build(unittest.TestCase):
         self.assertEqual([level.is_coarse for level in tree.levels], [False, True])
 
     @both
+    def test_a_row_comes_first_in_its_own_neighbourhood(self):
+        for points, neighbours, wanted in (([5, 5, 5], 1, [(0, [1, 2]), (1, [0]), (2, [0])]), ([5, 5], 0, [(0, []), (1, [])])):
+            leaves = rekvashu.build(points, 1, neighbours, 2, len(points) - 1).levels[0].leaves
+            self.assertEqual(sorted((plain(leaf.own)[0], plain(leaf.borrowed)) for leaf in leaves if len(leaf.own)), wanted)
+
+    @both
     def test_random_trees(self):
         r = random.Random(7)
         for _ in range(150):

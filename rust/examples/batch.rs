@@ -1,13 +1,11 @@
-//! Prints the trees of a batch of jobs, for comparisons: standard input holds a 4-byte count and, for each job, a 4-byte length and a
-//! job stream (numbers little-endian; whole streams, any number of points). For each job: a line `=== NUMBER`, then its tree as the
-//! program prints it, or its refusal.
+//! Prints the trees of a batch of jobs (examples/job), for comparisons. For each job: a line `=== NUMBER`, then its tree as the program
+//! prints it, or its refusal.
+mod job;
+
+use job::Job;
 use rekvashu::{build, DDMParams, SizePolicy};
 use std::fmt::Write as _;
-use std::io::{Read, Write};
-
-fn number(b: &[u8]) -> u32 {
-    u32::from_le_bytes([b[0], b[1], b[2], b[3]])
-}
+use std::io::Write;
 
 fn rows(out: &mut String, name: &str, list: &[usize]) {
     let _ = write!(out, " {name}");
@@ -19,20 +17,14 @@ fn rows(out: &mut String, name: &str, list: &[usize]) {
     }
 }
 
-fn job(b: &[u8], out: &mut String) {
-    let d = b[2] as usize;
-    let policy = if b[15] == 0 { SizePolicy::Auto } else { SizePolicy::Fixed(number(&b[16..])) };
+fn print_tree(job: &Job, out: &mut String) {
     let params = DDMParams {
-        leaf_threshold: number(&b[3..]),
-        overlap_knn: number(&b[7..]),
-        coarse_reduction_factor: number(&b[11..]),
-        coarse_threshold: policy,
+        leaf_threshold: job.leaf,
+        overlap_knn: job.neighbours,
+        coarse_reduction_factor: job.factor,
+        coarse_threshold: job.fixed.map_or(SizePolicy::Auto, SizePolicy::Fixed),
     };
-    let points: Vec<f64> = b[20..]
-        .chunks(2 + 8 * d)
-        .flat_map(|r| r[2..].chunks(8).map(|c| f64::from_le_bytes(c.try_into().unwrap())).collect::<Vec<_>>())
-        .collect();
-    let tree = match build(&points, d, params) {
+    let tree = match build(&job.coords, job.d, params) {
         Ok(tree) => tree,
         Err(error) => {
             let refused = error.refusal().expect("memory for the lists");
@@ -62,14 +54,10 @@ fn job(b: &[u8], out: &mut String) {
 }
 
 fn main() {
-    let mut data = Vec::new();
-    std::io::stdin().read_to_end(&mut data).unwrap();
-    let (mut at, mut out) = (4, String::new());
-    for i in 0..number(&data) {
-        let len = number(&data[at..]) as usize;
+    let mut out = String::new();
+    for (i, job) in job::jobs().enumerate() {
         let _ = writeln!(out, "=== {i}");
-        job(&data[at + 4..at + 4 + len], &mut out);
-        at += 4 + len;
+        print_tree(&job, &mut out);
         std::io::stdout().write_all(out.as_bytes()).unwrap();
         out.clear();
     }

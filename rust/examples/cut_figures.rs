@@ -6,30 +6,9 @@
 //! wrote; at the end the greatest ratio. Both must give the same leaves.
 mod stage;
 
-use stage::{compared, lattice, touched_floats, touched_wholes, units, Cut, Lent};
+use stage::{compared, exported, lattice, libraries, touched_floats, touched_wholes, units, Cut, Lent};
 use std::cell::RefCell;
-use std::ffi::{c_char, c_int, c_void, CStr, CString};
-
-extern "C" {
-    fn dlopen(path: *const c_char, flags: c_int) -> *mut c_void;
-    fn dlsym(library: *mut c_void, name: *const c_char) -> *mut c_void;
-    fn dlerror() -> *const c_char;
-}
-
-const RTLD_LOCAL: c_int = 0;
-const RTLD_NOW: c_int = 2;
-
-/// The cut stage of the shared library at this path.
-fn opened(path: &str) -> Cut {
-    let name = CString::new(path).unwrap();
-    unsafe {
-        let library = dlopen(name.as_ptr(), RTLD_NOW | RTLD_LOCAL);
-        assert!(!library.is_null(), "{}", CStr::from_ptr(dlerror()).to_string_lossy());
-        let stage = dlsym(library, c"stage_leaves".as_ptr());
-        assert!(!stage.is_null(), "{path} has no stage_leaves");
-        std::mem::transmute::<*mut c_void, Cut>(stage)
-    }
-}
+use std::ffi::c_void;
 
 /// Both stages once, on lists of their own: the same leaves, and what each wrote of the room (whole numbers, floats).
 fn same_leaves(stages: [Cut; 2], coords: &[f64], d: usize, leaf: usize, rows: &[usize]) -> [(usize, usize); 2] {
@@ -61,13 +40,7 @@ fn line(stages: [Cut; 2], kind: &str, coords: &[f64], d: usize, leaf: usize, tur
 }
 
 fn main() {
-    let paths: Vec<String> = std::env::args().skip(1).collect();
-    let [before, now] = &paths[..] else {
-        eprintln!("use: cut_figures BEFORE NOW, two shared libraries");
-        std::process::exit(2);
-    };
-    let stages = [opened(before), opened(now)];
-    assert!(stages[0] as usize != stages[1] as usize, "one library twice");
+    let stages = libraries().map(|library| unsafe { std::mem::transmute::<*mut c_void, Cut>(exported(library, c"stage_leaves")) });
     let mut unit = units();
     let mut greatest = 0.0f64;
     println!("the cut stage: processor milliseconds, and the whole numbers and floats of the room that were written");

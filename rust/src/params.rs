@@ -22,7 +22,8 @@ pub enum SizePolicy {
 pub struct DDMParams {
     /// The leaf threshold, from 1 up: a domain of at least twice as many rows is cut again. 256 by default.
     pub leaf_threshold: u32,
-    /// The neighbour count, at most 64: how many neighbours of each row are looked at for rows to borrow. 16 by default.
+    /// The neighbour count, at most 64: how many others of each row, the nearest, are looked at for rows to borrow. 16 by default;
+    /// with 0 nothing is borrowed.
     pub overlap_knn: u32,
     /// The factor, from 2 up, by which a level may shrink. 128 by default.
     pub coarse_reduction_factor: u32,

@@ -1,4 +1,4 @@
-//! The library against a plain implementation of document 01: random jobs, refusals, and the sizes around each limit.
+//! The library against the plain implementation: random jobs, refusals, and the sizes around each limit.
 mod plain;
 
 use plain::random::Random;
@@ -36,30 +36,62 @@ fn refused(number: usize, place: usize) -> Error {
     Refusal::new(number, place).into()
 }
 
-fn check(coords: &[f64], d: usize, p: DDMParams) {
+/// The library's answer is the plain one. The number of levels, 0 where the job is refused.
+fn check(coords: &[f64], d: usize, p: DDMParams) -> usize {
     match (build(coords, d, p), plain::build(coords, d, &settings(p))) {
-        (Ok(tree), Ok(levels)) => assert!(same_tree(&tree, &levels), "trees differ: {d} {p:?} {coords:?}"),
-        (Err(ours), Err((number, place))) => assert_eq!(ours, refused(number, place), "{d} {p:?} {coords:?}"),
+        (Ok(tree), Ok(levels)) => {
+            assert!(same_tree(&tree, &levels), "trees differ: {d} {p:?} {coords:?}");
+            levels.len()
+        }
+        (Err(ours), Err((number, place))) => {
+            assert_eq!(ours, refused(number, place), "{d} {p:?} {coords:?}");
+            0
+        }
         (ours, theirs) => panic!("{:?} against {:?}: {d} {p:?} {coords:?}", ours.err(), theirs.err()),
     }
+}
+
+/// A job: coordinates, dimension, settings. Nested wells share a few places, and their tree has a fine level.
+fn random_job(random: &mut Random, nested: bool) -> (Vec<f64>, usize, DDMParams) {
+    let d = 1 + random.below(3);
+    let n = 1 + usize::from(nested) + random.below(90);
+    let kind = random.below(5);
+    let places = if nested { 1 + random.below(n / 2) } else { n };
+    let mut coords: Vec<f64> = (0..places * d).map(|_| random.coordinate(kind)).collect();
+    if nested {
+        coords = (0..n).flat_map(|_| coords.chunks(d).nth(random.below(places)).unwrap().to_vec()).collect();
+    }
+    let factor = 2 + random.below(5);
+    let least = n.div_ceil(factor.pow(3));
+    let coarse = if nested { least + random.below(n - least) } else { 1 + random.below(30) };
+    let p = DDMParams {
+        leaf_threshold: 1 + random.below(12) as u32,
+        overlap_knn: random.below(if nested { 4 } else { 12 }) as u32,
+        coarse_reduction_factor: factor as u32,
+        coarse_threshold: SizePolicy::Fixed(coarse as u32),
+    };
+    (coords, d, p)
+}
+
+/// The most rows that are the same as one of them, itself counted.
+fn most_same(coords: &[f64], d: usize, same: fn(&[f64], &[f64]) -> bool) -> usize {
+    let count = |p| coords.chunks(d).filter(|q| same(p, q)).count();
+    coords.chunks(d).map(count).max().unwrap()
 }
 
 #[test]
 fn random_jobs() {
     let mut random = Random(0x5eed_0001);
-    for _ in 0..20_000 {
-        let d = 1 + random.below(3);
-        let n = 1 + random.below(90);
-        let kind = random.below(5);
-        let coords: Vec<f64> = (0..n * d).map(|_| random.coordinate(kind)).collect();
-        let p = DDMParams {
-            leaf_threshold: 1 + random.below(12) as u32,
-            overlap_knn: random.below(12) as u32,
-            coarse_reduction_factor: 2 + random.below(5) as u32,
-            coarse_threshold: SizePolicy::Fixed(1 + random.below(30) as u32),
-        };
-        check(&coords, d, p);
+    let (mut with_duplicates, mut crowded) = (0, 0);
+    for number in 0..20_000 {
+        let (coords, d, p) = random_job(&mut random, number % 2 == 0);
+        if check(&coords, d, p) > 1 {
+            with_duplicates += usize::from(most_same(&coords, d, |a, b| a == b) > 1);
+            crowded += usize::from(most_same(&coords, d, |a, b| plain::distance_sq(a, b) == 0.0) > p.overlap_knn as usize + 1);
+        }
     }
+    println!("trees with a fine level: {with_duplicates} with duplicates, {crowded} with more at distance zero than a row takes");
+    assert!(with_duplicates > 10_000 && crowded > 5_000, "{with_duplicates}, {crowded}");
 }
 
 #[test]

@@ -1,4 +1,4 @@
-"""Tests of the plain model: document 01's example and edges."""
+"""Tests of the plain model: document 01's example and edges, and the requests that it follows."""
 import struct
 import unittest
 
@@ -40,6 +40,39 @@ class Model(unittest.TestCase):
     def test_sampling(self):
         self.assertEqual(model.sample([0.0, 1.0, 3.0, 7.0], 1, range(4), 3, 1), [1, 3, 2])
         self.assertEqual(model.sample([5.0] * 3, 1, range(3), 3, 2), [2, 0, 1])
+
+
+def taken(cs, neighbours, i):
+    """The rows that row i takes of points on a line."""
+    return model.nearest([float(x) for x in cs], 1, neighbours, range(len(cs)), i)
+
+
+def borrowed(cs, neighbours):
+    """What the leaf of each row borrows: points on a line, leaf 1, factor 2, one fine level."""
+    (_, leaves), _ = model.build([float(x) for x in cs], 1, 1, neighbours, 2, 1, len(cs) - 1)
+    return {own[0]: rows for own, rows, _ in leaves if own}
+
+
+class Neighbours(unittest.TestCase):
+    def test_a_row_comes_first_in_its_own_neighbourhood(self):
+        self.assertEqual([taken([5, 5, 5], 1, i) for i in range(3)], [[0, 1], [1, 0], [2, 0]])
+        self.assertEqual([taken([7, 5, 5, 5], 2, i) for i in (0, 3)], [[0, 1, 2], [3, 1, 2]])
+
+    def test_others_by_distance_and_row(self):
+        self.assertEqual(taken([0, 1, 2], 1, 1), [1, 0])
+        self.assertEqual(taken([0, 9, 2, 3], 2, 2), [2, 3, 0])
+        self.assertEqual(taken([0, 1, 2], 9, 2), [2, 1, 0])
+
+    def test_no_neighbours(self):
+        self.assertEqual(taken([5, 5], 0, 1), [1])
+        self.assertEqual(borrowed([5, 5], 0), {0: [], 1: []})
+
+    def test_distance_zero_is_that_of_the_square(self):
+        for step, second in ((5e-324, 0), (1e-170, 0), (1e-161, 1)):
+            self.assertEqual(taken([0, step, 2 * step], 1, 2), [2, second])
+
+    def test_leaves_of_three_rows_at_one_place(self):
+        self.assertEqual(borrowed([5, 5, 5], 1), {0: [1, 2], 1: [0], 2: [0]})
 
 
 def bits(numbers):

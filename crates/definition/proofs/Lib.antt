@@ -20,3 +20,4 @@ pub mod WorkedExamples
 pub mod WrongLookalikes
 pub mod RefusedCalls
 pub mod WorkedRecords
+pub mod WorkedNeighbours

@@ -83,7 +83,7 @@ pub record Lookalikes : Type 0 where
   -- neighbours go by the squares: by roots row 1 would be taken
   nearestBySquare : nearest 2 sameRootTurned 1 (from 0 3) 0 ≡ 0 ∷ 2 ∷ []
   -- equal distances: the lower rows are taken
-  lowerRow : nearest 1 (line (3 ∷ 5 ∷ 4 ∷ 3 ∷ 5 ∷ [])) 2 (from 0 5) 2 ≡ 0 ∷ 1 ∷ 2 ∷ []
+  lowerRow : nearest 1 (line (3 ∷ 5 ∷ 4 ∷ 3 ∷ 5 ∷ [])) 2 (from 0 5) 2 ≡ 2 ∷ 0 ∷ 1 ∷ []
   -- duplicates count: a leaf with two rows at one place sends both; left out, the next level would be 0, 2
   duplicatesCount : pointsIn (levels (onLine 3 3) (line (replicate 4 5))) ≡ from 0 4 ∷ (0 ∷ 1 ∷ 2 ∷ []) ∷ []
   -- one seat for each nonempty leaf where the seats reach: by plain shares the first leaf would get both

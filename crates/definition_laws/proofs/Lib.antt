@@ -2,6 +2,7 @@
 pub mod Finite
 pub mod Shape
 pub mod Overlaps
+pub mod OwnFirst
 pub mod Accepted
 pub mod Fit
 pub mod Choice

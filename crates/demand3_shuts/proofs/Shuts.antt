@@ -1,13 +1,13 @@
 -- What demand 3 shuts out: for each of its fields lists that are wrong in one thing, and that this field refuses. The right lists have
--- it: those of document 01's example, and those of a tree with two fine levels. Each is computed. No lists can break `sends-within` and
--- `empty-sends-none`: what a leaf sends up is the definition's sampling of the rows that the lists name, whatever these are. Assumes
--- nothing.
+-- it: those of document 01's example, those of a tree with two fine levels, and those of rows at one place. Each is computed. No lists
+-- can break `sends-within` and `empty-sends-none`: what a leaf sends up is the definition's sampling of the rows that the lists name,
+-- whatever these are. Assumes nothing.
 -- Holds: not-empty, not-unwritten, not-many, not-after-coarse, not-coarse, not-ended, not-repeated, not-dropped, not-unsent,
 --   not-elsewhere, not-one-more, not-all-again, not-counted, not-own-counted, not-borrowed-counted, not-leaves-beyond,
 --   not-beyond, not-shared, not-left-out, not-foreign, not-renumbered, not-two-coarse, not-coarse-borrowing, not-coarse-boxed,
---   not-below, not-own, not-twice, not-far, not-measured, six-has-it, not-out-of-order, not-uneven, not-sent-by-none,
---   not-shared-out, not-one-too-few, not-two-more, not-more-than-whole, shares
-use Prim.Native.Nat.{ℕ, _+_, _*_, _≤_, _<_}
+--   not-below, not-own, not-twice, not-far, not-measured, six-has-it, not-out-of-order, nested-has-it, not-lowest-first,
+--   not-uneven, not-sent-by-none, not-shared-out, not-one-too-few, not-two-more, not-more-than-whole, shares
+use Prim.Native.Nat.{ℕ, _+_, _-_, _*_, _≤_, _<_}
 use mathlib.Core.Path.{_≡_, refl, ap, subst}
 use mathlib.Core.List.{List, [], _∷_, _++_}
 use mathlib.Core.Logic.{_⊎_, ⊎-elim}
@@ -183,6 +183,44 @@ six-has-it = subst (Demand3 (onLine 4 2) six) is-six (demand-3 (onLine 4 2) six 
 pub not-out-of-order : Demand3 (onLine 4 2) six (in-six (0 ∷ 1 ∷ 2 ∷ 3 ∷ 4 ∷ 5 ∷ 1 ∷ 0 ∷ 4 ∷ 3 ∷ 1 ∷ 4 ∷ [])) → ⊥
 unfolding all-open
 not-out-of-order h = let e : _≡_ {A = ℕ} 1 0 = ap (λ (x : List ℕ). getD x 0 9) (h .each-fine 0 (omega arith) .next-order) in omega arith
+
+-- ---- three rows at one place, with leaf 1: each row has a leaf, behind an empty one
+
+abbrev nested : List Float
+nested = line (5 ∷ 5 ∷ 5 ∷ [])
+
+-- the leaf of row 0 borrows rows 1 and 2; these are what the leaves of rows 1 and 2 borrow
+abbrev in-nested : List ℕ → List ℕ → Handed
+in-nested of-1 of-2 =
+    let v = length of-1 in
+    let w = length of-2 in
+    record {
+      lists = record {
+        level-points = 0 ∷ 1 ∷ 2 ∷ 0 ∷ 1 ∷ replicate 7 9;
+        internals = 0 ∷ 1 ∷ 2 ∷ 0 ∷ 1 ∷ replicate 7 9;
+        domains =
+            0 ∷ 0 ∷ 0 ∷ 0 ∷ 0 ∷ 1 ∷ 0 ∷ 2 ∷ 1 ∷ 0 ∷ 2 ∷ 0 ∷ 1 ∷ 1 ∷ 2 ∷ v ∷ 2 ∷ 0 ∷ (2 + v) ∷ 0 ∷ 2 ∷ 1 ∷ (2 + v) ∷ w ∷ 3 ∷ 2 ∷ (2 + v + w) ∷ 0
+            ∷ replicate 48 9;
+        boxes = line (replicate 12 5 ++ 0 ∷ 0 ∷ replicate 24 9);
+        borrowed = 1 ∷ 2 ∷ of-1 ++ of-2 ++ replicate (34 - v - w) 9;
+      };
+      counts = counts 2 (3 ∷ 2 ∷ 0 ∷ 0 ∷ []) (6 ∷ 1 ∷ 0 ∷ 0 ∷ []);
+    }
+
+-- each row takes itself first, and then the lower of the others
+is-nested : handedBack (onLine 1 2) nested (nines 3) (floatRoom 3) (wholeRoom 3) ≡ in-nested (0 ∷ []) (0 ∷ [])
+unfolding all-open
+is-nested = refl
+
+pub nested-has-it : Demand3 (onLine 1 2) nested (in-nested (0 ∷ []) (0 ∷ []))
+unfolding all-open
+nested-has-it = subst (Demand3 (onLine 1 2) nested) is-nested (demand-3 (onLine 1 2) nested (nines 3) (floatRoom 3) (wholeRoom 3) refl)
+
+-- row 2 would take rows 0 and 1, and fall out of its own neighbourhood: the leaves of rows 1 and 2 borrow from each other. Every other
+-- field holds of these lists.
+pub not-lowest-first : Demand3 (onLine 1 2) nested (in-nested (0 ∷ 2 ∷ []) (0 ∷ 1 ∷ [])) → ⊥
+unfolding all-open
+not-lowest-first h = let e : _≡_ {A = ℕ} 2 1 = ap length (h .each-fine 0 (omega arith) .borrowed-are 3 (omega arith)) in omega arith
 
 -- ---- shares
 

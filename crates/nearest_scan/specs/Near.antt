@@ -35,9 +35,9 @@ module _ (d : ℕ) (cs : List Float) (active : List ℕ) (row : ℕ) where
   unfoldable pub sooner : ℕ → ℕ → Bool
   sooner p q = before (positionKey p) (positionKey q)
 
-  -- positions in order, whose rows are those that the definition takes, each once; with their squared distances
+  -- positions in order, whose rows with `row` itself are those that the definition takes, each once; with their squared distances
   pub record Found (neighbours : ℕ) (near : List ℕ) (far : List Float) : Type 0 where
     pub within : All (λ q. q < length active) near
     pub ordered : Ordered sooner near
-    pub taken : (p : ℕ → Bool) → count p (map (λ q. getD active q 0) near) ≡ count p (nearest d cs neighbours active row)
+    pub taken : (p : ℕ → Bool) → count p (row ∷ map (λ q. getD active q 0) near) ≡ count p (nearest d cs neighbours active row)
     pub values : far ≡ map apart near

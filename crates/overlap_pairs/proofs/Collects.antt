@@ -10,6 +10,7 @@ use lib.ListN.{length, getD}
 use lib.Ieee.{Float}
 use Rattle.lists.specs.Lists.{put, part}
 use Rattle.lists.specs.Ascends.{Ascends}
+use Rattle.lists.proofs.Ascends.{ascends-same}
 use Rattle.lists.proofs.All.{all-at}
 use Rattle.lists.proofs.Put.{length-put, part-nil, getD-put-before, part-grown}
 use Rattle.lists.proofs.Members.{mem-left, mem-right}
@@ -40,9 +41,9 @@ module _ (d : ℕ) (cs : List Float) (neighbours : ℕ) (active : List ℕ) (up 
       nothing k = let e : k - k ≡ 0 = omega arith in ap (part old k) e ∙ part-nil old k
 
   -- room for one more row
-  pub collect-room : (p n : ℕ) → p < a → n ≤ a + p * (2 * (neighbours + 1)) → n + 2 * (neighbours + 1) ≤ a + a * (2 * (neighbours + 1))
+  pub collect-room : (p n : ℕ) → p < a → n ≤ a + p * (2 * neighbours) → n + 2 * neighbours ≤ a + a * (2 * neighbours)
   collect-room p n h g =
-      let q = 2 * (neighbours + 1) in
+      let q = 2 * neighbours in
       let e : (p + 1) * q ≡ p * q + 1 * q = add-mul p 1 q in
       let m : (p + 1) * q ≤ a * q = mul-le-mul-right q (omega arith) in
       omega (arith, one-mul q)
@@ -50,12 +51,12 @@ module _ (d : ℕ) (cs : List Float) (neighbours : ℕ) (active : List ℕ) (up 
   pub collect-owners : (wholes : List ℕ) (n r : ℕ) → Collected d cs neighbours active old n wholes r → length wholes ≡ length old → Owners a old → Owners a wholes
   collect-owners wholes n r c l o = record { few = o .few; room = (let t = o .room in omega arith); small = λ i h. rw (c .stay i h) (o .small i h) }
 
-  module _ (wholes : List ℕ) (p n : ℕ) (c : Collected d cs neighbours active old p wholes n) (here : p < a) (room : n + 2 * (neighbours + 1) ≤ length wholes)
+  module _ (wholes : List ℕ) (p n : ℕ) (c : Collected d cs neighbours active old p wholes n) (here : p < a) (room : n + 2 * neighbours ≤ length wholes)
       (wholes' : List ℕ) (r : ℕ) (t : Taken d cs neighbours active p wholes wholes' n r) where
     xs : List ℕ
     xs = pairsOf (λ i. getD wholes i 0) p (t .near)
 
-    short : length xs ≤ 2 * (neighbours + 1)
+    short : length xs ≤ 2 * neighbours
     unfolding xs
     short = omega (arith, pairs-length (λ i. getD wholes i 0) p (t .near), t .few)
 
@@ -97,7 +98,8 @@ module _ (d : ℕ) (cs : List Float) (neighbours : ℕ) (active : List ℕ) (up 
     new-all : (z : ℕ) (s : PairCode d cs neighbours active own (p + 1) z) → s .from ≡ p → List·Memᴰ z xs
     unfolding xs
     new-all z s e =
-        let k : List·Memᴰ (s .to) (t .near) = taken-found d cs active (getD active p 0) neighbours (t .near) (t .far) (t .found) up (s .to) (s .within)
+        let other : getD active (s .to) 0 ≡ getD active p 0 → ⊥ = λ q. s .apart (ap own (e ∙ sym (ascends-same active (s .to) p up (s .within) here q))) in
+        let k : List·Memᴰ (s .to) (t .near) = taken-found d cs active (getD active p 0) neighbours (t .near) (t .far) (t .found) up (s .to) (s .within) other
         (subst (λ (i : ℕ). List·Memᴰ (getD active (s .to) 0) (nearest d cs neighbours active (getD active i 0))) e (s .takes)) in
         let ef : own (s .from) ≡ getD wholes p 0 = ap own e ∙ sym (own-at p here) in
         let et : own (s .to) ≡ getD wholes (s .to) 0 = sym (own-at (s .to) (s .within)) in
@@ -106,7 +108,7 @@ module _ (d : ℕ) (cs : List Float) (neighbours : ℕ) (active : List ℕ) (up 
 
     pub collect-more : Collected d cs neighbours active old (p + 1) wholes' r
     collect-more =
-        let q = 2 * (neighbours + 1) in
+        let q = 2 * neighbours in
         let s = c .start in
         let h = short in
         let e = end in
@@ -129,7 +131,7 @@ module _ (d : ℕ) (cs : List Float) (neighbours : ℕ) (active : List ℕ) (up 
 
 -- what is found of one row can be sent
 pub row-room : (d : ℕ) (cs : List Float) (neighbours : ℕ) (active : List ℕ) (row p : ℕ) (wholes : List ℕ) (n : ℕ) (near : List ℕ) (far : List Float)
-    → Owners (length active) wholes → length active ≤ n → n + 2 * (neighbours + 1) ≤ length wholes → p < length active → length near ≤ neighbours + 1
+    → Owners (length active) wholes → length active ≤ n → n + 2 * neighbours ≤ length wholes → p < length active → length near ≤ neighbours
     → Found d cs active row neighbours near far → PairRoom near (length active) p wholes n
 row-room d cs neighbours active row p wholes n near far o s r h l f =
     record { owners = o; start = s; fits = omega arith; here = h; within = λ k g. all-at (λ q. q < length active) near k 0 (f .within) g }

@@ -45,7 +45,7 @@ module _ (d : ℕ) (cs : List Float) (neighbours : ℕ) (active : List ℕ) wher
     pub near : List ℕ
     pub far : List Float
     pub found : Found d cs active (getD active p 0) neighbours near far
-    pub few : length near ≤ neighbours + 1
+    pub few : length near ≤ neighbours
     pub end : r ≡ n + length (pairsOf (λ i. getD old i 0) p near)
     pub list : new ≡ put old n (pairsOf (λ i. getD old i 0) p near)
 
@@ -62,7 +62,7 @@ module _ (d : ℕ) (cs : List Float) (neighbours : ℕ) (active : List ℕ) wher
   -- behind the owners, up to r, stands all that the first n positions send, and nothing else; the owners stay
   pub record Collected (old : List ℕ) (n : ℕ) (new : List ℕ) (r : ℕ) : Type 0 where
     pub start : length active ≤ r
-    pub few : r ≤ length active + n * (2 * (neighbours + 1))
+    pub few : r ≤ length active + n * (2 * neighbours)
     pub stay : (i : ℕ) → i < length active → getD new i 0 ≡ getD old i 0
     pub only : (z : ℕ) → List·Memᴰ z (part new (length active) (r - length active)) → PairCode (λ i. getD old i 0) n z
     pub all : (z : ℕ) → PairCode (λ i. getD old i 0) n z → List·Memᴰ z (part new (length active) (r - length active))

@@ -10,10 +10,10 @@ ghost use Rattle.overlap_pairs.specs.Pairs.{pairsOf, PairRoom, Taken, Ow
 // A leaf and a position as one number: leaf * POSITIONS + position.
 const POSITIONS: usize = rows::MOST_LEAVES;
 
-// Room for the nearest rows: a row itself, its neighbours, and one that falls out.
-const NEAREST: usize = rows::MOST_NEIGHBOURS as usize + 2;
+// Room for the nearest rows: the neighbours of a row, and one that falls out.
+const NEAREST: usize = rows::MOST_NEIGHBOURS as usize + 1;
 
-// The row at position p takes those at the positions `near`. Where two leaves own the two rows, each leaf gets the other's row:
+// The row at position p takes those at the positions `near`, besides itself. Where two leaves own the two rows, each leaf gets the other's row:
 // their numbers are written from n on. The owners of the a active rows stand at the front of `wholes`.
 fn send(near: &[usize], a: usize, p: usize, wholes: &mut [usize], n: usize) -> usize
     requires { ⌜ PairRoom (now near) a p (now wholes) n ⌝ }
@@ -47,7 +47,7 @@ fn send_row(
     n: usize,
 ) -> usize
     requires { ⌜ GoodRows dimensions (now points) (now active) × (neighbours ≤ mostNeighbours) × (p < length (now active)) × Owners (length (now active)) (now wholes)
-        × (length (now active) ≤ n) × (n + 2 * (neighbours + 1) ≤ length (now wholes)) ⌝ }
+        × (length (now active) ≤ n) × (n + 2 * neighbours ≤ length (now wholes)) ⌝ }
     ensures { λ r. ⌜ Taken dimensions (now (points .entry)) neighbours (now (active .entry)) p (now (wholes .entry)) (now (wholes .exit)) n r ⌝ }
 {
     let mut near = [0usize; NEAREST];
@@ -73,7 +73,7 @@ pub fn collect(
     wholes: &mut [usize],
 ) -> usize
     requires { ⌜ GoodRows dimensions (now points) (now active) × (neighbours ≤ mostNeighbours) × Owners (length (now active)) (now wholes)
-        × (length (now active) + length (now active) * (2 * (neighbours + 1)) ≤ length (now wholes)) ⌝ }
+        × (length (now active) + length (now active) * (2 * neighbours) ≤ length (now wholes)) ⌝ }
     ensures { λ r. ⌜ Collected dimensions (now (points .entry)) neighbours (now (active .entry)) (now (wholes .entry)) (length (now (active .entry))) (now (wholes .exit)) r ⌝ }
 {
     let mut n = active.len();

@@ -1,11 +1,12 @@
 -- The stages one after the other: owners, numbers, and what the leaves borrow. Assumes nothing.
--- Holds: twice, stage-owners, stage-end, stage-length, stage-inside, stage-encoded, stage-number, stage-borrowed, stage-domains
+-- Holds: sent-fits, stage-owners, stage-end, stage-length, stage-inside, stage-encoded, stage-number, stage-borrowed,
+--   stage-domains
 use mathlib.Core.Path.{_≡_, sym, ap, _∙_, subst}
 use mathlib.Core.Logic.{⊎-elim}
 use mathlib.Core.List.{List, map, List·Memᴰ}
 use Prim.Native.Nat.{ℕ, _+_, _-_, _*_, _%_, _≤_, _<_}
 use native.Mathlib.Omega.{arith}
-use native.Mathlib.Nat.{mul-comm, mul-assoc}
+use native.Mathlib.Nat.{mul-comm, mul-assoc, mul-le-mul-left}
 use lib.ListN.{length, getD, length-map}
 use lib.Ieee.{Float}
 use Rattle.lists.specs.Lists.{joined, part, put}
@@ -22,9 +23,9 @@ use Rattle.overlaps.specs.Borrowed.{borrowedLists, withBorrowed, Stage}
 use Rattle.overlaps.proofs.Columns.{columns-map}
 use Rattle.overlaps.proofs.Borrows.{positionsOf, positions-rows, collected-encoded}
 
--- the room, as the stages count it
-pub twice : (a k : ℕ) → 2 * a * (k + 1) ≡ a * (2 * (k + 1))
-twice a k = rw (mul-comm 2 a) (mul-assoc a 2 (k + 1))
+-- what a rows send, two numbers for each of k others, fits into the room that is lent
+pub sent-fits : (a k : ℕ) → a * (2 * k) ≤ 2 * a * (k + 1)
+sent-fits a k = rw (← mul-assoc a 2 k, mul-comm a 2) (mul-le-mul-left (2 * a) (omega arith))
 
 module _ (d : ℕ) (cs : List Float) (neighbours : ℕ) (active I D : List ℕ) (first m : ℕ) (S : Stage d cs neighbours active I D first m)
     (owner : List ℕ) (O : Owned active (readOwn I D first m) owner) (long : length active ≤ length owner) where
@@ -41,14 +42,14 @@ module _ (d : ℕ) (cs : List Float) (neighbours : ℕ) (active I D : List ℕ) 
     codes = part wholes (length active) (r - length active)
 
     pub stage-end : (length active ≤ r) × (r ≤ length wholes)
-    stage-end = (c .start, omega (arith, c .few, twice (length active) neighbours))
+    stage-end = (c .start, omega (arith, c .few, sent-fits (length active) neighbours))
 
     pub stage-length : length codes ≤ 2 * length active * (neighbours + 1)
     stage-length =
         let e = stage-end in
         let s = e .0 in
         let t = e .1 in
-        omega (arith, length-part wholes (length active) (r - length active) (omega arith), c .few, twice (length active) neighbours)
+        omega (arith, length-part wholes (length active) (r - length active) (omega arith), c .few, sent-fits (length active) neighbours)
 
     pub stage-inside : (z : ℕ) → List·Memᴰ z codes → z % mostLeaves < length active
     stage-inside z i =

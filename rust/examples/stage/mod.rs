@@ -1,14 +1,47 @@
-//! What the figures share: processor time, work in turns, random numbers, and the cut stage with the lists that it is lent.
+//! What the figures share: processor time, work in turns, random numbers, stages out of shared libraries, and the cut stage with the
+//! lists that it is lent. Each of the figures uses a part of it.
+#![allow(dead_code)]
+
 #[path = "../../src/packed.rs"]
-#[allow(dead_code)]
 pub mod packed;
 
 pub use packed::row_floats;
 use packed::ROW_NUMBERS;
+use std::ffi::{c_char, c_int, c_void, CStr, CString};
 use std::hint::black_box;
 
 extern "C" {
     fn clock_gettime(id: i32, time: *mut [i64; 2]) -> i32;
+    fn dlopen(path: *const c_char, flags: c_int) -> *mut c_void;
+    fn dlsym(library: *mut c_void, name: *const c_char) -> *mut c_void;
+    fn dlerror() -> *const c_char;
+}
+
+const RTLD_LOCAL: c_int = 0;
+const RTLD_NOW: c_int = 2;
+
+/// The two shared libraries that a comparison with an earlier commit is given: the earlier one, and the present one.
+pub fn libraries() -> [*mut c_void; 2] {
+    let paths: Vec<String> = std::env::args().skip(1).collect();
+    let [before, now] = &paths[..] else {
+        eprintln!("two shared libraries are needed: BEFORE NOW");
+        std::process::exit(2);
+    };
+    let libraries = [before, now].map(|path| {
+        let name = CString::new(path.as_str()).unwrap();
+        let library = unsafe { dlopen(name.as_ptr(), RTLD_NOW | RTLD_LOCAL) };
+        assert!(!library.is_null(), "{}", unsafe { CStr::from_ptr(dlerror()) }.to_string_lossy());
+        library
+    });
+    assert!(libraries[0] != libraries[1], "one library twice");
+    libraries
+}
+
+/// What this library exports under this name.
+pub fn exported(library: *mut c_void, name: &CStr) -> *mut c_void {
+    let stage = unsafe { dlsym(library, name.as_ptr()) };
+    assert!(!stage.is_null(), "a library has no {}", name.to_string_lossy());
+    stage
 }
 
 /// Processor milliseconds of this process.
@@ -51,7 +84,6 @@ pub fn units() -> impl FnMut() -> f64 {
 }
 
 /// Points of a grid, row by row: many coordinates are equal on each axis.
-#[allow(dead_code)] // figures.rs cuts none
 pub fn lattice(n: usize, d: usize) -> Vec<f64> {
     let side = (1..).find(|side: &usize| side.pow(d as u32) >= n).unwrap();
     (0..n).flat_map(|i| (0..d).map(move |axis| (i / side.pow(axis as u32) % side) as f64)).collect()

@@ -1,4 +1,4 @@
-//! Document 01 in plain Rust, written from the paper alone: what the library's answers are compared with.
+//! Document 01 with requests 2 and 4 of document 02 in plain Rust, from the papers alone: what the library's answers are compared with.
 #![allow(dead_code)]
 
 pub mod random;
@@ -42,7 +42,7 @@ impl Points<'_> {
         self.coords[i * self.d + a]
     }
 
-    fn row(&self, i: usize) -> &[f64] {
+    pub fn row(&self, i: usize) -> &[f64] {
         &self.coords[i * self.d..(i + 1) * self.d]
     }
 }
@@ -332,18 +332,20 @@ pub fn records(coords: &[f64], d: usize, leaf: u32, levels: &[Level]) -> Vec<Vec
     levels[..levels.len() - 1].iter().map(|level| record(&Points { coords, d }, leaf, &level.rows)).collect()
 }
 
-/// The `many` rows that are first by (squared distance, row), by a scan over the active rows.
-pub fn nearest(points: &Points, active: &[usize], row: usize, many: usize) -> Vec<usize> {
-    let mut kept: Vec<(f64, usize)> = Vec::with_capacity(many + 1);
-    for i in active {
-        let d = distance_sq(points.row(row), points.row(*i));
-        if kept.len() < many || d < kept[many - 1].0 {
+// ---- overlaps (document 02, request 4)
+
+/// The rows that a row takes: itself, then as many others as there are neighbours, by (squared distance, row). A scan finds them.
+pub fn nearest(points: &Points, active: &[usize], row: usize, neighbours: usize) -> Vec<usize> {
+    let mut kept: Vec<(f64, usize)> = Vec::with_capacity(neighbours + 1);
+    for &i in active.iter().filter(|i| **i != row) {
+        let d = distance_sq(points.row(row), points.row(i));
+        if kept.len() < neighbours || kept.last().is_some_and(|last| d < last.0) {
             let at = kept.partition_point(|k| k.0 <= d);
-            kept.insert(at, (d, *i));
-            kept.truncate(many);
+            kept.insert(at, (d, i));
+            kept.truncate(neighbours);
         }
     }
-    kept.into_iter().map(|k| k.1).collect()
+    std::iter::once(row).chain(kept.into_iter().map(|k| k.1)).collect()
 }
 
 pub fn borrow(points: &Points, neighbours: u32, active: &[usize], leaves: &mut [Leaf]) {
@@ -355,7 +357,7 @@ pub fn borrow(points: &Points, neighbours: u32, active: &[usize], leaves: &mut [
     }
     let mut pairs = Vec::new();
     for i in active {
-        for j in nearest(points, active, *i, neighbours as usize + 1) {
+        for j in nearest(points, active, *i, neighbours as usize) {
             if owner[i] != owner[&j] {
                 pairs.push((owner[i], j));
                 pairs.push((owner[&j], *i));
@@ -368,6 +370,8 @@ pub fn borrow(points: &Points, neighbours: u32, active: &[usize], leaves: &mut [
         leaves[t].borrowed.push(i);
     }
 }
+
+// ---- the build
 
 pub fn send(points: &Points, leaves: &[Leaf], size: usize) -> Vec<usize> {
     let sizes: Vec<usize> = leaves.iter().map(|l| l.own.len()).collect();

@@ -56,7 +56,7 @@ loop-again c =
     let o = collect-room (a .dimensions) (a .points .now) (a .neighbours) (a .active .now) (s .pre .0 .ascends) (a .wholes .now) (l .p) (l .n) t (k
     .few) in
     let f = c .before .before .send-row in
-    let r : l .n + 2 * (a .neighbours + 1) ≤ length (l .wholes) = omega (arith, l .inv .1, s .pre .3) in (
+    let r : l .n + 2 * a .neighbours ≤ length (l .wholes) = omega (arith, l .inv .1, s .pre .3) in (
       omega arith,
       collect-long (a .dimensions) (a .points .now) (a .neighbours) (a .active .now) (s .pre .0 .ascends) (a .wholes .now) (l .wholes) (l .p)
           (l .n) k t r (f .last .1 .1 .1 .1 .1 .0) (f .result) (f .ensures) ∙ l .inv .1,

@@ -3,7 +3,7 @@ use Prim.Native.Nat.{_+_, _*_, _≤_}
 use mathlib.Core.Path.{_≡_}
 use lib.ListN.{length}
 use Rattle.lists.specs.Lists.{part}
-use Rattle.overlaps.proofs.Stages.{twice, stage-owners, stage-length, stage-inside, stage-encoded, stage-number, stage-borrowed, stage-domains}
+use Rattle.overlaps.proofs.Stages.{sent-fits, stage-owners, stage-length, stage-inside, stage-encoded, stage-number, stage-borrowed, stage-domains}
 use Rattle.overlaps.proofs.Borrows.{positionsOf}
 use Rattle.packed.specs.Reading.{readOwn}
 use native.Mathlib.Omega.{arith}
@@ -30,7 +30,7 @@ collect-requires c κs =
         arith,
         e,
         s .pre .1 .0,
-        twice (length (a .active .now))
+        sent-fits (length (a .active .now))
             (a .neighbours),
       ),
     )
