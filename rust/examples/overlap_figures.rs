@@ -77,7 +77,7 @@ fn main() {
     let mut greatest = 0.0f64;
     println!("the neighbour stage: processor milliseconds, leaf {LEAF}");
     println!("     rows  dim neighbours points    before ms     now ms   ratio");
-    for (n, turns) in [(1_000, 40), (10_000, 9), (30_000, 3)] {
+    for (n, turns) in [(1_000, 40), (10_000, 9), (20_000, 3)] {
         for d in [2, 3] {
             let random: Vec<f64> = (0..n * d).map(|_| unit() * 1000.0).collect();
             for (kind, coords) in [("random", random), ("lattice", lattice(n, d))] {

@@ -3,7 +3,7 @@
 use Prim.Native.Nat.{ℕ}
 use mathlib.Core.Path.{_≡_, refl}
 use mathlib.Core.List.{List, [], _∷_, map}
-use lib.Ieee.{Float, binary64, ofBits}
+use lib.Ieee.{binary64, ofBits}
 use Rattle.lists.specs.Lists.{from}
 use Rattle.definition.specs.Cut.{leavesOf}
 use Rattle.definition.specs.Overlaps.{nearest}

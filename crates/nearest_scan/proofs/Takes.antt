@@ -1,6 +1,6 @@
 -- What the scan finds is what the definition takes. Assumes nothing.
--- Holds: other, sooner-irr, sooner-trans, sooner-or, sooner-late, near-none, near-over, near-more, near-full, nearest-positions,
---   found, found-taken, taken-found
+-- Holds: other, other-true, other-false, sooner-irr, sooner-trans, sooner-or, sooner-late, near-none, near-over, near-left,
+--   near-more, near-full, nearest-positions, found-none, found, found-taken, taken-found
 use mathlib.Core.Path.{_≡_, refl, sym, ap, _∙_, subst}
 use mathlib.Core.Logic.{_⊎_, ⊎-elim}
 use mathlib.Core.Bool.{Bool, true, false, not, _&&_, _||_}
@@ -10,9 +10,9 @@ use native.Mathlib.Omega.{arith}
 use borrow.Author.Tests.{le-ltb, eq-eqb, ne-eqb}
 use lib.Dec.{ltb, eqb}
 use lib.ListN.{length, getD, take}
-use lib.Ieee.{Float, isNan, lt, eq}
+use lib.Ieee.{Float, nan, isNan, lt, eq}
 use Rattle.lists.specs.Lists.{oneIf, keep, count, from, put, part}
-use Rattle.lists.specs.Ascends.{Ascends}
+use Rattle.lists.specs.Ascends.{All, Ascends}
 use Rattle.lists.proofs.All.{all-take, all-mem}
 use Rattle.lists.proofs.Count.{count-map, count-keep, keep-same, keep-map}
 use Rattle.lists.proofs.Members.{mem-map, map-mem}
@@ -24,11 +24,12 @@ use Rattle.definition.specs.Keys.{Key, keyed, before, rank, firstRows}
 use Rattle.definition.specs.Overlaps.{others, nearestOthers, nearest}
 use Rattle.definition.proofs.Order.{before-irr, before-trans, before-or}
 use Rattle.definition_laws.proofs.Finite.{rows-known}
+use Rattle.definition_laws.proofs.OwnFirst.{itself-alone}
 use Rattle.rows.specs.Rows.{GoodRow, GoodRows}
 use Rattle.rows.proofs.Good.{good-at}
-use Rattle.nearest_scan.specs.Near.{Spot, apart, positionKey, sooner, Found}
+use Rattle.nearest_scan.specs.Near.{Spot, Ordered, apart, positionKey, sooner, Found}
 use Rattle.nearest_scan.proofs.Placed.{sortedOf, first-kept, count-sorted, sorted-below, ordered-take, ordered-sorted}
-use Rattle.nearest_scan.proofs.Scans.{Scanned, scan-none, scan-over, scan-more, scan-full}
+use Rattle.nearest_scan.proofs.Scans.{Scanned, scan-none, scan-over, scan-left, scan-more, scan-full}
 
 or-none : (b c : Bool) → b || (c && false) ≡ b
 or-none true c = refl
@@ -38,6 +39,12 @@ or-none false false = refl
 -- at the position q stands another row
 abbrev pub other : List ℕ → ℕ → ℕ → Bool
 other active row q = not (eqb (getD active q 0) row)
+
+pub other-true : (active : List ℕ) (row q : ℕ) → (getD active q 0 ≡ row → ⊥) → other active row q ≡ true
+other-true active row q n = ap not (ne-eqb (getD active q 0) row n)
+
+pub other-false : (active : List ℕ) (row q : ℕ) → getD active q 0 ≡ row → other active row q ≡ false
+other-false active row q e = ap not (eq-eqb (getD active q 0) row e)
 
 module _ (d : ℕ) (cs : List Float) (active : List ℕ) (row : ℕ) (rows : GoodRows d cs active) (whose : GoodRow d cs row) where
   abbrev bef : ℕ → ℕ → Bool
@@ -78,7 +85,7 @@ module _ (d : ℕ) (cs : List Float) (active : List ℕ) (row : ℕ) (rows : Goo
       rw (le-ltb (getD active p 0) (getD active q 0) (omega arith)) (or-none (lt (apart d cs active row p) (apart d cs active row q)) (eq (apart d cs active row p) (apart d cs active row q)))
 
   -- ---- the turns of the scan
-  module _ (neighbours : ℕ) (near₀ : List ℕ) (far₀ : List Float) (room : neighbours < length near₀) (room2 : neighbours < length far₀) where
+  module _ (neighbours : ℕ) (near₀ : List ℕ) (far₀ : List Float) (room : neighbours ≤ length near₀) (room2 : neighbours ≤ length far₀) where
     abbrev Turn : List ℕ → List Float → ℕ → ℕ → Type 0
     Turn = Scanned (apart d cs active row) bef else-at neighbours n near₀ far₀
 
@@ -87,28 +94,41 @@ module _ (d : ℕ) (cs : List Float) (active : List ℕ) (row : ℕ) (rows : Goo
 
     module _ (near : List ℕ) (far : List Float) (c t : ℕ) (s : Turn near far c t) (here : t < n) where
       -- the row itself
-      pub near-over : getD active t 0 ≡ row → Turn near far c (t + 1)
-      near-over e =
-          scan-over (apart d cs active row) bef else-at neighbours n sooner-irr sooner-trans sooner-or sooner-late near₀ far₀ room room2 near far c t s here
-          (ap not (eq-eqb (getD active t 0) row e))
+      pub near-over : else-at t ≡ false → Turn near far c (t + 1)
+      near-over = scan-over (apart d cs active row) bef else-at neighbours n sooner-irr sooner-trans sooner-or sooner-late near₀ far₀ room room2 near far c t s here
 
-      -- another row
-      module _ (else : getD active t 0 ≡ row → ⊥) (value : Float) (ev : value ≡ apart d cs active row t) (r : ℕ) (spot : Spot far c value r) (near' : List ℕ) (far' : List Float)
-          (ef : far' ≡ put far r (value ∷ part far r (c - r))) (en : near' ≡ put near r (t ∷ part near r (c - r))) where
-        spot-at : Spot far c (apart d cs active row t) r
-        spot-at = subst (λ (x : Float). Spot far c x r) ev spot
+      module _ (value : Float) (ev : value ≡ apart d cs active row t) where
+        -- there are as many as there are neighbours, and the row does not come before the last of them
+        pub near-left : neighbours ≤ c → lt value (getD far (c - 1) nan) ≡ false → Turn near far c (t + 1)
+        near-left h f =
+            scan-left (apart d cs active row) bef else-at neighbours n sooner-irr sooner-trans sooner-or sooner-late near₀ far₀ room room2 near far c t s here h
+            (subst (λ (x : Float). lt x (getD far (c - 1) nan) ≡ false) ev f)
 
-        far-at : far' ≡ put far r (apart d cs active row t ∷ part far r (c - r))
-        far-at = ef ∙ ap (λ (x : Float). put far r (x ∷ part far r (c - r))) ev
+        -- another row comes in among the first k
+        module _ (else : else-at t ≡ true) (k r : ℕ) (spot : Spot far k value r) (near' : List ℕ) (far' : List Float)
+            (ef : far' ≡ put far r (value ∷ part far r (k - r))) (en : near' ≡ put near r (t ∷ part near r (k - r))) where
+          spot-at : Spot far k (apart d cs active row t) r
+          spot-at = subst (λ (x : Float). Spot far k x r) ev spot
 
-        kept : else-at t ≡ true
-        kept = ap not (ne-eqb (getD active t 0) row else)
+          far-at : far' ≡ put far r (apart d cs active row t ∷ part far r (k - r))
+          far-at = ef ∙ ap (λ (x : Float). put far r (x ∷ part far r (k - r))) ev
 
-        pub near-more : c < neighbours → Turn near' far' (c + 1) (t + 1)
-        near-more = scan-more (apart d cs active row) bef else-at neighbours n sooner-irr sooner-trans sooner-or sooner-late near₀ far₀ room room2 near far c t s here kept r spot-at near' far' far-at en
+          pub near-more : k ≡ c → c < neighbours → Turn near' far' (k + 1) (t + 1)
+          near-more e h =
+              scan-more (apart d cs active row) bef else-at neighbours n sooner-irr sooner-trans sooner-or sooner-late near₀ far₀ room room2 near far c t s here else k (omega arith) (omega arith)
+              (λ j a b. absurd (omega arith)) r spot-at near' far' far-at en (sym e)
 
-        pub near-full : neighbours ≤ c → Turn near' far' c (t + 1)
-        near-full = scan-full (apart d cs active row) bef else-at neighbours n sooner-irr sooner-trans sooner-or sooner-late near₀ far₀ room room2 near far c t s here kept r spot-at near' far' far-at en
+          pub near-full : k ≡ c - 1 → neighbours ≤ c → 0 < c → lt value (getD far (c - 1) nan) ≡ true → Turn near' far' c (t + 1)
+          near-full e h g l =
+              let i = s .most in
+              let z : k + 1 ≡ c = omega arith in
+              subst (λ (x : ℕ). Turn near' far' x (t + 1)) z
+              (scan-full (apart d cs active row) bef else-at neighbours n sooner-irr sooner-trans sooner-or sooner-late near₀ far₀ room room2 near far c t s here else k (omega arith) (omega arith)
+              last r spot-at near' far' far-at en (omega arith))
+            where
+              last : (j : ℕ) → k ≤ j → j < c → lt (apart d cs active row t) (getD far j nan) ≡ true
+              last j a b = let q : c - 1 ≡ j = omega arith in
+                  subst (λ (x : Float). lt x (getD far j nan) ≡ true) ev (subst (λ (x : ℕ). lt value (getD far x nan) ≡ true) q l)
 
   -- ---- the definition, by positions
   abbrev fewer : ℕ → ℕ → Bool
@@ -153,6 +173,14 @@ module _ (d : ℕ) (cs : List Float) (active : List ℕ) (row : ℕ) (rows : Goo
       ap (λ (k : ℕ). oneIf (p row) + k)
       (count-map at p (take m (sortedOf bef else-at n)) ∙ first-count (λ q. p (at q)) m ∙ sym (count-map at p (keep (fewer m) others-at)))
       ∙ ap (count p) (sym (nearest-positions m))
+
+  -- with no neighbours there is nothing to find
+  pub found-none : (neighbours : ℕ) (near : List ℕ) (far : List Float) → neighbours ≡ 0 → (0 ≤ neighbours) × Found d cs active row neighbours (take 0 near) (take 0 far)
+  unfolding Ordered All
+  found-none neighbours near far e = (
+    omega arith,
+    record { within = tt; ordered = tt; taken = λ p. ap (count p) (sym (itself-alone d cs active row) ∙ ap (λ (k : ℕ). nearest d cs k active row) (sym e)); values = refl },
+  )
 
   -- THE LAW: the end of the scan
   pub found : (neighbours : ℕ) (near₀ : List ℕ) (far₀ : List Float) (near : List ℕ) (far : List Float) (c t : ℕ)

@@ -10,8 +10,8 @@ ghost use Rattle.overlap_pairs.specs.Pairs.{pairsOf, PairRoom, Taken, Ow
 // A leaf and a position as one number: leaf * POSITIONS + position.
 const POSITIONS: usize = rows::MOST_LEAVES;
 
-// Room for the nearest rows: the neighbours of a row, and one that falls out.
-const NEAREST: usize = rows::MOST_NEIGHBOURS as usize + 1;
+// Room for the nearest rows: the neighbours of a row.
+const NEAREST: usize = rows::MOST_NEIGHBOURS as usize;
 
 // The row at position p takes those at the positions `near`, besides itself. Where two leaves own the two rows, each leaf gets the other's row:
 // their numbers are written from n on. The owners of the a active rows stand at the front of `wholes`.

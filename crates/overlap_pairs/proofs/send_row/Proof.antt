@@ -1,6 +1,5 @@
 -- `overlap_pairs::send_row` meets its contract. Assumes nothing.
 use Rattle.overlap_pairs.proofs.Collects.{row-room}
-use Prim.Native.Nat.{_+_, _*_, _≤_}
 use mathlib.Core.Path.{_≡_, sym}
 use lib.ListN.{length, getD, take}
 use lib.Seq.{length-take-le}
@@ -40,7 +39,7 @@ slice-aggregate-send : tie.Need-slice-aggregate-send
 slice-aggregate-send c =
     let s = c .before .before .before .before .before .before .before .before .before .before in
     let f = c .before .before .before .nearest in
-    let g : length (f .last .1 .1 .1 .1 .1 .0) ≡ mostNeighbours + 1 = c .before .before .near2 .given in
+    let g : length (f .last .1 .1 .1 .1 .1 .0) ≡ mostNeighbours = c .before .before .near2 .given in
     sym (length-take-le (f .result) (f .last .1 .1 .1 .1 .1 .0) (omega arith))
 
 send-requires : tie.Need-send-requires
@@ -49,7 +48,7 @@ send-requires c κs =
     let a = s .args in
     let f = c .before .before .before .before .nearest in
     let N = f .last .1 .1 .1 .1 .1 .0 in
-    let g : length N ≡ mostNeighbours + 1 = c .before .before .before .near2 .given in
+    let g : length N ≡ mostNeighbours = c .before .before .before .near2 .given in
     let k : length (take (f .result) N) ≡ f .result = length-take-le (f .result) N (omega (arith, f .ensures .0)) in
     row-room (a .dimensions) (a .points .now) (a .neighbours) (a .active .now) (getD (a .active .now) (a .p) 0) (a .p) (a .wholes .now) (a .n) (take (f
     .result) N) (take (f .result) (f .last .1 .1 .1 .1 .1 .1 .0)) (s .pre .3) (s .pre .4) (s .pre .5) (s .pre .2) (omega (arith, f .ensures .0)) (f
@@ -64,7 +63,7 @@ returns c =
     let a = s .args in
     let f = c .before .before .before .before .before .before .before .nearest in
     let N = f .last .1 .1 .1 .1 .1 .0 in
-    let g : length N ≡ mostNeighbours + 1 = c .before .before .before .before .before .before .near2 .given in
+    let g : length N ≡ mostNeighbours = c .before .before .before .before .before .before .near2 .given in
     let k : length (take (f .result) N) ≡ f .result = length-take-le (f .result) N (omega (arith, f .ensures .0)) in
     record {
       near = take (f .result) N;
