@@ -123,6 +123,13 @@ pub fn print_trees() {
     show(&[2.0, 0.0, 0.0, 2.0, 1.0, 1.0, -0.0, 0.0], 2, 1, 2, 4, 1);
 }
 
+// Rows at one place: with one neighbour, without neighbours, and by squares that underflow.
+pub fn print_nested() {
+    show(&[5.0; 3], 1, 1, 1, 2, 1);
+    show(&[5.0; 2], 1, 1, 0, 2, 1);
+    show(&[0.0, 1e-170, 2e-170], 1, 1, 1, 2, 1);
+}
+
 // No points, a coordinate that is not finite, a point too many for the lists, and every setting out of range.
 pub fn print_refusals() {
     let none: [f64; 0] = [];

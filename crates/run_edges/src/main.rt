@@ -14,5 +14,6 @@ fn main() {
     sample_edges::print_short();
     build_edges::print_lengths();
     build_edges::print_trees();
+    build_edges::print_nested();
     build_edges::print_refusals();
 }
