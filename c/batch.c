@@ -31,14 +31,16 @@ static void rows(const char *name, ddm_rows of) {
         printf(" -");
 }
 
+static void print_bits(double x) {
+    uint64_t bits;
+    memcpy(&bits, &x, sizeof bits);
+    printf(" %016" PRIx64, bits);
+}
+
 static void box(const double *bounds, size_t dimensions) {
-    printf(" box");
-    for (size_t i = 0; bounds && i < DDM_BOX_FLOATS(dimensions); i++) {
-        uint64_t bits;
-        memcpy(&bits, bounds + i, sizeof bits);
-        printf(" %016" PRIx64, bits);
-    }
-    printf(bounds ? "\n" : " -\n");
+    printf(bounds ? " box" : " box -");
+    for (size_t i = 0; bounds && i < DDM_BOX_FLOATS(dimensions); i++)
+        print_bits(bounds[i]);
 }
 
 static void print_level(const ddm_tree *tree, size_t level) {
@@ -50,6 +52,9 @@ static void print_level(const ddm_tree *tree, size_t level) {
         rows("internal", ddm_tree_own(tree, level, leaf));
         rows("overlap", ddm_tree_borrowed(tree, level, leaf));
         box(ddm_tree_box(tree, level, leaf), ddm_tree_dimensions(tree));
+        printf(" cover");
+        print_bits(ddm_tree_cover(tree, level, leaf));
+        printf("\n");
     }
 }
 

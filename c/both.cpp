@@ -20,10 +20,11 @@ static void calls() {
     const double points[4] = {0.0, 1.0, 2.0, 10.0};
     const std::size_t sizes[2] = {3, 5};
     std::size_t out[4], wholes[4], slot[DDM_SIZES_SLOT];
-    double floats[8], root[DDM_ROOT_SLOT];
+    double floats[8], root[DDM_ROOT_SLOT], cover[DDM_COVER_SLOT];
     EXPECT(ddm_version() == DDM_VERSION);
     EXPECT(ddm_build_sizes(4, 1, 1, slot, DDM_SIZES_SLOT) == 0 && slot[DDM_SIZES_INTERNALS] != 0);
-    EXPECT(ddm_sample(points, 4, 1, 2, 0, out, 4, floats, 8, wholes, 4, slot, DDM_SAMPLE_SLOT) == 0 && out[1] == 3);
+    EXPECT(ddm_sample(points, 4, 1, 2, 0, out, 4, floats, 8, wholes, 4, cover, DDM_COVER_SLOT, slot, DDM_SAMPLE_SLOT) == 0);
+    EXPECT(out[1] == 3 && cover[0] == 2.0);
     EXPECT(ddm_level_size(1000, 60, 3, slot, DDM_LEVEL_SIZE_SLOT) == 0 && slot[0] == 392);
     EXPECT(ddm_quotas(sizes, 2, 4, out, 4, wholes, 4, slot, DDM_QUOTA_SLOT) == 0 && slot[DDM_QUOTA_SEATS] == 4);
     EXPECT(ddm_square_root(6.25, root, DDM_ROOT_SLOT) == 0 && root[0] == 2.5);
@@ -43,6 +44,7 @@ static void trees() {
     EXPECT(ddm_tree_own(tree, 0, 1).rows[1] == 3 && ddm_tree_borrowed(tree, 0, 1).rows[0] == 0);
     const double *box = ddm_tree_box(tree, 0, 1);
     EXPECT(box != nullptr && box[0] == 2.0 && box[1] == 10.0 && ddm_tree_box(tree, 1, 0) == nullptr);
+    EXPECT(ddm_tree_cover(tree, 0, 0) == 1.0 && ddm_tree_cover(tree, 0, 1) == 8.0 && ddm_tree_cover(tree, 1, 0) == 0.0);
     EXPECT(ddm_tree_record(tree, 0).count == 0 && ddm_tree_record(tree, 0).cuts == nullptr);
     ddm_tree_free(tree);
     tree = ddm_tree_build_depth_first(points, 4, 1, params, &error);

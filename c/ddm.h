@@ -6,15 +6,15 @@
  * call's lists overlap. Every function but ddm_version returns a refusal number, 0 for none; ddm_refusal_text says it in words.
  * Counts and values go to the slot `result`, which is no lent list: a refusal writes zeros there (and the place, where one is named)
  * and touches nothing else. A slot that is too short is refused with 11 before anything else is looked at, and then it is not written
- * either.
+ * either. ddm_sample has two slots, `cover` and `result`: both are written or neither.
  *
  * Threads. There is no global state: any number of calls may run at once, as long as no list is lent to two of them. Points may be
  * shared, since they are only read.
  * Stack. Under 16 KiB for any input (the depth-first build nests 21 calls at most, and takes some 15 KiB then), but for ddm_store and
  * ddm_load, whose sets of rows take 256 KiB more; nothing is allocated.
- * Memory. A build over n points asks for 768 + 96 * dimensions + 112 * (K + 1) bytes a point in its seven lists, with K neighbours:
- * 2,864 in two dimensions with 16. That is the most that any input can need, and few are touched: 5,000 random wells in two dimensions
- * write some 70 of them a well at the default settings, some 620 at leaf threshold 1. So lists from calloc cost little. The two lists of
+ * Memory. A build over n points asks for 816 + 96 * dimensions + 112 * (K + 1) bytes a point in its seven lists, with K neighbours:
+ * 2,912 in two dimensions with 16. That is the most that any input can need, and few are touched: 5,000 random wells in two dimensions
+ * write some 70 of them a well at the default settings, some 640 at leaf threshold 1. So lists from calloc cost little. The two lists of
  * ddm_build_depth_first's cut record are 192 bytes a point more.
  * Machine. x86-64 Linux only.
  * Floating environment. Round to nearest, and no flush to zero (the state in which a program starts). A program linked with -Ofast or
@@ -33,7 +33,7 @@ extern "C" {
 
 /* major * 10000 + minor * 100 + patch, of this header; ddm_version gives that of the library. Another minor version may have wider rows
  * and more lists, so that a program which loads the shared library tests ddm_version() / 100 == DDM_VERSION / 100 first. */
-#define DDM_VERSION 401
+#define DDM_VERSION 500
 
 /* ---- limits and settings */
 
@@ -56,8 +56,11 @@ extern "C" {
 
 /* The box itself: its lower bounds by axis, then its upper bounds; all +0 for the coarse domain, which has none. */
 #define DDM_BOX_FLOATS(dimensions) (2 * (dimensions))
-/* What a domain row has in `boxes`: the box comes first. */
-#define DDM_ROW_FLOATS(dimensions) DDM_BOX_FLOATS(dimensions)
+/* What a domain row has in `boxes`: the box comes first, and then the leaf's cover: how far the worst of its own rows that it does not send
+ * up is from the nearest one that it sends. +infinity for a leaf that has rows and sends none, +0 for an empty leaf and for the coarse
+ * domain. */
+#define DDM_ROW_COVER(dimensions) DDM_BOX_FLOATS(dimensions)
+#define DDM_ROW_FLOATS(dimensions) (DDM_BOX_FLOATS(dimensions) + 1)
 
 /* ---- the cut record of ddm_build_depth_first: the cuts of each fine level, from the root downwards */
 
@@ -93,10 +96,11 @@ extern "C" {
 #define DDM_SIZES_WHOLES 6
 #define DDM_SIZES_SLOT 7
 
-/* Sampling's: the place of a refusal, the rows written. */
+/* Sampling's: the place of a refusal, the rows written. Its cover has a slot of its own, of one float. */
 #define DDM_SAMPLE_PLACE 0
 #define DDM_SAMPLE_WRITTEN 1
 #define DDM_SAMPLE_SLOT 2
+#define DDM_COVER_SLOT 1
 
 /* The writer's: the place of a refusal, the bytes written. */
 #define DDM_STORE_PLACE 0
@@ -122,7 +126,7 @@ size_t ddm_build_sizes(size_t n, size_t dimensions, uint32_t neighbours, size_t 
 
 /* Builds the tree over n = points_len / dimensions points; the lists have at least the entries that ddm_build_sizes gives.
  *   level_points  the active rows of each level       internals, borrowed  the rows of the leaves
- *   domains       a domain row for each leaf          boxes                its floats
+ *   domains       a domain row for each leaf          boxes                its floats: box and cover
  *   floats, wholes  working room
  * policy: DDM_POLICY_AUTO (coarse_threshold is not looked at), any other number Fixed. result: DDM_BUILD_SLOT. Refusals 1 to 9, 11, 10,
  * in this order. */
@@ -164,7 +168,7 @@ size_t ddm_load(const double *points, size_t points_len, size_t dimensions, uint
 
 /* The bytes of a tree's file, exactly: n points, the slot that its build or load wrote, and the rows that its leaves borrow in all (the
  * last domain row's start and count of them, added). They are the head's; the points'; a mark and two counts for each level and domain;
- * each level row and, as an internal row, once more; the borrowed rows; and a box for each domain but the coarse one. */
+ * each level row and, as an internal row, once more; the borrowed rows; and the floats of each domain row but for the coarse box. */
 static inline size_t ddm_file_size(size_t dimensions, size_t n, const size_t *tree, size_t borrowed) {
     size_t rows = 0, domains = 0, level;
     for (level = 0; level < DDM_MOST_LEVELS; level++) {
@@ -172,14 +176,15 @@ static inline size_t ddm_file_size(size_t dimensions, size_t n, const size_t *tr
         domains += tree[DDM_SLOT_DOMAINS + level];
     }
     return 24 + n * (2 + 8 * dimensions) + 10 * (tree[DDM_SLOT_LEVELS] + domains) + 4 * (2 * rows + borrowed)
-           + 8 * DDM_BOX_FLOATS(dimensions) * (domains - 1);
+           + 8 * (DDM_ROW_FLOATS(dimensions) * domains - DDM_BOX_FLOATS(dimensions));
 }
 
-/* Farthest point sampling: `wanted` rows from the row `seed` on. out: at least wanted; floats 2n; wholes n; result: DDM_SAMPLE_SLOT.
- * Refusals 1, 6, 7, 8, 13, 11, 10. */
+/* Farthest point sampling: `wanted` rows from the row `seed` on. out: at least wanted; floats 2n; wholes n; cover: DDM_COVER_SLOT; result:
+ * DDM_SAMPLE_SLOT. The cover is how far the worst row that was not taken is from the nearest one that was: +0 where all were taken, and in
+ * a refused call; +infinity where that distance is too large. Refusals 1, 6, 7, 8, 13, 11, 10. */
 size_t ddm_sample(const double *points, size_t points_len, size_t dimensions, size_t wanted, size_t seed, size_t *out,
-                  size_t out_len, double *floats, size_t floats_len, size_t *wholes, size_t wholes_len, size_t *result,
-                  size_t result_len);
+                  size_t out_len, double *floats, size_t floats_len, size_t *wholes, size_t wholes_len, double *cover,
+                  size_t cover_len, size_t *result, size_t result_len);
 
 /* The size of the next level, of a active rows at the threshold c with r reductions left (result: DDM_LEVEL_SIZE_SLOT). Refusals 4, 8,
  * 14, 9. */

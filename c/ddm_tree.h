@@ -18,7 +18,7 @@
  *
  * The lists come from calloc, so that what the build does not touch costs nothing; afterwards the working room is given back and the
  * others are cut to what they hold. A tree is only read by the functions that walk it: any number of threads may do so at once. A level
- * or leaf that is not there has no rows, no leaves, no box and no record.
+ * or leaf that is not there has no rows, no leaves, no box, no record, and the cover 0.
  */
 #ifndef DDM_TREE_H
 #define DDM_TREE_H
@@ -443,11 +443,23 @@ static inline ddm_rows ddm_tree_borrowed(const ddm_tree *tree, size_t level, siz
     return ddm_tree_stretch(tree, level, leaf, tree->borrowed, DDM_COLUMN_BORROWED_START, DDM_COLUMN_BORROWED_COUNT);
 }
 
-/* A leaf's box, DDM_BOX_FLOATS(dimensions) floats: lower bounds by axis, then upper ones. NULL for the coarse domain, which has none. */
-static inline const double *ddm_tree_box(const ddm_tree *tree, size_t level, size_t leaf) {
-    if (level + 1 >= ddm_tree_levels(tree) || leaf >= ddm_tree_leaves(tree, level))
+/* The floats of a leaf's domain row. */
+static inline const double *ddm_tree_floats(const ddm_tree *tree, size_t level, size_t leaf) {
+    if (leaf >= ddm_tree_leaves(tree, level))
         return NULL;
     return tree->boxes + DDM_ROW_FLOATS(tree->dimensions) * ddm_tree_domain(tree, level, leaf);
+}
+
+/* A leaf's box, DDM_BOX_FLOATS(dimensions) floats: lower bounds by axis, then upper ones. NULL for the coarse domain, which has none. */
+static inline const double *ddm_tree_box(const ddm_tree *tree, size_t level, size_t leaf) {
+    return level + 1 == ddm_tree_levels(tree) ? NULL : ddm_tree_floats(tree, level, leaf);
+}
+
+/* A leaf's cover: how far the worst of its own rows that it does not send up is from the nearest one that it sends. +infinity for a leaf
+ * that has rows and sends none, +0 for an empty leaf and for the coarse domain. A loaded tree has the covers of its file. */
+static inline double ddm_tree_cover(const ddm_tree *tree, size_t level, size_t leaf) {
+    const double *floats = ddm_tree_floats(tree, level, leaf);
+    return floats ? floats[DDM_ROW_COVER(tree->dimensions)] : 0.0;
 }
 
 /* A level's cut record, of DDM_RECORD_NODES(leaves) nodes. It is empty at the coarse level, and in a tree that ddm_tree_build built or

@@ -10,14 +10,17 @@ enum { WELLS = 1000, AXES = 2, WELL = 500 };
 
 static void level_line(const ddm_tree *tree, size_t level) {
     size_t own = 0, lent = 0, most = 0;
+    double far = 0.0;
     for (size_t leaf = 0; leaf < ddm_tree_leaves(tree, level); leaf++) {
         const size_t count = ddm_tree_own(tree, level, leaf).count;
+        const double cover = ddm_tree_cover(tree, level, leaf);
         own += count;
         lent += ddm_tree_borrowed(tree, level, leaf).count;
         most = count > most ? count : most;
+        far = cover > far ? cover : far;
     }
-    printf("level %zu: %zu wells in %zu leaves, at most %zu a leaf, %zu borrowed; own wells %zu\n", level,
-           ddm_tree_rows(tree, level).count, ddm_tree_leaves(tree, level), most, lent, own);
+    printf("level %zu: %zu wells in %zu leaves, at most %zu a leaf, %zu borrowed; own wells %zu; greatest cover %.2f\n", level,
+           ddm_tree_rows(tree, level).count, ddm_tree_leaves(tree, level), most, lent, own, far);
 }
 
 static int owns(const ddm_tree *tree, size_t level, size_t leaf, size_t well) {

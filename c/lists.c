@@ -17,10 +17,11 @@ static void *list(size_t entries, size_t size) {
     return p;
 }
 
-/* Prints the line of a level whose first domain row stands at `row`; the next level's row. */
-static const size_t *level_line(size_t level, const size_t *result, const size_t *row, const size_t *sizes) {
+/* Prints the line of a level whose first domain row stands at `row`, with its floats at `box`; the next level's row. */
+static const size_t *level_line(size_t level, const size_t *result, const size_t *row, const double *box, const size_t *sizes) {
     size_t own = 0, lent = 0, most = 0;
-    for (size_t leaf = 0; leaf < result[DDM_SLOT_DOMAINS + level]; leaf++, row += DDM_ROW_NUMBERS) {
+    double far = 0.0;
+    for (size_t leaf = 0; leaf < result[DDM_SLOT_DOMAINS + level]; leaf++, row += DDM_ROW_NUMBERS, box += DDM_ROW_FLOATS(AXES)) {
         if (ddm_row_test(row[DDM_COLUMN_OWN_START], row[DDM_COLUMN_OWN_COUNT], sizes[DDM_SIZES_INTERNALS])
             || ddm_row_test(row[DDM_COLUMN_BORROWED_START], row[DDM_COLUMN_BORROWED_COUNT], sizes[DDM_SIZES_BORROWED])) {
             fprintf(stderr, "a domain row ends past its list\n");
@@ -29,9 +30,10 @@ static const size_t *level_line(size_t level, const size_t *result, const size_t
         own += row[DDM_COLUMN_OWN_COUNT];
         lent += row[DDM_COLUMN_BORROWED_COUNT];
         most = row[DDM_COLUMN_OWN_COUNT] > most ? row[DDM_COLUMN_OWN_COUNT] : most;
+        far = box[DDM_ROW_COVER(AXES)] > far ? box[DDM_ROW_COVER(AXES)] : far;
     }
-    printf("level %zu: %zu wells in %zu leaves, at most %zu a leaf, %zu borrowed; own wells %zu\n", level,
-           result[DDM_SLOT_ROWS + level], result[DDM_SLOT_DOMAINS + level], most, lent, own);
+    printf("level %zu: %zu wells in %zu leaves, at most %zu a leaf, %zu borrowed; own wells %zu; greatest cover %.2f\n", level,
+           result[DDM_SLOT_ROWS + level], result[DDM_SLOT_DOMAINS + level], most, lent, own, far);
     return row;
 }
 
@@ -61,7 +63,7 @@ int main(void) {
     printf("levels %zu\n", result[DDM_SLOT_LEVELS]);
     const size_t *row = domains;
     for (size_t level = 0; level < result[DDM_SLOT_LEVELS]; level++)
-        row = level_line(level, result, row, sizes);
+        row = level_line(level, result, row, boxes + DDM_ROW_FLOATS(AXES) * ((size_t)(row - domains) / DDM_ROW_NUMBERS), sizes);
     const size_t lent = (row - DDM_ROW_NUMBERS)[DDM_COLUMN_BORROWED_START] + (row - DDM_ROW_NUMBERS)[DDM_COLUMN_BORROWED_COUNT];
     size_t bytes = ddm_file_size(AXES, WELLS, result, lent), told[DDM_STORE_SLOT];
     unsigned char *file = list(bytes, 1);

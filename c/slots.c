@@ -66,24 +66,78 @@ static void leaf_quotas(void) {
     EXPECT(out[0] == 2 && out[1] == 0 && out[2] == 2 && out[3] == MARK);
 }
 
+/* The lists and the slots of a sampling call, with an entry behind each slot. */
+static double sample_floats[8], cover[DDM_COVER_SLOT + 1];
+static size_t sample_out[4], sample_wholes[4], told[DDM_SAMPLE_SLOT + 1];
+
+/* Samples these points, of up to four coordinates, with so many entries of the output and of the slots; all hold MARK before. */
+static size_t sample(const double *points, size_t points_len, size_t dimensions, size_t wanted, size_t seed, size_t out_len,
+                     size_t cover_len, size_t told_len) {
+    mark(sample_out, 4), mark(sample_wholes, 4), mark(told, DDM_SAMPLE_SLOT + 1);
+    for (size_t i = 0; i < 8; i++)
+        sample_floats[i] = MARK;
+    for (size_t i = 0; i <= DDM_COVER_SLOT; i++)
+        cover[i] = MARK;
+    return ddm_sample(points, points_len, dimensions, wanted, seed, sample_out, out_len, sample_floats, 8, sample_wholes, 4, cover,
+                      cover_len, told, told_len);
+}
+
+/* Whether the call wrote to no list. */
+static int no_list_written(void) {
+    for (size_t i = 0; i < 8; i++)
+        if (sample_floats[i] != MARK)
+            return 0;
+    return marked(sample_out, 4) && marked(sample_wholes, 4);
+}
+
+/* Whether the cover is this one, a zero with its sign, and nothing is written behind it. */
+static int covered(double expected) {
+    return cover[0] == expected && !signbit(cover[0]) && cover[DDM_COVER_SLOT] == MARK;
+}
+
+/* Whether the call was refused there: no row, the cover +0, and no list written. */
+static int refused_at(size_t place) {
+    return no_list_written() && covered(0.0) && told[DDM_SAMPLE_PLACE] == place && told[DDM_SAMPLE_WRITTEN] == 0
+           && told[DDM_SAMPLE_SLOT] == MARK;
+}
+
 static void samples(void) {
     const double points[4] = {0.0, 1.0, 2.0, 10.0}, bad[4] = {0.0, 1.0, INFINITY, 10.0};
-    double floats[8] = {0};
-    size_t out[4], wholes[4], slot[DDM_SAMPLE_SLOT + 1];
-    mark(out, 4), mark(wholes, 4), mark(slot, DDM_SAMPLE_SLOT + 1);
-    EXPECT(ddm_sample(points, 4, 1, 3, 0, out, 4, floats, 8, wholes, 4, slot, DDM_SAMPLE_SLOT - 1) == 11);
-    EXPECT(marked(out, 4) && marked(wholes, 4) && marked(slot, DDM_SAMPLE_SLOT + 1));
-    EXPECT(ddm_sample(bad, 4, 1, 3, 0, out, 4, floats, 8, wholes, 4, slot, DDM_SAMPLE_SLOT + 1) == 10);
-    EXPECT(marked(out, 4) && marked(wholes, 4) && slot[DDM_SAMPLE_PLACE] == 2 && slot[DDM_SAMPLE_WRITTEN] == 0);
-    EXPECT(slot[DDM_SAMPLE_SLOT] == MARK);
-    EXPECT(ddm_sample(points, 4, 4, 1, 0, out, 4, floats, 8, wholes, 4, slot, DDM_SAMPLE_SLOT) == 1 && zeros(slot, DDM_SAMPLE_SLOT));
-    EXPECT(ddm_sample(points, 0, 1, 1, 0, out, 4, floats, 8, wholes, 4, slot, DDM_SAMPLE_SLOT) == 6);
-    EXPECT(ddm_sample(points, 3, 2, 1, 0, out, 4, floats, 8, wholes, 4, slot, DDM_SAMPLE_SLOT) == 7);
-    EXPECT(ddm_sample(points, 4, 1, 3, 4, out, 4, floats, 8, wholes, 4, slot, DDM_SAMPLE_SLOT) == 13);
-    EXPECT(ddm_sample(points, 4, 1, 3, 0, out, 2, floats, 8, wholes, 4, slot, DDM_SAMPLE_SLOT) == 11);
-    EXPECT(ddm_sample(points, 4, 1, 3, 0, out, 4, floats, 8, wholes, 4, slot, DDM_SAMPLE_SLOT) == 0);
-    EXPECT(slot[DDM_SAMPLE_PLACE] == 0 && slot[DDM_SAMPLE_WRITTEN] == 3);
-    EXPECT(out[0] == 0 && out[1] == 3 && out[2] == 2 && out[3] == MARK);
+    /* a short slot, the one or the other, comes before all else, and then neither is written */
+    for (size_t dimensions = 1; dimensions <= 4; dimensions += 3) {
+        EXPECT(sample(points, 4, dimensions, 3, 0, 4, DDM_COVER_SLOT, DDM_SAMPLE_SLOT - 1) == 11);
+        EXPECT(no_list_written() && cover[0] == MARK && marked(told, DDM_SAMPLE_SLOT + 1));
+        EXPECT(sample(points, 4, dimensions, 3, 0, 4, DDM_COVER_SLOT - 1, DDM_SAMPLE_SLOT) == 11);
+        EXPECT(no_list_written() && cover[0] == MARK && marked(told, DDM_SAMPLE_SLOT + 1));
+    }
+    EXPECT(sample(bad, 4, 1, 3, 0, 4, DDM_COVER_SLOT + 1, DDM_SAMPLE_SLOT + 1) == 10 && refused_at(2));
+    EXPECT(sample(points, 4, 4, 1, 0, 4, DDM_COVER_SLOT, DDM_SAMPLE_SLOT) == 1 && refused_at(0));
+    EXPECT(sample(points, 0, 1, 1, 0, 4, DDM_COVER_SLOT, DDM_SAMPLE_SLOT) == 6 && refused_at(0));
+    EXPECT(sample(points, 3, 2, 1, 0, 4, DDM_COVER_SLOT, DDM_SAMPLE_SLOT) == 7 && refused_at(0));
+    EXPECT(sample(points, DDM_MOST_POINTS + 1, 1, 1, 0, 4, DDM_COVER_SLOT, DDM_SAMPLE_SLOT) == 8 && refused_at(0));
+    EXPECT(sample(points, 4, 1, 3, 4, 4, DDM_COVER_SLOT, DDM_SAMPLE_SLOT) == 13 && refused_at(0));
+    EXPECT(sample(points, 4, 1, 3, 0, 2, DDM_COVER_SLOT, DDM_SAMPLE_SLOT) == 11 && refused_at(0));
+    EXPECT(sample(points, 4, 1, 3, 0, 4, DDM_COVER_SLOT + 1, DDM_SAMPLE_SLOT + 1) == 0);
+    EXPECT(told[DDM_SAMPLE_PLACE] == 0 && told[DDM_SAMPLE_WRITTEN] == 3 && told[DDM_SAMPLE_SLOT] == MARK);
+    EXPECT(sample_out[0] == 0 && sample_out[1] == 3 && sample_out[2] == 2 && sample_out[3] == MARK);
+    EXPECT(covered(1.0));
+}
+
+/* How far the worst row that was not taken is from the nearest one that was. */
+static void covers(void) {
+    const double line[4] = {0.0, 1.0, 2.0, 10.0}, corners[4] = {0.0, 0.0, 3.0, 4.0}, same[4] = {5.0, 5.0, 5.0, 5.0};
+    const double zeros[2] = {0.0, -0.0}, far[2] = {0.0, 1e200}, near[2] = {0.0, 1e-170}, beside[2] = {0.0, 1e-161};
+    const double covers_by_wanted[4] = {10.0, 2.0, 1.0, 0.0};
+    for (size_t wanted = 1; wanted <= 4; wanted++)
+        EXPECT(sample(line, 4, 1, wanted, 0, 4, DDM_COVER_SLOT, DDM_SAMPLE_SLOT) == 0 && covered(covers_by_wanted[wanted - 1]));
+    EXPECT(sample(line, 4, 1, 1, 2, 4, DDM_COVER_SLOT, DDM_SAMPLE_SLOT) == 0 && covered(8.0));
+    EXPECT(sample(corners, 4, 2, 1, 1, 4, DDM_COVER_SLOT, DDM_SAMPLE_SLOT) == 0 && covered(5.0));
+    EXPECT(sample(same, 4, 1, 1, 2, 4, DDM_COVER_SLOT, DDM_SAMPLE_SLOT) == 0 && covered(0.0));
+    EXPECT(sample(zeros, 2, 1, 1, 0, 4, DDM_COVER_SLOT, DDM_SAMPLE_SLOT) == 0 && covered(0.0));
+    /* a square that overflows, one that underflows, and a subnormal one */
+    EXPECT(sample(far, 2, 1, 1, 0, 4, DDM_COVER_SLOT, DDM_SAMPLE_SLOT) == 0 && covered(INFINITY));
+    EXPECT(sample(near, 2, 1, 1, 0, 4, DDM_COVER_SLOT, DDM_SAMPLE_SLOT) == 0 && covered(0.0));
+    EXPECT(sample(beside, 2, 1, 1, 0, 4, DDM_COVER_SLOT, DDM_SAMPLE_SLOT) == 0 && covered(9.940479322862118e-162));
 }
 
 static void row_tests(void) {
@@ -108,6 +162,8 @@ static void build_sizes(void) {
     EXPECT(ddm_build_sizes((size_t)-1, 3, 0, slot, DDM_SIZES_SLOT) == 8);
     EXPECT(ddm_build_sizes(DDM_MOST_POINTS, 3, DDM_MOST_NEIGHBOURS, slot, DDM_SIZES_SLOT) == 0);
     EXPECT(slot[DDM_SIZES_BORROWED] == (size_t)6 * DDM_MOST_POINTS * (DDM_MOST_NEIGHBOURS + 1));
+    /* a box of six bounds and a cover */
+    EXPECT(slot[DDM_SIZES_BOXES] == (size_t)7 * (6 * DDM_MOST_POINTS + 1));
 }
 
 /* A build over four points on one axis, with one neighbour; each list has room past the length that is lent. */
@@ -156,12 +212,13 @@ static void refused_builds(void) {
     }
 }
 
-/* Whether a domain row, in one dimension, has these stretches and this box. */
-static int row_is(size_t domain, size_t own, size_t owned, size_t lent, size_t count, double lower, double upper) {
+/* Whether a domain row, in one dimension, has these stretches, this box and this cover. */
+static int row_is(size_t domain, size_t own, size_t owned, size_t lent, size_t count, double lower, double upper, double far) {
     const size_t *row = domains + DDM_ROW_NUMBERS * domain;
     const double *box = boxes + DDM_ROW_FLOATS(1) * domain;
     return row[DDM_COLUMN_OWN_START] == own && row[DDM_COLUMN_OWN_COUNT] == owned && row[DDM_COLUMN_BORROWED_START] == lent
-           && row[DDM_COLUMN_BORROWED_COUNT] == count && box[0] == lower && box[1] == upper;
+           && row[DDM_COLUMN_BORROWED_COUNT] == count && box[0] == lower && box[1] == upper && box[DDM_ROW_COVER(1)] == far
+           && !signbit(box[DDM_ROW_COVER(1)]);
 }
 
 static void builds(void) {
@@ -175,10 +232,16 @@ static void builds(void) {
     EXPECT(slot[DDM_SLOT_PLACE] == 0 && slot[DDM_SLOT_LEVELS] == 2 && slot[DDM_SLOT_ROWS] == N && slot[DDM_SLOT_ROWS + 1] == 2);
     EXPECT(zeros(slot + DDM_SLOT_ROWS + 2, DDM_MOST_LEVELS - 2));
     EXPECT(slot[DDM_SLOT_DOMAINS] == 2 && slot[DDM_SLOT_DOMAINS + 1] == 1 && zeros(slot + DDM_SLOT_DOMAINS + 2, DDM_MOST_LEVELS - 2));
-    EXPECT(row_is(0, 0, 2, 0, 1, 0.0, 2.0) && row_is(1, 2, 2, 1, 1, 2.0, 10.0) && row_is(2, N, 2, 2, 0, 0.0, 0.0));
+    EXPECT(row_is(0, 0, 2, 0, 1, 0.0, 2.0, 1.0) && row_is(1, 2, 2, 1, 1, 2.0, 10.0, 8.0) && row_is(2, N, 2, 2, 0, 0.0, 0.0, 0.0));
     EXPECT(borrowed[0] == 2 && borrowed[1] == 1 && marked(borrowed + 2, ROOM - 2));
     EXPECT(marked(level_points + N + 2, ROOM - N - 2) && marked(internals + N + 2, ROOM - N - 2));
     EXPECT(marked(domains + 3 * DDM_ROW_NUMBERS, ROOM - 3 * DDM_ROW_NUMBERS) && boxes[3 * DDM_ROW_FLOATS(1)] == MARK);
+    /* at leaf threshold 1 each row has a leaf behind an empty one; of the leaves with rows two send theirs, and two send none */
+    EXPECT(build(points, 1, 2, DDM_POLICY_FIXED, 2, DDM_BUILD_SLOT) == 0 && slot[DDM_SLOT_DOMAINS] == 8);
+    for (size_t leaf = 0; leaf < 8; leaf++) {
+        const double far = boxes[DDM_ROW_FLOATS(1) * leaf + DDM_ROW_COVER(1)];
+        EXPECT(domains[DDM_ROW_NUMBERS * leaf + DDM_COLUMN_OWN_COUNT] == leaf % 2 && far == (leaf == 5 || leaf == 7 ? INFINITY : 0.0));
+    }
 }
 
 /* Every refusal has words of its own, and so has a number that is none. */
@@ -198,6 +261,7 @@ int main(void) {
     level_sizes();
     leaf_quotas();
     samples();
+    covers();
     row_tests();
     build_sizes();
     refused_builds();

@@ -30,6 +30,11 @@ static int same_box(const ddm_tree *a, const ddm_tree *b, size_t level, size_t l
     return (!x && !y) || (x && y && memcmp(x, y, DDM_BOX_FLOATS(a->dimensions) * sizeof *x) == 0);
 }
 
+static int same_cover(const ddm_tree *a, const ddm_tree *b, size_t level, size_t leaf) {
+    const double x = ddm_tree_cover(a, level, leaf), y = ddm_tree_cover(b, level, leaf);
+    return memcmp(&x, &y, sizeof x) == 0;
+}
+
 static int same_trees(const ddm_tree *a, const ddm_tree *b) {
     if (memcmp(a->result, b->result, sizeof a->result))
         return 0;
@@ -38,7 +43,8 @@ static int same_trees(const ddm_tree *a, const ddm_tree *b) {
             return 0;
         for (size_t leaf = 0; leaf < ddm_tree_leaves(a, level); leaf++)
             if (!same_rows(ddm_tree_own(a, level, leaf), ddm_tree_own(b, level, leaf))
-                || !same_rows(ddm_tree_borrowed(a, level, leaf), ddm_tree_borrowed(b, level, leaf)) || !same_box(a, b, level, leaf))
+                || !same_rows(ddm_tree_borrowed(a, level, leaf), ddm_tree_borrowed(b, level, leaf)) || !same_box(a, b, level, leaf)
+                || !same_cover(a, b, level, leaf))
                 return 0;
     }
     return 1;
@@ -86,7 +92,8 @@ static void round_trip(void) {
 
 /* ---- refused calls */
 
-enum { WELLS = 4, NEAR = 1, ROWS = 6 * WELLS + 1, FILE_BYTES = 300 };
+/* The file of the four wells has BYTES bytes, and a domain record from MARKED on. A cover has COVER_BYTES, and ends the file. */
+enum { WELLS = 4, NEAR = 1, ROWS = 6 * WELLS + 1, BYTES = 310, MARKED = 224, COVER_BYTES = 8, FILE_BYTES = 340 };
 
 /* Everything that one call is lent. */
 typedef struct lent {
@@ -149,7 +156,7 @@ static void too_many_points(const lent *built, const size_t *tree) {
     EXPECT(points != NULL);
     if (!points)
         return;
-    EXPECT(ddm_load(points, many, 1, 2, NEAR, 2, DDM_POLICY_FIXED, 2, built->file, 270, after.level_points, 1, after.internals, 1,
+    EXPECT(ddm_load(points, many, 1, 2, NEAR, 2, DDM_POLICY_FIXED, 2, built->file, BYTES, after.level_points, 1, after.internals, 1,
                     after.domains, 1, after.boxes, 1, after.borrowed, 1, after.result, DDM_BUILD_SLOT) == 8);
     memcpy(before.result, after.result, sizeof before.result);
     EXPECT(after.result[DDM_SLOT_PLACE] == 0 && after.result[DDM_SLOT_LEVELS] == 0);
@@ -160,29 +167,57 @@ static void too_many_points(const lent *built, const size_t *tree) {
     free(points);
 }
 
+/* The coarse cover, which ends a file: any value is kept bit for bit, but a NaN, and a file that ends before it, are refused. */
+static void coarse_covers(lent *built, const size_t *tree) {
+    static lent other;
+    const uint64_t kept[5] = {UINT64_C(1) << 63, 1, UINT64_C(0x3ff0000000000000), UINT64_C(0x7ff0000000000000), UINT64_C(0xfff0000000000000)};
+    const uint64_t nans[4] = {UINT64_C(0x7ff0000000000001), UINT64_C(0x7ff8000000000000), UINT64_C(0xfff0000000000001), UINT64_MAX};
+    unsigned char file[FILE_BYTES];
+    double *cover = built->boxes + DDM_ROW_FLOATS(1) * WELLS + DDM_ROW_COVER(1);
+    const double zero = *cover;
+    size_t slot[DDM_STORE_SLOT], result[DDM_BUILD_SLOT];
+    memcpy(file, built->file, BYTES);
+    for (size_t i = 0; i < 5; i++) {
+        memcpy(file + BYTES - COVER_BYTES, &kept[i], COVER_BYTES);
+        EXPECT(load_into(&other, file, BYTES, 2, 6 * WELLS * (NEAR + 1), result, DDM_BUILD_SLOT) == 0);
+        EXPECT(memcmp(other.boxes + DDM_ROW_FLOATS(1) * WELLS + DDM_ROW_COVER(1), &kept[i], COVER_BYTES) == 0);
+        EXPECT(store_from(&other, result, DDM_BUILD_SLOT, other.file, FILE_BYTES, slot, DDM_STORE_SLOT) == 0);
+        EXPECT(slot[DDM_STORE_BYTES] == BYTES && memcmp(other.file, file, BYTES) == 0);
+    }
+    for (size_t i = 0; i < 4; i++) {
+        memcpy(file + BYTES - COVER_BYTES, &nans[i], COVER_BYTES);
+        refused_load(file, BYTES, 2, 6 * WELLS * (NEAR + 1), DDM_BUILD_SLOT, 20);
+        memcpy(cover, &nans[i], COVER_BYTES);
+        refused_store(built, tree, DDM_BUILD_SLOT, BYTES, DDM_STORE_SLOT, 20);
+    }
+    *cover = zero;
+    refused_load(built->file, BYTES - COVER_BYTES, 2, 6 * WELLS * (NEAR + 1), DDM_BUILD_SLOT, 20);
+}
+
 static void refusals(void) {
     static lent built, other;
     size_t slot[DDM_STORE_SLOT], tree[DDM_BUILD_SLOT];
     EXPECT(build_into(&built) == 0);
     memcpy(tree, built.result, sizeof tree);
     EXPECT(store_from(&built, tree, DDM_BUILD_SLOT, built.file, FILE_BYTES, slot, DDM_STORE_SLOT) == 0);
-    EXPECT(slot[DDM_STORE_PLACE] == 0 && slot[DDM_STORE_BYTES] == 270);
-    EXPECT(ddm_file_size(1, WELLS, tree, 6) == 270);
-    EXPECT(load_into(&other, built.file, 270, 2, 6 * WELLS * (NEAR + 1), tree, DDM_BUILD_SLOT) == 0);
+    EXPECT(slot[DDM_STORE_PLACE] == 0 && slot[DDM_STORE_BYTES] == BYTES);
+    EXPECT(ddm_file_size(1, WELLS, tree, 6) == BYTES);
+    EXPECT(load_into(&other, built.file, BYTES, 2, 6 * WELLS * (NEAR + 1), tree, DDM_BUILD_SLOT) == 0);
     EXPECT(memcmp(tree, built.result, sizeof tree) == 0);
     too_many_points(&built, tree);
-    refused_load(built.file, 270, 3, 6 * WELLS * (NEAR + 1), DDM_BUILD_SLOT, 18);
-    refused_load(built.file, 269, 3, 6 * WELLS * (NEAR + 1), DDM_BUILD_SLOT, 20);
-    refused_load(built.file, 270, 0, 6 * WELLS * (NEAR + 1), DDM_BUILD_SLOT, 2);
-    refused_load(built.file, 270, 2, 6 * WELLS * (NEAR + 1) - 1, DDM_BUILD_SLOT, 11);
-    refused_load(built.file, 270, 2, 6 * WELLS * (NEAR + 1), DDM_BUILD_SLOT - 1, 11);
-    built.file[200] ^= 0x40;
-    refused_load(built.file, 270, 2, 6 * WELLS * (NEAR + 1), DDM_BUILD_SLOT, 20);
-    refused_store(&built, tree, DDM_BUILD_SLOT, 269, DDM_STORE_SLOT, 11);
-    refused_store(&built, tree, DDM_BUILD_SLOT - 1, 270, DDM_STORE_SLOT, 11);
-    refused_store(&built, tree, DDM_BUILD_SLOT, 270, DDM_STORE_SLOT - 1, 11);
+    refused_load(built.file, BYTES, 3, 6 * WELLS * (NEAR + 1), DDM_BUILD_SLOT, 18);
+    refused_load(built.file, BYTES - 1, 3, 6 * WELLS * (NEAR + 1), DDM_BUILD_SLOT, 20);
+    refused_load(built.file, BYTES, 0, 6 * WELLS * (NEAR + 1), DDM_BUILD_SLOT, 2);
+    refused_load(built.file, BYTES, 2, 6 * WELLS * (NEAR + 1) - 1, DDM_BUILD_SLOT, 11);
+    refused_load(built.file, BYTES, 2, 6 * WELLS * (NEAR + 1), DDM_BUILD_SLOT - 1, 11);
+    coarse_covers(&built, tree);
+    built.file[MARKED] ^= 0x40;
+    refused_load(built.file, BYTES, 2, 6 * WELLS * (NEAR + 1), DDM_BUILD_SLOT, 20);
+    refused_store(&built, tree, DDM_BUILD_SLOT, BYTES - 1, DDM_STORE_SLOT, 11);
+    refused_store(&built, tree, DDM_BUILD_SLOT - 1, BYTES, DDM_STORE_SLOT, 11);
+    refused_store(&built, tree, DDM_BUILD_SLOT, BYTES, DDM_STORE_SLOT - 1, 11);
     tree[DDM_SLOT_DOMAINS] = (size_t)-1;
-    refused_store(&built, tree, DDM_BUILD_SLOT, 270, DDM_STORE_SLOT, 20);
+    refused_store(&built, tree, DDM_BUILD_SLOT, BYTES, DDM_STORE_SLOT, 20);
 }
 
 int main(void) {

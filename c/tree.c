@@ -62,6 +62,7 @@ static void same_level(const ddm_tree *tree, const ddm_lists *lists, size_t leve
         EXPECT(same(ddm_tree_own(tree, level, leaf), lists->internals + row[DDM_COLUMN_OWN_START], row[DDM_COLUMN_OWN_COUNT]));
         EXPECT(same(ddm_tree_borrowed(tree, level, leaf), lists->borrowed + row[DDM_COLUMN_BORROWED_START],
                     row[DDM_COLUMN_BORROWED_COUNT]));
+        EXPECT(memcmp(&(double){ddm_tree_cover(tree, level, leaf)}, box + DDM_ROW_COVER(d), sizeof *box) == 0);
         if (level == last)
             EXPECT(!ddm_tree_box(tree, level, leaf));
         else
@@ -217,7 +218,7 @@ static void lent_bytes(uint32_t leaf_threshold, size_t most) {
         bytes += lists.sizes[i] * sizeof(uint64_t);
         memset(all[i], 0xff, lists.sizes[i] * sizeof(uint64_t));
     }
-    EXPECT(bytes / WELLS == 768 + 96 * AXES + 112 * (params.overlap_knn + 1));
+    EXPECT(bytes / WELLS == 816 + 96 * AXES + 112 * (params.overlap_knn + 1));
     EXPECT(DDM_RECORD_ENTRIES(WELLS) * (sizeof(size_t) + sizeof(double)) / WELLS == 192);
     EXPECT(ddm_lists_build(&lists, points, AXES * WELLS, AXES, params, result) == 0);
     for (size_t i = 0; i < DDM_SIZES_SLOT; i++)
@@ -254,6 +255,8 @@ static void nowhere(void) {
     EXPECT(ddm_tree_own(tree, 0, 2).count == 0 && ddm_tree_own(tree, far, 0).count == 0 && ddm_tree_own(tree, 0, far).count == 0);
     EXPECT(ddm_tree_borrowed(tree, 0, 2).count == 0 && ddm_tree_borrowed(tree, 2, 0).count == 0);
     EXPECT(ddm_tree_box(tree, 0, 1) && !ddm_tree_box(tree, 0, 2) && !ddm_tree_box(tree, 1, 0) && !ddm_tree_box(tree, far, 0));
+    EXPECT(!ddm_tree_box(tree, 2, 0) && !ddm_tree_box(tree, 0, far) && ddm_tree_cover(tree, 0, 1) == 8.0);
+    EXPECT(ddm_tree_cover(tree, 0, 2) == 0.0 && ddm_tree_cover(tree, 2, 0) == 0.0 && ddm_tree_cover(tree, far, far) == 0.0);
     ddm_tree_free(tree);
     tree = ddm_tree_build_depth_first(points, 4, 1, params, &error);
     EXPECT(tree && ddm_tree_record(tree, 0).count == DDM_RECORD_NODES(2));

@@ -1,7 +1,7 @@
 #!/bin/sh
 # The figures: the library against plain Rust, whole and stage by stage; or the build that cuts depth first against the queue's, whole
-# and its cut stage; or the cut stage and the neighbour stage against those of an earlier commit. Each in one run. Not a test, and nothing
-# that the gate runs.
+# and its cut stage; or the cut stage, the neighbour stage and sampling against those of an earlier commit. Each in one run. Not a test,
+# and nothing that the gate runs.
 #
 #   rust/figures.sh [--engines | --against COMMIT]
 #
@@ -29,9 +29,9 @@ add_stages() {
     echo "ddm_stages: $cited" >> "$1/crates.txt"
 }
 
-# The shared library $2 out of the stages of the copy $1.
+# The shared library $made/$1_$2.so out of the archive of the crate $2 in the copy $1.
 share() {
-    "${CC:-cc}" -shared -o "$2" -Wl,-z,defs -Wl,-z,noexecstack -Wl,--whole-archive "$1/target/staticlib/libddm_stages.a" \
+    "${CC:-cc}" -shared -o "$made/$1_$2.so" -Wl,-z,defs -Wl,-z,noexecstack -Wl,--whole-archive "$made/$1/target/staticlib/lib$2.a" \
         -Wl,--no-whole-archive
 }
 
@@ -52,13 +52,17 @@ if [ -z "$against" ]; then
     run "$figures"
 else
     mkdir "$made/before"
-    git archive -o "$made/before.tar" "$against" crates crates.txt rust/stages
+    git archive -o "$made/before.tar" "$against" crates crates.txt rust/stages c/ddm.h
     tar -xf "$made/before.tar" -C "$made/before"
+    version=$(sed -n 's/^#define DDM_VERSION \([0-9]*\)$/\1/p' "$made/before/c/ddm.h")
     add_stages "$made/before"
-    (cd "$made/before" && rt staticlib ddm_stages)
-    share "$made/before" "$made/before.so"
-    share "$made/now" "$made/now.so"
+    (cd "$made/before" && rt staticlib ddm_c && rt staticlib ddm_stages)
+    for copy in before now; do
+        share "$copy" ddm_c
+        share "$copy" ddm_stages
+    done
     git log -1 --format='before: %h %s' "$against"
-    run cut_figures "$made/before.so" "$made/now.so"
-    run overlap_figures "$made/before.so" "$made/now.so"
+    run cut_figures "$made/before_ddm_stages.so" "$made/now_ddm_stages.so" "$version"
+    run overlap_figures "$made/before_ddm_stages.so" "$made/now_ddm_stages.so" "$version"
+    run sample_figures "$made/before_ddm_c.so" "$made/now_ddm_c.so" "$version"
 fi

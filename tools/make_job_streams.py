@@ -12,7 +12,7 @@ import struct
 import model
 
 PATH = "crates/run_job_streams/data/streams"
-MOST_BYTES = 1_500_000
+MOST_BYTES = 1_572_864   # the room of crates/run_job_streams
 WORD = 2 ** 32 - 1
 INFINITY = 0x7FF0000000000000
 SIGN = 1 << 63
@@ -183,6 +183,37 @@ def nested():
                 yield settings(d, 1, neighbours, 2, 1, 1) + points(d, [x for x in place for _ in range(d)])
 
 
+# Places on a line: far enough apart for a square to overflow, or so near each other that it underflows.
+FAR = [1.34e154, 1.35e154, 1e200, 1.7e308]
+NEAR = [5e-324, 1e-170, 1.5e-162, 1.6e-162, 1e-161, 1e-154]
+
+
+def covers(rng):
+    """Covers of leaves that send one, some, or all of their rows; of leaves that send none; and of empty ones."""
+    for d in (1, 2):
+        for step in FAR + NEAR:
+            # two leaves of two rows, one of which is sent; on two axes the sum of the squares overflows first
+            yield settings(d, WORD, 1, 2, 1, 2) + points(d, [x for i in (0, 0, 1, 2) for x in [step / 2 * i] * d])
+        for step in FAR:
+            yield settings(d, WORD, 0, 3, 1, 3) + points(d, [x for i in (-1, 1, -1, 1, 0) for x in [i * step] * d])
+    for d, n in ((1, 2), (1, 3), (1, 5), (2, 3), (2, 4), (3, 3)):
+        # all rows at one place, or all but one, and zeros of both signs
+        for odd in (5.0, 7.0):
+            yield settings(d, WORD, 1, 2, 1, max(1, n // 2)) + points(d, [5.0] * (n * d - 1) + [odd])
+        yield settings(d, WORD, 1, 2, 1, max(1, n // 2)) + points(d, [0.0, -0.0] * (n * d // 2) + [0.0] * (n * d % 2))
+        # one row fewer goes up than there are, so that some leaves send all their rows
+        yield settings(d, WORD, 1, 2, 1, n - 1) + some_points(d, n)
+        yield settings(d, 1, 1, 2, 1, n - 1) + some_points(d, n)
+        # fewer rows than leaves
+        yield settings(d, 1, 2, n, 1, 1) + some_points(d, n)
+    for _ in range(24):
+        # few of many rows are sent, or nearly all; with 16 neighbours every row of the others is borrowed
+        d, n, kind = rng.randint(1, 3), rng.randint(6, 12), rng.randint(0, 3)
+        number = rng.choice([2, 3, n // 2, n - 2, n - 1])
+        yield settings(d, rng.choice([n, n, 4]), rng.choice([1, 16]), n, 1, number) + b"".join(
+            point([value(rng, kind) for _ in range(d)]) for _ in range(n))
+
+
 def value(rng, kind):
     if kind == 0:
         return bits(float(rng.randint(0, 3)))
@@ -235,7 +266,7 @@ def all_streams():
     rng = random.Random(20261009)
     groups = [document(), cut_at_each_byte(), wrong_marks(), policies(), dimensions(), point_counts(), neighbour_counts(),
               refusals(), thresholds(), not_finite(), edge_values(rng), duplicates(rng), trees(rng, 330, 10),
-              trees(rng, 40, 32), flipped(rng, 300), garbage(rng), nested()]
+              trees(rng, 40, 32), flipped(rng, 300), garbage(rng), nested(), covers(rng)]
     seen = set()
     for group in groups:
         for stream in group:

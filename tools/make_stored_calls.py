@@ -15,21 +15,29 @@ c/stored.c has it.
 """
 import collections
 import itertools
+import os
 import random
 import struct
 
 import stored_model as m
 
 PATH = "crates/run_stored_calls/data/calls"
-MOST_BYTES = 3_000_000
+FORM_BEFORE = os.path.join(os.path.dirname(os.path.abspath(__file__)), "tests", "form_before.txt")
+MOST_BYTES = 3_200_000
+MOST_RECORD = 4096   # the room of crates/run_stored_calls for a record
 WORD = 2 ** 32 - 1
 LONG = 2 ** 64 - 1
 SIGN = 1 << 63
 INFINITY = 0x7FF0000000000000
+ONE = 0x3FF0000000000000
 NANS = [INFINITY + 1, INFINITY + (1 << 51), 2 * SIGN - 1]
+NAN_COVERS = NANS + [SIGN + INFINITY + 1, SIGN + INFINITY + (1 << 51), INFINITY + 0x123456789, INFINITY + (1 << 51) - 1]
+# What a cover may be besides, in a file or in lists, wherever it stands.
+ANY_COVERS = [0, SIGN, 1, SIGN + 1, ONE, SIGN + ONE, INFINITY - 1, INFINITY, SIGN + INFINITY]
 NINE = m.bits_of([9.0])[0]
 
-Load = collections.namedtuple("Load", "settings points data short")
+# short: the list that has `by` entries less than the stated ones, or None.
+Load = collections.namedtuple("Load", "settings points data short by", defaults=[1])
 Store = collections.namedtuple("Store", "settings points count lists room")
 
 
@@ -39,12 +47,12 @@ def fill(name):
     return NINE if name == "boxes" else 9
 
 
-def lengths(settings, points, short=None):
-    """The stated lengths, `short` naming a list that has one entry less."""
+def lengths(settings, points, short=None, by=1):
+    """The stated lengths, `short` naming a list that has `by` entries less."""
     d = settings[0] if 1 <= settings[0] <= 3 else 1
     n = min(len(points) // d, 40)
     wanted = m.stated(d, n, min(settings[2], 64))
-    return {name: max(0, wanted[name] - (name == short)) for name in m.LISTS}
+    return {name: max(0, wanted[name] - by * (name == short)) for name in m.LISTS}
 
 
 def counted(values, form):
@@ -56,7 +64,7 @@ def head(kind, call):
 
 
 def load_record(call):
-    size = lengths(call.settings, call.points, call.short)
+    size = lengths(call.settings, call.points, call.short, call.by)
     before = {name: [fill(name)] * size[name] for name in m.LISTS}
     number, place, count, after = m.load(call.settings, call.points, call.data, before)
     out = [head(1, call), struct.pack("<5I", *(size[name] for name in m.LISTS)), counted(call.data, "B"),
@@ -91,8 +99,16 @@ def points_of(values):
 
 
 def box(rng, d):
-    edges = [0, SIGN, INFINITY, SIGN + INFINITY, 1, 0x3FF0000000000000, SIGN + 0x3FF0000000000000]
-    return [rng.choice(edges) if rng.random() < 0.5 else rng.randrange(INFINITY) + SIGN * rng.randint(0, 1) for _ in range(2 * d)]
+    edges = [0, SIGN, INFINITY, SIGN + INFINITY, 1, ONE, SIGN + ONE]
+    return [rng.choice(edges) if rng.random() < 0.5 else rng.randrange(INFINITY) + SIGN * rng.randint(0, 1) for _ in range(m.box_floats(d))]
+
+
+def any_cover(rng):
+    return rng.choice(ANY_COVERS + [rng.randrange(INFINITY)])
+
+
+def no_box(d):
+    return [0] * m.box_floats(d)
 
 
 def some_tree(rng, d, n, neighbours):
@@ -110,11 +126,11 @@ def some_tree(rng, d, n, neighbours):
         for part in own:
             others = [i for i in rows if i not in part and rng.random() < 0.4][:borrowed]
             borrowed -= len(others)
-            level.append((part, others, box(rng, d)))
+            level.append((part, others, box(rng, d), any_cover(rng)))
         domains -= leaves
         tree.append((rows, level))
         rows = sorted(rng.sample(rows, rng.randint(1, len(rows) - 1)))
-    tree.append((rows, [(rows, [], [0] * (2 * d))]))
+    tree.append((rows, [(rows, [], no_box(d), any_cover(rng))]))
     return tree
 
 
@@ -182,10 +198,10 @@ def limits():
     for neighbours in (0, 1, 2):
         settings, points = (1, 1, neighbours, 2, 1, 2), points_of([0, 1])
         for leaves, borrowing, more in ((12, 0, 0), (13, 0, 0), (12, 6, 0), (12, 6, 1), (12, 10, 0)):
-            level = [([0], [], [0, 0]), ([1], [], [0, 0])] + [([], [0, 1], [0, 0])] * borrowing
-            level += [([], [0], [0, 0])] * more
-            level += [([], [], [0, 0])] * (leaves - len(level))
-            tree = [([0, 1], level), ([0], [([0], [], [0, 0])])]
+            level = [([0], [], [0, 0], 0), ([1], [], [0, 0], INFINITY)] + [([], [0, 1], [0, 0], 0)] * borrowing
+            level += [([], [0], [0, 0], 0)] * more
+            level += [([], [], [0, 0], 0)] * (leaves - len(level))
+            tree = [([0, 1], level), ([0], [([0], [], [0, 0], 0)])]
             yield Load(settings, points, m.file_bytes(settings, points, tree), None)
             yield Store(settings, points, m.counts(tree), lent(settings, points, tree), 2000)
 
@@ -195,11 +211,14 @@ def one_test_each():
     settings, points = (1, 1, 2, 2, 1, 3), points_of([0, 1, 2])
     b, none = [0, INFINITY], [0, 0]
 
+    def leaf(own, borrowed, box):
+        return own, borrowed, box, ONE
+
     def fine(rows, *leaves):
-        return rows, [leaf if len(leaf) == 3 else leaf + (b,) for leaf in leaves]
+        return rows, [leaf(*(of if len(of) == 3 else of + (b,))) for of in leaves]
 
     def last(rows, *leaves):
-        return rows, [leaf if len(leaf) == 3 else leaf + (none,) for leaf in (leaves or [(rows, [])])]
+        return rows, [leaf(*(of if len(of) == 3 else of + (none,))) for of in (leaves or [(rows, [])])]
 
     good = [fine([0, 1, 2], ([0, 2], [1]), ([1], [0, 2])), last([0, 2])]
     trees = [good, [last([0, 1, 2])], [last([0, 1])], [last([1, 2])], [last([])], [last([0, 2, 1])], [last([0, 1, 1])], [last([0, 1, 3])]]
@@ -217,7 +236,7 @@ def one_test_each():
         yield Load(settings, points, m.file_bytes(settings, points, tree), None)
         yield Store(settings, points, m.counts(tree) if len(tree) <= 4 else (5, [0] * 4, [0] * 4), lent(settings, points, tree), 400)
     five = points_of(range(5))
-    deep = [(list(range(k)), [([i for i in range(k) if i % 2 == t], [], [0, 0]) for t in (0, 1)]) for k in (5, 4, 3, 2)]
+    deep = [(list(range(k)), [([i for i in range(k) if i % 2 == t], [], [0, 0], 0) for t in (0, 1)]) for k in (5, 4, 3, 2)]
     for levels in (deep[:3] + [last([0])], deep[:3] + [last([0, 1])], deep + [last([0])]):
         yield Load((1, 1, 0, 2, 1, 5), five, m.file_bytes((1, 1, 0, 2, 1, 5), five, levels), None)
 
@@ -264,7 +283,7 @@ def inside():
         if wrong:
             yield Load(settings, points, m.file_bytes(settings, wrong, tree), None)
     nine = points_of(range(9))
-    yield Load(settings, points, m.file_bytes((1, 2, 1, 2, 1, 1), nine, [(list(range(9)), [(list(range(9)), [], [0, 0])])]), None)
+    yield Load(settings, points, m.file_bytes((1, 2, 1, 2, 1, 1), nine, [(list(range(9)), [(list(range(9)), [], [0, 0], 0)])]), None)
     for policy, number in ((0, 1), (0, 2), (2, 2), (255, 0), (0, 0)):
         yield Load(settings, points, m.file_bytes((1, 2, 1, 2, policy, number), points, tree), None)
 
@@ -290,11 +309,48 @@ def differing():
     yield Load(settings, minus, m.file_bytes(settings, minus, m.built(settings, minus)), None)
 
 
+def form_before():
+    """Files that were accepted before domain records ended with a cover."""
+    with open(FORM_BEFORE, encoding="ascii") as file:
+        for line in file:
+            if not line.startswith("#"):
+                settings, points, data = line.split()
+                yield Load(tuple(map(int, settings.split(","))), [int(bits, 16) for bits in points.split(",")], bytes.fromhex(data), None)
+
+
+def with_cover(tree, level, leaf, cover):
+    """The tree with another cover in one leaf."""
+    rows, leaves = tree[level]
+    leaves = leaves[:leaf] + [leaves[leaf][:3] + (cover,)] + leaves[leaf + 1:]
+    return tree[:level] + [(rows, leaves)] + tree[level + 1:]
+
+
+def covers():
+    """Every kind of cover in the first and the last domain of a level, the coarse one too, from a file and from lists; covers left out, and one
+    too many; a coarse box in the file; and each list one entry short, and the boxes' list without entries for the covers."""
+    for settings, points, tree in small():
+        for level, (_, leaves) in enumerate(tree):
+            for leaf, cover in itertools.product({0, len(leaves) - 1}, ANY_COVERS + NAN_COVERS):
+                other_tree = with_cover(tree, level, leaf, cover)
+                data = m.file_bytes(settings, points, other_tree)
+                yield Load(settings, points, data, None)
+                yield Store(settings, points, m.counts(other_tree), lent(settings, points, other_tree), len(data))
+        front, records = m.front_bytes(settings, points), m.tree_records(tree)
+        for at, record in enumerate(records):
+            if record.startswith(b"TD"):
+                for changed_record in (record[:-8], record[:-1], record + record[-8:], record[:-8] + b"\0" * 8 * m.row_floats(settings[0])):
+                    yield Load(settings, points, front + b"".join(records[:at] + [changed_record] + records[at + 1:]), None)
+        data = front + b"".join(records)
+        for name, by in [(name, 1) for name in m.LISTS] + [("boxes", 6 * (len(points) // settings[0]) + 1)]:
+            yield Load(settings, points, data, name, by)
+            yield Store(settings, points, m.counts(tree), lent(settings, points, tree, name, by), len(data))
+
+
 # ---- stores
 
-def lent(settings, points, tree, short=None):
-    """Lists of the stated lengths that hold the tree, or as much of it as they can."""
-    size, front = lengths(settings, points, short), m.packed(tree)
+def lent(settings, points, tree, short=None, by=1):
+    """Lists of the stated lengths, but for `short`, that hold the tree, or as much of it as they can."""
+    size, front = lengths(settings, points, short, by), m.packed(tree)
     return {name: (front[name] + [fill(name)] * size[name])[:max(size[name], 0)] for name in m.LISTS}
 
 
@@ -343,7 +399,8 @@ def stores(rng):
 
 def calls():
     rng = random.Random(20)
-    for part in (whole(), each_byte(rng), each_cut(), random_trees(rng), limits(), one_test_each(), present(), inside(), differing(), stores(rng)):
+    for part in (whole(), each_byte(rng), each_cut(), random_trees(rng), limits(), one_test_each(), present(), inside(), differing(), stores(rng),
+                 covers(), form_before()):
         yield from part
 
 
@@ -359,7 +416,7 @@ def main():
         tally["load" if isinstance(call, Load) else "store", number] += 1
         records.append(struct.pack("<I", len(body)) + body)
     data = b"".join(records)
-    assert len(data) <= MOST_BYTES, len(data)
+    assert len(data) <= MOST_BYTES and max(map(len, records)) <= MOST_RECORD, (len(data), max(map(len, records)))
     with open(PATH, "wb") as out:
         out.write(data)
     print(len(records), "calls,", len(data), "bytes,", max(map(len, records)), "the longest")

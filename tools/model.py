@@ -1,4 +1,4 @@
-"""Document 01 with requests 2 and 4 of document 02 as plain Python, for making stored answers and for checking tables by hand.
+"""Document 01 with requests 2, 4 and 5 of document 02 as plain Python, for making stored answers and for checking tables by hand.
 
 It follows the papers rule by rule and shares nothing with the Rattle code. Python's floats are IEEE 754 binary64 and its
 `math.sqrt` is correctly rounded, so every rounded step is the papers'.
@@ -118,6 +118,12 @@ def sample(cs, d, rows, wanted, seed):
     return chosen
 
 
+def cover(cs, d, rows, chosen):
+    """How far the worst of the rows that were not chosen is from the nearest one that was; 0 where all were chosen."""
+    taken = set(chosen)
+    return max((min(math.sqrt(rows_sq(cs, d, i, j)) for j in chosen) for i in rows if i not in taken), default=0.0)
+
+
 def seed_of(cs, d, rows):
     center = []
     for a in range(d):
@@ -181,6 +187,16 @@ def borrowed_of(cs, d, neighbours, active, leaves):
     return [sorted(b) for b in borrowed]
 
 
+def sent_by(cs, d, rows, quota):
+    """The rows that a leaf with these rows sends up, for its quota."""
+    return sample(cs, d, rows, quota, seed_of(cs, d, rows)) if quota else []
+
+
+def leaf_cover(cs, d, rows, sent):
+    """The cover of a leaf: infinite where it has rows and sends none, and 0 where it has none."""
+    return math.inf if rows and not sent else cover(cs, d, rows, sent)
+
+
 # ---- the build
 
 def check(cs, d, leaf, neighbours, f, policy, number):
@@ -209,7 +225,7 @@ def check(cs, d, leaf, neighbours, f, policy, number):
 
 
 def build(cs, d, leaf, neighbours, f, policy, number):
-    """The levels: (active rows, leaves); a leaf is (own rows, borrowed rows, box or None)."""
+    """The levels: (active rows, leaves); a leaf is (own rows, borrowed rows, box or None, cover)."""
     check(cs, d, leaf, neighbours, f, policy, number)
     n = len(cs) // d
     c = threshold(policy, number, n)
@@ -218,15 +234,12 @@ def build(cs, d, leaf, neighbours, f, policy, number):
     while len(active) > c:
         leaves = leaves_of(cs, d, leaf, active)
         borrowed = borrowed_of(cs, d, neighbours, active, leaves)
-        levels.append((active, [(rows, b, box) for (rows, box), b in zip(leaves, borrowed)]))
         size = level_size(len(active), c, max(1, k - built))
         built += 1
-        sent = []
-        for (rows, _), q in zip(leaves, quotas([len(rows) for rows, _ in leaves], size)):
-            if q:
-                sent += sample(cs, d, rows, q, seed_of(cs, d, rows))
-        active = sorted(sent)
-    levels.append((active, [(active, [], None)]))
+        sent = [sent_by(cs, d, rows, q) for (rows, _), q in zip(leaves, quotas([len(rows) for rows, _ in leaves], size))]
+        levels.append((active, [(rows, b, box, leaf_cover(cs, d, rows, up)) for (rows, box), b, up in zip(leaves, borrowed, sent)]))
+        active = sorted(i for up in sent for i in up)
+    levels.append((active, [(active, [], None, 0.0)]))
     return levels
 
 
@@ -290,8 +303,12 @@ def rows_text(rows):
     return " ".join(map(str, rows)) if rows else "-"
 
 
+def bits_text(x):
+    return "%016x" % struct.unpack("<Q", struct.pack("<d", x))
+
+
 def box_text(box):
-    return "-" if box is None else " ".join("%016x" % struct.unpack("<Q", struct.pack("<d", x)) for x in box[0] + box[1])
+    return "-" if box is None else " ".join(map(bits_text, box[0] + box[1]))
 
 
 def printout(data):
@@ -302,8 +319,9 @@ def printout(data):
     out = ["levels %d" % len(levels)]
     for t, (active, leaves) in enumerate(levels):
         out.append("level %d points %s" % (t, rows_text(active)))
-        for i, (own, borrowed, box) in enumerate(leaves):
-            out.append("domain %d internal %s overlap %s box %s" % (i, rows_text(own), rows_text(borrowed), box_text(box)))
+        for i, (own, borrowed, box, far) in enumerate(leaves):
+            out.append("domain %d internal %s overlap %s box %s cover %s" % (
+                i, rows_text(own), rows_text(borrowed), box_text(box), bits_text(far)))
     return "\n".join(out) + "\n"
 
 

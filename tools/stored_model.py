@@ -1,8 +1,8 @@
-"""Request 1 of document 02 as plain Python: the file of a tree, its tests, the loader and the writer.
+"""Requests 1 and 5 of document 02 as plain Python: the file of a tree, its tests, the loader and the writer.
 
 It follows the paper's words and shares nothing with the Rattle code. Floats are their bits throughout. Settings are six numbers:
 dimension, leaf threshold, neighbours, factor, policy (0 Auto, 1 Fixed), threshold (0 under Auto). A tree is a list of levels; a level is
-its rows and its leaves; a leaf is own rows, borrowed rows, and the bits of its bounds (lower ones, then upper ones).
+its rows and its leaves; a leaf is own rows, borrowed rows, the bits of its bounds (lower ones, then upper ones), and those of its cover.
 """
 import struct
 
@@ -10,6 +10,17 @@ import model
 
 MOST_LEVELS = 4
 LISTS = ("level_points", "internals", "domains", "boxes", "borrowed")
+ROW_NUMBERS = 4
+
+
+def box_floats(d):
+    """A box: its bounds."""
+    return 2 * d
+
+
+def row_floats(d):
+    """What a domain row has in `boxes`: its box, and its cover."""
+    return box_floats(d) + 1
 
 
 class Malformed(Exception):
@@ -51,9 +62,10 @@ def tree_records(tree):
     for t, (rows, leaves) in enumerate(tree):
         coarse = t == len(tree) - 1
         records.append(b"TL" + numbers([len(rows), len(leaves)]) + numbers(rows))
-        for own, borrowed, box in leaves:
-            bounds = b"" if coarse else struct.pack("<%dQ" % len(box), *box)
-            records.append(b"TD" + numbers([len(own), len(borrowed)]) + numbers(own) + numbers(borrowed) + bounds)
+        for own, borrowed, box, cover in leaves:
+            floats = [cover] if coarse else box + [cover]
+            records.append(b"TD" + numbers([len(own), len(borrowed)]) + numbers(own) + numbers(borrowed)
+                           + struct.pack("<%dQ" % len(floats), *floats))
     return records
 
 
@@ -109,7 +121,8 @@ def read_file(data):
             r.mark(b"TD")
             own, borrowed = r.numbers(2)
             own, borrowed = r.numbers(own), r.numbers(borrowed)
-            leaves.append((own, borrowed, [0] * (2 * d) if coarse else r.floats(2 * d)))
+            box = [0] * box_floats(d) if coarse else r.floats(box_floats(d))
+            leaves.append((own, borrowed, box, r.floats(1)[0]))
         tree.append((rows, leaves))
     if r.at != len(data):
         raise Malformed
@@ -123,7 +136,7 @@ def ascends(rows):
 
 
 def stated(d, n, neighbours):
-    return {"level_points": 4 * n, "internals": 4 * n, "domains": 4 * (6 * n + 1), "boxes": 2 * d * (6 * n + 1),
+    return {"level_points": 4 * n, "internals": 4 * n, "domains": ROW_NUMBERS * (6 * n + 1), "boxes": row_floats(d) * (6 * n + 1),
             "borrowed": 6 * n * (neighbours + 1)}
 
 
@@ -137,15 +150,15 @@ def sound(settings, n, tree):
             return False
         if t and not (0 < len(rows) < len(tree[t - 1][0]) and set(rows) <= set(tree[t - 1][0])):
             return False
-        if sorted(i for own, _, _ in leaves for i in own) != rows:
+        if sorted(i for own, _, _, _ in leaves for i in own) != rows:
             return False
-        for own, borrowed, box in leaves:
+        for own, borrowed, box, cover in leaves:
             if not ascends(own) or not ascends(borrowed) or not set(borrowed) <= set(rows) - set(own):
                 return False
-            if len(box) != 2 * d or (any(box) if last else any(map(is_nan, box))):
+            if len(box) != box_floats(d) or (any(box) if last else any(map(is_nan, box))) or is_nan(cover):
                 return False
     domains = sum(len(leaves) for _, leaves in tree)
-    borrowed = sum(len(b) for _, leaves in tree for _, b, _ in leaves)
+    borrowed = sum(len(b) for _, leaves in tree for _, b, _, _ in leaves)
     return domains <= 6 * n + 1 and borrowed <= 6 * n * (neighbours + 1)
 
 
@@ -173,11 +186,11 @@ def packed(tree):
     lists = {name: [] for name in LISTS}
     for rows, leaves in tree:
         lists["level_points"] += rows
-        for own, borrowed, box in leaves:
+        for own, borrowed, box, cover in leaves:
             lists["domains"] += [len(lists["internals"]), len(own), len(lists["borrowed"]), len(borrowed)]
             lists["internals"] += own
             lists["borrowed"] += borrowed
-            lists["boxes"] += box
+            lists["boxes"] += box + [cover]
     return lists
 
 
@@ -205,14 +218,15 @@ def held(d, count, lists):
     for t in range(levels):
         points, leaves = stretch("level_points", at["level_points"], rows[t]), []
         for _ in range(domains[t]):
-            j = at["rows"]
-            if 4 * j + 4 > len(lists["domains"]) or 2 * d * (j + 1) > len(lists["boxes"]):
+            j, many = at["rows"], row_floats(d)
+            if ROW_NUMBERS * (j + 1) > len(lists["domains"]) or many * (j + 1) > len(lists["boxes"]):
                 raise Malformed
-            a, w, b, v = lists["domains"][4 * j:4 * j + 4]
-            leaves.append((stretch("internals", a, w), stretch("borrowed", b, v), lists["boxes"][2 * d * j:2 * d * (j + 1)]))
+            a, w, b, v = lists["domains"][ROW_NUMBERS * j:ROW_NUMBERS * (j + 1)]
+            floats = lists["boxes"][many * j:many * (j + 1)]
+            leaves.append((stretch("internals", a, w), stretch("borrowed", b, v), floats[:box_floats(d)], floats[box_floats(d)]))
             at["rows"] += 1
         tree.append((points, leaves))
-    if any(any(box) for _, _, box in tree[-1][1]):
+    if any(any(box) for _, _, box, _ in tree[-1][1]):
         raise Malformed
     return tree
 
@@ -259,5 +273,5 @@ def built(settings, points):
     """The tree that the build makes, as this module has it."""
     d, leaf, neighbours, factor, policy, number = settings
     levels = model.build(floats_of(points), d, leaf, neighbours, factor, policy, number)
-    return [(list(rows), [(list(own), list(borrowed), [0] * (2 * d) if box is None else bits_of(box[0] + box[1])) for own, borrowed, box in leaves])
-            for rows, leaves in levels]
+    return [(list(rows), [(list(own), list(borrowed), [0] * box_floats(d) if box is None else bits_of(box[0] + box[1]), bits_of([cover])[0])
+                          for own, borrowed, box, cover in leaves]) for rows, leaves in levels]

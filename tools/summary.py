@@ -1,4 +1,6 @@
-"""A tree in the wall sheet's three lines: A the settings and what they come to, B who owns each well, C what each leaf sends up."""
+"""A tree in the wall sheet's three lines: A the settings and what they come to, B who owns each well, C what each leaf sends up and how
+far that leaves the others."""
+import math
 from collections import Counter
 
 from reading import settings as job_settings
@@ -74,11 +76,12 @@ def misplaced(active, own, name):
 
 
 def sent_lines(number, level, above, name, most):
-    """Line C of a level: wells sent up per leaf, and the leaves that send none, with their wells."""
+    """Line C of a level: wells sent up per leaf, the greatest cover, and the leaves that send none, with their wells."""
     up = set(rows_of(above.points))
     own = [rows_of(leaf.own) for leaf in level.leaves]
     sent = [sum(1 for row in rows if row in up) for rows in own]
     out = [f"   level {number}: {len(up):,} of {counted(len(level.points), 'well', 'wells')} go up, a leaf: {shares(sent)}"]
+    out.append("      " + cover_line([leaf.cover for leaf in level.leaves], sent))
     silent = [leaf for leaf, count in enumerate(sent) if count == 0]
     if silent:
         wells = sum(len(own[leaf]) for leaf in silent)
@@ -86,6 +89,21 @@ def sent_lines(number, level, above, name, most):
                    f"{counted(wells, 'well', 'wells')}:")
         out += details([f"leaf {leaf}: {', '.join(map(name, own[leaf])) or 'no wells'}" for leaf in silent], most)
     return out
+
+
+def cover_line(covers, sent):
+    """The greatest cover of a level, by which the factor is set, with its leaf; where it is infinite, why, and the greatest of the others."""
+    infinite = [leaf for leaf, cover in enumerate(covers) if cover == math.inf]
+    greatest = max((cover for cover in covers if cover < math.inf), default=None)
+    known = "" if greatest is None else f"{greatest:.6g}, in leaf {covers.index(greatest)}"
+    if not infinite:
+        return f"greatest cover {known}: no well is farther than that from one that its leaf sends up"
+    silent = sum(1 for leaf in infinite if sent[leaf] == 0)
+    far = len(infinite) - silent
+    why = [counted(silent, "leaf with wells sends none", "leaves with wells send none")] if silent else []
+    if far:
+        why.append("in " + counted(far, "leaf", "leaves") + " the distances are too large for a 64-bit float")
+    return f"greatest cover infinite: {', and '.join(why)}" + (f"; among the other leaves {known}" if known else "")
 
 
 def details(lines, most):

@@ -4,7 +4,7 @@
     tree = rekvashu.build([[0.0, 1.0], [2.0, 3.0], [4.0, 1.5]], leaf=1, neighbours=1, factor=2, coarse=1)
     for level in tree.levels:
         for leaf in level.leaves:
-            print(leaf.own, leaf.borrowed, leaf.box)
+            print(leaf.own, leaf.borrowed, leaf.box, leaf.cover)
 
 `rekvashu.build(.., engine="depth-first")` builds the same tree and keeps its cuts: `level.cuts` has them from the root downwards.
 
@@ -12,11 +12,11 @@
 
 The shared library is made by python/make_shared.sh. Arrays are numpy's where numpy is there, otherwise plain lists.
 """
-from .calls import build, build_sizes, level_size, library_version, load, quotas, row_test, sample, square_root
+from .calls import Sample, build, build_sizes, level_size, library_version, load, quotas, row_test, sample, square_root
 from .library import LibraryError
 from .refusals import Refusal
 from .tree import Leaf, Level, Node, Tree
 from .version import VERSION as __version__
 
 __all__ = ["build", "build_sizes", "level_size", "library_version", "load", "quotas", "row_test", "sample", "square_root", "LibraryError",
-           "Refusal", "Leaf", "Level", "Node", "Tree", "__version__"]
+           "Refusal", "Leaf", "Level", "Node", "Sample", "Tree", "__version__"]

@@ -2,6 +2,7 @@
 import ctypes
 import numbers
 import reprlib
+from collections import namedtuple
 
 from . import layout, library, settings
 from .coordinates import coordinates
@@ -14,8 +15,18 @@ NO_ROOM = 11
 KINDS = {"boxes": ctypes.c_double, "floats": ctypes.c_double, "planes": ctypes.c_double}
 
 
+Sample = namedtuple("Sample", "rows cover")
+Sample.__doc__ = """A sample: its rows in the order in which they were taken, and its cover.
+
+The cover is how far the worst row that was not taken is from the nearest one that was: 0.0 where all were taken."""
+
+
 def slot(entries):
     return (ctypes.c_size_t * entries)()
+
+
+def float_slot(entries):
+    return (ctypes.c_double * entries)()
 
 
 def passed(number, place=0):
@@ -129,16 +140,16 @@ def load(points, data, leaf=settings.LEAF, neighbours=settings.NEIGHBOURS, facto
 
 
 def sample(points, wanted, seed, *, dimension=None):
-    """Farthest point sampling: `wanted` rows of the points, from the row `seed` on, in the order in which they are taken."""
+    """Farthest point sampling: `wanted` rows of the points, from the row `seed` on, and how far that leaves the others (`Sample`)."""
     given, wanted, seed = coordinates(points, dimension), size("wanted", wanted), size("seed", seed)
     rows = min(given.rows, settings.MOST_POINTS)
     floats, wholes = layout.sample_room(rows)
     out, floats, wholes = Lent(ctypes.c_size_t, min(wanted, rows)), Lent(ctypes.c_double, floats), Lent(ctypes.c_size_t, wholes)
-    result = slot(layout.SAMPLE_SLOT)
+    cover, result = float_slot(layout.COVER_SLOT), slot(layout.SAMPLE_SLOT)
     number = library.load().ddm_sample(given.c, given.length, given.dimension, wanted, seed, out.c, out.entries, floats.c, floats.entries,
-                               wholes.c, wholes.entries, result, len(result))
+                                       wholes.c, wholes.entries, cover, len(cover), result, len(result))
     passed(number, result[layout.SAMPLE_PLACE])
-    return out.cut(result[layout.SAMPLE_WRITTEN])[:]
+    return Sample(out.cut(result[layout.SAMPLE_WRITTEN])[:], cover[0])
 
 
 def level_size(active, threshold, reductions):
@@ -168,7 +179,7 @@ def square_root(x):
         x = float(x)
     except OverflowError:
         raise ValueError("the number is outside the range of a 64-bit float") from None
-    result = (ctypes.c_double * layout.ROOT_SLOT)()
+    result = float_slot(layout.ROOT_SLOT)
     passed(library.load().ddm_square_root(x, result, len(result)))
     return result[0]
 

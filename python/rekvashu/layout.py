@@ -19,9 +19,14 @@ def box_floats(dimension):
     return 2 * dimension
 
 
-def row_floats(dimension):
-    """What a domain row has among the boxes: the box comes first."""
+def row_cover(dimension):
+    """Where the cover stands among the floats of a domain row: behind the box."""
     return box_floats(dimension)
+
+
+def row_floats(dimension):
+    """What a domain row has among the boxes: the box and the cover."""
+    return box_floats(dimension) + 1
 
 
 # The cut record: a node of at least RECORD_LEAF is a leaf (that plus its number), one below it a cut on that axis. No leaf is deeper than
@@ -46,8 +51,9 @@ SLOT_PLACE, SLOT_LEVELS, SLOT_ROWS = 0, 1, 2
 SLOT_DOMAINS = SLOT_ROWS + MOST_LEVELS
 BUILD_SLOT = SLOT_DOMAINS + MOST_LEVELS
 
-# Sampling's slot, and that of the quotas.
+# Sampling's slots, the cover's being one float, and that of the quotas.
 SAMPLE_PLACE, SAMPLE_WRITTEN, SAMPLE_SLOT = 0, 1, 2
+COVER_SLOT = 1
 QUOTA_WRITTEN, QUOTA_SEATS, QUOTA_SLOT = 0, 1, 2
 
 # The writer's slot: place, bytes written.
@@ -65,8 +71,9 @@ def sample_room(rows):
 
 def file_bytes(dimension, rows, slot, borrowed):
     """The bytes of the file of a tree over so many points, by its slot and the rows borrowed in all: the head; the points; a mark and two
-    counts for each level and domain; each level row and, as an internal row, once more; the borrowed rows; and a box for each domain but
-    the coarse one."""
+    counts for each level and domain; each level row and, as an internal row, once more; the borrowed rows; and the floats of each domain
+    row but for the coarse box."""
     levels, listed = slot[SLOT_LEVELS], sum(slot[SLOT_ROWS:SLOT_DOMAINS])
     domains = sum(slot[SLOT_DOMAINS:BUILD_SLOT])
-    return 24 + rows * (2 + 8 * dimension) + 10 * (levels + domains) + 4 * (2 * listed + borrowed) + 8 * box_floats(dimension) * (domains - 1)
+    floats = row_floats(dimension) * domains - box_floats(dimension)
+    return 24 + rows * (2 + 8 * dimension) + 10 * (levels + domains) + 4 * (2 * listed + borrowed) + 8 * floats

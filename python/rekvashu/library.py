@@ -23,7 +23,7 @@ FUNCTIONS = {
     "ddm_build_depth_first": POINTS + [UINT32] * 5 + TREE + FLOATS + WHOLES + WHOLES + FLOATS + WHOLES,
     "ddm_store": POINTS + [UINT32] * 5 + WHOLES + TREE + BYTES + WHOLES,
     "ddm_load": POINTS + [UINT32] * 5 + BYTES + TREE + WHOLES,
-    "ddm_sample": POINTS + [SIZE] * 2 + WHOLES + FLOATS + WHOLES + WHOLES,
+    "ddm_sample": POINTS + [SIZE] * 2 + WHOLES + FLOATS + WHOLES + FLOATS + WHOLES,
     "ddm_level_size": [SIZE, UINT32, UINT32] + WHOLES,
     "ddm_quotas": WHOLES + [SIZE] + WHOLES * 3,
     "ddm_square_root": [DOUBLE] + FLOATS,

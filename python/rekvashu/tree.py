@@ -126,7 +126,7 @@ class Leaves(Sequence):
 
 
 class Leaf:
-    """A leaf: its own rows and the rows that it borrows, both ascending, and its box."""
+    """A leaf: its own rows and the rows that it borrows, both ascending, its box and its cover."""
 
     __slots__ = ("_packed", "number", "_domain", "_coarse")
 
@@ -148,9 +148,18 @@ class Leaf:
         """The lower and the upper bounds by axis; None for the coarse domain, which has no box."""
         if self._coarse:
             return None
-        dimension = self._packed.dimension
-        at = layout.row_floats(dimension) * self._domain
+        at, dimension = self._floats(), self._packed.dimension
         return self._packed.boxes[at:at + dimension], self._packed.boxes[at + dimension:at + layout.box_floats(dimension)]
+
+    @property
+    def cover(self):
+        """How far the worst of the leaf's own rows that it does not send up is from the nearest one that it sends. Infinite for a leaf that
+        has rows and sends none; 0.0 for an empty leaf and for the coarse domain. A loaded tree has the covers of its file."""
+        return float(self._packed.boxes[self._floats() + layout.row_cover(self._packed.dimension)])
+
+    def _floats(self):
+        """Where the floats of the leaf's domain row start."""
+        return layout.row_floats(self._packed.dimension) * self._domain
 
     def __repr__(self):
         return f"<Leaf {self.number}: own {list(map(int, self.own))}, borrowed {list(map(int, self.borrowed))}>"

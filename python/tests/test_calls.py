@@ -1,4 +1,5 @@
 """The calls against the plain model of the paper (tools/model.py)."""
+import math
 import random
 import struct
 import threading
@@ -18,14 +19,15 @@ def bits(numbers):
 
 
 def seen(tree):
-    """A tree as plain lists, with the bits of each bound."""
-    return [(plain(level.points), [(plain(leaf.own), plain(leaf.borrowed), leaf.box and bits(plain(leaf.box[0]) + plain(leaf.box[1])))
-                                   for leaf in level.leaves]) for level in tree.levels]
+    """A tree as plain lists, with the bits of each bound and cover."""
+    return [(plain(level.points), [(plain(leaf.own), plain(leaf.borrowed), leaf.box and bits(plain(leaf.box[0]) + plain(leaf.box[1])),
+                                    bits([leaf.cover])) for leaf in level.leaves]) for level in tree.levels]
 
 
 def expected(cs, d, leaf, neighbours, factor, policy, number):
     levels = model.build(cs, d, leaf, neighbours, factor, policy, number)
-    return [(points, [(own, borrowed, box and bits(box[0] + box[1])) for own, borrowed, box in leaves]) for points, leaves in levels]
+    return [(points, [(own, borrowed, box and bits(box[0] + box[1]), bits([cover])) for own, borrowed, box, cover in leaves])
+            for points, leaves in levels]
 
 
 def coordinate(r, kind):
@@ -43,6 +45,8 @@ class Build(unittest.TestCase):
         self.assertEqual([plain(b) for b in tree.levels[0].leaves[1].box], [[1.0], [3.0]])
         self.assertEqual(plain(tree.levels[1].points), [0, 1])
         self.assertIsNone(tree.levels[1].leaves[0].box)
+        self.assertEqual([[leaf.cover for leaf in level.leaves] for level in tree.levels], [[0.0, 0.0, math.inf, math.inf], [0.0]])
+        self.assertEqual({type(leaf.cover) for level in tree.levels for leaf in level.leaves}, {float})
         self.assertEqual([level.is_coarse for level in tree.levels], [False, True])
 
     @both
@@ -50,6 +54,19 @@ class Build(unittest.TestCase):
         for points, neighbours, wanted in (([5, 5, 5], 1, [(0, [1, 2]), (1, [0]), (2, [0])]), ([5, 5], 0, [(0, []), (1, [])])):
             leaves = rekvashu.build(points, 1, neighbours, 2, len(points) - 1).levels[0].leaves
             self.assertEqual(sorted((plain(leaf.own)[0], plain(leaf.borrowed)) for leaf in leaves if len(leaf.own)), wanted)
+
+    @both
+    def test_covers(self):
+        # two leaves that send one row each: to the nearest row of the leaf, whatever it borrows; with an axis more; and by a square that
+        # overflows or underflows
+        for points, due in (([0, 1, 2, 10], [1.0, 8.0]), ([[0, 0], [3, 4], [9, 0], [9, 1]], [5.0, 1.0]), ([5, 5, 5, 5], [0.0, 0.0]),
+                            ([0, 1e200, 2e200, 2e200], [math.inf, 0.0]), ([0, 1e-170, 1, 1], [0.0, 0.0])):
+            for engine in ("queue", "depth-first"):
+                leaves = rekvashu.build(points, 4, 3, 2, 2, engine=engine).levels[0].leaves
+                self.assertEqual(bits([leaf.cover for leaf in leaves]), bits(due), points)
+        # empty leaves, leaves that send their row, and leaves that send none
+        leaves = rekvashu.build([0, 1, 2, 10], 1, 1, 2, 2).levels[0].leaves
+        self.assertEqual([leaf.cover for leaf in leaves], [0.0, 0.0, 0.0, 0.0, 0.0, math.inf, 0.0, math.inf])
 
     @both
     def test_random_trees(self):
@@ -98,13 +115,19 @@ class Build(unittest.TestCase):
 class Others(unittest.TestCase):
     @both
     def test_sample(self):
-        self.assertEqual(plain(rekvashu.sample([0, 1, 3, 7], 3, 1)), [1, 3, 2])
+        rows, cover = rekvashu.sample([0, 1, 3, 7], 3, 1)
+        self.assertEqual((plain(rows), cover), ([1, 3, 2], 1.0))
+        for points, wanted, due in (([0, 3, 4, 9], 1, 9.0), ([0, 3, 4, 9], 2, 4.0), ([0, 3, 4, 9], 4, 0.0), ([5, 5, 5], 1, 0.0),
+                                    ([0, 1e200], 1, math.inf), ([0, 1e-170], 1, 0.0), ([[0, 0], [3, 4]], 1, 5.0)):
+            self.assertEqual(bits([rekvashu.sample(points, wanted, 0).cover]), bits([due]), points)
         r = random.Random(11)
         for _ in range(60):
             n, d = r.randint(1, 40), r.randint(1, 3)
             cs = [coordinate(r, r.randint(0, 3)) for _ in range(n * d)]
             wanted, seed = r.randint(1, n), r.randrange(n)
-            self.assertEqual(plain(rekvashu.sample(cs, wanted, seed, dimension=d)), model.sample(cs, d, range(n), wanted, seed))
+            found, chosen = rekvashu.sample(cs, wanted, seed, dimension=d), model.sample(cs, d, range(n), wanted, seed)
+            self.assertEqual(plain(found.rows), chosen)
+            self.assertEqual(bits([found.cover]), bits([model.cover(cs, d, range(n), chosen)]))
 
     def test_level_size(self):
         r = random.Random(13)
@@ -125,7 +148,6 @@ class Others(unittest.TestCase):
             self.assertEqual(plain(rekvashu.quotas(sizes, wanted)), model.quotas(sizes, wanted))
 
     def test_square_root(self):
-        import math
         r = random.Random(19)
         for _ in range(2000):
             x = struct.unpack("<d", struct.pack("<Q", r.getrandbits(63)))[0]
@@ -134,7 +156,7 @@ class Others(unittest.TestCase):
         self.assertEqual(bits([rekvashu.square_root(-0.0)]), bits([-0.0]))
 
     def test_sizes(self):
-        self.assertEqual(rekvashu.build_sizes(10, 2, 3), {"level_points": 40, "internals": 40, "domains": 244, "boxes": 244,
+        self.assertEqual(rekvashu.build_sizes(10, 2, 3), {"level_points": 40, "internals": 40, "domains": 244, "boxes": 305,
                                                          "borrowed": 240, "floats": 320, "wholes": 640})
 
 

@@ -1,9 +1,12 @@
 """A tree as the bytes of a file, and loaded again."""
+import math
 import random
+import struct
 import unittest
 
 import support
 
+import make_stored_calls
 import rekvashu
 import stored_model
 
@@ -18,7 +21,7 @@ def settings_of(dimension, leaf, neighbours, factor, coarse):
 
 def plain_tree(tree):
     return [(support.plain(level.points),
-             [(support.plain(leaf.own), support.plain(leaf.borrowed), None if leaf.box is None else [support.plain(b) for b in leaf.box])
+             [(support.plain(leaf.own), support.plain(leaf.borrowed), None if leaf.box is None else [support.plain(b) for b in leaf.box], leaf.cover)
               for leaf in level.leaves]) for level in tree.levels]
 
 
@@ -35,7 +38,7 @@ class Stored(unittest.TestCase):
     def test_the_papers_example(self):
         tree = rekvashu.build([0, 1, 3, 7], **FOUR)
         data = tree.to_bytes()
-        self.assertEqual(len(data), 270)
+        self.assertEqual(len(data), 310)
         self.assertEqual(plain_tree(rekvashu.load([0, 1, 3, 7], data, **FOUR)), plain_tree(tree))
         self.assertEqual(rekvashu.load([0, 1, 3, 7], bytearray(data), **FOUR).to_bytes(), data)
 
@@ -48,6 +51,28 @@ class Stored(unittest.TestCase):
             data = rekvashu.build(points, **params, dimension=d).to_bytes()
             settings, bits = settings_of(d, **params), stored_model.bits_of(points)
             self.assertEqual(data, stored_model.file_bytes(settings, bits, stored_model.built(settings, bits)))
+
+    @support.both
+    def test_covers(self):
+        points, data = [0, 1, 3, 7], rekvashu.build([0, 1, 3, 7], **FOUR).to_bytes()
+        self.assertEqual([leaf.cover for leaf in rekvashu.load(points, data, **FOUR).levels[0].leaves], [0.0, 0.0, math.inf, math.inf])
+        # the coarse cover ends the file: any value but a NaN is kept
+        for cover in (-0.0, 1.0, math.inf, -math.inf):
+            other = data[:-8] + struct.pack("<d", cover)
+            tree = rekvashu.load(points, other, **FOUR)
+            self.assertEqual(struct.pack("<d", tree.levels[1].leaves[0].cover), other[-8:])
+            self.assertEqual(tree.to_bytes(), other)
+        for bits in (0x7FF0000000000001, 0x7FF8000000000000, 2 ** 64 - 1):
+            self.assertEqual(refused(points, data[:-8] + struct.pack("<Q", bits), **FOUR), 20)
+        self.assertEqual(refused(points, data[:-8], **FOUR), 20)
+
+    def test_the_form_before(self):
+        files = list(make_stored_calls.form_before())
+        self.assertGreater(len(files), 11)
+        for call in files:
+            d, leaf, neighbours, factor, policy, number = call.settings
+            self.assertEqual(refused(stored_model.floats_of(call.points), call.data, leaf, neighbours, factor, number if policy else "auto",
+                                     dimension=d), 20)
 
     def test_refusals(self):
         points, data = [0, 1, 3, 7], rekvashu.build([0, 1, 3, 7], **FOUR).to_bytes()

@@ -6,7 +6,7 @@
 //! wrote; at the end the greatest ratio. Both must give the same leaves.
 mod stage;
 
-use stage::{compared, exported, lattice, libraries, touched_floats, touched_wholes, units, Cut, Lent};
+use stage::{against, compared, exported, lattice, touched_floats, touched_wholes, units, Cut, Lent};
 use std::cell::RefCell;
 use std::ffi::c_void;
 
@@ -40,7 +40,7 @@ fn line(stages: [Cut; 2], kind: &str, coords: &[f64], d: usize, leaf: usize, tur
 }
 
 fn main() {
-    let stages = libraries().map(|library| unsafe { std::mem::transmute::<*mut c_void, Cut>(exported(library, c"stage_leaves")) });
+    let stages = against().libraries.map(|library| unsafe { std::mem::transmute::<*mut c_void, Cut>(exported(library, c"stage_leaves")) });
     let mut unit = units();
     let mut greatest = 0.0f64;
     println!("the cut stage: processor milliseconds, and the whole numbers and floats of the room that were written");

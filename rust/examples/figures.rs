@@ -10,7 +10,8 @@ mod plain;
 mod stage;
 
 use rekvashu::{build, build_sizes, square_root, DDMParams, SizePolicy};
-use stage::{compared, row_floats, touched_floats, touched_wholes, units, Lent};
+use stage::packed::box_floats;
+use stage::{compared, touched_floats, touched_wholes, units, Lent};
 use std::hint::black_box;
 
 #[link(name = "ddm_stages", kind = "static")]
@@ -42,7 +43,7 @@ fn cut_room(coords: &[f64], d: usize, leaf: usize, rows: &[usize]) {
     let a = rows.len();
     let mut lent = Lent::for_cut(a, d);
     let m = lent.cut(stage_leaves, coords, d, leaf, rows);
-    let (wholes, floats) = (2 * a + 2 * (m - 1), row_floats(d) * (m - 1));
+    let (wholes, floats) = (2 * a + 2 * (m - 1), box_floats(d) * (m - 1));
     let [ordering, packed, queue] = [0..a, a..2 * a, 2 * a..wholes].map(|range| touched_wholes(&lent.wholes[range]));
     let boxes = touched_floats(&lent.floats[..floats]);
     println!("  room touched by the cut: ordering {ordering}, packed leaves {packed}, queue {queue} whole numbers and {boxes} floats");
@@ -88,7 +89,8 @@ fn stages(coords: &[f64], d: usize, s: &plain::Settings, turns: usize) {
         )
     }, || plain::send(&points, &leaves, size));
     assert_eq!(&level_points[n..n + next], &plain::send(&points, &leaves, size)[..]);
-    line("quotas and sampling", sampling);
+    // the plain one makes no covers
+    line("quotas, sampling and covers", sampling);
     let (whole, float) = (touched_wholes(&wholes), touched_floats(&floats));
     cut_room(coords, d, s.leaf as usize, &rows);
     println!("  room touched by all three: {whole} of {} whole numbers, {float} of {} floats", wholes.len(), floats.len());

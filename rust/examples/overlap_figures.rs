@@ -6,7 +6,7 @@
 //! input stand at one place, so both must lend the same rows.
 mod stage;
 
-use stage::{compared, exported, lattice, libraries, units, Cut, Lent};
+use stage::{against, compared, exported, lattice, units, Cut, Lent};
 use std::cell::RefCell;
 use std::ffi::c_void;
 
@@ -70,7 +70,7 @@ fn line(stages: [Overlaps; 2], kind: &str, mut level: Level, turns: usize) -> f6
 }
 
 fn main() {
-    let [before, now] = libraries();
+    let [before, now] = against().libraries;
     let cut = unsafe { std::mem::transmute::<*mut c_void, Cut>(exported(now, c"stage_leaves")) };
     let stages = [before, now].map(|library| unsafe { std::mem::transmute::<*mut c_void, Overlaps>(exported(library, c"stage_overlaps")) });
     let mut unit = units();

@@ -43,7 +43,8 @@ fn level(step: usize, width: usize) -> plain::Level {
                 }
             }
             let lower = vec![left as f64, top as f64];
-            leaves.push(plain::Leaf { own, borrowed, lower, upper: vec![right as f64, bottom as f64] });
+            // the covers are not those of a sample, which the loader does not ask
+            leaves.push(plain::Leaf { own, borrowed, lower, upper: vec![right as f64, bottom as f64], cover: width as f64 });
         }
     }
     plain::Level { rows, leaves }
@@ -51,7 +52,7 @@ fn level(step: usize, width: usize) -> plain::Level {
 
 fn coarse(step: usize) -> plain::Level {
     let rows = level(step, SIDE).rows;
-    plain::Level { leaves: vec![plain::Leaf { own: rows.clone(), borrowed: vec![], lower: vec![], upper: vec![] }], rows }
+    plain::Level { leaves: vec![plain::Leaf { own: rows.clone(), borrowed: vec![], lower: vec![], upper: vec![], cover: 0.0 }], rows }
 }
 
 /// The packed lists as a build hands them out: at full length.

@@ -24,7 +24,7 @@ const fn whole(digits: &str) -> usize {
 /// The version of the linked library: major * 10,000 + minor * 100 + patch.
 ///
 /// ```
-/// assert!(rekvashu::version() >= 400);
+/// assert!(rekvashu::version() >= 500);
 /// ```
 pub fn version() -> usize {
     sys::version()
@@ -46,7 +46,7 @@ fn refused(number: usize, place: usize) -> Error {
 ///
 /// ```
 /// let sizes = rekvashu::build_sizes(1000, 2, 16)?;
-/// assert_eq!((sizes.level_points, sizes.borrowed, sizes.bytes() / 1000), (4000, 102_000, 2864));
+/// assert_eq!((sizes.level_points, sizes.borrowed, sizes.bytes() / 1000), (4000, 102_000, 2912));
 /// # Ok::<(), rekvashu::Refusal>(())
 /// ```
 pub fn build_sizes(n: usize, dimension: usize, neighbours: u32) -> Result<BuildSizes, Refusal> {
@@ -154,24 +154,36 @@ impl Tree {
     }
 }
 
-/// Farthest point sampling: `wanted` rows of the points, from the row `seed` on, in the order in which they are taken. Refusals 1, 6, 7,
-/// 8, 13, 10.
+/// A sample of the points: see [`sample`].
+#[derive(Clone, Debug, PartialEq)]
+#[non_exhaustive]
+pub struct Sample {
+    /// The rows, in the order in which they were taken.
+    pub rows: Vec<usize>,
+    /// How far the worst row that was not taken is from the nearest one that was: 0 where all were taken, and infinite where that distance
+    /// is too large.
+    pub cover: f64,
+}
+
+/// Farthest point sampling: `wanted` rows of the points, from the row `seed` on, and how far that leaves the others. Refusals 1, 6, 7, 8,
+/// 13, 10.
 ///
 /// ```
-/// assert_eq!(rekvashu::sample(&[0.0, 1.0, 3.0, 7.0], 1, 3, 1)?, [1, 3, 2]);
+/// let sample = rekvashu::sample(&[0.0, 1.0, 3.0, 7.0], 1, 3, 1)?;
+/// assert_eq!((&sample.rows[..], sample.cover), (&[1, 3, 2][..], 1.0));
 /// # Ok::<(), rekvashu::Error>(())
 /// ```
-pub fn sample(points: &[f64], dimension: usize, wanted: usize, seed: usize) -> Result<Vec<usize>, Error> {
+pub fn sample(points: &[f64], dimension: usize, wanted: usize, seed: usize) -> Result<Sample, Error> {
     right_version()?;
-    let mut slot = [0; SAMPLE_SLOT];
-    match sys::sample(points, dimension, wanted, seed, &mut Vec::new(), &mut Vec::new(), &mut Vec::new(), &mut slot) {
+    let (mut cover, mut slot) = ([0.0; COVER_SLOT], [0; SAMPLE_SLOT]);
+    match sys::sample(points, dimension, wanted, seed, &mut Vec::new(), &mut Vec::new(), &mut Vec::new(), &mut cover, &mut slot) {
         SHORT_LIST => {}
         number => return Err(refused(number, slot[SAMPLE_PLACE])),
     }
     let n = points.len() / dimension;
-    let (mut out, mut floats, mut wholes) = (reserved(wanted)?, reserved(2 * n)?, reserved(n)?);
-    match sys::sample(points, dimension, wanted, seed, &mut out, &mut floats, &mut wholes, &mut slot) {
-        0 => Ok(out),
+    let (mut rows, mut floats, mut wholes) = (reserved(wanted)?, reserved(2 * n)?, reserved(n)?);
+    match sys::sample(points, dimension, wanted, seed, &mut rows, &mut floats, &mut wholes, &mut cover, &mut slot) {
+        0 => Ok(Sample { rows, cover: cover[0] }),
         number => Err(refused(number, slot[SAMPLE_PLACE])),
     }
 }
@@ -234,7 +246,7 @@ mod tests {
     fn sizes_are_document_01s() {
         let (sizes, rows) = (build_sizes(1000, 3, 16).unwrap(), 6001);
         assert_eq!((sizes.level_points, sizes.internals), (4000, 4000));
-        assert_eq!((sizes.domains, sizes.boxes), (ROW_NUMBERS * rows, row_floats(3) * rows));
+        assert_eq!((sizes.domains, sizes.boxes), (ROW_NUMBERS * rows, 7 * rows));
         assert_eq!((sizes.borrowed, sizes.floats, sizes.wholes), (102_000, 32_000, 168_000));
         let refused = |n, d, k| build_sizes(n, d, k).unwrap_err().number;
         assert_eq!((refused(0, 4, 65), refused(0, 3, 65), refused(0, 3, 64), refused(1_048_577, 3, 64)), (1, 5, 6, 8));

@@ -19,6 +19,8 @@
 //! # Ok::<(), rekvashu::Error>(())
 //! ```
 //!
+//! [`Leaf::cover`] says how far the worst well that a leaf does not send up is from the nearest one that it sends: the factor is set by it.
+//!
 //! [`build_depth_first`] builds the same tree and keeps its cuts, which [`Level::nodes`] gives from the root downwards.
 //!
 //! [`Tree::to_bytes`] gives a tree as the bytes of a file, with the points and settings that it was built for, and [`load`] takes them: a tree
@@ -26,7 +28,7 @@
 //!
 //! # Memory, threads, floating environment
 //!
-//! The lists of a build have room for the worst input ([`build_sizes`]: 2,864 bytes a well in two dimensions with 16 neighbours) and are
+//! The lists of a build have room for the worst input ([`build_sizes`]: 2,912 bytes a well in two dimensions with 16 neighbours) and are
 //! reserved without being filled, so that only what the build touches costs memory. Where they can't be had, the answer is
 //! [`Error::OutOfMemory`], and settings and counts that are refused are refused before. The library has no global state: any number of
 //! threads may build and read at once. It needs round to nearest and no flush to zero, as Rust itself does, on x86-64 Linux.
@@ -41,7 +43,7 @@ mod refusal;
 mod sys;
 mod tree;
 
-pub use calls::{build, build_depth_first, build_sizes, level_size, load, quotas, sample, square_root, version};
+pub use calls::{build, build_depth_first, build_sizes, level_size, load, quotas, sample, square_root, version, Sample};
 pub use lists::BuildSizes;
 pub use params::{DDMParams, SizePolicy};
 pub use record::{Node, NodeKind};

@@ -12,7 +12,7 @@ pub struct BuildSizes {
     pub internals: usize,
     /// The numbers of the domain rows.
     pub domains: usize,
-    /// The floats of the domain rows.
+    /// The floats of the domain rows: a box and a cover each.
     pub boxes: usize,
     /// The rows that the leaves borrow.
     pub borrowed: usize,

@@ -12,9 +12,14 @@ pub const fn box_floats(dimension: usize) -> usize {
     2 * dimension
 }
 
-/// The floats of a domain row: the box comes first.
-pub const fn row_floats(dimension: usize) -> usize {
+/// Where the cover stands among the floats of a domain row: behind the box.
+pub const fn row_cover(dimension: usize) -> usize {
     box_floats(dimension)
+}
+
+/// The floats of a domain row: the box and the cover.
+pub const fn row_floats(dimension: usize) -> usize {
+    box_floats(dimension) + 1
 }
 
 /// The cut record: a node of at least this is a leaf, and one below it a cut on that axis.
@@ -58,6 +63,9 @@ pub const SAMPLE_PLACE: usize = 0;
 pub const SAMPLE_WRITTEN: usize = 1;
 pub const SAMPLE_SLOT: usize = 2;
 
+/// The slot of sampling's cover: one float.
+pub const COVER_SLOT: usize = 1;
+
 /// The writer's slot: the place of a refusal, the bytes written.
 pub const STORE_PLACE: usize = 0;
 pub const STORE_BYTES: usize = 1;
@@ -68,12 +76,12 @@ pub const QUOTA_WRITTEN: usize = 0;
 pub const QUOTA_SLOT: usize = 2;
 
 /// The bytes of a tree's file: the head; the points; a mark and two counts for each level and domain; each level row and, as an internal
-/// row, once more; the borrowed rows; and a box for each domain but the coarse one.
+/// row, once more; the borrowed rows; and the floats of each domain row but for the coarse box.
 pub fn file_bytes(dimension: usize, points: usize, slot: &[usize; BUILD_SLOT], borrowed: usize) -> usize {
     let rows: usize = slot[SLOT_ROWS..SLOT_DOMAINS].iter().sum();
     let domains: usize = slot[SLOT_DOMAINS..].iter().sum();
     24 + points * (2 + 8 * dimension) + 10 * (slot[SLOT_LEVELS] + domains) + 4 * (2 * rows + borrowed)
-        + 8 * box_floats(dimension) * (domains - 1)
+        + 8 * (row_floats(dimension) * domains - box_floats(dimension))
 }
 
 /// The level size and the root: one value.
@@ -89,6 +97,15 @@ mod tests {
         let head = format!("#define DDM_{name} ");
         let line = include_str!("../../c/ddm.h").lines().find_map(|line| line.strip_prefix(&head));
         line.and_then(|number| number.trim().parse().ok()).unwrap_or_else(|| panic!("c/ddm.h does not define DDM_{name} as a number"))
+    }
+
+    #[test]
+    fn a_row_is_a_box_and_a_cover() {
+        let header = include_str!("../../c/ddm.h");
+        assert!(header.contains("#define DDM_BOX_FLOATS(dimensions) (2 * (dimensions))\n"));
+        assert!(header.contains("#define DDM_ROW_COVER(dimensions) DDM_BOX_FLOATS(dimensions)\n"));
+        assert!(header.contains("#define DDM_ROW_FLOATS(dimensions) (DDM_BOX_FLOATS(dimensions) + 1)\n"));
+        assert_eq!((1..=3).map(|d| (box_floats(d), row_cover(d), row_floats(d))).collect::<Vec<_>>(), [(2, 2, 3), (4, 4, 5), (6, 6, 7)]);
     }
 
     #[test]
@@ -116,6 +133,7 @@ mod tests {
             ("SAMPLE_PLACE", SAMPLE_PLACE),
             ("SAMPLE_WRITTEN", SAMPLE_WRITTEN),
             ("SAMPLE_SLOT", SAMPLE_SLOT),
+            ("COVER_SLOT", COVER_SLOT),
             ("STORE_PLACE", STORE_PLACE),
             ("STORE_BYTES", STORE_BYTES),
             ("STORE_SLOT", STORE_SLOT),

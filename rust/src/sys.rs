@@ -38,7 +38,8 @@ extern "C" {
     ) -> usize;
     fn ddm_sample(
         points: *const f64, points_len: usize, dimensions: usize, wanted: usize, seed: usize, out: *mut usize, out_len: usize,
-        floats: *mut f64, floats_len: usize, wholes: *mut usize, wholes_len: usize, result: *mut usize, result_len: usize,
+        floats: *mut f64, floats_len: usize, wholes: *mut usize, wholes_len: usize, cover: *mut f64, cover_len: usize,
+        result: *mut usize, result_len: usize,
     ) -> usize;
     fn ddm_level_size(a: usize, c: u32, r: u32, result: *mut usize, result_len: usize) -> usize;
     fn ddm_quotas(
@@ -181,12 +182,13 @@ pub fn store(
 #[allow(clippy::too_many_arguments)]
 pub fn sample(
     points: &[f64], dimensions: usize, wanted: usize, seed: usize, out: &mut Vec<usize>, floats: &mut Vec<f64>,
-    wholes: &mut Vec<usize>, result: &mut [usize; SAMPLE_SLOT],
+    wholes: &mut Vec<usize>, cover: &mut [f64; COVER_SLOT], result: &mut [usize; SAMPLE_SLOT],
 ) -> usize {
     let number = unsafe {
         ddm_sample(
             points.as_ptr(), points.len(), dimensions, wanted, seed, out.as_mut_ptr(), out.capacity(), floats.as_mut_ptr(),
-            floats.capacity(), wholes.as_mut_ptr(), wholes.capacity(), result.as_mut_ptr(), result.len(),
+            floats.capacity(), wholes.as_mut_ptr(), wholes.capacity(), cover.as_mut_ptr(), cover.len(), result.as_mut_ptr(),
+            result.len(),
         )
     };
     if number == 0 {

@@ -18,6 +18,8 @@ use std::collections::TryReserveError;
 /// assert_eq!((fine.len(), fine.rows()), (4, &[0, 1, 2, 3][..]));
 /// let leaf = fine.leaf(1).unwrap();
 /// assert_eq!((leaf.own(), leaf.borrowed(), leaf.bounds()), (&[1][..], &[0, 2][..], Some((&[1.0][..], &[3.0][..]))));
+/// // leaves 0 and 1 send their well up, and the others none
+/// assert_eq!(fine.leaves().map(|leaf| leaf.cover()).collect::<Vec<_>>(), [0.0, 0.0, f64::INFINITY, f64::INFINITY]);
 /// let coarse = tree.levels().last().unwrap();
 /// assert!(coarse.is_coarse() && coarse.leaf(0).unwrap().bounds().is_none());
 /// # Ok::<(), rekvashu::Error>(())
@@ -193,6 +195,11 @@ impl<'a> Leaf<'a> {
         &self.tree.domains[ROW_NUMBERS * self.domain..ROW_NUMBERS * (self.domain + 1)]
     }
 
+    fn floats(&self) -> &'a [f64] {
+        let many = row_floats(self.tree.dimension);
+        &self.tree.boxes[many * self.domain..many * (self.domain + 1)]
+    }
+
     /// Its own (internal) rows, ascending.
     pub fn own(&self) -> &'a [usize] {
         let row = self.numbers();
@@ -240,7 +247,12 @@ impl<'a> Leaf<'a> {
         if self.level + 1 == self.tree.levels {
             return None;
         }
-        let from = row_floats(self.tree.dimension) * self.domain;
-        Some(self.tree.boxes[from..from + box_floats(self.tree.dimension)].split_at(self.tree.dimension))
+        Some(self.floats()[..box_floats(self.tree.dimension)].split_at(self.tree.dimension))
+    }
+
+    /// Its cover: how far the worst of its own rows that it does not send up is from the nearest one that it sends. Infinite for a leaf
+    /// that has rows and sends none, 0 for an empty leaf and for the coarse domain. A loaded tree has the covers of its file.
+    pub fn cover(&self) -> f64 {
+        self.floats()[row_cover(self.tree.dimension)]
     }
 }

@@ -28,6 +28,7 @@ fn same_tree(tree: &Tree, levels: &[plain::Level]) -> bool {
                             Some((lower, upper)) => bits(lower) == bits(&b.lower) && bits(upper) == bits(&b.upper),
                             None => ours.is_coarse(),
                         }
+                        && a.cover().to_bits() == b.cover.to_bits()
                 })
         })
 }
@@ -36,16 +37,16 @@ fn refused(number: usize, place: usize) -> Error {
     Refusal::new(number, place).into()
 }
 
-/// The library's answer is the plain one. The number of levels, 0 where the job is refused.
-fn check(coords: &[f64], d: usize, p: DDMParams) -> usize {
+/// The library's answer is the plain one. The levels, none where the job is refused.
+fn check(coords: &[f64], d: usize, p: DDMParams) -> Vec<plain::Level> {
     match (build(coords, d, p), plain::build(coords, d, &settings(p))) {
         (Ok(tree), Ok(levels)) => {
             assert!(same_tree(&tree, &levels), "trees differ: {d} {p:?} {coords:?}");
-            levels.len()
+            levels
         }
         (Err(ours), Err((number, place))) => {
             assert_eq!(ours, refused(number, place), "{d} {p:?} {coords:?}");
-            0
+            Vec::new()
         }
         (ours, theirs) => panic!("{:?} against {:?}: {d} {p:?} {coords:?}", ours.err(), theirs.err()),
     }
@@ -73,6 +74,16 @@ fn random_job(random: &mut Random, nested: bool) -> (Vec<f64>, usize, DDMParams)
     (coords, d, p)
 }
 
+/// 0 for an empty leaf, 1 for a cover of 0, 3 for an infinite one, and 2 for any other.
+fn kind_of_cover(leaf: &plain::Leaf) -> usize {
+    match leaf.cover {
+        _ if leaf.own.is_empty() => 0,
+        0.0 => 1,
+        f64::INFINITY => 3,
+        _ => 2,
+    }
+}
+
 /// The most rows that are the same as one of them, itself counted.
 fn most_same(coords: &[f64], d: usize, same: fn(&[f64], &[f64]) -> bool) -> usize {
     let count = |p| coords.chunks(d).filter(|q| same(p, q)).count();
@@ -82,16 +93,22 @@ fn most_same(coords: &[f64], d: usize, same: fn(&[f64], &[f64]) -> bool) -> usiz
 #[test]
 fn random_jobs() {
     let mut random = Random(0x5eed_0001);
-    let (mut with_duplicates, mut crowded) = (0, 0);
+    let (mut with_duplicates, mut crowded, mut covers) = (0, 0, [0; 4]);
     for number in 0..20_000 {
         let (coords, d, p) = random_job(&mut random, number % 2 == 0);
-        if check(&coords, d, p) > 1 {
+        let levels = check(&coords, d, p);
+        for leaf in levels.iter().rev().skip(1).flat_map(|level| &level.leaves) {
+            covers[kind_of_cover(leaf)] += 1;
+        }
+        if levels.len() > 1 {
             with_duplicates += usize::from(most_same(&coords, d, |a, b| a == b) > 1);
             crowded += usize::from(most_same(&coords, d, |a, b| plain::distance_sq(a, b) == 0.0) > p.overlap_knn as usize + 1);
         }
     }
     println!("trees with a fine level: {with_duplicates} with duplicates, {crowded} with more at distance zero than a row takes");
     assert!(with_duplicates > 10_000 && crowded > 5_000, "{with_duplicates}, {crowded}");
+    println!("fine leaves: {} empty, {} with the cover 0, {} with another, {} with an infinite one", covers[0], covers[1], covers[2], covers[3]);
+    assert!(covers.iter().all(|many| *many > 10_000), "{covers:?}");
 }
 
 #[test]
@@ -165,7 +182,9 @@ fn other_functions() {
         let (wanted, seed) = (1 + random.below(n), random.below(n));
         let rows: Vec<usize> = (0..n).collect();
         let points = plain::Points { coords: &coords, d: 2 };
-        assert_eq!(sample(&coords, 2, wanted, seed).unwrap(), plain::sample(&points, &rows, wanted, seed));
+        let (ours, theirs) = (sample(&coords, 2, wanted, seed).unwrap(), plain::sample(&points, &rows, wanted, seed));
+        assert_eq!(ours.rows, theirs);
+        assert_eq!(ours.cover.to_bits(), plain::cover(&points, &rows, &theirs).to_bits(), "{wanted} from {seed} of {coords:?}");
         let x = f64::from_bits(random.next());
         match square_root(x) {
             Ok(root) => assert_eq!(root.to_bits(), x.sqrt().to_bits()),

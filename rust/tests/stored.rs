@@ -40,7 +40,8 @@ fn levels(tree: &Tree) -> Vec<plain::Level> {
                 .leaves()
                 .map(|leaf| {
                     let (lower, upper) = leaf.bounds().unwrap_or((&[], &[]));
-                    plain::Leaf { own: leaf.own().to_vec(), borrowed: leaf.borrowed().to_vec(), lower: lower.to_vec(), upper: upper.to_vec() }
+                    let (own, borrowed) = (leaf.own().to_vec(), leaf.borrowed().to_vec());
+                    plain::Leaf { own, borrowed, lower: lower.to_vec(), upper: upper.to_vec(), cover: leaf.cover() }
                 })
                 .collect(),
         })
@@ -88,7 +89,7 @@ fn each_byte_of_three_files_counts() {
     for (d, points, p) in three() {
         let file = build(&points, d, p).unwrap().to_bytes(&points, p).unwrap();
         if d == 1 {
-            assert_eq!(file.len(), 270);
+            assert_eq!(file.len(), 310);
         }
         for at in 0..file.len() {
             assert_eq!(number(&points, d, p, &file[..at]), 20, "cut at {at}");
@@ -129,6 +130,26 @@ fn an_accepted_file_is_what_the_writer_makes_of_it() {
         }
     }
     assert!(accepted > 1_000 && refused > 10_000, "{accepted} accepted, {refused} refused");
+}
+
+/// The cover of the coarse domain ends a file: it is kept as it is, unless it is a NaN or left out.
+#[test]
+fn the_coarse_cover_is_any_value_but_a_nan() {
+    for (d, points, p) in three() {
+        let file = build(&points, d, p).unwrap().to_bytes(&points, p).unwrap();
+        let with = |bits: u64| [&file[..file.len() - 8], &bits.to_le_bytes()].concat();
+        assert_eq!(with(0), file);
+        for cover in [-0.0, 1.0, 5e-324, f64::INFINITY, f64::NEG_INFINITY] {
+            let other = with(cover.to_bits());
+            let tree = load(&points, d, p, &other).unwrap();
+            assert_eq!(tree.levels().last().unwrap().leaf(0).unwrap().cover().to_bits(), cover.to_bits());
+            assert_eq!(tree.to_bytes(&points, p).unwrap(), other);
+        }
+        for nan in [0x7ff0_0000_0000_0001, 0x7ff8_0000_0000_0000, 0xfff0_0000_0000_0001, u64::MAX] {
+            assert_eq!(number(&points, d, p, &with(nan)), 20);
+        }
+        assert_eq!(number(&points, d, p, &file[..file.len() - 8]), 20);
+    }
 }
 
 #[test]

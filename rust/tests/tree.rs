@@ -1,5 +1,5 @@
 //! The tree's ways to be read, the settings' defaults, and the words of its refusals.
-use rekvashu::{build, build_depth_first, load, DDMParams, Error, Leaf, Level, Mender, Refusal, SizePolicy, Tree};
+use rekvashu::{build, build_depth_first, load, sample, DDMParams, Error, Leaf, Level, Mender, Refusal, SizePolicy, Tree};
 
 /// Forty wells on a bent line, three levels.
 fn tree() -> Tree {
@@ -71,6 +71,41 @@ fn only_the_coarse_domain_has_no_box() {
             }
         }
     }
+}
+
+#[test]
+fn covers_of_leaves() {
+    let covers = |points: &[f64], d, leaf, threshold| -> Vec<Vec<u64>> {
+        let coarse_threshold = SizePolicy::Fixed(threshold);
+        let params = DDMParams { leaf_threshold: leaf, overlap_knn: 3, coarse_reduction_factor: 2, coarse_threshold };
+        let tree = build(points, d, params).unwrap();
+        assert_eq!(tree, build_depth_first(points, d, params).unwrap());
+        tree.levels().map(|level| level.leaves().map(|leaf| leaf.cover().to_bits()).collect()).collect()
+    };
+    let bits = |levels: &[&[f64]]| -> Vec<Vec<u64>> { levels.iter().map(|level| level.iter().map(|x| x.to_bits()).collect()).collect() };
+    let inf = f64::INFINITY;
+    // four leaves of one well, of which two send it
+    assert_eq!(covers(&[0.0, 1.0, 3.0, 7.0], 1, 2, 2), bits(&[&[0.0, 0.0, inf, inf], &[0.0]]));
+    // with an empty leaf beside each
+    assert_eq!(covers(&[0.0, 1.0, 3.0, 7.0], 1, 1, 2), bits(&[&[0.0, 0.0, 0.0, 0.0, 0.0, inf, 0.0, inf], &[0.0]]));
+    // two leaves of two wells: over a leaf's own wells, though a borrowed one is nearer; on two axes; at one place; too far; too near
+    assert_eq!(covers(&[0.0, 5.0, 6.0, 20.0], 1, 4, 2), bits(&[&[5.0, 14.0], &[0.0]]));
+    assert_eq!(covers(&[0.0, 0.0, 3.0, 4.0, 9.0, 0.0, 9.0, 1.0], 2, 4, 2), bits(&[&[5.0, 1.0], &[0.0]]));
+    assert_eq!(covers(&[5.0; 4], 1, 4, 2), bits(&[&[0.0, 0.0], &[0.0]]));
+    assert_eq!(covers(&[0.0, 1e200, 2e200, 2e200], 1, 4, 2), bits(&[&[inf, 0.0], &[0.0]]));
+    assert_eq!(covers(&[0.0, 1e-170, 1.0, 1.0], 1, 4, 2), bits(&[&[0.0, 0.0], &[0.0]]));
+    // a coarse level alone
+    assert_eq!(covers(&[0.0, 1.0], 1, 1, 2), bits(&[&[0.0]]));
+}
+
+#[test]
+fn covers_of_samples() {
+    let cover = |points: &[f64], d, wanted| sample(points, d, wanted, 0).unwrap().cover.to_bits();
+    let line = [0.0, 3.0, 4.0, 9.0];
+    assert_eq!([1, 2, 3, 4].map(|wanted| cover(&line, 1, wanted)), [9.0, 4.0, 1.0, 0.0].map(f64::to_bits));
+    assert_eq!(cover(&[0.0, 0.0, 3.0, 4.0], 2, 1), 5f64.to_bits());
+    assert_eq!([[5.0, 5.0], [0.0, -0.0], [0.0, 1e-170]].map(|points| cover(&points, 1, 1)), [0; 3]);
+    assert_eq!(cover(&[0.0, 1e200], 1, 1), f64::INFINITY.to_bits());
 }
 
 #[test]

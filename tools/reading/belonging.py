@@ -54,7 +54,7 @@ def check_boxes(job, levels):
     low, high = model.bounds(job.coordinates, d, range(len(job.coordinates) // d))
     reach = f"{APART}: the wells of the job reach from {low} to {high}"
     for number, level in enumerate(levels[:-1]):
-        for leaf, (_, _, (lower, upper)) in enumerate(level.leaves):
+        for leaf, (lower, upper) in enumerate(leaf.box for leaf in level.leaves):
             if len(lower) != d or len(upper) != d:
                 raise Wrong(f"{APART}: the job has {d} axes, and a box of the printout has {len(lower) + len(upper)} bounds")
             if not all(low[a] <= lower[a] <= upper[a] <= high[a] for a in range(d)):

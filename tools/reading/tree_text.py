@@ -1,4 +1,5 @@
-"""Reads a printout of the program ddm_tree. The levels have the names of the Python package's: points, leaves, own, borrowed, box."""
+"""Reads a printout of the program ddm_tree. The levels have the names of the Python package's: points, leaves, own, borrowed, box, cover."""
+import math
 import re
 import struct
 from collections import namedtuple
@@ -8,12 +9,13 @@ from wrong import Wrong
 
 Level = namedtuple("Level", "points leaves")
 # box: the lower and the upper bounds by axis, or None for the coarse domain.
-Leaf = namedtuple("Leaf", "own borrowed box")
+Leaf = namedtuple("Leaf", "own borrowed box cover")
 
 ROWS = r"(-|\d{1,20}(?: \d{1,20})*)"
 LEVELS = re.compile(r"levels (\d+)", re.ASCII)
 LEVEL = re.compile(rf"level (\d+) points {ROWS}", re.ASCII)
-DOMAIN = re.compile(rf"domain (\d+) internal {ROWS} overlap {ROWS} box (-|[0-9a-f]{{16}}(?: [0-9a-f]{{16}})*)", re.ASCII)
+FLOAT = "[0-9a-f]{16}"
+DOMAIN = re.compile(rf"domain (\d+) internal {ROWS} overlap {ROWS} box (-|{FLOAT}(?: {FLOAT})*)(?: cover ({FLOAT}))?", re.ASCII)
 REFUSED = re.compile(r"refused (\d{1,20}) at (\d{1,20})", re.ASCII)
 NOT_WHOLE = "the printout is not whole"
 
@@ -58,7 +60,8 @@ def add(levels, number, line):
     if level and level.group(1) == str(len(levels)):
         levels.append(Level(rows_of(level.group(2)), []))
     elif domain and levels and domain.group(1) == str(len(levels[-1].leaves)):
-        levels[-1].leaves.append(Leaf(rows_of(domain.group(2)), rows_of(domain.group(3)), box_of(domain.group(4))))
+        levels[-1].leaves.append(Leaf(rows_of(domain.group(2)), rows_of(domain.group(3)), box_of(domain.group(4)),
+                                      cover_of(domain.group(5), number)))
     else:
         raise Wrong(f"line {number}: this is not the line that has to follow: {NOT_WHOLE}, or was changed")
 
@@ -67,11 +70,24 @@ def rows_of(words):
     return [] if words == "-" else [int(word) for word in words.split(" ")]
 
 
+def float_of(word):
+    return struct.unpack(">d", bytes.fromhex(word))[0]
+
+
 def box_of(words):
     if words == "-":
         return None
-    bounds = [struct.unpack(">d", bytes.fromhex(word))[0] for word in words.split(" ")]
+    bounds = [float_of(word) for word in words.split(" ")]
     return bounds[:len(bounds) // 2], bounds[len(bounds) // 2:]
+
+
+def cover_of(word, number):
+    """The cover of the domain on this line."""
+    if word is None:
+        raise Wrong(f"line {number}: this domain has no cover: {NOT_WHOLE}, or a version before 0.5.0 printed it")
+    if math.isnan(float_of(word)):
+        raise Wrong(f"line {number}: the cover is not a number: the printout was changed")
+    return float_of(word)
 
 
 def whole(levels, count):

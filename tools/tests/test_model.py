@@ -1,25 +1,36 @@
 """Tests of the plain model: document 01's example and edges, and the requests that it follows."""
+import math
+import random
 import struct
 import unittest
+from unittest import mock
 
 import support
 
+import compare_oracle
 import model
 
 FOUR = """levels 2
 level 0 points 0 1 2 3
-domain 0 internal 0 overlap 1 box 0000000000000000 3ff0000000000000
-domain 1 internal 1 overlap 0 2 box 3ff0000000000000 4008000000000000
-domain 2 internal 2 overlap 1 3 box 4008000000000000 401c000000000000
-domain 3 internal 3 overlap 2 box 401c000000000000 401c000000000000
+domain 0 internal 0 overlap 1 box 0000000000000000 3ff0000000000000 cover 0000000000000000
+domain 1 internal 1 overlap 0 2 box 3ff0000000000000 4008000000000000 cover 0000000000000000
+domain 2 internal 2 overlap 1 3 box 4008000000000000 401c000000000000 cover 7ff0000000000000
+domain 3 internal 3 overlap 2 box 401c000000000000 401c000000000000 cover 7ff0000000000000
 level 1 points 0 1
-domain 0 internal 0 1 overlap - box -
+domain 0 internal 0 1 overlap - box - cover 0000000000000000
 """
 
 
 class Model(unittest.TestCase):
     def test_example(self):
         self.assertEqual(model.printout(support.sample("four_wells.job")), FOUR)
+
+    def test_the_comparison_with_the_rust_leaves_covers_out(self):
+        with mock.patch.object(compare_oracle, "answer", lambda command, jobs: f"=== 0\n{FOUR}=== 1\nrefused 6 at 0\n"):
+            tree, refusal = compare_oracle.trees([], [])
+        self.assertEqual(tree.split("\n")[2], "domain 0 internal 0 overlap 1 box 0000000000000000 3ff0000000000000")
+        self.assertEqual(tree.split("\n")[7], "domain 0 internal 0 1 overlap - box -")
+        self.assertEqual((tree.count("\n"), tree.count("cover"), refusal), (8, 0, "refused 6 at 0\n"))
 
     def test_levels(self):
         self.assertEqual([model.threshold(0, 0, n) for n in (1, 16384, 16385, 131072, 131073)], [512, 512, 513, 4096, 4096])
@@ -50,7 +61,7 @@ def taken(cs, neighbours, i):
 def borrowed(cs, neighbours):
     """What the leaf of each row borrows: points on a line, leaf 1, factor 2, one fine level."""
     (_, leaves), _ = model.build([float(x) for x in cs], 1, 1, neighbours, 2, 1, len(cs) - 1)
-    return {own[0]: rows for own, rows, _ in leaves if own}
+    return {own[0]: rows for own, rows, _, _ in leaves if own}
 
 
 class Neighbours(unittest.TestCase):
@@ -73,6 +84,46 @@ class Neighbours(unittest.TestCase):
 
     def test_leaves_of_three_rows_at_one_place(self):
         self.assertEqual(borrowed([5, 5, 5], 1), {0: [1, 2], 1: [0], 2: [0]})
+
+
+def covers(cs, leaf, coarse):
+    """The covers of each level's leaves: points on a line, one neighbour, factor 2."""
+    return [[far for _, _, _, far in leaves] for _, leaves in model.build([float(x) for x in cs], 1, leaf, 1, 2, 1, coarse)]
+
+
+class Covers(unittest.TestCase):
+    def test_of_a_sample(self):
+        line = [0.0, 1.0, 3.0, 7.0]
+        for chosen, far in (([0], 7.0), ([3], 7.0), ([1], 6.0), ([1, 3], 2.0), ([0, 1, 2, 3], 0.0)):
+            self.assertEqual(bits([model.cover(line, 1, range(4), chosen)]), bits([far]))
+        self.assertEqual(model.cover([0.0, 0.0, 3.0, 4.0, 3.0, 0.0], 2, range(3), [0]), 5.0)
+        # over the rows given alone
+        self.assertEqual(model.cover(line, 1, [0, 1, 2], [0]), 3.0)
+
+    def test_overflow_and_underflow(self):
+        for step, far in ((1e200, math.inf), (1.3e154, 1.3e154), (1e-170, 0.0), (5e-324, 0.0), (1e-161, 9.940479322862118e-162)):
+            self.assertEqual(bits([model.cover([0.0, step], 1, range(2), [0])]), bits([far]))
+        self.assertEqual(model.cover([0.0, 0.0, 1.3e154, 1.3e154], 2, range(2), [0]), math.inf)
+        self.assertEqual(bits([model.cover([0.0, -0.0], 1, range(2), [0])]), bits([0.0]))
+
+    def test_of_leaves(self):
+        # leaves that send a row, and that send none; the coarse domain
+        self.assertEqual(covers([0, 1, 3, 7], 2, 2), [[0.0, 0.0, math.inf, math.inf], [0.0]])
+        # empty leaves too
+        self.assertEqual(covers([0, 1, 3, 7], 1, 2), [[0.0, 0.0, 0.0, 0.0, 0.0, math.inf, 0.0, math.inf], [0.0]])
+        # what is sent of two rows, of own rows alone: row 1 is nearer to row 2, which is borrowed
+        self.assertEqual(covers([0, 5, 6, 20], 4, 2), [[5.0, 14.0], [0.0]])
+        self.assertEqual(covers([5] * 6, 4, 3), [[0.0, 0.0], [0.0]])
+
+    def test_the_last_round_counts(self):
+        """The cover is what a further round of sampling would start from."""
+        r = random.Random(1)
+        for _ in range(200):
+            n, d = r.randint(2, 12), r.randint(1, 3)
+            cs = [float(r.randint(0, 9)) for _ in range(n * d)]
+            wanted = r.randint(1, n - 1)
+            rows = model.sample(cs, d, range(n), wanted + 1, 0)
+            self.assertEqual(model.cover(cs, d, range(n), rows[:-1]), min(math.sqrt(model.rows_sq(cs, d, rows[-1], i)) for i in rows[:-1]))
 
 
 def bits(numbers):

@@ -1,5 +1,6 @@
 """Tests of the viewer: whole printouts, jobs and printouts that belong together, refusals in words, and the three lines."""
 import os
+import re
 import unittest
 
 import support
@@ -32,7 +33,7 @@ class Viewing(support.InFolder):
 class Whole(Viewing):
     def test_every_front_of_a_printout(self):
         whole, job = support.sample("four_wells.txt"), support.sample("four_wells.job")
-        self.assertEqual(len(whole), 365)
+        self.assertEqual(len(whole), 480)
         for length in range(len(whole)):
             self.assertIn("not whole", self.refused(job, whole[:length]))
         self.assertEqual(self.view(job, whole)[0], 0)
@@ -81,7 +82,8 @@ class Together(Viewing):
         for value in (float("nan"), float("inf")):
             other = job_stream.pack(job._replace(coordinates=[0.0, 1.0, 3.0, value]))
             self.assertIn("refusal 10", self.refused(other, support.sample("four_wells.txt")))
-            self.assertIn("refusal 10", self.refused(other, b"levels 1\nlevel 0 points 0 1 2 3\ndomain 0 internal 0 1 2 3 overlap - box -\n"))
+            self.assertIn("refusal 10", self.refused(other, b"levels 1\nlevel 0 points 0 1 2 3\n"
+                                                       b"domain 0 internal 0 1 2 3 overlap - box - cover 0000000000000000\n"))
 
     def test_settings(self):
         job = job_stream.unpack(support.sample("field_32.job"))
@@ -141,17 +143,38 @@ class Lines(Viewing):
 
     def test_the_east_edge_is_heard_by_nobody(self):
         lines = self.lines("field_32")
-        at = lines.index("   level 0: 12 of 32 wells go up, a leaf: least 0, most 1 (0 in 4 leaves, 1 in 12 leaves)")
+        at = lines.index("   level 0: 12 of 32 wells go up, a leaf: least 0, most 1 (0 in 4 leaves, 1 in 12 leaves)") + 1
+        self.assertEqual(lines[at], "      greatest cover infinite: 4 leaves with wells send none; among the other leaves 286.761, in leaf 4")
         self.assertEqual(lines[at + 1], "      4 leaves send none; above this level nobody hears their 8 wells:")
         self.assertEqual(lines[at + 2:at + 6], ["      leaf 12: W25, W31", "      leaf 13: W11, W24", "      leaf 14: W20, W32",
                                                 "      leaf 15: W14, W22"])
+
+    def test_the_greatest_cover_of_a_level(self):
+        lines = self.lines("field_32")
+        at = lines.index("   level 1: 4 of 12 wells go up, a leaf: least 1, most 1") + 1
+        self.assertEqual(lines[at], "      greatest cover 273.733, in leaf 3: no well is farther than that from one that its leaf sends up")
+        inf = float("inf")
+        for covers, sent, words in (
+                ([1.0, 2.5, 2.5], [1, 1, 1], "2.5, in leaf 1: no well is farther than that from one that its leaf sends up"),
+                ([0.0, 0.0], [1, 1], "0, in leaf 0: no well is farther than that from one that its leaf sends up"),
+                ([2.0, inf, 3.0], [1, 0, 1], "infinite: 1 leaf with wells sends none; among the other leaves 3, in leaf 2"),
+                ([inf, 3.0], [2, 1], "infinite: in 1 leaf the distances are too large for a 64-bit float; among the other leaves 3, in leaf 1"),
+                ([inf, inf, inf], [2, 0, 0], "infinite: 2 leaves with wells send none, and in 1 leaf the distances are too large for a "
+                 "64-bit float")):
+            self.assertEqual(summary.cover_line(covers, sent), "greatest cover " + words)
+
+    def test_a_printout_without_covers(self):
+        job, text = support.sample("four_wells.job"), support.sample("four_wells.txt")
+        self.assertIn("line 4: this domain has no cover", self.refused(job, text.replace(b"4008000000000000 cover 0000000000000000", b"4008000000000000")))
+        self.assertIn("line 3: this domain has no cover", self.refused(job, re.sub(rb" cover \w+", b"", text)))
+        self.assertIn("line 5: the cover is not a number", self.refused(job, text.replace(b"cover 7ff0000000000000", b"cover fff0000000000001", 1)))
 
     def test_rows_on_request(self):
         self.assertIn("      leaf 12: 24, 30", self.lines("field_32", "--rows"))
 
     def test_wells_without_a_leaf_or_with_two_are_named(self):
-        leaves = [Leaf([0, 1], [], ([0.0], [1.0])), Leaf([1, 2, 4], [], ([1.0], [2.0]))]
-        levels = [Level([0, 1, 2, 3], leaves), Level([0], [Leaf([0], [], None)])]
+        leaves = [Leaf([0, 1], [], ([0.0], [1.0]), 1.0), Leaf([1, 2, 4], [], ([1.0], [2.0]), float("inf"))]
+        levels = [Level([0, 1, 2, 3], leaves), Level([0], [Leaf([0], [], None, 0.0)])]
         text = summary.summary({"leaf": 2, "neighbours": 1, "factor": 4, "coarse": 1}, 1, levels, "ABCDE".__getitem__)
         self.assertIn("NOT each well has exactly one leaf", text)
         for line in ("in no leaf: D", "in leaves 0 and 1: B", "in leaf 1, but not active: E"):
@@ -160,7 +183,7 @@ class Lines(Viewing):
         self.assertIn("wells a leaf: least 2, most 3 (2 in 1 leaf, 3 in 1 leaf)", text)
 
     def test_long_lists_are_cut_on_the_screen_only(self):
-        levels = [Level(list(range(60)), [Leaf([i], [], ([0.0], [1.0])) for i in range(60)]), Level([0], [Leaf([0], [], None)])]
+        levels = [Level(list(range(60)), [Leaf([i], [], ([0.0], [1.0]), 0.0) for i in range(60)]), Level([0], [Leaf([0], [], None, 0.0)])]
         settings = {"leaf": 1, "neighbours": 1, "factor": 60, "coarse": 1}
         self.assertEqual(summary.summary(settings, 1, levels, str).count("\n      leaf "), 59)
         short = summary.summary(settings, 1, levels, str, most=20)

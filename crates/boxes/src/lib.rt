@@ -1,6 +1,6 @@
 // A box by value, and boxes as lent: the lower bound on each axis, then the upper bound on each axis.
 ghost use mathlib.Core.Path.{_≡_};
-ghost use Prim.Native.Nat.{_+_, _*_, _≤_, _<_};
+ghost use Prim.Native.Nat.{_+_, _*_, _^_, _≤_, _<_};
 ghost use mathlib.Core.List.{_++_};
 ghost use lib.ListN.{length, set, take, replicate};
 ghost use Rattle.lists.specs.Lists.{part, put};
@@ -20,6 +20,14 @@ pub fn box_width(dimensions: usize) -> usize
     ensures { λ r. ⌜ r ≡ boxWidth dimensions ⌝ }
 {
     BOUNDS * dimensions
+}
+
+// How many bounds k boxes take up that stand one after the other: there the box number k starts.
+pub fn bounds_before(dimensions: usize, k: usize) -> usize
+    requires { ⌜ (dimensions ≤ 3) × (boxWidth dimensions * k < 2 ^ 64) ⌝ }
+    ensures { λ r. ⌜ r ≡ boxWidth dimensions * k ⌝ }
+{
+    box_width(dimensions) * k
 }
 
 // The bounds on up to three axes; those past the dimension are not used.

@@ -16,7 +16,7 @@ pub const INTERNALS: usize = 36;
 
 pub const DOMAINS: usize = 220;
 
-pub const BOXES: usize = 186;
+pub const BOXES: usize = 217;
 
 pub const BORROWED: usize = 1560;
 

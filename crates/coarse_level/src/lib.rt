@@ -5,10 +5,9 @@ ghost use Prim.Native.Nat.{_+_, _*_, _≤_};
 ghost use lib.ListN.{length, replicate};
 ghost use Rattle.lists.specs.Lists.{put, part};
 ghost use Rattle.definition.specs.Number.{plusZero};
-ghost use Rattle.definition.specs.Points.{boxWidth};
 ghost use Rattle.definition.specs.Packed.{rowNumbers, rowFloats};
 
-// The coarse level: one domain with all active rows, which borrows nothing and has no box: each bound is +0.
+// The coarse level: one domain with all active rows, which borrows nothing and has no box: each bound is +0, and so is its cover.
 pub fn coarse_level(
     dimensions: usize,
     level_points: &[usize],
@@ -23,7 +22,7 @@ pub fn coarse_level(
     requires { ⌜ (from + a ≤ length (now «level_points»)) × (from + a ≤ length (now internals)) × (rowNumbers * (first + 1) ≤ length (now domains)) × (rowFloats dimensions * (first + 1) ≤ length (now boxes)) × (dimensions ≤ 3) ⌝ }
     ensures internals { λ _. ⌜ now (internals .exit) ≡ put (now (internals .entry)) from (part (now («level_points» .entry)) from a) ⌝ }
     ensures domains { λ _. ⌜ now (domains .exit) ≡ put (now (domains .entry)) (rowNumbers * first) (from ∷ a ∷ bat ∷ 0 ∷ []) ⌝ }
-    ensures boxes { λ _. ⌜ now (boxes .exit) ≡ put (now (boxes .entry)) (rowFloats dimensions * first) (replicate (boxWidth dimensions) plusZero) ⌝ }
+    ensures boxes { λ _. ⌜ now (boxes .exit) ≡ put (now (boxes .entry)) (rowFloats dimensions * first) (replicate (rowFloats dimensions) plusZero) ⌝ }
 {
     stretches::copy_rows(level_points, from, a, internals, from);
     let row = packed::DomainRow {
@@ -36,6 +35,6 @@ pub fn coarse_level(
     boxes::put_zeros(
         boxes,
         packed::floats_before(dimensions, first),
-        boxes::box_width(dimensions),
+        packed::row_floats(dimensions),
     );
 }

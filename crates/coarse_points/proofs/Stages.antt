@@ -1,9 +1,9 @@
 -- How the steps fit together: sizes, quotas, what each leaf sends, and the sorted rows behind the active ones. Assumes nothing.
--- Holds: counts-all, leaves-fit, sent-size, up-size, sorted-up, written-up, reordered, quotas-front, own-lent, lent-good,
---   lent-length, leaf-room, leaf-end, leaf-list
+-- Holds: counts-all, leaves-fit, sent-size, up-size, sorted-up, covers-up, written-up, reordered, quotas-front, own-lent,
+--   lent-good, lent-length, leaf-room, leaf-end, leaf-list
 use mathlib.Core.Path.{_≡_, sym, ap, _∙_}
 use mathlib.Core.List.{List, [], map, zipWith, map-map}
-use Prim.Native.Nat.{ℕ, _+_, _*_, _-_, _≤_, _<_}
+use Prim.Native.Nat.{ℕ, _+_, _-_, _≤_, _<_}
 use native.Mathlib.Omega.{arith}
 use lib.ListN.{length, getD, take, drop}
 use lib.Seq.{getD-take, length-take-le}
@@ -33,8 +33,9 @@ use Rattle.packed.specs.Reading.{ownStart, ownCount, ownAt, readOwn}
 use Rattle.packed.specs.Rows.{IsRow}
 use Rattle.packed.specs.declared.DomainRow.{DomainRow}
 use Rattle.packed.proofs.OwnRows.{read-length, read-at, row-own}
-use Rattle.coarse_points.specs.Sent.{sentRows, countsAt, sentAt, SendsUp, LeafFits, LeavesFit, Reordered}
+use Rattle.coarse_points.specs.Sent.{sentRows, sentCovers, countsAt, sentAt, coversAt, SendsUp, LeafFits, LeavesFit, Reordered}
 use Rattle.coarse_points.proofs.Sending.{sent-next, sent-zip, sent-many, sent-times, sorted-next, up-many}
+use Rattle.coarse_points.proofs.Covering.{covers-zip}
 
 module _ (d : ℕ) (cs : List Float) (active I D : List ℕ) (first m : ℕ) (s : SendsUp d cs active I D first m) where
   abbrev own : List (List ℕ)
@@ -140,6 +141,10 @@ module _ (d : ℕ) (cs : List Float) (active I D : List ℕ) (first m : ℕ) (s 
 
     pub sorted-up : (ys : List ℕ) → Sorted (λ x y. x ≤ y) ys → Same ys (sentAt d cs I D first wholes m) → ys ≡ sentRows d cs active (readOwn I D first m) size
     sorted-up ys o h = sorted-next active (s .leaves .ascends) sent sent-some ys o h ∙ up-is
+
+    pub covers-up : (xs : List Float) → xs ≡ coversAt d cs I D first wholes m → xs ≡ sentCovers d cs (readOwn I D first m) size
+    unfolding sentCovers
+    covers-up xs h = h ∙ covers-zip d cs I D first wholes m ws many read ∙ rw (sizes-read, quotas-held counts size seats)
 
     -- written behind the active rows and sorted there
     pub written-up : (l : List ℕ) (at : ℕ) (mid : List ℕ) (n : ℕ) (new : List ℕ) → at + size ≤ length l → mid ≡ put l at (sentAt d cs I D first wholes m)

@@ -1,4 +1,4 @@
--- The rows that leaves send up to the next level. Definitions only.
+-- The rows that leaves send up to the next level, and their covers. Definitions only.
 use Prim.Native.Nat.{ℕ, _+_, _*_, _≤_, _<_}
 use mathlib.Core.Path.{_≡_}
 use mathlib.Core.List.{List, map, zipWith}
@@ -8,7 +8,7 @@ use Rattle.lists.specs.Lists.{total, from, joined, part, put}
 use Rattle.lists.specs.Ascends.{Ascends}
 use Rattle.lists.specs.Same.{Same}
 use Rattle.definition.specs.Quotas.{quotas}
-use Rattle.definition.specs.Sampling.{sentBy}
+use Rattle.definition.specs.Sampling.{sentBy, leafCover}
 use Rattle.definition.specs.Tree.{nextActive}
 use Rattle.rows.specs.Rows.{GoodRows}
 use Rattle.sort.specs.Heap.{Sorted}
@@ -20,6 +20,10 @@ use Rattle.overlap_owners.specs.Own.{Leaves}
 unfoldable pub sentRows : ℕ → List Float → List ℕ → List (List ℕ) → ℕ → List ℕ
 sentRows d cs active own size = nextActive active (zipWith (sentBy d cs) own (quotas (map length own) size))
 
+-- the cover of each of these leaves
+unfoldable pub sentCovers : ℕ → List Float → List (List ℕ) → ℕ → List Float
+sentCovers d cs own size = zipWith (leafCover d cs) own (zipWith (sentBy d cs) own (quotas (map length own) size))
+
 -- ---- leaves that the domain rows from `first` on name
 
 -- how many rows each of m leaves has
@@ -29,6 +33,10 @@ countsAt D first m = map (λ l. ownCount D (first + l)) (from 0 m)
 -- the rows that the first m leaves send up at these quotas, leaf after leaf
 abbrev pub sentAt : ℕ → List Float → List ℕ → List ℕ → ℕ → List ℕ → ℕ → List ℕ
 sentAt d cs I D first shares m = joined (map (λ l. sentBy d cs (ownAt I D (first + l)) (getD shares l 0)) (from 0 m))
+
+-- the covers of what they send
+abbrev pub coversAt : ℕ → List Float → List ℕ → List ℕ → ℕ → List ℕ → ℕ → List Float
+coversAt d cs I D first shares m = map (λ l. leafCover d cs (ownAt I D (first + l)) (sentBy d cs (ownAt I D (first + l)) (getD shares l 0))) (from 0 m)
 
 -- active rows, and m leaves that share them out, each with its own rows in their order
 pub record SendsUp (d : ℕ) (cs : List Float) (active I D : List ℕ) (first m : ℕ) : Type 0 where

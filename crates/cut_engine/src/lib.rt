@@ -4,7 +4,8 @@ ghost use mathlib.Core.List.{map};
 ghost use Prim.Native.Nat.{_+_, _*_, _≤_, _<_};
 ghost use lib.ListN.{length};
 ghost use Rattle.lists.specs.Lists.{put, joined};
-ghost use Rattle.definition.specs.Packed.{rowNumbers, rowFloats};
+ghost use Rattle.definition.specs.Points.{boxWidth};
+ghost use Rattle.definition.specs.Packed.{rowNumbers};
 ghost use Rattle.definition.specs.Cut.{leavesOf};
 ghost use Rattle.definition.specs.Record.{wholeOf, floatOf};
 ghost use Rattle.queue.specs.Rows.{withOwn};
@@ -44,15 +45,15 @@ pub fn cut_level(
     place: usize,
 ) -> Cut
     requires { ⌜ (0 < dimensions) × (dimensions ≤ 3) × (1 ≤ leaf) × (1 ≤ length (now active)) × GoodRows dimensions (now points) (now active) ⌝ }
-    requires { ⌜ (7 * length (now active) ≤ length (now wholes)) × (rowFloats dimensions * (2 * length (now active)) ≤ length (now floats)) ⌝ }
-    requires { ⌜ (at + length (now active) ≤ length (now internals)) × (rowNumbers * (first + 2 * length (now active)) ≤ length (now domains)) × (rowFloats dimensions * (first + 2 * length (now active)) ≤ length (now boxes)) ⌝ }
+    requires { ⌜ (7 * length (now active) ≤ length (now wholes)) × (boxWidth dimensions * (2 * length (now active)) ≤ length (now floats)) ⌝ }
+    requires { ⌜ (at + length (now active) ≤ length (now internals)) × (rowNumbers * (first + 2 * length (now active)) ≤ length (now domains)) × (boxWidth dimensions * (first + 2 * length (now active)) ≤ length (now boxes)) ⌝ }
     requires { ⌜ (place + nodesFor engine (length (now active)) ≤ length (now cuts)) × (place + nodesFor engine (length (now active)) ≤ length (now planes)) ⌝ }
     ensures counts { λ r. ⌜ (r .leaves ≡ length (leavesOf dimensions (now (points .entry)) leaf (now (active .entry))))
         × (r .nodes ≡ length (recordBy engine dimensions (now (points .entry)) leaf (now (active .entry))))
         × (r .nodes ≤ nodesFor engine (length (now (active .entry)))) ⌝ }
     ensures internals { λ _. ⌜ now (internals .exit) ≡ put (now (internals .entry)) at (joined (map (λ q. q .rows) (leavesOf dimensions (now (points .entry)) leaf (now (active .entry))))) ⌝ }
     ensures domains { λ _. ⌜ now (domains .exit) ≡ withOwn at (map (λ q. q .rows) (leavesOf dimensions (now (points .entry)) leaf (now (active .entry)))) first (now (domains .entry)) ⌝ }
-    ensures boxes { λ _. ⌜ now (boxes .exit) ≡ put (now (boxes .entry)) (rowFloats dimensions * first) (joined (map (λ q. q .box) (leavesOf dimensions (now (points .entry)) leaf (now (active .entry))))) ⌝ }
+    ensures boxes { λ _. ⌜ now (boxes .exit) ≡ put (now (boxes .entry)) (boxWidth dimensions * first) (joined (map (λ q. q .box) (leavesOf dimensions (now (points .entry)) leaf (now (active .entry))))) ⌝ }
     ensures cuts { λ _. ⌜ now (cuts .exit) ≡ put (now (cuts .entry)) place (map wholeOf (recordBy engine dimensions (now (points .entry)) leaf (now (active .entry)))) ⌝ }
     ensures planes { λ _. ⌜ now (planes .exit) ≡ put (now (planes .entry)) place (map floatOf (recordBy engine dimensions (now (points .entry)) leaf (now (active .entry)))) ⌝ }
 {

@@ -13,7 +13,7 @@ ghost use Rattle.slots.specs.Told.{Told, QuotasTold, SampleTold, BuildTold, Dep
 // The version as one number: major * 10000 + minor * 100 + patch.
 #[no_mangle]
 pub extern "C" fn ddm_version() -> usize
-    ensures { λ r. ⌜ r ≡ versionNumber 0 4 1 ⌝ }
+    ensures { λ r. ⌜ r ≡ versionNumber 0 5 0 ⌝ }
 {
     slots::version()
 }
@@ -65,7 +65,8 @@ pub extern "C" fn ddm_quotas(
     told.number
 }
 
-// Farthest point sampling: `wanted` rows from the row `seed` on. The slot: place, rows written. Refusals 1, 6, 7, 8, 13, 11, 10.
+// Farthest point sampling: `wanted` rows from the row `seed` on. The slot: place, rows written. The slot `cover`, of one entry:
+// how far the worst left-out row is from its nearest chosen one. Refusals 1, 6, 7, 8, 13, 11, 10.
 #[no_mangle]
 pub extern "C" fn ddm_sample(
     points: &[f64],
@@ -75,11 +76,15 @@ pub extern "C" fn ddm_sample(
     out: &mut [usize],
     floats: &mut [f64],
     wholes: &mut [usize],
+    cover: &mut [f64],
     result: &mut [usize],
 ) -> usize
     ensures { λ r. ⌜ SampleTold dimensions (now (points .entry)) wanted seed (now (out .entry)) (now (out .exit))
-        (now (floats .entry)) (now (floats .exit)) (now (wholes .entry)) (now (wholes .exit)) (now (result .entry)) (now (result .exit)) r ⌝ }
+        (now (floats .entry)) (now (floats .exit)) (now (wholes .entry)) (now (wholes .exit)) (now (cover .entry)) (now (cover .exit)) (now (result .entry)) (now (result .exit)) r ⌝ }
 {
+    if cover.len() < 1 {
+        return 11;
+    }
     if result.len() < 2 {
         return 11;
     }
@@ -92,6 +97,7 @@ pub extern "C" fn ddm_sample(
         floats,
         wholes,
     );
+    cover[0] = slots::sample_cover(answer);
     let told = slots::sample_report(answer);
     stretches::put_pair(result, 0, told.first, told.second);
     told.number

@@ -17,7 +17,7 @@ const STREAM: usize = 1024;
 const FILE: usize = reload::MOST_FILE + 1;
 
 // The room for the text: none is longer (`reloaded-long` of reload_laws).
-const TEXT: usize = 131072;
+const TEXT: usize = job_room::TEXT;
 
 fn file_room() -> [u8; FILE]
     ensures { λ r. ⌜ 1048577 ≡ length r ⌝ }
@@ -26,7 +26,7 @@ fn file_room() -> [u8; FILE]
 }
 
 fn text_room() -> [u8; TEXT]
-    ensures { λ r. ⌜ 131072 ≡ length r ⌝ }
+    ensures { λ r. ⌜ mostBytes ≡ length r ⌝ }
 {
     [0; TEXT]
 }

@@ -12,10 +12,10 @@ use program_input::Front;
 const STREAM: usize = 1024;
 
 // The room for a printout: none is longer (`printout-long` of stream_laws).
-const TEXT: usize = 131072;
+const TEXT: usize = job_room::TEXT;
 
 fn text_room() -> [u8; TEXT]
-    ensures { λ r. ⌜ 131072 ≡ length r ⌝ }
+    ensures { λ r. ⌜ mostBytes ≡ length r ⌝ }
 {
     [0; TEXT]
 }

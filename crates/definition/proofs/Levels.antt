@@ -15,7 +15,7 @@ use Rattle.lists.specs.Times.{times}
 use Rattle.lists.proofs.Times.{times-keep-le}
 use Rattle.lists.proofs.Sums.{sum-cons, sum-nil}
 use Rattle.definition.specs.Tree.{Settings, Level, coarseLevel, nextActive, levelsFrom}
-use Rattle.definition.proofs.Steps.{fineOf, nextOf, sentFrom, levels-last, levels-end, levels-more}
+use Rattle.definition.proofs.Steps.{fineOf, sizeFrom, nextOf, sentFrom, levels-last, levels-end, levels-more}
 use Rattle.definition.proofs.Cuts.{Good, good-part}
 
 -- ---- the next active rows are a part of the active rows, in their order
@@ -34,7 +34,7 @@ module _ (active : List ℕ) (sent : List (List ℕ)) where
 -- ---- Q: what the active rows have, and keep as some of them are left out
 module _ (s : Settings) (cs : List Float) (c k : ℕ) (Q : List ℕ → Type 0) (stays : (active : List ℕ) (sent : List (List ℕ)) → Q active → Q (nextActive active sent)) where
   -- what holds of each fine level and of the coarse one holds of all levels
-  pub levels-all : (P : Level → Type 0) → ((active : List ℕ) → Q active → c < length active → P (fineOf s cs active))
+  pub levels-all : (P : Level → Type 0) → ((size : ℕ) (active : List ℕ) → Q active → c < length active → P (fineOf s cs size active))
       → ((active : List ℕ) → Q active → P (coarseLevel (s .dimension) active))
       → (fuel built : ℕ) (active : List ℕ) → Q active → All P (levelsFrom s cs c k fuel built active)
   unfolding All levelsFrom
@@ -43,11 +43,11 @@ module _ (s : Settings) (cs : List Float) (c k : ℕ) (Q : List ℕ → Type 0) 
       ⊎-elim
       (λ (few : length active ≤ c). rw (levels-end s cs c k fuel built active few) (coarse active q, tt))
       (λ (many : c < length active). rw (levels-more s cs c k fuel built active many)
-      (fine active q many, levels-all P fine coarse fuel (suc built) (nextOf s cs c k built active) (stays active (sentFrom s cs c k built active) q)))
+      (fine (sizeFrom c k built active) active q many, levels-all P fine coarse fuel (suc built) (nextOf s cs c k built active) (stays active (sentFrom s cs c k built active) q)))
       (le-or-lt (length active) c)
 
   -- a sum over the levels, of at most a for each fine level and b for the coarse one
-  pub levels-sum : (f : Level → ℕ) (a b : ℕ) → ((active : List ℕ) → Q active → c < length active → f (fineOf s cs active) ≤ a)
+  pub levels-sum : (f : Level → ℕ) (a b : ℕ) → ((size : ℕ) (active : List ℕ) → Q active → c < length active → f (fineOf s cs size active) ≤ a)
       → ((active : List ℕ) → Q active → f (coarseLevel (s .dimension) active) ≤ b)
       → (fuel built : ℕ) (active : List ℕ) → Q active → total (map f (levelsFrom s cs c k fuel built active)) ≤ fuel * a + b
   levels-sum f a b fine coarse zero built active q =
@@ -59,8 +59,8 @@ module _ (s : Settings) (cs : List Float) (c k : ℕ) (Q : List ℕ → Type 0) 
       (λ (many : c < length active). rw (levels-more s cs c k fuel built active many)
       (omega (
         arith,
-        sum-cons f (fineOf s cs active) (levelsFrom s cs c k fuel (suc built) (nextOf s cs c k built active)),
-        fine active q many,
+        sum-cons f (fineOf s cs (sizeFrom c k built active) active) (levelsFrom s cs c k fuel (suc built) (nextOf s cs c k built active)),
+        fine (sizeFrom c k built active) active q many,
         levels-sum f a b fine coarse fuel (suc built) (nextOf s cs c k built active) (stays active (sentFrom s cs c k built active) q),
         suc-mul fuel a,
       )))

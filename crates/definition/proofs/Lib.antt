@@ -13,6 +13,7 @@ pub mod Sizes
 pub mod Seats
 pub mod Shares
 pub mod Fairness
+pub mod FineLeaves
 pub mod LevelLaws
 pub mod OneLevel
 pub mod WorkedSamples
@@ -21,3 +22,4 @@ pub mod WrongLookalikes
 pub mod RefusedCalls
 pub mod WorkedRecords
 pub mod WorkedNeighbours
+pub mod WorkedCovers

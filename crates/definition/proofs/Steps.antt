@@ -1,5 +1,5 @@
 -- One step of the queue and of the levels, as a proof of the loops uses them. Assumes nothing.
--- Holds: queue-empty, queue-wait, queue-done, fineLeaf, fineOf, sentFrom, nextOf, levels-last, levels-end, levels-more
+-- Holds: queue-empty, queue-wait, queue-done, sentWith, fineOf, sizeFrom, sentFrom, nextOf, levels-last, levels-end, levels-more
 use mathlib.Core.Path.{_≡_, refl}
 use mathlib.Core.List.{List, [], _∷_, _++_}
 use Prim.Native.Nat.{ℕ, zero, suc, _*_, _≤_, _<_}
@@ -8,8 +8,7 @@ use lib.ListN.{length}
 use lib.Ieee.{Float}
 use Rattle.definition.specs.Levels.{levelSize}
 use Rattle.definition.specs.Cut.{Domain, leftOf, rightOf, queueLeaves, leavesOf}
-use Rattle.definition.specs.Overlaps.{borrowedBy}
-use Rattle.definition.specs.Tree.{Settings, Leaf, Level, coarseLevel, fineLevel, sentLists, nextActive, reductionsLeft, levelsFrom}
+use Rattle.definition.specs.Tree.{Settings, Level, coarseLevel, fineLevel, sentLists, nextActive, reductionsLeft, levelsFrom}
 
 -- ---- the queue
 module _ (d : ℕ) (cs : List Float) (leaf fuel : ℕ) where
@@ -32,18 +31,21 @@ module _ (d : ℕ) (cs : List Float) (leaf fuel : ℕ) where
 
 -- ---- the levels
 
--- the leaf that a fine level makes of a domain of the cut
-abbrev pub fineLeaf : ℕ → List Float → ℕ → List ℕ → Domain → Leaf
-fineLeaf d cs neighbours active q = record { own = q .rows; borrowed = borrowedBy d cs neighbours active (q .rows); box = q .box }
+-- what the leaves of a level over its active rows send up, `size` rows in all: a list to each leaf
+abbrev pub sentWith : Settings → List Float → ℕ → List ℕ → List (List ℕ)
+sentWith s cs size active = sentLists (s .dimension) cs (leavesOf (s .dimension) cs (s .leaf) active) size
 
--- a fine level over its active rows
-abbrev pub fineOf : Settings → List Float → List ℕ → Level
-fineOf s cs active = fineLevel (s .dimension) cs (s .neighbours) active (leavesOf (s .dimension) cs (s .leaf) active)
+-- a fine level over its active rows, of which `size` are sent up
+abbrev pub fineOf : Settings → List Float → ℕ → List ℕ → Level
+fineOf s cs size active =
+    fineLevel (s .dimension) cs (s .neighbours) active (leavesOf (s .dimension) cs (s .leaf) active) (sentWith s cs size active)
 
--- what the leaves of a fine level, with this many before it, send up: a list to each leaf
+-- how many rows a fine level, with this many before it, sends up, and what its leaves do
+abbrev pub sizeFrom : ℕ → ℕ → ℕ → List ℕ → ℕ
+sizeFrom c k built active = levelSize (length active) c (reductionsLeft k built)
+
 abbrev pub sentFrom : Settings → List Float → ℕ → ℕ → ℕ → List ℕ → List (List ℕ)
-sentFrom s cs c k built active =
-    sentLists (s .dimension) cs (leavesOf (s .dimension) cs (s .leaf) active) (levelSize (length active) c (reductionsLeft k built))
+sentFrom s cs c k built active = sentWith s cs (sizeFrom c k built active) active
 
 -- the active rows of the level after it
 abbrev pub nextOf : Settings → List Float → ℕ → ℕ → ℕ → List ℕ → List ℕ
@@ -63,6 +65,6 @@ module _ (s : Settings) (cs : List Float) (c k : ℕ) where
 
   -- they are not: one more fine level
   pub levels-more : (fuel built : ℕ) (active : List ℕ) → c < length active
-      → levelsFrom s cs c k (suc fuel) built active ≡ fineOf s cs active ∷ levelsFrom s cs c k fuel (suc built) (nextOf s cs c k built active)
+      → levelsFrom s cs c k (suc fuel) built active ≡ fineOf s cs (sizeFrom c k built active) active ∷ levelsFrom s cs c k fuel (suc built) (nextOf s cs c k built active)
   unfolding levelsFrom
   levels-more fuel built active h = rw (lt-leb (length active) c h)

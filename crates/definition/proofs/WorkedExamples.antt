@@ -4,12 +4,13 @@ use Prim.Native.Nat.{ℕ}
 use mathlib.Core.Path.{_≡_, refl}
 use mathlib.Core.List.{List, [], _∷_, _++_}
 use lib.ListN.{replicate}
-use lib.Ieee.{binary64, ofBits}
+use lib.Ieee.{Float, binary64, ofBits}
 use Rattle.lists.specs.Lists.{from}
+use Rattle.definition.specs.Number.{plusInfinity}
 use Rattle.definition.specs.Cut.{plane}
 use Rattle.definition.specs.Levels.{auto, threshold}
 use Rattle.definition.specs.Packed.{Counts}
-use Rattle.definition.specs.Outcome.{Answer, Shared, rootAnswer, sizeAnswer, quotaAnswer, quotaOutput, sampleAnswer, sampleOutput, buildAnswer, TreeLists, buildLists}
+use Rattle.definition.specs.Outcome.{Answer, Shared, rootAnswer, sizeAnswer, quotaAnswer, quotaOutput, sampleOutput, buildAnswer, TreeLists, buildLists}
 use Rattle.definition.proofs.WorkedSamples.{opened, line, onLine, nines, floatRoom, wholeRoom}
 
 -- an accepted call that reports x
@@ -24,6 +25,10 @@ built levels rows domains = reports (record { levels = levels; rows = rows; doma
 abbrev shared : ℕ → ℕ → Answer Shared
 shared leaves seats = reports (record { leaves = leaves; seats = seats })
 
+-- the cover of a leaf that sends none of its rows up
+abbrev none : List Float
+none = plusInfinity ∷ []
+
 -- the lists after the build over the points 0, 1, 3, 7
 abbrev tree4 : TreeLists
 tree4 = buildLists (onLine 2 2) (line (0 ∷ 1 ∷ 3 ∷ 7 ∷ [])) (nines 4) (floatRoom 4) (wholeRoom 4)
@@ -35,7 +40,9 @@ pub record Examples : Type 0 where
   -- domain rows come last, since they count the rows of the others
   packed-level-points : tree4 .level-points ≡ 0 ∷ 1 ∷ 2 ∷ 3 ∷ 0 ∷ 1 ∷ replicate 10 9
   packed-internals : tree4 .internals ≡ 0 ∷ 1 ∷ 2 ∷ 3 ∷ 0 ∷ 1 ∷ replicate 10 9
-  packed-boxes : tree4 .boxes ≡ line (0 ∷ 1 ∷ 1 ∷ 3 ∷ 3 ∷ 7 ∷ 7 ∷ 7 ∷ 0 ∷ 0 ∷ replicate 40 9)
+  packed-boxes :
+      tree4 .boxes
+      ≡ line (0 ∷ 1 ∷ 0 ∷ []) ++ line (1 ∷ 3 ∷ 0 ∷ []) ++ line (3 ∷ 7 ∷ []) ++ none ++ line (7 ∷ 7 ∷ []) ++ none ++ line (0 ∷ 0 ∷ 0 ∷ replicate 60 9)
   packed-borrowed : tree4 .borrowed ≡ 1 ∷ 0 ∷ 2 ∷ 1 ∷ 3 ∷ 2 ∷ replicate 42 9
   packed-domains :
       tree4 .domains
@@ -59,7 +66,9 @@ pub record Examples : Type 0 where
             ++ (12 ∷ 1 ∷ 8 ∷ 1 ∷ []) ++ (13 ∷ 1 ∷ 9 ∷ 1 ∷ [])
             ++ (14 ∷ 1 ∷ 10 ∷ 0 ∷ [])
             ++ replicate 160 9;
-        boxes = line (0 ∷ 2 ∷ 2 ∷ 4 ∷ 4 ∷ 6 ∷ 6 ∷ 7 ∷ 0 ∷ 4 ∷ 4 ∷ 6 ∷ 0 ∷ 4 ∷ 4 ∷ 4 ∷ 0 ∷ 0 ∷ replicate 80 9);
+        boxes =
+            line (0 ∷ 2 ∷ 1 ∷ 2 ∷ 4 ∷ 1 ∷ 4 ∷ 6 ∷ 1 ∷ 6 ∷ 7 ∷ 1 ∷ []) ++ line (0 ∷ 4 ∷ 2 ∷ 4 ∷ 6 ∷ 2 ∷ []) ++ line (0 ∷ 4 ∷ 0 ∷ 4 ∷ 4 ∷ []) ++ none
+            ++ line (0 ∷ 0 ∷ 0 ∷ replicate 120 9);
         borrowed = 2 ∷ 1 ∷ 4 ∷ 3 ∷ 6 ∷ 5 ∷ 4 ∷ 2 ∷ 4 ∷ 0 ∷ replicate 86 9;
       }
   run3 : buildAnswer (onLine 1 1) (line (from 0 3)) (nines 3) (floatRoom 3) (wholeRoom 3) ≡ built 3 (3 ∷ 2 ∷ 1 ∷ 0 ∷ []) (6 ∷ 4 ∷ 1 ∷ 0 ∷ [])
@@ -73,7 +82,10 @@ pub record Examples : Type 0 where
             ++ (3 ∷ 0 ∷ 4 ∷ 0 ∷ []) ++ (3 ∷ 1 ∷ 4 ∷ 1 ∷ []) ++ (4 ∷ 0 ∷ 5 ∷ 0 ∷ []) ++ (4 ∷ 1 ∷ 5 ∷ 1 ∷ [])
             ++ (5 ∷ 1 ∷ 6 ∷ 0 ∷ [])
             ++ replicate 32 9;
-        boxes = line (0 ∷ 0 ∷ 0 ∷ 1 ∷ 1 ∷ 1 ∷ 1 ∷ 2 ∷ 2 ∷ 2 ∷ 2 ∷ 2 ∷ 0 ∷ 0 ∷ 0 ∷ 1 ∷ 1 ∷ 1 ∷ 1 ∷ 1 ∷ 0 ∷ 0 ∷ replicate 16 9);
+        boxes =
+            line (0 ∷ 0 ∷ 0 ∷ 0 ∷ 1 ∷ 0 ∷ 1 ∷ 1 ∷ 0 ∷ 1 ∷ 2 ∷ 0 ∷ 2 ∷ 2 ∷ 0 ∷ 2 ∷ 2 ∷ []) ++ none
+            ++ line (0 ∷ 0 ∷ 0 ∷ 0 ∷ 1 ∷ 0 ∷ 1 ∷ 1 ∷ 0 ∷ 1 ∷ 1 ∷ []) ++ none
+            ++ line (0 ∷ 0 ∷ 0 ∷ replicate 24 9);
         borrowed = 1 ∷ 0 ∷ 2 ∷ 1 ∷ 1 ∷ 0 ∷ replicate 30 9;
       }
   -- level size alone
@@ -86,10 +98,8 @@ pub record Examples : Type 0 where
   quota22-output : quotaOutput (2 ∷ 2 ∷ []) 3 (replicate 3 9) (replicate 2 9) ≡ 2 ∷ 1 ∷ 9 ∷ []
   quota1111 : quotaAnswer (1 ∷ 1 ∷ 1 ∷ 1 ∷ []) 2 (replicate 5 9) (replicate 4 9) ≡ shared 4 2
   quota1111-output : quotaOutput (1 ∷ 1 ∷ 1 ∷ 1 ∷ []) 2 (replicate 5 9) (replicate 4 9) ≡ 1 ∷ 1 ∷ 0 ∷ 0 ∷ 9 ∷ []
-  -- sampling, into an output of one entry more
-  sample0137 : sampleAnswer 1 (line (0 ∷ 1 ∷ 3 ∷ 7 ∷ [])) 3 1 (replicate 4 9) (line (replicate 8 9)) (replicate 4 9) ≡ reports 3
+  -- sampling, into an output of one entry more; what it reports stands in WorkedCovers
   sample0137-output : sampleOutput 1 (line (0 ∷ 1 ∷ 3 ∷ 7 ∷ [])) 3 1 (replicate 4 9) (line (replicate 8 9)) (replicate 4 9) ≡ 1 ∷ 3 ∷ 2 ∷ 9 ∷ []
-  sample555 : sampleAnswer 1 (line (5 ∷ 5 ∷ 5 ∷ [])) 3 2 (replicate 4 9) (line (replicate 6 9)) (replicate 3 9) ≡ reports 3
   sample555-output : sampleOutput 1 (line (5 ∷ 5 ∷ 5 ∷ [])) 3 2 (replicate 4 9) (line (replicate 6 9)) (replicate 3 9) ≡ 2 ∷ 0 ∷ 1 ∷ 9 ∷ []
   -- the root of 3ff0000000000001
   root : rootAnswer (ofBits binary64 0x3ff0000000000001) ≡ reports (ofBits binary64 0x3ff0000000000000)
@@ -121,9 +131,7 @@ examples =
       quota22-output = refl;
       quota1111 = refl;
       quota1111-output = refl;
-      sample0137 = refl;
       sample0137-output = refl;
-      sample555 = refl;
       sample555-output = refl;
       root = refl;
     }

@@ -19,7 +19,7 @@ use Rattle.definition.specs.Packed.{leavesIn, packedLevelPoints, packedI
 use Rattle.definition.specs.Points.{distanceSq, distance, rowsSq, rowsApart, leastOf, greatestOf, extents, extent}
 use Rattle.definition.specs.Quotas.{leavesBefore, seatsOf, quotasFor, quotas}
 use Rattle.definition.specs.Refusals.{verdict, firstBad, buildShort, sampleShort, quotaShort, buildTests, buildVerdict, sizesVerdict, sampleVerdict, sizeVerdict, quotaVerdict, stretchVerdict, rootVerdict}
-use Rattle.definition.specs.Sampling.{gap, pick, sampleMore, sample, sumFrom, centroid, fromCentroid, seedOf, sentBy}
+use Rattle.definition.specs.Sampling.{gap, pick, coverOf, sampleMore, sample, sumFrom, centroid, fromCentroid, seedOf, sentBy, leafCover}
 use Rattle.definition.specs.Tree.{coarseLevel, fineLevel, sentLists, nextActive, levelsFrom, levelsOver, levels}
 
 -- whole numbers as points on a line
@@ -51,5 +51,5 @@ wholeRoom n = replicate ((buildStated 1 n 1) .wholes) 9
 
 -- To unfold this is to unfold every definition that its line names.
 unfoldable pub opened : ℕ
-unfolding ofInt ofBits toBits round size add sub mul div lt eq isNan zipWith keep count anyOf member best leastFrom total from joined part put rootDomain longestAxis cutKeys planeOf plane leftOf rightOf queueLeaves leavesOf keyed before rank firstRows otherRows keyAt nearestRow farthestRow threshold reductions exactSize levelSize wholeRoot halves rootOfUnits squareRoot numberOf placeOf valueOf written listAfter rootAnswer sizeAnswer quotaAnswer quotaOutput sampleAnswer sampleOutput buildAnswer treeListsAfter buildLists sizesAnswer askedVerdict rowTest rowsAsked nearestOthers nearest paired borrowedBy leavesIn packedLevelPoints packedInternals packedBorrowed packedBoxes stretches packedDomains perLevel countsOf buildStated sampleStated quotaStated distanceSq distance rowsSq rowsApart leastOf greatestOf extents extent leavesBefore seatsOf quotasFor quotas verdict firstBad buildShort sampleShort quotaShort buildTests buildVerdict sizesVerdict sampleVerdict sizeVerdict quotaVerdict stretchVerdict rootVerdict gap pick sampleMore sample sumFrom centroid fromCentroid seedOf sentBy coarseLevel fineLevel sentLists nextActive levelsFrom levelsOver levels line onLine nines floatRoom wholeRoom
+unfolding ofInt ofBits toBits round size add sub mul div lt eq isNan zipWith keep count anyOf member best leastFrom total from joined part put rootDomain longestAxis cutKeys planeOf plane leftOf rightOf queueLeaves leavesOf keyed before rank firstRows otherRows keyAt nearestRow farthestRow threshold reductions exactSize levelSize wholeRoot halves rootOfUnits squareRoot numberOf placeOf valueOf written listAfter rootAnswer sizeAnswer quotaAnswer quotaOutput sampleAnswer sampleOutput buildAnswer treeListsAfter buildLists sizesAnswer askedVerdict rowTest rowsAsked nearestOthers nearest paired borrowedBy leavesIn packedLevelPoints packedInternals packedBorrowed packedBoxes stretches packedDomains perLevel countsOf buildStated sampleStated quotaStated distanceSq distance rowsSq rowsApart leastOf greatestOf extents extent leavesBefore seatsOf quotasFor quotas verdict firstBad buildShort sampleShort quotaShort buildTests buildVerdict sizesVerdict sampleVerdict sizeVerdict quotaVerdict stretchVerdict rootVerdict gap pick sampleMore sample coverOf sumFrom centroid fromCentroid seedOf sentBy leafCover coarseLevel fineLevel sentLists nextActive levelsFrom levelsOver levels line onLine nines floatRoom wholeRoom
 opened = 0

@@ -10,6 +10,10 @@ use lib.Ieee.{Float, nan, inf, fin, binary64, up, down, size, round, add, sub, m
 abbrev pub plusZero : Float
 plusZero = ofBits binary64 0
 
+-- +infinity
+abbrev pub plusInfinity : Float
+plusInfinity = inf false
+
 -- each operation rounds to the nearest binary64 value
 abbrev pub plus : Float → Float → Float
 plus x y = add binary64 x y

@@ -9,7 +9,7 @@ use Rattle.lists.specs.Lists.{from, part}
 use Rattle.definition.specs.Number.{plusZero, squareRoot}
 use Rattle.definition.specs.Levels.{levelSize}
 use Rattle.definition.specs.Quotas.{heldSeats, quotas}
-use Rattle.definition.specs.Sampling.{sample}
+use Rattle.definition.specs.Sampling.{sample, coverOf}
 use Rattle.definition.specs.Tree.{Settings, Level, levels, pointCount}
 use Rattle.definition.specs.Packed.{DomainRow, BuildSizes, buildStated, Counts, countsOf, mostLevels, packedLevelPoints, packedInternals, packedDomains, packedBoxes, packedBorrowed}
 use Rattle.definition.specs.Refusals.{Verdict, accepted, refused, buildVerdict, sizesVerdict, sampleVerdict, sizeVerdict, quotaVerdict, stretchVerdict, rootVerdict}
@@ -85,13 +85,27 @@ abbrev pub sampleCall : ℕ → List Float → ℕ → ℕ → List ℕ → List
 sampleCall d cs wanted seed out floats wholes =
     sampleVerdict d cs wanted seed (record { output = length out; floats = length floats; wholes = length wholes })
 
--- the rows written
-unfoldable pub sampleAnswer : ℕ → List Float → ℕ → ℕ → List ℕ → List Float → List ℕ → Answer ℕ
-sampleAnswer d cs wanted seed out floats wholes = answered (sampleCall d cs wanted seed out floats wholes) wanted 0
+-- what an accepted sampling reports: the rows written, and their cover
+pub record Sampled : Type 0 where
+  pub rows : ℕ
+  pub cover : Float
+
+-- the chosen rows of a coordinate list, in the order in which they are taken, and their cover
+abbrev pub sampleOf : ℕ → List Float → ℕ → ℕ → List ℕ
+sampleOf d cs wanted seed = sample d cs (from 0 (pointCount d cs)) wanted seed
+
+abbrev pub sampleCover : ℕ → List Float → ℕ → ℕ → Float
+sampleCover d cs wanted seed = coverOf d cs (from 0 (pointCount d cs)) (sampleOf d cs wanted seed)
+
+unfoldable pub sampleAnswer : ℕ → List Float → ℕ → ℕ → List ℕ → List Float → List ℕ → Answer Sampled
+sampleAnswer d cs wanted seed out floats wholes =
+    answered (sampleCall d cs wanted seed out floats wholes)
+    (record { rows = wanted; cover = sampleCover d cs wanted seed })
+    (record { rows = 0; cover = plusZero })
 
 unfoldable pub sampleOutput : ℕ → List Float → ℕ → ℕ → List ℕ → List Float → List ℕ → List ℕ
 sampleOutput d cs wanted seed out floats wholes =
-    listAfter (sampleCall d cs wanted seed out floats wholes) (sample d cs (from 0 (pointCount d cs)) wanted seed) out
+    listAfter (sampleCall d cs wanted seed out floats wholes) (sampleOf d cs wanted seed) out
 
 -- ---- the build
 

@@ -16,12 +16,12 @@ pub record DomainRow : Type 0 where
   pub borrowedStart : ℕ
   pub borrowedCount : ℕ
 
--- the strides of a domain row: its whole numbers, and its floats, which are the bounds of its box
+-- the strides of a domain row: its whole numbers, and its floats, which are the bounds of its box and then its cover
 abbrev pub rowNumbers : ℕ
 rowNumbers = 4
 
 abbrev pub rowFloats : ℕ → ℕ
-rowFloats d = boxWidth d
+rowFloats d = boxWidth d + 1
 
 -- the whole numbers of a domain row, in their order
 abbrev pub numbersOf : DomainRow → List ℕ
@@ -36,6 +36,10 @@ rowOf a b f =
       borrowedStart = b;
       borrowedCount = length (f .borrowed);
     }
+
+-- the floats of a leaf's domain row, in their order
+abbrev pub leafFloats : Leaf → List Float
+leafFloats f = f .box ++ f .cover ∷ []
 
 -- ---- packing: level by level, leaf by leaf
 
@@ -58,9 +62,9 @@ stretches a b (f ∷ fs) = numbersOf (rowOf a b f) ++ stretches (a + length (f .
 unfoldable pub packedDomains : List Level → List ℕ
 packedDomains ls = stretches 0 0 (leavesIn ls)
 
--- the boxes and the borrowed rows
+-- the boxes, each with its cover, and the borrowed rows
 unfoldable pub packedBoxes : List Level → List Float
-packedBoxes ls = joined (map (λ f. f .box) (leavesIn ls))
+packedBoxes ls = joined (map leafFloats (leavesIn ls))
 
 unfoldable pub packedBorrowed : List Level → List ℕ
 packedBorrowed ls = joined (map (λ f. f .borrowed) (leavesIn ls))

@@ -5,17 +5,26 @@ use mathlib.Core.List.{List, [], _∷_, _++_, map}
 use lib.ListN.{length}
 use lib.Ieee.{Float}
 use Rattle.lists.specs.Lists.{keep, member}
-use Rattle.definition.specs.Number.{plusZero, plus, over}
-use Rattle.definition.specs.Points.{coordinate, column, distance, rowsApart, leastOf}
+use Rattle.definition.specs.Number.{plusZero, plusInfinity, plus, over}
+use Rattle.definition.specs.Points.{coordinate, column, distance, rowsApart, leastOf, greatestOf}
 use Rattle.definition.specs.Keys.{keyed, nearestRow, farthestRow}
 
 -- row i's least distance to the chosen rows
 unfoldable pub gap : ℕ → List Float → List ℕ → ℕ → Float
 gap d cs chosen i = leastOf (map (λ c. rowsApart d cs c i) chosen)
 
+-- the rows that are not chosen
+abbrev pub unchosen : List ℕ → List ℕ → List ℕ
+unchosen rows chosen = keep (λ i. not (member i chosen)) rows
+
 -- the first unchosen row whose least distance to the chosen is greatest
 unfoldable pub pick : ℕ → List Float → List ℕ → List ℕ → ℕ
-pick d cs rows chosen = farthestRow (keyed (gap d cs chosen) (keep (λ i. not (member i chosen)) rows))
+pick d cs rows chosen = farthestRow (keyed (gap d cs chosen) (unchosen rows chosen))
+
+-- How far the worst left-out row is, the cover: the greatest, over the unchosen rows, of the least distance to a chosen one; +0 where all
+-- are chosen.
+unfoldable pub coverOf : ℕ → List Float → List ℕ → List ℕ → Float
+coverOf d cs rows chosen = greatestOf (map (gap d cs chosen) (unchosen rows chosen))
 
 -- the chosen rows, and `more` after them, in the order in which they are taken
 unfoldable pub sampleMore : ℕ → List Float → List ℕ → ℕ → List ℕ → List ℕ
@@ -49,3 +58,9 @@ seedOf d cs rows = nearestRow (keyed (fromCentroid d cs rows) rows)
 unfoldable pub sentBy : ℕ → List Float → List ℕ → ℕ → List ℕ
 sentBy d cs rows zero = []
 sentBy d cs rows (suc more) = sample d cs rows (suc more) (seedOf d cs rows)
+
+-- the cover of a leaf with these own rows that sends these up: +infinity where it has rows and sends none, +0 where it has none
+unfoldable pub leafCover : ℕ → List Float → List ℕ → List ℕ → Float
+leafCover d cs [] sent = plusZero
+leafCover d cs (i ∷ rows) [] = plusInfinity
+leafCover d cs (i ∷ rows) (j ∷ sent) = coverOf d cs (i ∷ rows) (j ∷ sent)

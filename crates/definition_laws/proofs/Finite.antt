@@ -1,11 +1,11 @@
 -- From finite coordinates no NaN arises: a squared distance, of rows or from a centroid, and a distance of rows is +0, a positive
 -- number or +infinity, and a centroid's coordinate is a number (an infinity where the sum overflows). Assumes nothing.
 -- Holds: distance-sq-good, finite-sq-good, add-number, over-number, sum-number, rows-sq-good, rows-apart-good, centroid-number,
---   centroid-sq-good, rows-known
+--   centroid-sq-good, good-known, rows-known
 use mathlib.Core.Path.{_≡_, refl, sym}
 use mathlib.Core.Bool.{true, false, true≢false}
 use mathlib.Core.List.{List, [], _∷_, List·Memᴰ, List·Memᴰ·head, List·Memᴰ·tail}
-use Prim.Native.Nat.{ℕ, zero, suc, _+_, _*_, _^_, _≤_, _<_}
+use Prim.Native.Nat.{ℕ, zero, suc, _*_, _^_, _≤_, _<_}
 use native.Mathlib.Omega.{arith}
 use borrow.Author.Tests.{ne-eqb}
 use lib.Dec.{T, ltb→lt}
@@ -105,7 +105,7 @@ module _ (d : ℕ) (cs : List Float) where
       centroid-sq-good i h = distance-sq-good d (centroid d cs rows) (coordinate d cs i) centroid-number h
 
 -- ---- no NaN, as a test
-good-known : (x : Float) → good x ≡ true → isNan x ≡ false
+pub good-known : (x : Float) → good x ≡ true → isNan x ≡ false
 unfolding isNan
 good-known nan h = clash h refl
 good-known (inf s) h = refl

@@ -1,12 +1,12 @@
 -- The fit law: each packed list of a tree is no longer than stated. Assumes nothing.
--- Holds: length-leaves, length-points, length-own, length-borrowed, length-stretches, length-domains, boxes-even, PackedFit,
---   packed-fit, LentFit, lent-fit, levels-fit, accepted-fit
-use mathlib.Core.Path.{_≡_, sym, ap, _∙_, subst}
+-- Holds: length-leaves, length-points, length-own, length-borrowed, length-stretches, length-domains, floats-length, boxes-even,
+--   PackedFit, packed-fit, LentFit, lent-fit, levels-fit, accepted-fit
+use mathlib.Core.Path.{_≡_, refl, sym, ap, _∙_, subst}
 use mathlib.Core.List.{List, [], _∷_, map, map-map}
 use Prim.Native.Nat.{ℕ, suc, _+_, _*_, _≤_, _<_}
 use native.Mathlib.Omega.{arith}
 use native.Mathlib.Nat.{mul-le-mul-left, mul-le-mul-right, mul-comm, mul-assoc, le-trans}
-use lib.ListN.{length, length-map, length-replicate}
+use lib.ListN.{length, length-append, length-replicate}
 use lib.Ieee.{Float}
 use Rattle.lists.specs.Lists.{total, joined, from}
 use Rattle.lists.specs.Ascends.{All}
@@ -16,12 +16,13 @@ use Rattle.lists.proofs.Joined.{length-joined, sum-joined}
 use Rattle.lists.proofs.From.{length-from}
 use Rattle.definition.specs.Number.{plusZero}
 use Rattle.definition.specs.Levels.{threshold, reductions}
-use Rattle.definition.specs.Cut.{Domain, leavesOf}
 use Rattle.definition.specs.Tree.{Settings, Leaf, Level, coarseLevel, fineLevel, nextActive, mostFine, levelsFrom, levelsOver, pointCount, levels}
 use Rattle.definition.specs.Points.{boxWidth}
-use Rattle.definition.specs.Packed.{leavesIn, packedLevelPoints, packedInternals, packedDomains, packedBoxes, packedBorrowed, stretches, rowNumbers, rowFloats, mostRows, BuildSizes, buildStated}
+use Rattle.definition.specs.Overlaps.{borrowedBy}
+use Rattle.definition.specs.Packed.{leafFloats, leavesIn, packedLevelPoints, packedInternals, packedDomains, packedBoxes, packedBorrowed, stretches, rowNumbers, rowFloats, mostRows, BuildSizes, buildStated}
 use Rattle.definition.specs.Refusals.{accepted, buildVerdict}
-use Rattle.definition.proofs.Steps.{fineLeaf, fineOf}
+use Rattle.definition.proofs.Steps.{fineOf}
+use Rattle.definition.proofs.FineLeaves.{fine-many, fine-map, fine-each}
 use Rattle.definition.proofs.Cuts.{Good, leaves-sum}
 use Rattle.definition_laws.proofs.Shape.{leaves-most, leaves-boxes}
 use Rattle.definition_laws.proofs.Overlaps.{borrowed-most}
@@ -65,11 +66,15 @@ pub length-domains : (ls : List Level) → length (packedDomains ls) ≡ rowNumb
 unfolding packedDomains
 length-domains ls = length-stretches 0 0 (leavesIn ls)
 
--- ---- boxes, all of one width
-pub boxes-even : (d : ℕ) (fs : List Leaf) → All (λ (f : Leaf). length (f .box) ≡ boxWidth d) fs → length (joined (map (λ f. f .box) fs)) ≤ rowFloats d * length fs
+-- ---- boxes, all of one width, each with its cover
+pub floats-length : (d : ℕ) (f : Leaf) → length (f .box) ≡ boxWidth d → length (leafFloats f) ≡ rowFloats d
+floats-length d f h = omega (arith, length-append (f .box) (f .cover ∷ []), h)
+
+pub boxes-even : (d : ℕ) (fs : List Leaf) → All (λ (f : Leaf). length (f .box) ≡ boxWidth d) fs → length (joined (map leafFloats fs)) ≤ rowFloats d * length fs
 boxes-even d fs h =
-    let a = length-joined (map (λ f. f .box) fs) ∙ ap total (map-map length (λ (f : Leaf). f .box) fs) in
-    let b = sum-most (λ (f : Leaf). length (f .box)) (boxWidth d) fs (λ f m. omega (arith, all-mem (λ (f : Leaf). length (f .box) ≡ boxWidth d) fs h f m)) in
+    let a = length-joined (map leafFloats fs) ∙ ap total (map-map length leafFloats fs) in
+    let b = sum-most (λ (f : Leaf). length (leafFloats f)) (rowFloats d) fs
+    (λ f m. omega (arith, floats-length d f (all-mem (λ (f : Leaf). length (f .box) ≡ boxWidth d) fs h f m))) in
     omega (arith, mul-comm (length fs) (rowFloats d))
 
 -- ---- what is known of the packed lists of a tree over n rows
@@ -93,46 +98,37 @@ module _ (s : Settings) (cs : List Float) (pos : 0 < s .dimension) (lp : 1 ≤ s
   stays active sent q = (next-good active sent (s .dimension) cs (q .0), omega (arith, next-short active sent, q .1))
 
   -- ---- a fine level
-  module _ (active : List ℕ) (q : Rows active) (some : 1 ≤ length active) where
-    abbrev qs : List Domain
-    qs = leavesOf (s .dimension) cs (s .leaf) active
-
-    abbrev toLeaf : Domain → Leaf
-    toLeaf = fineLeaf (s .dimension) cs (s .neighbours) active
-
-    fine-points : length (fineOf s cs active .points) ≤ n
+  module _ (size : ℕ) (active : List ℕ) (q : Rows active) (some : 1 ≤ length active) where
+    fine-points : length (fineOf s cs size active .points) ≤ n
     unfolding fineLevel
     fine-points = q .1
 
-    fine-leaves : length (fineOf s cs active .leaves) ≤ 2 * n
-    unfolding fineLevel
-    fine-leaves = omega (arith, length-map qs toLeaf, leaves-most (s .dimension) cs pos (s .leaf) lp active (q .0) some, q .1)
+    fine-leaves : length (fineOf s cs size active .leaves) ≤ 2 * n
+    fine-leaves = omega (arith, fine-many s cs size active, leaves-most (s .dimension) cs pos (s .leaf) lp active (q .0) some, q .1)
 
-    fine-own : ofLeaves (λ f. length (f .own)) (fineOf s cs active) ≤ n
-    unfolding fineLevel
+    fine-own : ofLeaves (λ f. length (f .own)) (fineOf s cs size active) ≤ n
     fine-own =
         omega (
           arith,
-          ap total (map-map (λ (f : Leaf). length (f .own)) toLeaf qs),
+          ap total (fine-map s cs size active (λ f. length (f .own)) (λ q. length (q .rows)) (λ q sent. refl)),
           leaves-sum (s .dimension) cs pos (s .leaf) lp active (q .0) some,
           q .1,
         )
 
-    fine-borrowed : ofLeaves (λ f. length (f .borrowed)) (fineOf s cs active) ≤ 2 * n * (s .neighbours + 1)
+    fine-borrowed : ofLeaves (λ f. length (f .borrowed)) (fineOf s cs size active) ≤ 2 * n * (s .neighbours + 1)
     fine-borrowed =
         let h : 2 * length active ≤ 2 * n = omega (arith, q .1) in
         omega (
           arith,
+          ap total (fine-map s cs size active (λ f. length (f .borrowed)) (λ q. length (borrowedBy (s .dimension) cs (s .neighbours) active (q .rows))) (λ q sent. refl)),
           borrowed-most (s .dimension) cs (s .leaf) (s .neighbours) active pos lp (q .0) some,
           mul-le-mul-right (s .neighbours + 1) h,
         )
 
-  fine-boxes : (active : List ℕ) → All (λ (f : Leaf). length (f .box) ≡ boxWidth (s .dimension)) (fineOf s cs active .leaves)
-  unfolding fineLevel
-  fine-boxes active =
-      all-map (λ (f : Leaf). length (f .box) ≡ boxWidth (s .dimension))
-      (fineLeaf (s .dimension) cs (s .neighbours) active)
-      (leavesOf (s .dimension) cs (s .leaf) active) (leaves-boxes (s .dimension) cs (s .leaf) active)
+  fine-boxes : (size : ℕ) (active : List ℕ) → All (λ (f : Leaf). length (f .box) ≡ boxWidth (s .dimension)) (fineOf s cs size active .leaves)
+  fine-boxes size active =
+      fine-each s cs size active (λ q. length (q .box) ≡ boxWidth (s .dimension)) (λ f. length (f .box) ≡ boxWidth (s .dimension)) (λ q sent e. e)
+      (leaves-boxes (s .dimension) cs (s .leaf) active)
 
   -- ---- the coarse level
   coarse-own : (active : List ℕ) → ofLeaves (λ f. length (f .own)) (coarseLevel (s .dimension) active) ≡ length active
@@ -160,12 +156,12 @@ module _ (s : Settings) (cs : List Float) (pos : 0 < s .dimension) (lp : 1 ≤ s
     abbrev ls : List Level
     ls = levelsFrom s cs c k fuel 0 active
 
-    sum-of : (f : Level → ℕ) (a b : ℕ) → ((active : List ℕ) → Rows active → 1 ≤ length active → f (fineOf s cs active) ≤ a)
+    sum-of : (f : Level → ℕ) (a b : ℕ) → ((size : ℕ) (active : List ℕ) → Rows active → 1 ≤ length active → f (fineOf s cs size active) ≤ a)
         → ((active : List ℕ) → Rows active → f (coarseLevel (s .dimension) active) ≤ b) → total (map f ls) ≤ fuel * a + b
-    sum-of f a b fine coarse = levels-sum s cs c k Rows stays f a b (λ active q h. fine active q (omega arith)) coarse fuel 0 active q
+    sum-of f a b fine coarse = levels-sum s cs c k Rows stays f a b (λ size active q h. fine size active q (omega arith)) coarse fuel 0 active q
 
     few-levels : length ls ≤ suc fuel
-    few-levels = omega (arith, sum-of (λ l. 1) 1 1 (λ active q h. omega arith) (λ active q. omega arith), sum-const 1 ls)
+    few-levels = omega (arith, sum-of (λ l. 1) 1 1 (λ size active q h. omega arith) (λ active q. omega arith), sum-const 1 ls)
 
     few-points : length (packedLevelPoints ls) ≤ fuel * n + n
     few-points =
@@ -193,7 +189,7 @@ module _ (s : Settings) (cs : List Float) (pos : 0 < s .dimension) (lp : 1 ≤ s
         all-joined (λ (f : Leaf). length (f .box) ≡ boxWidth (s .dimension)) (map (λ l. l .leaves) ls)
         (all-map (λ (fs : List Leaf). All (λ (f : Leaf). length (f .box) ≡ boxWidth (s .dimension)) fs) (λ (l : Level). l .leaves) ls
         (levels-all s cs c k Rows stays (λ l. All (λ (f : Leaf). length (f .box) ≡ boxWidth (s .dimension)) (l .leaves))
-        (λ active q h. fine-boxes active) (λ active q. coarse-boxes active) fuel 0 active q))
+        (λ size active q h. fine-boxes size active) (λ active q. coarse-boxes active) fuel 0 active q))
 
 -- THE FIT LAW
 pub packed-fit : (s : Settings) (cs : List Float) (active : List ℕ) → 0 < s .dimension → 1 ≤ s .leaf → Good (s .dimension) cs active

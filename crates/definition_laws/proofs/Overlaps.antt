@@ -22,11 +22,9 @@ use Rattle.definition.specs.Points.{rowsSq}
 use Rattle.definition.specs.Keys.{keyed}
 use Rattle.definition.specs.Overlaps.{others, nearestOthers, nearest, paired, borrowedBy}
 use Rattle.definition.specs.Cut.{Domain, leavesOf}
-use Rattle.definition.specs.Tree.{Leaf, fineLevel}
 use Rattle.definition_laws.proofs.Finite.{rows-known}
 use Rattle.definition.proofs.Halves.{Sortable, first-half-length, length-keyed, sortable}
 use Rattle.definition.proofs.Cuts.{Good, good-part, leaves-times}
-use Rattle.definition.proofs.Steps.{fineLeaf}
 use Rattle.rows.specs.Rows.{FiniteRow}
 
 -- ---- the rows that an active row takes
@@ -134,13 +132,11 @@ module _ (d : ℕ) (cs : List Float) (neighbours : ℕ) (active : List ℕ) wher
 
 -- THE LAW: at most 2 times the active rows times the neighbour count
 pub borrowed-fewer : (d : ℕ) (cs : List Float) (leaf neighbours : ℕ) (active : List ℕ) → 0 < d → 1 ≤ leaf → Good d cs active → 1 ≤ length active
-    → total (map (λ (f : Leaf). length (f .borrowed)) (fineLevel d cs neighbours active (leavesOf d cs leaf active) .leaves)) ≤ 2 * length active * neighbours
-unfolding fineLevel
+    → total (map (λ (q : Domain). length (borrowedBy d cs neighbours active (q .rows))) (leavesOf d cs leaf active)) ≤ 2 * length active * neighbours
 borrowed-fewer d cs leaf neighbours active pos lp g some =
     let qs = leavesOf d cs leaf active in
     let owns = map (λ (q : Domain). q .rows) qs in
     let borrowed : List ℕ → ℕ = λ own. length (borrowedBy d cs neighbours active own) in
-    let a = ap total (map-map (λ (f : Leaf). length (f .borrowed)) (fineLeaf d cs neighbours active) qs) in
     let b = ap total (map-map borrowed (λ (q : Domain). q .rows) qs) in
     let c = sum-le borrowed (λ own. count (λ j. anyOf (λ i. pairedOthers d cs neighbours active i j) own) active) owns (λ own m. borrowed-paired d cs neighbours active own) in
     let e = pairs-most active (g .once) (nearestOthers d cs neighbours active) neighbours (λ i h. omega (arith, near-others-length d cs active g neighbours i h)) owns
@@ -149,6 +145,6 @@ borrowed-fewer d cs leaf neighbours active pos lp g some =
 
 -- so at most 2 times the active rows times the neighbour count and 1
 pub borrowed-most : (d : ℕ) (cs : List Float) (leaf neighbours : ℕ) (active : List ℕ) → 0 < d → 1 ≤ leaf → Good d cs active → 1 ≤ length active
-    → total (map (λ (f : Leaf). length (f .borrowed)) (fineLevel d cs neighbours active (leavesOf d cs leaf active) .leaves)) ≤ 2 * length active * (neighbours + 1)
+    → total (map (λ (q : Domain). length (borrowedBy d cs neighbours active (q .rows))) (leavesOf d cs leaf active)) ≤ 2 * length active * (neighbours + 1)
 borrowed-most d cs leaf neighbours active pos lp g some =
     rw (mul-add (2 * length active) neighbours 1) (omega (arith, borrowed-fewer d cs leaf neighbours active pos lp g some))

@@ -2,20 +2,20 @@
 -- Holds: all-levels, demand-3, demand-3-of, demand-3-seen
 use mathlib.Core.Path.{_≡_, sym, ap, ap₂, _∙_, subst}
 use mathlib.Core.Logic.{⊎-elim}
-use mathlib.Core.List.{List, [], map}
+use mathlib.Core.List.{List, []}
 use Prim.Native.Nat.{ℕ, suc, _+_, _-_, _*_, _^_, _≤_, _<_}
 use native.Mathlib.Omega.{arith}
 use native.Mathlib.Nat.{zero-add, pow-zero, mul-one}
-use lib.ListN.{length, getD, drop, replicate, length-map}
+use lib.ListN.{length, getD, drop, replicate}
 use lib.Ieee.{Float}
 use Rattle.lists.specs.Lists.{from}
 use Rattle.lists.specs.Ascends.{All}
 use Rattle.lists.proofs.Tests.{le-or-lt}
-use Rattle.lists.proofs.Map.{getD-map-in}
 use Rattle.lists.proofs.From.{length-from}
 use Rattle.definition.specs.Number.{plusZero}
 use Rattle.definition.specs.Cut.{Domain, leavesOf}
-use Rattle.definition.specs.Tree.{Settings, Leaf, Level, coarseLevel, fineLevel, mostFine, levelsOver, pointCount, levels}
+use Rattle.definition.specs.Sampling.{leafCover}
+use Rattle.definition.specs.Tree.{Settings, Leaf, Level, coarseLevel, fineLeaf, mostFine, levelsOver, pointCount, levels}
 use Rattle.definition.specs.Points.{boxWidth}
 use Rattle.definition.specs.Packed.{Counts, leavesIn, packedLevelPoints, packedInternals, packedDomains, packedBoxes, packedBorrowed}
 use Rattle.definition.specs.Refusals.{accepted}
@@ -23,14 +23,15 @@ use Rattle.definition.specs.Outcome.{Answer, TreeLists, lentSizes, written, lis
 use Rattle.definition.proofs.Cuts.{Good}
 use Rattle.definition_laws.proofs.Accepted.{build-accepted}
 use Rattle.definition_laws.proofs.Fit.{packed-fit}
-use Rattle.definition.proofs.Steps.{fineLeaf, fineOf, nextOf}
+use Rattle.definition.proofs.Steps.{fineOf, sizeFrom, sentWith, nextOf}
+use Rattle.definition.proofs.FineLeaves.{fine-many, fine-at-leaf}
 use Rattle.definition.proofs.Next.{noDomain}
 use Rattle.definition.proofs.Sizes.{reductions-few, reductions-reach}
 use Rattle.demand3.specs.Handed.{Handed, handed, levelCount, rowsOn, leavesOn, HasNext, listed}
 use Rattle.demand3.specs.Demand3.{coarseAt, reductionCount, CoarseLevel, Demand3Over, Demand3, handedBack}
 use Rattle.packed.proofs.Counts.{noLevel}
 use Rattle.packed.proofs.Unpacked.{noLeaf}
-use Rattle.demand3.proofs.Unpack.{PackedIn, handed-levels, handed-rows, handed-leaves, handed-listed, handed-own, handed-borrowed, handed-box, handed-counted, handed-beyond}
+use Rattle.demand3.proofs.Unpack.{PackedIn, handed-levels, handed-rows, handed-leaves, handed-listed, handed-own, handed-borrowed, handed-box, handed-cover, handed-counted, handed-beyond}
 use Rattle.demand3.proofs.Levels.{Levelled, levelled, IsFine, first-active, some-levels, fine-at, coarse-at}
 use Rattle.demand3.proofs.Answered.{answered-zero}
 use Rattle.demand3.proofs.Fine.{IsLevel, fine-level}
@@ -83,19 +84,26 @@ module _ (s : Settings) (cs : List Float) (first : List ℕ) (pos : 0 < s .dimen
     abbrev qs : List Domain
     qs = leavesOf (s .dimension) cs (s .leaf) (listed h l)
 
+    -- how many rows it sends up, and which, leaf by leaf
+    abbrev sendsUp : ℕ
+    sendsUp = sizeFrom c k (0 + l) (listed h l)
+
+    abbrev sent : List (List ℕ)
+    sent = sentWith s cs (sizeFrom c k (0 + l) (listed h l)) (listed h l)
+
     -- the leaf that the level makes of a domain
-    abbrev toLeaf : Domain → Leaf
+    abbrev toLeaf : Domain → List ℕ → Leaf
     toLeaf = fineLeaf (s .dimension) cs (s .neighbours) (listed h l)
 
-    leaves-are : levelAt l .leaves ≡ map toLeaf qs
-    unfolding fineLevel
-    leaves-are = ap (λ (x : Level). x .leaves) (fine .fine) ∙ ap (λ (x : List ℕ). fineOf s cs x .leaves) (sym (listed-at l))
+    leaves-are : levelAt l .leaves ≡ fineOf s cs sendsUp (listed h l) .leaves
+    leaves-are = ap (λ (x : Level). x .leaves) (fine .fine) ∙ ap (λ (x : List ℕ). fineOf s cs (sizeFrom c k (0 + l) x) x .leaves) (sym (listed-at l))
 
     count-is : leavesOn h l ≡ length qs
-    count-is = leaves-at l ∙ ap length leaves-are ∙ length-map qs toLeaf
+    count-is = leaves-at l ∙ ap length leaves-are ∙ fine-many s cs sendsUp (listed h l)
 
-    leaf-is : (i : ℕ) → i < leavesOn h l → getD (levelAt l .leaves) i noLeaf ≡ toLeaf (getD qs i noDomain)
-    leaf-is i z = ap (λ (x : List Leaf). getD x i noLeaf) leaves-are ∙ getD-map-in toLeaf qs i noDomain noLeaf (omega (arith, z, count-is))
+    leaf-is : (i : ℕ) → i < leavesOn h l → getD (levelAt l .leaves) i noLeaf ≡ toLeaf (getD qs i noDomain) (getD sent i [])
+    leaf-is i z =
+        ap (λ (x : List Leaf). getD x i noLeaf) leaves-are ∙ fine-at-leaf s cs sendsUp (listed h l) i noLeaf (omega (arith, z, count-is))
 
     held : IsLevel s cs n pos lp cp h l
     held = record {
@@ -105,6 +113,8 @@ module _ (s : Settings) (cs : List Float) (first : List ℕ) (pos : 0 < s .dimen
       own = λ i z. handed-own (s .dimension) ls h packs l i (omega (arith, leaves-at l)) ∙ ap (λ (f : Leaf). f .own) (leaf-is i z);
       borrowed = λ i z. handed-borrowed (s .dimension) ls h packs l i (omega (arith, leaves-at l)) ∙ ap (λ (f : Leaf). f .borrowed) (leaf-is i z);
       box = λ i z. handed-box (s .dimension) ls h packs l i (omega (arith, leaves-at l)) ∙ ap (λ (f : Leaf). f .box) (leaf-is i z);
+      cover = λ i z. handed-cover (s .dimension) ls h packs l i (omega (arith, leaves-at l)) ∙ ap (λ (f : Leaf). f .cover) (leaf-is i z)
+          ∙ ap (λ (j : ℕ). leafCover (s .dimension) cs (getD qs i noDomain .rows) (getD (sentWith s cs (sizeFrom c k j (listed h l)) (listed h l)) i [])) (zero-add l);
       next = listed-at (suc l) ∙ fine .sent ∙ ap₂ (λ (j : ℕ) (x : List ℕ). nextOf s cs c k j x) (zero-add l) (sym (listed-at l));
     }
 
@@ -119,7 +129,7 @@ module _ (s : Settings) (cs : List Float) (first : List ℕ) (pos : 0 < s .dimen
       let last = coarse-at s cs c k the-levels l (omega (arith, count-some, handed-levels (s .dimension) ls h packs)) in
       let one : leavesOn h l ≡ 1 = leaves-at l ∙ ap (λ (x : Level). length (x .leaves)) (last .0) in
       let z : 0 < length (levelAt l .leaves) = omega (arith, leaves-at l) in
-      let leaf : getD (levelAt l .leaves) 0 noLeaf ≡ record { own = levelAt l .points; borrowed = []; box = replicate (boxWidth (s .dimension)) plusZero } =
+      let leaf : getD (levelAt l .leaves) 0 noLeaf ≡ record { own = levelAt l .points; borrowed = []; box = replicate (boxWidth (s .dimension)) plusZero; cover = plusZero } =
       ap (λ (x : Level). getD (x .leaves) 0 noLeaf) (last .0) in
       record {
         few = omega (arith, ap length (listed-at l), last .1);
@@ -129,6 +139,7 @@ module _ (s : Settings) (cs : List Float) (first : List ℕ) (pos : 0 < s .dimen
           borrows-none = handed-borrowed (s .dimension) ls h packs l 0 z ∙ ap (λ (f : Leaf). f .borrowed) leaf;
           no-box = handed-box (s .dimension) ls h packs l 0 z ∙ ap (λ (f : Leaf). f .box) leaf;
         };
+        no-cover = handed-cover (s .dimension) ls h packs l 0 z ∙ ap (λ (f : Leaf). f .cover) leaf;
       }
 
   outnumbering : (l : ℕ) → c < rowsOn h l → HasNext h l

@@ -8,19 +8,19 @@ use native.Mathlib.Nat.{zero-add}
 use lib.ListN.{length, getD, length-map}
 use lib.Ieee.{Float}
 use Rattle.lists.specs.Lists.{keep, member, from, joined}
-use Rattle.lists.proofs.Map.{getD-map-in}
+use Rattle.lists.proofs.Map.{getD-map-in, zip-at}
 use Rattle.lists.proofs.From.{map-from-at, zip-from-at}
 use Rattle.lists.specs.Times.{times}
 use Rattle.definition.specs.Quotas.{quotas}
 use Rattle.definition.specs.Cut.{Domain, leavesOf}
 use Rattle.definition.specs.Overlaps.{borrowedBy}
-use Rattle.definition.specs.Sampling.{sentBy}
+use Rattle.definition.specs.Sampling.{sentBy, leafCover}
 use Rattle.definition.specs.Tree.{Settings, sentLists, nextActive}
 use Rattle.definition.proofs.Cuts.{Good, domainSizes}
 use Rattle.definition.proofs.Steps.{nextOf}
 use Rattle.definition.proofs.Next.{noDomain}
 use Rattle.definition.proofs.OneLevel.{OneLevel, one-level}
-use Rattle.demand3.specs.Handed.{Handed, leavesOn, listed, ownOf, borrowedOf, boxOf, ownLists, leafSizes, leafBoxes}
+use Rattle.demand3.specs.Handed.{Handed, leavesOn, listed, ownOf, borrowedOf, boxOf, coverIn, ownLists, leafSizes, leafBoxes}
 use Rattle.demand3.specs.Demand3.{coarseAt, reductionCount, shareOf, WholePart, OneMore, sentOf, sentUp, active, size, filled, FineLevel}
 use Rattle.demand3.proofs.Shares.{shared}
 
@@ -46,6 +46,8 @@ module _ (s : Settings) (cs : List Float) (n : ℕ) (pos : 0 < s .dimension) (lp
     pub own : (i : ℕ) → i < leavesOn h l → ownOf h l i ≡ getD qs i noDomain .rows
     pub borrowed : (i : ℕ) → i < leavesOn h l → borrowedOf h l i ≡ borrowedBy (s .dimension) cs (s .neighbours) (listed h l) (getD qs i noDomain .rows)
     pub box : (i : ℕ) → i < leavesOn h l → boxOf (s .dimension) h l i ≡ getD qs i noDomain .box
+    pub cover : (i : ℕ) → i < leavesOn h l
+        → coverIn (s .dimension) h l i ≡ leafCover (s .dimension) cs (getD qs i noDomain .rows) (getD (sentLists (s .dimension) cs qs (size s cs n h l)) i [])
     pub next : listed h (suc l) ≡ nextOf s cs (coarseAt s n) (reductionCount s n) l (listed h l)
 
   module _ (holds : IsLevel) where
@@ -102,6 +104,15 @@ module _ (s : Settings) (cs : List Float) (n : ℕ) (pos : 0 < s .dimension) (lp
 
       sent-from : (r : ℕ) → times r (sentOf s cs n h l i) ≤ times r (ownOf h l i)
       sent-from r = omega (arith, ap (times r) sent-is, ap (times r) (holds .own i k), level .sends-own i r in-qs)
+
+      sent-at : getD (sentLists d cs qs S) i [] ≡ sentOf s cs n h l i
+      unfolding sentLists
+      sent-at =
+          zip-at (λ q w. sentBy d cs (q .rows) w) qs ws (level .fair-shares .entries ∙ length-map qs (λ (q : Domain). length (q .rows))) i noDomain 0 [] in-qs
+          ∙ sym sent-is
+
+      cover-is : coverIn d h l i ≡ leafCover d cs (ownOf h l i) (sentOf s cs n h l i)
+      cover-is = holds .cover i k ∙ ap₂ (λ (x y : List ℕ). leafCover d cs x y) (sym (holds .own i k)) sent-at
 
       share : 0 < length (ownOf h l i)
           → WholePart (length (sentOf s cs n h l i)) (shareOf S (filled s cs n h l) (active s cs n h l) (length (ownOf h l i)))
@@ -164,4 +175,5 @@ module _ (s : Settings) (cs : List Float) (n : ℕ) (pos : 0 < s .dimension) (lp
       leaves-are = owns;
       boxes-are = boxes;
       borrowed-are = λ i k. holds .borrowed i k ∙ ap (borrowedBy d cs (s .neighbours) rows) (sym (holds .own i k));
+      covers-are = cover-is;
     }

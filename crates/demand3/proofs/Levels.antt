@@ -11,7 +11,7 @@ use lib.Ieee.{Float}
 use Rattle.lists.proofs.Tests.{le-or-lt}
 use Rattle.definition.specs.Tree.{Settings, Level, coarseLevel, fineLevel, reductionsLeft, levelsFrom}
 use Rattle.definition.proofs.Cuts.{Good}
-use Rattle.definition.proofs.Steps.{fineOf, nextOf, sentFrom, levels-last, levels-end, levels-more}
+use Rattle.definition.proofs.Steps.{fineOf, sizeFrom, nextOf, sentFrom, levels-last, levels-end, levels-more}
 use Rattle.definition.proofs.Levels.{next-good}
 use Rattle.definition.proofs.OneLevel.{one-level}
 use Rattle.definition.proofs.Sizes.{sized}
@@ -21,7 +21,7 @@ use Rattle.packed.proofs.Counts.{noLevel}
 pub data Levelled (s : Settings) (cs : List Float) (c k : ℕ) : ℕ → List ℕ → List Level → Type 0 where
   last : {built : ℕ} {active : List ℕ} → length active ≤ c → Levelled s cs c k built active (coarseLevel (s .dimension) active ∷ [])
   more : {built : ℕ} {active : List ℕ} {ls : List Level} → Good (s .dimension) cs active → c < length active
-      → Levelled s cs c k (suc built) (nextOf s cs c k built active) ls → Levelled s cs c k built active (fineOf s cs active ∷ ls)
+      → Levelled s cs c k (suc built) (nextOf s cs c k built active) ls → Levelled s cs c k built active (fineOf s cs (sizeFrom c k built active) active ∷ ls)
 
 module _ (s : Settings) (cs : List Float) (c k : ℕ) (pos : 0 < s .dimension) (lp : 1 ≤ s .leaf) (cp : 1 ≤ c) where
   -- ---- a fine level over active rows that outnumber c
@@ -57,7 +57,7 @@ module _ (s : Settings) (cs : List Float) (c k : ℕ) where
   pub record IsFine (built : ℕ) (level next : Level) : Type 0 where
     pub good : Good (s .dimension) cs (level .points)
     pub outnumbers : c < length (level .points)
-    pub fine : level ≡ fineOf s cs (level .points)
+    pub fine : level ≡ fineOf s cs (sizeFrom c k built (level .points)) (level .points)
     pub sent : next .points ≡ nextOf s cs c k built (level .points)
 
   pub first-active : {built : ℕ} {active : List ℕ} {ls : List Level} → Levelled s cs c k built active ls → getD ls 0 noLevel .points ≡ active
@@ -78,7 +78,7 @@ module _ (s : Settings) (cs : List Float) (c k : ℕ) where
       record {
         good = g;
         outnumbers = h;
-        fine = refl;
+        fine = subst (λ (n : ℕ). fineOf s cs (sizeFrom c k built active) active ≡ fineOf s cs (sizeFrom c k n active) active) (zero-of built) refl;
         sent = subst (λ (n : ℕ). getD ls 0 noLevel .points ≡ nextOf s cs c k n active) (zero-of built) (first-active t);
       }
     where

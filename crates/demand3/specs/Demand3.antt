@@ -16,10 +16,10 @@ use Rattle.definition.specs.Levels.{threshold, reductions, levelSize}
 use Rattle.definition.specs.Quotas.{nonempty, quotas}
 use Rattle.definition.specs.Cut.{leavesOf}
 use Rattle.definition.specs.Overlaps.{borrowedBy}
-use Rattle.definition.specs.Sampling.{sentBy}
+use Rattle.definition.specs.Sampling.{sentBy, leafCover}
 use Rattle.definition.specs.Tree.{Settings, reductionsLeft, mostFine, pointCount}
 use Rattle.definition.specs.Outcome.{TreeLists, buildAnswer, buildLists}
-use Rattle.demand3.specs.Handed.{Handed, handed, levelCount, rowsOn, leavesOn, HasNext, listed, domainRow, ownOf, borrowedOf, boxOf, ownLists, leafSizes, leafBoxes}
+use Rattle.demand3.specs.Handed.{Handed, handed, levelCount, rowsOn, leavesOn, HasNext, listed, domainRow, ownOf, borrowedOf, boxOf, coverIn, ownLists, leafSizes, leafBoxes}
 
 -- ---- the rules that speak of the lists alone
 
@@ -136,11 +136,14 @@ module _ (s : Settings) (cs : List Float) (n : ℕ) (h : Handed) (l : ℕ) where
     pub leaves-are : ownLists h l ≡ map (λ q. q .rows) (leavesOf (s .dimension) cs (s .leaf) (listed h l))
     pub boxes-are : leafBoxes (s .dimension) h l ≡ map (λ q. q .box) (leavesOf (s .dimension) cs (s .leaf) (listed h l))
     pub borrowed-are : (i : ℕ) → i < leavesOn h l → borrowedOf h l i ≡ borrowedBy (s .dimension) cs (s .neighbours) (listed h l) (ownOf h l i)
+    -- a leaf's cover is that of the rows that it sends up, over its own rows
+    pub covers-are : (i : ℕ) → i < leavesOn h l → coverIn (s .dimension) h l i ≡ leafCover (s .dimension) cs (ownOf h l i) (sentOf i)
 
-  -- ---- the coarse level: at most c rows, in a single domain
+  -- ---- the coarse level: at most c rows, in a single domain, whose cover is +0
   pub record CoarseLevel : Type 0 where
     pub few : length (listed h l) ≤ coarseAt s n
     pub single : SingleDomain (s .dimension) h l
+    pub no-cover : coverIn (s .dimension) h l 0 ≡ plusZero
 
 -- ---- the demand, for a build over a first active list
 

@@ -7,7 +7,7 @@ use lib.Ieee.{Float}
 use Rattle.lists.specs.Lists.{from}
 use Rattle.definition.specs.Packed.{Counts, DomainRow}
 use Rattle.definition.specs.Outcome.{Answer, TreeLists}
-use Rattle.packed.specs.Reading.{rowAt, ownAt, borrowedAt, boxAt, upTo, pointsAt}
+use Rattle.packed.specs.Reading.{rowAt, ownAt, borrowedAt, boxAt, coverAt, upTo, pointsAt}
 
 -- the five lists after the call, and the counts that it reports
 pub record Handed : Type 0 where
@@ -44,7 +44,7 @@ listed h l = pointsAt (h .lists .level-points) (h .counts .rows) l
 unfoldable pub rowNumber : Handed → ℕ → ℕ → ℕ
 rowNumber h l i = upTo (h .counts .domains) l + i
 
--- that row, the leaf's own (internal) rows, the rows that it borrows, and its box on d axes
+-- that row, the leaf's own (internal) rows, the rows that it borrows, and its box and its cover on d axes
 unfoldable pub domainRow : Handed → ℕ → ℕ → DomainRow
 domainRow h l i = rowAt (h .lists .domains) (rowNumber h l i)
 
@@ -56,6 +56,9 @@ borrowedOf h l i = borrowedAt (h .lists .borrowed) (h .lists .domains) (rowNumbe
 
 unfoldable pub boxOf : ℕ → Handed → ℕ → ℕ → List Float
 boxOf d h l i = boxAt d (h .lists .boxes) (rowNumber h l i)
+
+unfoldable pub coverIn : ℕ → Handed → ℕ → ℕ → Float
+coverIn d h l i = coverAt d (h .lists .boxes) (rowNumber h l i)
 
 -- ---- all leaves of level l, in their order: the own rows of each, how many these are, and the boxes
 unfoldable pub ownLists : Handed → ℕ → List (List ℕ)

@@ -9,9 +9,11 @@ use mathlib.Core.List.{List, [], _∷_}
 use native.Mathlib.Omega.{arith}
 use lib.ListN.{length, getD, replicate}
 use lib.Ieee.{Float, nan, binary64, toBits}
+use Rattle.definition.specs.Number.{plusZero, plusInfinity}
+use Rattle.definition.proofs.WorkedSamples.{line}
 use Rattle.demand3.specs.LoadedTree.{LoadedTree}
 use Rattle.demand3.proofs.Loaded.{demand-3-loaded}
-use Rattle.demand3_shuts.proofs.RightLists.{all-open, four, set, inLists, counts, level-points, two, right, right-has-it, level-points-but, internals-but, domains-but, boxes-but, borrowed-but}
+use Rattle.demand3_shuts.proofs.RightLists.{all-open, four, set, inLists, counts, level-points, two, right, right-has-it, level-points-but, internals-but, domains-but, boxesWith, boxes-but, borrowed-but}
 
 -- the right lists: four rows on one axis
 pub right-loaded : LoadedTree 1 4 right
@@ -74,7 +76,7 @@ pub not-loaded-last-borrowing : LoadedTree 1 4 (domains-but (0 ∷ 1 ∷ 0 ∷ 1
 unfolding all-open
 not-loaded-last-borrowing h = let e : _≡_ {A = ℕ} 1 0 = ap length (h .last-single .borrows-none) in omega arith
 
-pub not-loaded-last-boxed : LoadedTree 1 4 (boxes-but (0 ∷ 1 ∷ 1 ∷ 3 ∷ 3 ∷ 7 ∷ 7 ∷ 7 ∷ 0 ∷ 1 ∷ [])) → ⊥
+pub not-loaded-last-boxed : LoadedTree 1 4 (boxes-but (boxesWith plusZero plusInfinity (line (0 ∷ 1 ∷ 0 ∷ [])))) → ⊥
 unfolding all-open
 not-loaded-last-boxed h = let e : _≡_ {A = ℕ} 0x3ff0000000000000 0 = ap (λ (x : List Float). toBits binary64 (getD x 1 nan)) (h .last-single .no-box) in omega arith
 

@@ -1,22 +1,23 @@
 -- The lists of document 01's example (points 0, 1, 3, 7 on a line; leaf 2, one neighbour, factor 2, Fixed 2), which have demand 3, and
 -- the same with one of them changed. Assumes nothing.
--- Holds: all-open, four, set, inLists, counts, level-points, internals, domains, boxes, borrowed, two, right, right-has-it,
---   level-points-but, internals-but, domains-but, boxes-but, borrowed-but
+-- Holds: all-open, four, set, inLists, counts, level-points, internals, domains, coarseFloats, boxesWith, boxes, borrowed, two,
+--   right, right-has-it, level-points-but, internals-but, domains-but, boxes-but, borrowed-but
 use Prim.Native.Nat.{ℕ}
 use mathlib.Core.Path.{_≡_, refl, subst}
 use mathlib.Core.List.{List, [], _∷_, _++_}
 use lib.ListN.{replicate}
 use lib.Ieee.{Float}
+use Rattle.definition.specs.Number.{plusZero, plusInfinity}
 use Rattle.definition.specs.Packed.{Counts}
 use Rattle.definition.specs.Tree.{Settings}
 use Rattle.definition.proofs.WorkedSamples.{opened, line, onLine, nines, floatRoom, wholeRoom}
-use Rattle.demand3.specs.Handed.{Handed, listed, rowNumber, domainRow, ownOf, borrowedOf, boxOf, ownLists, leafSizes, leafBoxes}
+use Rattle.demand3.specs.Handed.{Handed, listed, rowNumber, domainRow, ownOf, borrowedOf, boxOf, coverIn, ownLists, leafSizes, leafBoxes}
 use Rattle.demand3.specs.Demand3.{shareOf, sentOf, sentUp, Demand3, handedBack}
 use Rattle.demand3.proofs.Demand.{demand-3}
 
 -- To unfold this is to unfold every definition that its line names.
 unfoldable pub all-open : ℕ
-unfolding opened listed rowNumber domainRow ownOf borrowedOf boxOf ownLists leafSizes leafBoxes shareOf sentOf sentUp
+unfolding opened listed rowNumber domainRow ownOf borrowedOf boxOf coverIn ownLists leafSizes leafBoxes shareOf sentOf sentUp
 all-open = 0
 
 abbrev pub four : List Float
@@ -26,14 +27,14 @@ abbrev pub set : Settings
 set = onLine 2 2
 
 -- lists that held nines, with these at their fronts
-abbrev pub inLists : List ℕ → List ℕ → List ℕ → List ℕ → List ℕ → Counts → Handed
+abbrev pub inLists : List ℕ → List ℕ → List ℕ → List Float → List ℕ → Counts → Handed
 inLists level-points internals domains boxes borrowed counts =
     record {
       lists = record {
         level-points = level-points ++ replicate 10 9;
         internals = internals ++ replicate 10 9;
         domains = domains ++ replicate 80 9;
-        boxes = line (boxes ++ replicate 40 9);
+        boxes = boxes ++ line (replicate 60 9);
         borrowed = borrowed ++ replicate 42 9;
       };
       counts = counts;
@@ -52,8 +53,17 @@ internals = 0 ∷ 1 ∷ 2 ∷ 3 ∷ 0 ∷ 1 ∷ []
 abbrev pub domains : List ℕ
 domains = 0 ∷ 1 ∷ 0 ∷ 1 ∷ 1 ∷ 1 ∷ 1 ∷ 2 ∷ 2 ∷ 1 ∷ 3 ∷ 2 ∷ 3 ∷ 1 ∷ 5 ∷ 1 ∷ 4 ∷ 2 ∷ 6 ∷ 0 ∷ []
 
-abbrev pub boxes : List ℕ
-boxes = 0 ∷ 1 ∷ 1 ∷ 3 ∷ 3 ∷ 7 ∷ 7 ∷ 7 ∷ 0 ∷ 0 ∷ []
+-- the floats of the coarse domain row
+abbrev pub coarseFloats : List Float
+coarseFloats = line (0 ∷ 0 ∷ 0 ∷ [])
+
+-- those of all domain rows, with these covers for the first two leaves and for the last two, which send no row up
+abbrev pub boxesWith : Float → Float → List Float → List Float
+boxesWith up none coarse =
+    line (0 ∷ 1 ∷ []) ++ up ∷ line (1 ∷ 3 ∷ []) ++ up ∷ line (3 ∷ 7 ∷ []) ++ none ∷ line (7 ∷ 7 ∷ []) ++ none ∷ coarse
+
+abbrev pub boxes : List Float
+boxes = boxesWith plusZero plusInfinity coarseFloats
 
 abbrev pub borrowed : List ℕ
 borrowed = 1 ∷ 0 ∷ 2 ∷ 1 ∷ 3 ∷ 2 ∷ []
@@ -84,7 +94,7 @@ internals-but i = inLists level-points i domains boxes borrowed two
 abbrev pub domains-but : List ℕ → Handed
 domains-but d = inLists level-points internals d boxes borrowed two
 
-abbrev pub boxes-but : List ℕ → Handed
+abbrev pub boxes-but : List Float → Handed
 boxes-but b = inLists level-points internals domains b borrowed two
 
 abbrev pub borrowed-but : List ℕ → Handed

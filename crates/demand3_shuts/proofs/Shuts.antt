@@ -6,7 +6,8 @@
 --   not-elsewhere, not-one-more, not-all-again, not-counted, not-own-counted, not-borrowed-counted, not-leaves-beyond,
 --   not-beyond, not-shared, not-left-out, not-foreign, not-renumbered, not-two-coarse, not-coarse-borrowing, not-coarse-boxed,
 --   not-below, not-own, not-twice, not-far, not-measured, six-has-it, not-out-of-order, nested-has-it, not-lowest-first,
---   not-uneven, not-sent-by-none, not-shared-out, not-one-too-few, not-two-more, not-more-than-whole, shares
+--   not-covered-by-none, not-uncovered, not-coarse-covered, not-squared, not-uneven, not-sent-by-none, not-shared-out,
+--   not-one-too-few, not-two-more, not-more-than-whole, shares
 use Prim.Native.Nat.{ℕ, _+_, _-_, _*_, _≤_, _<_}
 use mathlib.Core.Path.{_≡_, refl, ap, subst}
 use mathlib.Core.List.{List, [], _∷_, _++_}
@@ -14,11 +15,13 @@ use mathlib.Core.Logic.{_⊎_, ⊎-elim}
 use native.Mathlib.Omega.{arith}
 use lib.ListN.{length, getD, replicate}
 use lib.Ieee.{Float, nan, binary64, toBits}
+use Rattle.lists.specs.Lists.{joined}
+use Rattle.definition.specs.Number.{plusZero, plusInfinity}
 use Rattle.definition.proofs.WorkedSamples.{line, onLine, nines, floatRoom, wholeRoom}
 use Rattle.demand3.specs.Handed.{Handed}
 use Rattle.demand3.specs.Demand3.{shareOf, WholePart, OneMore, Demand3, handedBack}
 use Rattle.demand3.proofs.Demand.{demand-3}
-use Rattle.demand3_shuts.proofs.RightLists.{all-open, four, set, inLists, counts, level-points, two, level-points-but, internals-but, domains-but, boxes-but, borrowed-but}
+use Rattle.demand3_shuts.proofs.RightLists.{all-open, four, set, inLists, counts, level-points, two, level-points-but, internals-but, domains-but, coarseFloats, boxesWith, boxes-but, borrowed-but}
 
 -- nothing written and nothing counted; nothing written, though the counts are right
 pub not-empty : Demand3 set four (inLists [] [] [] [] [] (counts 0 (replicate 4 0) (replicate 4 0))) → ⊥
@@ -120,7 +123,7 @@ pub not-coarse-borrowing : Demand3 set four (domains-but (0 ∷ 1 ∷ 0 ∷ 1 �
 unfolding all-open
 not-coarse-borrowing h = let e : _≡_ {A = ℕ} 1 0 = ap length (h .last-coarse .single .borrows-none) in omega arith
 
-pub not-coarse-boxed : Demand3 set four (boxes-but (0 ∷ 1 ∷ 1 ∷ 3 ∷ 3 ∷ 7 ∷ 7 ∷ 7 ∷ 0 ∷ 1 ∷ [])) → ⊥
+pub not-coarse-boxed : Demand3 set four (boxes-but (boxesWith plusZero plusInfinity (line (0 ∷ 1 ∷ 0 ∷ [])))) → ⊥
 unfolding all-open
 not-coarse-boxed h = let e : _≡_ {A = ℕ} 0x3ff0000000000000 0 = ap (λ (x : List Float). toBits binary64 (getD x 1 nan)) (h .last-coarse .single .no-box) in omega arith
 
@@ -143,7 +146,7 @@ unfolding all-open
 not-far h = let e : _≡_ {A = ℕ} 3 1 = ap (λ (x : List ℕ). getD x 0 9) (h .each-fine 0 (omega arith) .borrowed-are 0 (omega arith)) in omega arith
 
 -- boxes measured from the leaves' own points: 0 0 for the first
-pub not-measured : Demand3 set four (boxes-but (0 ∷ 0 ∷ 1 ∷ 1 ∷ 3 ∷ 3 ∷ 7 ∷ 7 ∷ 0 ∷ 0 ∷ [])) → ⊥
+pub not-measured : Demand3 set four (boxes-but (line (0 ∷ 0 ∷ 0 ∷ 1 ∷ 1 ∷ 0 ∷ 3 ∷ 3 ∷ []) ++ plusInfinity ∷ line (7 ∷ 7 ∷ []) ++ plusInfinity ∷ coarseFloats)) → ⊥
 unfolding all-open
 not-measured h =
     let e : _≡_ {A = ℕ} 0 0x3ff0000000000000 = ap (λ (x : List (List Float)). toBits binary64 (getD (getD x 0 []) 1 nan)) (h .each-fine 0 (omega arith) .boxes-are) in
@@ -163,7 +166,7 @@ in-six rows =
         internals = rows ++ replicate 12 9;
         domains =
             0 ∷ 3 ∷ 0 ∷ 1 ∷ 3 ∷ 3 ∷ 1 ∷ 1 ∷ 6 ∷ 2 ∷ 2 ∷ 0 ∷ 8 ∷ 2 ∷ 2 ∷ 0 ∷ 10 ∷ 2 ∷ 2 ∷ 0 ∷ replicate 128 9;
-        boxes = line (0 ∷ 3 ∷ 3 ∷ 5 ∷ 0 ∷ 3 ∷ 3 ∷ 4 ∷ 0 ∷ 0 ∷ replicate 64 9);
+        boxes = line (0 ∷ 3 ∷ 1 ∷ 3 ∷ 5 ∷ 1 ∷ 0 ∷ 3 ∷ 1 ∷ 3 ∷ 4 ∷ 1 ∷ 0 ∷ 0 ∷ 0 ∷ replicate 96 9);
         borrowed = 3 ∷ 2 ∷ replicate 70 9;
       };
       counts = counts 3 (6 ∷ 4 ∷ 2 ∷ 0 ∷ []) (2 ∷ 2 ∷ 1 ∷ 0 ∷ []);
@@ -201,7 +204,7 @@ in-nested of-1 of-2 =
         domains =
             0 ∷ 0 ∷ 0 ∷ 0 ∷ 0 ∷ 1 ∷ 0 ∷ 2 ∷ 1 ∷ 0 ∷ 2 ∷ 0 ∷ 1 ∷ 1 ∷ 2 ∷ v ∷ 2 ∷ 0 ∷ (2 + v) ∷ 0 ∷ 2 ∷ 1 ∷ (2 + v) ∷ w ∷ 3 ∷ 2 ∷ (2 + v + w) ∷ 0
             ∷ replicate 48 9;
-        boxes = line (replicate 12 5 ++ 0 ∷ 0 ∷ replicate 24 9);
+        boxes = line (joined (replicate 5 (5 ∷ 5 ∷ 0 ∷ [])) ++ 5 ∷ 5 ∷ []) ++ plusInfinity ∷ line (0 ∷ 0 ∷ 0 ∷ replicate 36 9);
         borrowed = 1 ∷ 2 ∷ of-1 ++ of-2 ++ replicate (34 - v - w) 9;
       };
       counts = counts 2 (3 ∷ 2 ∷ 0 ∷ 0 ∷ []) (6 ∷ 1 ∷ 0 ∷ 0 ∷ []);
@@ -222,26 +225,55 @@ pub not-lowest-first : Demand3 (onLine 1 2) nested (in-nested (0 ∷ 2 ∷ []) (
 unfolding all-open
 not-lowest-first h = let e : _≡_ {A = ℕ} 2 1 = ap length (h .each-fine 0 (omega arith) .borrowed-are 3 (omega arith)) in omega arith
 
+-- ---- covers, of leaves that send no row up, and of the coarse domain
+
+-- +0 for a leaf that sends none of its rows; a number for one that sends all
+pub not-covered-by-none : Demand3 set four (boxes-but (boxesWith plusZero plusZero coarseFloats)) → ⊥
+unfolding all-open
+not-covered-by-none h =
+    let e : _≡_ {A = ℕ} 0 0x7ff0000000000000 = ap (toBits binary64) (h .each-fine 0 (omega arith) .covers-are 2 (omega arith)) in
+    omega arith
+
+pub not-uncovered : Demand3 set four (boxes-but (boxesWith plusInfinity plusInfinity coarseFloats)) → ⊥
+unfolding all-open
+not-uncovered h =
+    let e : _≡_ {A = ℕ} 0x7ff0000000000000 0 = ap (toBits binary64) (h .each-fine 0 (omega arith) .covers-are 0 (omega arith)) in
+    omega arith
+
+pub not-coarse-covered : Demand3 set four (boxes-but (boxesWith plusZero plusInfinity (line (0 ∷ 0 ∷ 1 ∷ [])))) → ⊥
+unfolding all-open
+not-coarse-covered h = let e : _≡_ {A = ℕ} 0x3ff0000000000000 0 = ap (toBits binary64) (h .last-coarse .no-cover) in omega arith
+
 -- ---- shares
 
--- the same points with leaf 3: two leaves of two rows, and these two rows on the second level
-abbrev pair : ℕ → ℕ → Handed
-pair x y =
+-- the same points with leaf 3: two leaves of two rows, these two rows on the second level, and these covers of the leaves
+abbrev pairWith : ℕ → ℕ → ℕ → ℕ → Handed
+pairWith x y left right =
     record {
       lists = record {
         level-points = 0 ∷ 1 ∷ 2 ∷ 3 ∷ x ∷ y ∷ replicate 10 9;
         internals = 0 ∷ 1 ∷ 2 ∷ 3 ∷ x ∷ y ∷ replicate 10 9;
         domains = 0 ∷ 2 ∷ 0 ∷ 1 ∷ 2 ∷ 2 ∷ 1 ∷ 1 ∷ 4 ∷ 2 ∷ 2 ∷ 0 ∷ replicate 88 9;
-        boxes = line (0 ∷ 3 ∷ 3 ∷ 7 ∷ 0 ∷ 0 ∷ replicate 44 9);
+        boxes = line (0 ∷ 3 ∷ left ∷ 3 ∷ 7 ∷ right ∷ 0 ∷ 0 ∷ 0 ∷ replicate 66 9);
         borrowed = 2 ∷ 1 ∷ replicate 46 9;
       };
       counts = counts 2 (4 ∷ 2 ∷ 0 ∷ 0 ∷ []) (2 ∷ 1 ∷ 0 ∷ 0 ∷ []);
     }
 
+abbrev pair : ℕ → ℕ → Handed
+pair x y = pairWith x y 1 4
+
 -- S is 2, so each sends one
 is-even : handedBack (onLine 3 2) four (nines 4) (floatRoom 4) (wholeRoom 4) ≡ pair 0 2
 unfolding all-open
 is-even = refl
+
+-- the second leaf's rows are at 3 and 7: the square of their distance in place of it
+pub not-squared : Demand3 (onLine 3 2) four (pairWith 0 2 1 16) → ⊥
+unfolding all-open
+not-squared h =
+    let e : _≡_ {A = ℕ} 0x4030000000000000 0x4010000000000000 = ap (toBits binary64) (h .each-fine 0 (omega arith) .covers-are 1 (omega arith)) in
+    omega arith
 
 -- both come from the first leaf
 pub not-uneven : Demand3 (onLine 3 2) four (pair 0 1) → ⊥
@@ -261,7 +293,7 @@ trio own v w =
         level-points = 0 ∷ 1 ∷ 2 ∷ 3 ∷ 0 ∷ 1 ∷ 2 ∷ replicate 9 9;
         internals = own ++ 0 ∷ 1 ∷ 2 ∷ replicate 9 9;
         domains = 0 ∷ v ∷ 0 ∷ 1 ∷ 2 ∷ w ∷ 1 ∷ 1 ∷ 4 ∷ 3 ∷ 2 ∷ 0 ∷ replicate 88 9;
-        boxes = line (0 ∷ 3 ∷ 3 ∷ 7 ∷ 0 ∷ 0 ∷ replicate 44 9);
+        boxes = line (0 ∷ 3 ∷ 0 ∷ 3 ∷ 7 ∷ 4 ∷ 0 ∷ 0 ∷ 0 ∷ replicate 66 9);
         borrowed = 2 ∷ 1 ∷ replicate 46 9;
       };
       counts = counts 2 (4 ∷ 3 ∷ 0 ∷ 0 ∷ []) (2 ∷ 1 ∷ 0 ∷ 0 ∷ []);

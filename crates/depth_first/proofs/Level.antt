@@ -15,7 +15,7 @@ use Rattle.lists.specs.Ascends.{All}
 use Rattle.lists.proofs.Put.{front-put, part-put-same}
 use Rattle.lists.proofs.All.{all-imp, all-map, map-all, all-at}
 use Rattle.lists.proofs.Joined.{joined-map-even}
-use Rattle.definition.specs.Packed.{rowNumbers, rowFloats}
+use Rattle.definition.specs.Packed.{rowNumbers}
 use Rattle.definition.specs.Points.{extents, boxWidth}
 use Rattle.definition.specs.Cut.{Domain, rootDomain, leavesOf}
 use Rattle.definition.specs.Record.{Cuts, uncut, cutAt, Deep, depthsOf, wholeOf, floatOf, levelCuts, nodesFrom, leafNumber, recordOf}
@@ -85,7 +85,7 @@ module _ (d : ℕ) (cs : List Float) (pos : 0 < d) (leaf : ℕ) (lp : 1 ≤ leaf
   wide : All (λ (f : Deep Domain). length (f .domain .box) ≡ boxWidth d) fs
   wide = rw (level-cuts d cs leaf R) (cuts-wide d cs leaf (boxWidth d) 0 (rootDomain d cs R) root-box)
 
-  pub root-space : {W : List ℕ} {F : List Float} {C : List ℕ} {P : List Float} (place : ℕ) → 7 * length R ≤ length W → rowFloats d * (2 * length R) ≤ length F → place + 4 * length R ≤ length C
+  pub root-space : {W : List ℕ} {F : List Float} {C : List ℕ} {P : List Float} (place : ℕ) → 7 * length R ≤ length W → boxWidth d * (2 * length R) ≤ length F → place + 4 * length R ≤ length C
       → place + 4 * length R ≤ length P → Space d (length R) (length R) place 0 W F C P
   root-space place hW hF hC hP =
       record { ordering = omega arith; table = omega (arith, hW); boxes = rw (zero-add (2 * length R)) hF; cuts = hC; planes = hP }
@@ -138,7 +138,7 @@ module _ (d : ℕ) (cs : List Float) (pos : 0 < d) (leaf : ℕ) (lp : 1 ≤ leaf
 
     -- what the numbering asks
     pub level-tabled : d ≤ 3 → (at first : ℕ) (D : List ℕ) (B : List Float) → at + length R < 2 ^ 64 → rowNumbers * (first + 2 * length R) ≤ length D
-        → rowFloats d * (first + 2 * length R) ≤ length B → Tabled d m R₁ at D first B F₁ W₁ C₁
+        → boxWidth d * (first + 2 * length R) ≤ length B → Tabled d m R₁ at D first B F₁ W₁ C₁
     level-tabled few at first D B hat hD hB =
         let mB : first + m ≤ first + 2 * length R = omega (arith, many, small .0) in
         let mF : m ≤ 0 + 2 * length R = omega (arith, many, small .0) in
@@ -148,9 +148,9 @@ module _ (d : ℕ) (cs : List Float) (pos : 0 < d) (leaf : ℕ) (lp : 1 ≤ leaf
                 axes = few;
                 rows-fit = omega (arith, hat, nR);
                 table-fits = omega (arith, nR, nW, many, small .0, room .table);
-                floats-fit = omega (arith, nF, room .boxes, mul-le-mul-left (rowFloats d) mF);
+                floats-fit = omega (arith, nF, room .boxes, mul-le-mul-left (boxWidth d) mF);
                 domains-fit = omega (arith, hD, mB);
-                boxes-fit = omega (arith, hB, mul-le-mul-left (rowFloats d) mB);
+                boxes-fit = omega (arith, hB, mul-le-mul-left (boxWidth d) mB);
               };
           full =
               record {
@@ -179,9 +179,9 @@ module _ (d : ℕ) (cs : List Float) (pos : 0 < d) (leaf : ℕ) (lp : 1 ≤ leaf
         ap (λ (z : List Float). part z 0 (boxWidth d * leafCount t)) (w .boxes ∙ ap (λ (z : ℕ). put F z (boxesUnder t)) (mul-zero (boxWidth d)))
         ∙ part-put-same F 0 (boxesUnder t) (boxWidth d * leafCount t) (omega arith) (boxes-under-length (boxWidth d) 0 t wide)
 
-    pub level-boxes : boxesByNumber (firstDepth R₁ W₁) (rowFloats d) F₁ (tableOf R₁ W₁ m) ≡ map (λ (q : Domain). q .box) (leavesOf d cs leaf R)
+    pub level-boxes : boxesByNumber (firstDepth R₁ W₁) (boxWidth d) F₁ (tableOf R₁ W₁ m) ≡ map (λ (q : Domain). q .box) (leavesOf d cs leaf R)
     level-boxes =
-        rw (table-is, least-is, boxes-at e₀ place (rowFloats d) t F₁ wide held, boxes-at (suc e₀) place (rowFloats d) t F₁ wide held)
+        rw (table-is, least-is, boxes-at e₀ place (boxWidth d) t F₁ wide held, boxes-at (suc e₀) place (boxWidth d) t F₁ wide held)
         (sym (map-append (λ (q : Domain). q .box) (atDepth e₀ fs) (atDepth (suc e₀) fs)) ∙ ap (map (λ (q : Domain). q .box)) (sym (by-two d cs pos leaf lp R good some)))
 
     pub level-cuts-are : allNumbered (firstDepth R₁ W₁) R₁ (tableOf R₁ W₁ m) C₁ ≡ put C place (map wholeOf (recordOf d cs leaf R))

@@ -4,7 +4,8 @@ ghost use mathlib.Core.List.{map};
 ghost use Prim.Native.Nat.{_+_, _*_, _^_, _≤_, _<_};
 ghost use lib.ListN.{length};
 ghost use Rattle.lists.specs.Lists.{put, joined};
-ghost use Rattle.definition.specs.Packed.{rowNumbers, rowFloats};
+ghost use Rattle.definition.specs.Points.{boxWidth};
+ghost use Rattle.definition.specs.Packed.{rowNumbers};
 ghost use Rattle.definition.specs.Cut.{leavesOf};
 ghost use Rattle.definition.specs.Record.{recordOf, wholeOf, floatOf};
 ghost use Rattle.queue.specs.Rows.{withOwn};
@@ -31,14 +32,14 @@ fn cut_leaves(
     place: usize,
 ) -> usize
     requires { ⌜ (0 < dimensions) × (dimensions ≤ 3) × (1 ≤ leaf) × (1 ≤ length (now rows)) × GoodRows dimensions (now points) (now rows) ⌝ }
-    requires { ⌜ (7 * length (now rows) ≤ length (now wholes)) × (rowFloats dimensions * (2 * length (now rows)) ≤ length (now floats)) ⌝ }
-    requires { ⌜ (at + length (now rows) < 2 ^ 64) × (rowNumbers * (first + 2 * length (now rows)) ≤ length (now domains)) × (rowFloats dimensions * (first + 2 * length (now rows)) ≤ length (now boxes)) ⌝ }
+    requires { ⌜ (7 * length (now rows) ≤ length (now wholes)) × (boxWidth dimensions * (2 * length (now rows)) ≤ length (now floats)) ⌝ }
+    requires { ⌜ (at + length (now rows) < 2 ^ 64) × (rowNumbers * (first + 2 * length (now rows)) ≤ length (now domains)) × (boxWidth dimensions * (first + 2 * length (now rows)) ≤ length (now boxes)) ⌝ }
     requires { ⌜ (place + 4 * length (now rows) ≤ length (now cuts)) × (place + 4 * length (now rows) ≤ length (now planes)) ⌝ }
     ensures number { λ r. ⌜ r ≡ length (leavesOf dimensions (now (points .entry)) leaf (now (rows .entry))) ⌝ }
     ensures nodes { λ r. ⌜ length (recordOf dimensions (now (points .entry)) leaf (now (rows .entry))) + 1 ≡ 2 * r ⌝ }
     ensures rows { λ _. ⌜ now (rows .exit) ≡ joined (map (λ q. q .rows) (leavesOf dimensions (now (points .entry)) leaf (now (rows .entry)))) ⌝ }
     ensures domains { λ _. ⌜ now (domains .exit) ≡ withOwn at (map (λ q. q .rows) (leavesOf dimensions (now (points .entry)) leaf (now (rows .entry)))) first (now (domains .entry)) ⌝ }
-    ensures boxes { λ _. ⌜ now (boxes .exit) ≡ put (now (boxes .entry)) (rowFloats dimensions * first) (joined (map (λ q. q .box) (leavesOf dimensions (now (points .entry)) leaf (now (rows .entry))))) ⌝ }
+    ensures boxes { λ _. ⌜ now (boxes .exit) ≡ put (now (boxes .entry)) (boxWidth dimensions * first) (joined (map (λ q. q .box) (leavesOf dimensions (now (points .entry)) leaf (now (rows .entry))))) ⌝ }
     ensures cuts { λ _. ⌜ now (cuts .exit) ≡ put (now (cuts .entry)) place (map wholeOf (recordOf dimensions (now (points .entry)) leaf (now (rows .entry)))) ⌝ }
     ensures planes { λ _. ⌜ now (planes .exit) ≡ put (now (planes .entry)) place (map floatOf (recordOf dimensions (now (points .entry)) leaf (now (rows .entry)))) ⌝ }
 {
@@ -97,14 +98,14 @@ pub fn leaves(
     place: usize,
 ) -> usize
     requires { ⌜ (0 < dimensions) × (dimensions ≤ 3) × (1 ≤ leaf) × (1 ≤ length (now active)) × GoodRows dimensions (now points) (now active) ⌝ }
-    requires { ⌜ (7 * length (now active) ≤ length (now wholes)) × (rowFloats dimensions * (2 * length (now active)) ≤ length (now floats)) ⌝ }
-    requires { ⌜ (at + length (now active) ≤ length (now internals)) × (rowNumbers * (first + 2 * length (now active)) ≤ length (now domains)) × (rowFloats dimensions * (first + 2 * length (now active)) ≤ length (now boxes)) ⌝ }
+    requires { ⌜ (7 * length (now active) ≤ length (now wholes)) × (boxWidth dimensions * (2 * length (now active)) ≤ length (now floats)) ⌝ }
+    requires { ⌜ (at + length (now active) ≤ length (now internals)) × (rowNumbers * (first + 2 * length (now active)) ≤ length (now domains)) × (boxWidth dimensions * (first + 2 * length (now active)) ≤ length (now boxes)) ⌝ }
     requires { ⌜ (place + 4 * length (now active) ≤ length (now cuts)) × (place + 4 * length (now active) ≤ length (now planes)) ⌝ }
     ensures number { λ r. ⌜ r ≡ length (leavesOf dimensions (now (points .entry)) leaf (now (active .entry))) ⌝ }
     ensures nodes { λ r. ⌜ length (recordOf dimensions (now (points .entry)) leaf (now (active .entry))) + 1 ≡ 2 * r ⌝ }
     ensures internals { λ _. ⌜ now (internals .exit) ≡ put (now (internals .entry)) at (joined (map (λ q. q .rows) (leavesOf dimensions (now (points .entry)) leaf (now (active .entry))))) ⌝ }
     ensures domains { λ _. ⌜ now (domains .exit) ≡ withOwn at (map (λ q. q .rows) (leavesOf dimensions (now (points .entry)) leaf (now (active .entry)))) first (now (domains .entry)) ⌝ }
-    ensures boxes { λ _. ⌜ now (boxes .exit) ≡ put (now (boxes .entry)) (rowFloats dimensions * first) (joined (map (λ q. q .box) (leavesOf dimensions (now (points .entry)) leaf (now (active .entry))))) ⌝ }
+    ensures boxes { λ _. ⌜ now (boxes .exit) ≡ put (now (boxes .entry)) (boxWidth dimensions * first) (joined (map (λ q. q .box) (leavesOf dimensions (now (points .entry)) leaf (now (active .entry))))) ⌝ }
     ensures cuts { λ _. ⌜ now (cuts .exit) ≡ put (now (cuts .entry)) place (map wholeOf (recordOf dimensions (now (points .entry)) leaf (now (active .entry)))) ⌝ }
     ensures planes { λ _. ⌜ now (planes .exit) ≡ put (now (planes .entry)) place (map floatOf (recordOf dimensions (now (points .entry)) leaf (now (active .entry)))) ⌝ }
 {

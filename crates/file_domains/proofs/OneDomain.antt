@@ -1,20 +1,20 @@
 -- One domain record tested: one law for each way out. Assumes nothing.
 -- Holds: no-record, too-many, bad-rows, bad-box, domain-good, own-enough, domain-room
 use mathlib.Core.Path.{_≡_, sym, ap, _∙_}
-use mathlib.Core.Bool.{Bool, true, false, not, _&&_, cond, and-false, and-assoc}
+use mathlib.Core.Bool.{Bool, true, false, not, _&&_, and-false, and-assoc}
 use Prim.Native.Nat.{ℕ, _+_, _*_, _≤_, _<_}
 use native.Mathlib.Omega.{arith}
 use mathlib.Core.List.{List, map}
 use lib.Dec.{leb}
 use lib.ListN.{length, drop, replicate}
-use lib.Ieee.{isNan, binary64, toBits}
+use lib.Ieee.{Float, isNan, binary64, toBits}
 use borrow.Author.Tests.{leb-true, le-leb, lt-leb, eq-eqb}
-use Rattle.lists.specs.Lists.{anyOf}
-use Rattle.lists.proofs.Tests.{clash, and-of, and-snd, three-pass}
-use Rattle.lists.proofs.From.{length-map-from}
+use Rattle.lists.specs.Lists.{anyOf, from}
+use Rattle.lists.proofs.Tests.{clash, and-of, and-snd, or-false, three-pass}
 use Rattle.definition.specs.Number.{plusZero}
 use Rattle.definition.specs.Points.{boxWidth}
 use Rattle.definition.specs.Tree.{Leaf}
+use Rattle.definition.specs.Packed.{leafFloats}
 use Rattle.formats.specs.Bytes.{numberSize, numbersAt, floatSize, floatAt, floatsAt, whole}
 use Rattle.stored.specs.File.{domainMark}
 use Rattle.stored.specs.Sound.{soundBox, noBox}
@@ -23,11 +23,12 @@ use Rattle.tree_tests.specs.InTurn.{without, inOrder, boxed, leafPasses}
 use Rattle.tree_tests.proofs.AllRows.{same-self}
 use Rattle.file_rows.proofs.InBytes.{length-rows}
 use Rattle.file_reader.specs.declared.Fetched.{Fetched}
-use Rattle.file_reader.specs.Fetch.{IsFetched, boxBytes}
+use Rattle.file_reader.specs.Fetch.{recordFloats, IsFetched}
 use Rattle.file_reader.proofs.Fetches.{parts-within}
+use Rattle.file_reader.proofs.LastFloats.{leaf-size, fine-floats}
 use Rattle.file_domains.specs.declared.Passed.{Passed}
 use Rattle.file_domains.specs.Domains.{RowsPassed, DomainPassed, DomainHere, notPassed}
-use Rattle.bytes_in.proofs.Fields.{numbers-here, floats-here}
+use Rattle.bytes_in.proofs.Fields.{length-floats-at, numbers-here, floats-here}
 
 -- ---- the tests of a leaf: the count of its own rows, its rows, its box
 leaf-tests : (box : Leaf → Bool) (q p : ℕ → Bool) (k : ℕ) (f : Leaf)
@@ -36,16 +37,20 @@ unfolding leafPasses
 leaf-tests box q p k f =
     ap (λ (b : Bool). b && box f) (and-assoc (leb (length (f .own)) k) (inOrder 0 p (f .own)) (inOrder 0 (without (f .own) q) (f .borrowed)))
 
--- the box that stands in bytes has two bounds on each axis, so that only its bounds are to be tested
-box-tests : (d : ℕ) (coarse : Bool) (bs : List ℕ) → boxed d coarse (leafIn d coarse bs) ≡ cond coarse true (not (anyOf isNan (floatsAt (boxWidth d) (boundsPlace bs) bs)))
-unfolding leafIn noBox soundBox floatsAt
-box-tests d true bs = same-self (map (toBits binary64) (replicate (boxWidth d) plusZero))
+-- the box that stands in bytes has two bounds on each axis, and the coarse one's are +0, so that only the record's floats are to be tested
+box-tests : (d : ℕ) (coarse : Bool) (bs : List ℕ)
+    → boxed d coarse (leafIn d coarse bs) ≡ not (anyOf isNan (floatsAt (recordFloats d coarse) (boundsPlace bs) bs))
+unfolding leafIn noBox soundBox floatsAt anyOf from
+box-tests d true bs =
+    let x = floatAt (boundsPlace bs + 0) bs in
+    ap (λ (b : Bool). b && not (isNan x)) (same-self (map (toBits binary64) (replicate (boxWidth d) plusZero))) ∙ ap not (sym (or-false (isNan x)))
 box-tests d false bs =
-    ap (λ (b : Bool). b && not (anyOf isNan (floatsAt (boxWidth d) (boundsPlace bs) bs)))
-    (eq-eqb (length (floatsAt (boxWidth d) (boundsPlace bs) bs)) (boxWidth d) (length-map-from (λ i. floatAt (boundsPlace bs + floatSize * i) bs) 0 (boxWidth d)))
+    ap (λ (b : Bool). b && not (anyOf isNan (leafFloats (leafIn d false bs))))
+    (eq-eqb (length (floatsAt (boxWidth d) (boundsPlace bs) bs)) (boxWidth d) (length-floats-at (boxWidth d) (boundsPlace bs) bs))
+    ∙ ap (λ (xs : List Float). not (anyOf isNan xs)) (fine-floats d bs)
 
 -- ---- the record that is fetched at a place
-module _ (file : List ℕ) (at d : ℕ) (coarse : Bool) (tail : ℕ) (f : Fetched) (e : tail ≡ boxBytes d coarse) (fetched : IsFetched (drop at file) at tail f) where
+module _ (file : List ℕ) (at d : ℕ) (coarse : Bool) (floats : ℕ) (f : Fetched) (e : floats ≡ recordFloats d coarse) (fetched : IsFetched (drop at file) at (floatSize * floats) f) where
   abbrev here : List ℕ
   here = drop at file
 
@@ -55,9 +60,11 @@ module _ (file : List ℕ) (at d : ℕ) (coarse : Bool) (tail : ℕ) (f : Fetche
   abbrev stands : Bool
   stands = whole domainMark (leafSize d coarse here) here
 
+  size-is : boundsPlace here + floatSize * floats ≡ leafSize d coarse here
+  size-is = ap (λ (n : ℕ). boundsPlace here + floatSize * n) e ∙ sym (leaf-size d coarse here)
+
   stands-is : f .whole ≡ stands
-  unfolding leafSize
-  stands-is = fetched .stands ∙ ap (λ (t : ℕ). whole domainMark (boundsPlace here + t) here) e
+  stands-is = fetched .stands ∙ ap (λ (k : ℕ). whole domainMark k here) size-is
 
   module _ (remaining : ℕ) (p q : ℕ → Bool) (left listed : List ℕ) (r : Passed) where
     abbrev Is : Type 0
@@ -115,28 +122,27 @@ module _ (file : List ℕ) (at d : ℕ) (coarse : Bool) (tail : ℕ) (f : Fetche
         pub bad-rows : rp ≡ false → r ≡ notPassed → Is
         bad-rows b n = failed (leaf-is ∙ rw b) n
 
-        module _ (good-rows : rp ≡ true) (bp : Bool) (asked : bp ≡ cond coarse true (not (anyOf isNan (floatsAt (boxWidth d) (f .«bounds_at») file)))) where
+        module _ (good-rows : rp ≡ true) (bp : Bool) (asked : bp ≡ not (anyOf isNan (floatsAt floats (f .«bounds_at») file))) where
           box-is : bp ≡ boxed d coarse leaf
           box-is =
               asked
-              ∙ ap (λ (xs : List _). cond coarse true (not (anyOf isNan xs)))
-              (ap (λ (k : ℕ). floatsAt (boxWidth d) k file) (fetched .parts w .bounds-at) ∙ floats-here at file (boxWidth d) (boundsPlace here))
+              ∙ ap (λ (xs : List Float). not (anyOf isNan xs))
+              (rw (e, fetched .parts w .bounds-at) (floats-here at file (recordFloats d coarse) (boundsPlace here)))
               ∙ sym (box-tests d coarse here)
 
-          -- its box does not
+          -- its box or its cover does not
           pub bad-box : bp ≡ false → r ≡ notPassed → Is
           bad-box b n = failed (leaf-is ∙ rw (← box-is, b) (and-false rp)) n
 
           -- it passes
           pub domain-good : bp ≡ true → r ≡ record { good = true; next = f .next; own = f .own; borrowed = f .borrowed } → Is
-          unfolding leafSize
           domain-good b g =
-              let k = parts-within file at tail f fetched w in
+              let k = parts-within file at (floatSize * floats) f fetched w in
               record {
                 tests = ap (λ (x : Passed). x .good) g ∙ sym (and-of (sym stands-is ∙ w) (leaf-is ∙ and-of good-rows (sym box-is ∙ b)));
                 passed = λ _.
                     record {
-                      next = ap (λ (x : Passed). x .next) g ∙ omega (arith, fetched .parts w .next);
+                      next = ap (λ (x : Passed). x .next) g ∙ omega (arith, fetched .parts w .next, size-is);
                       within = omega (arith, ap (λ (x : Passed). x .next) g);
                       own = ap (λ (x : Passed). x .own) g ∙ sym own-length;
                       borrowed = ap (λ (x : Passed). x .borrowed) g ∙ sym borrowed-length;

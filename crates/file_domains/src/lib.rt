@@ -1,15 +1,11 @@
 // The domain records of a stored tree's level, tested one after the other in the caller's bytes. Two sets of rows, one bit for each row,
 // go along: `left`, the level's rows that no domain so far has, and `listed`, all of the level's rows.
 ghost use mathlib.Core.Path.{_≡_};
-ghost use mathlib.Core.Bool.{Bool, true, not, cond};
+ghost use mathlib.Core.Bool.{Bool};
 ghost use Prim.Native.Nat.{ℕ, _+_, _*_, _≤_};
 ghost use lib.ListN.{length};
-ghost use lib.Ieee.{isNan};
-ghost use Rattle.lists.specs.Lists.{anyOf};
-ghost use Rattle.definition.specs.Points.{boxWidth};
-ghost use Rattle.formats.specs.Bytes.{numberSize, numbersAt, floatsAt};
+ghost use Rattle.formats.specs.Bytes.{numberSize, numbersAt};
 ghost use Rattle.marks.specs.Bits.{Marked};
-ghost use Rattle.file_reader.specs.Fetch.{boxBytes};
 ghost use Rattle.file_domains.specs.Domains.{Inside, RowsPassed, DomainPassed, DomainsPassed, notPassed};
 
 // Whether the records pass; where they do, where what comes after them starts, and how many internal and borrowed rows they have.
@@ -29,17 +25,6 @@ fn not_passed() -> Passed
         own: 0,
         borrowed: 0,
     }
-}
-
-// Whether none of the bounds from `at` on is not-a-number; the coarse domain has none.
-fn box_passes(bytes: &[u8], at: usize, dimensions: usize, coarse: bool) -> bool
-    requires { ⌜ (dimensions ≤ 3) × (at + boxBytes dimensions coarse ≤ length (now bytes)) ⌝ }
-    ensures { λ r. ⌜ r ≡ cond coarse true (not (anyOf isNan (floatsAt (boxWidth dimensions) at (now (bytes .entry))))) ⌝ }
-{
-    if coarse {
-        return true;
-    }
-    bytes_in::no_nan_at(bytes, at, 2 * dimensions)
 }
 
 // Whether a domain's own rows ascend and are left, and its borrowed rows ascend and are listed rows of others; takes the own rows out
@@ -82,7 +67,8 @@ pub fn check_domain(
     ensures { λ r. ⌜ ((p q : ℕ → Bool) → Marked (now (left .entry)) p → Marked (now (listed .entry)) q
         → DomainPassed (now (bytes .entry)) at dimensions coarse remaining p q (now (left .exit)) (now (listed .exit)) r) ⌝ }
 {
-    let f = file_reader::fetch_domain(bytes, at, file_reader::box_bytes(dimensions, coarse));
+    let floats = file_reader::record_floats(dimensions, coarse);
+    let f = file_reader::fetch_domain(bytes, at, bytes_in::FLOAT * floats);
     if !f.whole {
         return not_passed();
     }
@@ -100,7 +86,7 @@ pub fn check_domain(
     ) {
         return not_passed();
     }
-    if !box_passes(bytes, f.bounds_at, dimensions, coarse) {
+    if !bytes_in::no_nan_at(bytes, f.bounds_at, floats) {
         return not_passed();
     }
     Passed {

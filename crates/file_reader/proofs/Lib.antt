@@ -1,2 +1,3 @@
--- Laws of a record that is fetched, one for each way out.
+-- Laws of a record that is fetched, one for each way out, and of the floats that end it.
 pub mod Fetches
+pub mod LastFloats

@@ -1,17 +1,17 @@
 -- The domain record at the front of bytes, of which the first stands at a place of a file. Definitions only.
 use mathlib.Core.Path.{_≡_}
-use Prim.Native.Nat.{ℕ, _+_, _*_}
+use Prim.Native.Nat.{ℕ, _+_}
 use mathlib.Core.Bool.{Bool, true, false, cond}
 use mathlib.Core.List.{List}
-use Rattle.definition.specs.Points.{boxWidth}
-use Rattle.formats.specs.Bytes.{floatSize, whole}
+use Rattle.definition.specs.Packed.{rowFloats}
+use Rattle.formats.specs.Bytes.{whole}
 use Rattle.stored.specs.File.{domainMark}
 use Rattle.stored.specs.Stored.{countsSize, firstCount, secondCount, borrowedPlace, boundsPlace}
 use Rattle.file_reader.specs.declared.Fetched.{Fetched}
 
--- the bytes of a domain's box; the coarse domain has none
-abbrev pub boxBytes : ℕ → Bool → ℕ
-boxBytes d coarse = cond coarse 0 (floatSize * boxWidth d)
+-- how many floats end a domain's record: those of its domain row; the coarse domain has no box, and so its cover alone
+abbrev pub recordFloats : ℕ → Bool → ℕ
+recordFloats d coarse = cond coarse 1 (rowFloats d)
 
 -- its counts, and the places of its parts and of what comes next
 pub record Parts (bs : List ℕ) (at tail : ℕ) (r : Fetched) : Type 0 where
@@ -27,7 +27,7 @@ abbrev pub noDomain : Fetched
 noDomain =
     record { whole = false; own = 0; borrowed = 0; «own_at» = 0; «borrowed_at» = 0; «bounds_at» = 0; next = 0 }
 
--- whether the record stands there whole, with a box of `tail` bytes, and its parts where it does
+-- whether the record stands there whole, with `tail` bytes of floats, and its parts where it does
 pub record IsFetched (bs : List ℕ) (at tail : ℕ) (r : Fetched) : Type 0 where
   pub stands : r .whole ≡ whole domainMark (boundsPlace bs + tail) bs
   pub parts : r .whole ≡ true → Parts bs at tail r

@@ -1,4 +1,4 @@
-// The records of a stored tree, read where they stand in the caller's bytes: a domain's counts, and where its rows, its box and the
+// The records of a stored tree, read where they stand in the caller's bytes: a domain's counts, and where its rows, its floats and the
 // next record begin.
 ghost use mathlib.Core.Path.{_≡_};
 ghost use Prim.Native.Nat.{_≤_};
@@ -6,7 +6,7 @@ ghost use lib.ListN.{drop};
 ghost use Rattle.formats.specs.Bytes.{whole};
 ghost use Rattle.stored.specs.File.{domainMark};
 ghost use Rattle.stored.specs.Stored.{countsSize};
-ghost use Rattle.file_reader.specs.Fetch.{boxBytes, IsFetched, noDomain};
+ghost use Rattle.file_reader.specs.Fetch.{recordFloats, IsFetched, noDomain};
 
 // Where a domain's two counts begin, and where they end.
 const OWN: usize = bytes_in::MARK;
@@ -14,9 +14,6 @@ const OWN: usize = bytes_in::MARK;
 const BORROWED: usize = OWN + bytes_in::NUMBER;
 
 const COUNTS: usize = BORROWED + bytes_in::NUMBER;
-
-// The bytes of a box's lower and upper bound on one axis.
-const AXIS: usize = 2 * bytes_in::FLOAT;
 
 // A position in the bytes of a stored tree.
 pub struct FileReader<'a> {
@@ -49,15 +46,15 @@ fn nothing() -> Fetched
     }
 }
 
-// The bytes of a domain's box; the coarse domain has none.
-pub fn box_bytes(dimensions: usize, coarse: bool) -> usize
+// How many floats end a domain's record: the bounds of its box, and its cover; the coarse domain has no box.
+pub fn record_floats(dimensions: usize, coarse: bool) -> usize
     requires { ⌜ dimensions ≤ 3 ⌝ }
-    ensures { λ r. ⌜ r ≡ boxBytes dimensions coarse ⌝ }
+    ensures { λ r. ⌜ r ≡ recordFloats dimensions coarse ⌝ }
 {
     if coarse {
-        return 0;
+        return packed::COVER;
     }
-    AXIS * dimensions
+    packed::row_floats(dimensions)
 }
 
 // Whether a domain's mark and its two counts stand at a position.
@@ -70,7 +67,7 @@ fn counts_stand(bytes: &[u8], at: usize) -> bool
     bytes_in::record_at(bytes, at, COUNTS, 0x54, 0x44)
 }
 
-// The domain record at a position; its box has `tail` bytes.
+// The domain record at a position; its floats have `tail` bytes.
 fn domain_at(bytes: &[u8], at: usize, tail: usize) -> Fetched
     ensures { λ r. ⌜ IsFetched (drop at (now (bytes .entry))) at tail r ⌝ }
 {
@@ -106,7 +103,7 @@ impl<'a> FileReader<'a> {
         FileReader { bytes, at }
     }
 
-    // The domain record at the reader's position; its box has `tail` bytes.
+    // The domain record at the reader's position; its floats have `tail` bytes.
     pub fn domain(self, tail: usize) -> Fetched
         ensures { λ r. ⌜ IsFetched (drop (self .entry .at) (now (self .entry .bytes))) (self .entry .at) tail r ⌝ }
     {
@@ -114,7 +111,7 @@ impl<'a> FileReader<'a> {
     }
 }
 
-// The domain record at a position, by a reader on the caller's bytes; its box has `tail` bytes.
+// The domain record at a position, by a reader on the caller's bytes; its floats have `tail` bytes.
 pub fn fetch_domain(bytes: &[u8], at: usize, tail: usize) -> Fetched
     ensures { λ r. ⌜ IsFetched (drop at (now (bytes .entry))) at tail r ⌝ }
 {

@@ -6,7 +6,7 @@
 use mathlib.Core.Path.{_≡_, refl, sym, _∙_}
 use mathlib.Core.Logic.{⊎-elim}
 use mathlib.Core.Bool.{Bool}
-use mathlib.Core.List.{List, map, map-map}
+use mathlib.Core.List.{List, [], map, map-map}
 use Prim.Native.Nat.{ℕ, _+_, _*_, _≤_}
 use native.Mathlib.Omega.{arith}
 use native.Mathlib.Nat.{mul-le-mul}
@@ -25,10 +25,10 @@ use Rattle.definition.specs.Cut.{Domain, leavesOf}
 use Rattle.definition.specs.Overlaps.{borrowedBy}
 use Rattle.definition.specs.Quotas.{quotas}
 use Rattle.definition.specs.Sampling.{sentBy}
-use Rattle.definition.specs.Tree.{Leaf, fineLevel, sentLists}
-use Rattle.definition.specs.Packed.{rowNumbers, rowFloats, stretches}
+use Rattle.definition.specs.Tree.{Leaf, fineLeaf, sentLists}
+use Rattle.definition.specs.Points.{boxWidth}
+use Rattle.definition.specs.Packed.{rowNumbers, stretches}
 use Rattle.definition.proofs.Cuts.{Good, leaves-times}
-use Rattle.definition.proofs.Steps.{fineLeaf}
 use Rattle.definition_laws.proofs.Shape.{leaves-most}
 use Rattle.queue.specs.Rows.{withOwn}
 use Rattle.leaves.proofs.Domains.{leaves-fill}
@@ -37,11 +37,11 @@ use Rattle.packed.specs.Reading.{ownAt, readOwn, ownIn}
 use Rattle.overlap_owners.specs.Own.{SharedOut, Leaves}
 use Rattle.overlaps.specs.Borrowed.{borrowedLists, withBorrowed, Stage}
 use Rattle.coarse_points.specs.Sent.{sentRows, SendsUp}
-use Rattle.fine_level.specs.Fine.{leavesAt, nextAt, Given}
+use Rattle.fine_level.specs.Fine.{dividedAt, nextAt, Given}
 use Rattle.fine_level.proofs.Columns.{own-length, own-names, own-read, keeps-start, keeps-count, both-columns}
 use Rattle.overlaps.proofs.Columns.{columns-length}
 
--- ---- the definition's level, by its parts
+-- ---- the definition's level before any row is sent up, by its parts
 -- the own rows of each domain
 abbrev pub levelRows : List Domain → List (List ℕ)
 levelRows qs = map (λ q. q .rows) qs
@@ -51,24 +51,21 @@ module _ (d : ℕ) (cs : List Float) (leaf neighbours : ℕ) (active : List ℕ)
   qs = leavesOf d cs leaf active
 
   abbrev toLeaf : Domain → Leaf
-  toLeaf = fineLeaf d cs neighbours active
+  toLeaf q = fineLeaf d cs neighbours active q []
 
-  pub level-own : map (λ (f : Leaf). f .own) (leavesAt d cs leaf neighbours active) ≡ levelRows (leavesOf d cs leaf active)
-  unfolding fineLevel
+  pub level-own : map (λ (f : Leaf). f .own) (dividedAt d cs leaf neighbours active) ≡ levelRows (leavesOf d cs leaf active)
   level-own = map-map (λ (f : Leaf). f .own) toLeaf qs
 
-  pub level-borrowed : map (λ (f : Leaf). f .borrowed) (leavesAt d cs leaf neighbours active) ≡ borrowedLists d cs neighbours active (levelRows (leavesOf d cs leaf active))
-  unfolding fineLevel borrowedLists
+  pub level-borrowed : map (λ (f : Leaf). f .borrowed) (dividedAt d cs leaf neighbours active) ≡ borrowedLists d cs neighbours active (levelRows (leavesOf d cs leaf active))
+  unfolding borrowedLists
   level-borrowed =
       map-map (λ (f : Leaf). f .borrowed) toLeaf qs
       ∙ sym (map-map (borrowedBy d cs neighbours active) (λ (q : Domain). q .rows) qs)
 
-  pub level-box : map (λ (f : Leaf). f .box) (leavesAt d cs leaf neighbours active) ≡ map (λ (q : Domain). q .box) (leavesOf d cs leaf active)
-  unfolding fineLevel
+  pub level-box : map (λ (f : Leaf). f .box) (dividedAt d cs leaf neighbours active) ≡ map (λ (q : Domain). q .box) (leavesOf d cs leaf active)
   level-box = map-map (λ (f : Leaf). f .box) toLeaf qs
 
-  pub level-number : length (leavesAt d cs leaf neighbours active) ≡ length (leavesOf d cs leaf active)
-  unfolding fineLevel
+  pub level-number : length (dividedAt d cs leaf neighbours active) ≡ length (leavesOf d cs leaf active)
   level-number = length-map qs toLeaf
 
   pub level-next : (size : ℕ) → sentRows d cs active (levelRows (leavesOf d cs leaf active)) size ≡ nextAt d cs leaf size active
@@ -166,20 +163,20 @@ module _ (d : ℕ) (cs : List Float) (leaf neighbours : ℕ) (active : List ℕ)
         shared = rw overlaps-read own-shared;
       }
 
-      pub overlaps-rows : D₂ ≡ put D (rowNumbers * k) (stretches at bat (leavesAt d cs leaf neighbours active))
+      pub overlaps-rows : D₂ ≡ put D (rowNumbers * k) (stretches at bat (dividedAt d cs leaf neighbours active))
       overlaps-rows =
           eD₂ ∙ rw (eD, ← level-borrowed d cs leaf neighbours active, ← level-own d cs leaf neighbours active)
-          (both-columns at bat k (leavesAt d cs leaf neighbours active) D (omega (arith, level-number d cs leaf neighbours active, number-most)))
+          (both-columns at bat k (dividedAt d cs leaf neighbours active) D (omega (arith, level-number d cs leaf neighbours active, number-most)))
 
   -- ---- what the definition's level has packed is read back
   module _ (I D : List ℕ) (at bat k : ℕ) (fI : at + length active ≤ length I) (fD : rowNumbers * (k + 2 * length active) ≤ length D)
-      (I₁ D₂ : List ℕ) (eI : I₁ ≡ put I at (ownIn (leavesAt d cs leaf neighbours active))) (eD : D₂ ≡ put D (rowNumbers * k) (stretches at bat (leavesAt d cs leaf neighbours active))) where
+      (I₁ D₂ : List ℕ) (eI : I₁ ≡ put I at (ownIn (dividedAt d cs leaf neighbours active))) (eD : D₂ ≡ put D (rowNumbers * k) (stretches at bat (dividedAt d cs leaf neighbours active))) where
     own-due : I₁ ≡ put I at (joined own)
     own-due = rw (← level-own d cs leaf neighbours active) eI
 
     rows-due : D₂ ≡ withBorrowed bat (borrowedLists d cs neighbours active own) k (withOwn at own k D)
     rows-due =
-        eD ∙ sym (both-columns at bat k (leavesAt d cs leaf neighbours active) D (omega (arith, level-number d cs leaf neighbours active, number-most)))
+        eD ∙ sym (both-columns at bat k (dividedAt d cs leaf neighbours active) D (omega (arith, level-number d cs leaf neighbours active, number-most)))
         ∙ rw (level-borrowed d cs leaf neighbours active, level-own d cs leaf neighbours active)
 
     pub packed-read : readOwn I₁ D₂ k (length (leavesOf d cs leaf active)) ≡ levelRows (leavesOf d cs leaf active)
@@ -193,8 +190,8 @@ module _ (d : ℕ) (cs : List Float) (leaf neighbours : ℕ) (active : List ℕ)
         sends-of d cs leaf active I₁ D₂ k (length (leavesOf d cs leaf active)) (g .axes-few) (g .good) packed-named packed-read
 
 -- ---- working room
-pub boxes-room : (d a : ℕ) → d ≤ 3 → rowFloats d * (2 * a) ≤ 12 * a
-boxes-room d a h = let e : rowFloats d * (2 * a) ≤ rowFloats 3 * (2 * a) = mul-le-mul (omega arith) (omega arith) in omega arith
+pub boxes-room : (d a : ℕ) → d ≤ 3 → boxWidth d * (2 * a) ≤ 12 * a
+boxes-room d a h = let e : boxWidth d * (2 * a) ≤ boxWidth 3 * (2 * a) = mul-le-mul (omega arith) (omega arith) in omega arith
 
 pub codes-room : (a neighbours : ℕ) → a + 2 * a * (neighbours + 1) ≤ 32 * a + 8 * a * (neighbours + 1)
 codes-room a neighbours = let e : 2 * a * (neighbours + 1) ≤ 8 * a * (neighbours + 1) = mul-le-mul (omega arith) (omega arith) in omega arith

@@ -9,11 +9,14 @@ use Rattle.definition.specs.Record.{Node}
 use Rattle.cut_engine.specs.Engines.{recordBy, nodesFor}
 use Rattle.fine_level.specs.declared.Plan.{Plan}
 use Rattle.fine_level.specs.declared.Place.{Place}
-use Rattle.fine_level.specs.Fine.{leavesAt, Given, Fits}
+use Rattle.fine_level.specs.Fine.{dividedAt, leavesAt, Given, Fits}
 
--- the leaves of the fine level over the active rows
-abbrev pub leavesBy : Plan → List Float → List ℕ → List Leaf
-leavesBy p cs active = leavesAt (p .dimensions) cs (p .leaf) (p .neighbours) active
+-- the leaves of the fine level over the active rows: before any row is sent up, and where `size` of them are
+abbrev pub dividedBy : Plan → List Float → List ℕ → List Leaf
+dividedBy p cs active = dividedAt (p .dimensions) cs (p .leaf) (p .neighbours) active
+
+abbrev pub leavesBy : Plan → List Float → ℕ → List ℕ → List Leaf
+leavesBy p cs size active = leavesAt (p .dimensions) cs (p .leaf) (p .neighbours) size active
 
 -- the active rows, in the level points
 abbrev pub activeAt : Place → List ℕ → List ℕ

@@ -13,7 +13,7 @@ use Rattle.definition.specs.Tree.{Settings}
 use Rattle.definition.proofs.WorkedSamples.{opened, line}
 use Rattle.formats.specs.Bytes.{floatsAt, little, bytesOf, floatBytes}
 use Rattle.formats.specs.Stream.{policyFits, settingsIn, Job, job, broken, brokenAt, tooLarge, readPoints, held, jobIn}
-use Rattle.formats.specs.Printout.{ascii, decimalOnto, decimal, hexOnto, rowsText, boxText, domainLine, fineLines, coarseLines, levelLine, levelsText, treeText, refusalText, builtText, jobText, printout}
+use Rattle.formats.specs.Printout.{ascii, decimalOnto, decimal, hexOnto, rowsText, floatsText, domainLine, fineLines, coarseLines, levelLine, levelsText, treeText, refusalText, builtText, jobText, printout}
 
 -- ---- streams
 
@@ -91,15 +91,15 @@ pub record Printouts : Type 0 where
   -- the four-point job, byte for byte
   printed :
       printout fourPoints
-      ≡ ascii "levels 2\nlevel 0 points 0 1 2 3\ndomain 0 internal 0 overlap 1 box 0000000000000000 3ff0000000000000\ndomain 1 internal 1 overlap 0 2 box 3ff0000000000000 4008000000000000\ndomain 2 internal 2 overlap 1 3 box 4008000000000000 401c000000000000\ndomain 3 internal 3 overlap 2 box 401c000000000000 401c000000000000\nlevel 1 points 0 1\ndomain 0 internal 0 1 overlap - box -\n"
-  -- a leaf with no rows: a dash for each list, and its box
+      ≡ ascii "levels 2\nlevel 0 points 0 1 2 3\ndomain 0 internal 0 overlap 1 box 0000000000000000 3ff0000000000000 cover 0000000000000000\ndomain 1 internal 1 overlap 0 2 box 3ff0000000000000 4008000000000000 cover 0000000000000000\ndomain 2 internal 2 overlap 1 3 box 4008000000000000 401c000000000000 cover 7ff0000000000000\ndomain 3 internal 3 overlap 2 box 401c000000000000 401c000000000000 cover 7ff0000000000000\nlevel 1 points 0 1\ndomain 0 internal 0 1 overlap - box - cover 0000000000000000\n"
+  -- a leaf with no rows: a dash for each list, its box, and +0 for its cover
   emptyLeaf :
       printout ((0x53 ∷ 0x54 ∷ 1 ∷ []) ++ bytesOf 4 1 ++ bytesOf 4 1 ++ bytesOf 4 2 ++ 1 ∷ [] ++ bytesOf 4 1 ++ point (line (0 ∷ [])) ++ point (line (1 ∷ [])))
-      ≡ ascii "levels 2\nlevel 0 points 0 1\ndomain 0 internal - overlap - box 0000000000000000 0000000000000000\ndomain 1 internal 0 overlap 1 box 0000000000000000 3ff0000000000000\ndomain 2 internal - overlap - box 3ff0000000000000 3ff0000000000000\ndomain 3 internal 1 overlap 0 box 3ff0000000000000 3ff0000000000000\nlevel 1 points 0\ndomain 0 internal 0 overlap - box -\n"
+      ≡ ascii "levels 2\nlevel 0 points 0 1\ndomain 0 internal - overlap - box 0000000000000000 0000000000000000 cover 0000000000000000\ndomain 1 internal 0 overlap 1 box 0000000000000000 3ff0000000000000 cover 0000000000000000\ndomain 2 internal - overlap - box 3ff0000000000000 3ff0000000000000 cover 0000000000000000\ndomain 3 internal 1 overlap 0 box 3ff0000000000000 3ff0000000000000 cover 7ff0000000000000\nlevel 1 points 0\ndomain 0 internal 0 overlap - box - cover 0000000000000000\n"
   -- rows of two digits, in a tree of one level
   twoDigits :
       printout (settings 1 1 0 0 ++ joined (map (λ x. point (x ∷ [])) (line (from 0 11))))
-      ≡ ascii "levels 1\nlevel 0 points 0 1 2 3 4 5 6 7 8 9 10\ndomain 0 internal 0 1 2 3 4 5 6 7 8 9 10 overlap - box -\n"
+      ≡ ascii "levels 1\nlevel 0 points 0 1 2 3 4 5 6 7 8 9 10\ndomain 0 internal 0 1 2 3 4 5 6 7 8 9 10 overlap - box - cover 0000000000000000\n"
   -- the stream's refusals, and the build's own
   refused16 : printout (settings 1 17 1 2 ++ zeroPoints 32 ++ 0x50 ∷ []) ≡ ascii "refused 16 at 340\n"
   refused17 : printout (settings 1 17 1 2) ≡ ascii "refused 17 at 0\n"
@@ -145,7 +145,7 @@ streams =
     }
 
 pub printouts : Printouts
-unfolding opened little bytesOf point floatsAt policyFits settingsIn readPoints held jobIn ascii decimalOnto decimal hexOnto rowsText boxText domainLine fineLines coarseLines levelLine levelsText treeText refusalText builtText jobText printout
+unfolding opened little bytesOf point floatsAt policyFits settingsIn readPoints held jobIn ascii decimalOnto decimal hexOnto rowsText floatsText domainLine fineLines coarseLines levelLine levelsText treeText refusalText builtText jobText printout
 printouts =
     record {
       printed = refl;

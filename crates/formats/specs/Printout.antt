@@ -45,9 +45,9 @@ unfoldable pub rowsText : List ℕ → List ℕ
 rowsText [] = ascii " -"
 rowsText (i ∷ is) = joined (map (λ j. 32 ∷ decimal j) (i ∷ is))
 
--- a space and the hexadecimal bits, for each bound
-unfoldable pub boxText : List Float → List ℕ
-boxText b = joined (map (λ x. 32 ∷ hexOnto 16 (toBits binary64 x) []) b)
+-- a space and the hexadecimal bits, for each value
+unfoldable pub floatsText : List Float → List ℕ
+floatsText b = joined (map (λ x. 32 ∷ hexOnto 16 (toBits binary64 x) []) b)
 
 -- ---- lines
 
@@ -55,12 +55,12 @@ boxText b = joined (map (λ x. 32 ∷ hexOnto 16 (toBits binary64 x) []) b)
 unfoldable pub domainLine : ℕ → Leaf → List ℕ → List ℕ
 domainLine i f box =
     ascii "domain " ++ decimal i ++ ascii " internal" ++ rowsText (f .own) ++ ascii " overlap" ++ rowsText (f .borrowed)
-    ++ ascii " box" ++ box ++ ascii "\n"
+    ++ ascii " box" ++ box ++ ascii " cover" ++ floatsText (f .cover ∷ []) ++ ascii "\n"
 
 -- the leaves of a fine level, numbered from i on
 unfoldable pub fineLines : ℕ → List Leaf → List ℕ
 fineLines i [] = []
-fineLines i (f ∷ fs) = domainLine i f (boxText (f .box)) ++ fineLines (suc i) fs
+fineLines i (f ∷ fs) = domainLine i f (floatsText (f .box)) ++ fineLines (suc i) fs
 
 -- the coarse domain, with a dash for its box
 unfoldable pub coarseLines : List Leaf → List ℕ

@@ -17,7 +17,7 @@ use Rattle.definition.specs.Tree.{Settings, Level, mostFine, levelsFrom, levels
 use Rattle.definition.specs.Packed.{rowFloats, mostRows, buildStated, packedLevelPoints, countsOf}
 use Rattle.definition.specs.Outcome.{TreeLists, lentSizes}
 use Rattle.definition.specs.Record.{Node, nodesIn}
-use Rattle.definition.proofs.Steps.{fineOf, nextOf, levels-last, levels-end, levels-more}
+use Rattle.definition.proofs.Steps.{fineOf, sizeFrom, nextOf, levels-last, levels-end, levels-more}
 use Rattle.definition_laws.proofs.Accepted.{Accepted}
 use Rattle.definition.proofs.Sizes.{ends}
 use Rattle.rows.proofs.AllRows.{all-rows-good}
@@ -40,7 +40,7 @@ module _ (s : Settings) (cs : List Float) (c k : ℕ) where
       ⊎-elim
       (λ (few : length active ≤ c). levels-end s cs c k fuel built active few ∙ sym (levels-end r cs c k fuel built active few))
       (λ (many : c < length active). levels-more s cs c k fuel built active many
-      ∙ ap (λ (ls : List Level). fineOf s cs active ∷ ls) (same-levels fuel (suc built) (nextOf s cs c k built active))
+      ∙ ap (λ (ls : List Level). fineOf s cs (sizeFrom c k built active) active ∷ ls) (same-levels fuel (suc built) (nextOf s cs c k built active))
       ∙ sym (levels-more r cs c k fuel built active many))
       (le-or-lt (length active) c)
 

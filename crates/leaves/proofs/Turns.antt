@@ -17,8 +17,8 @@ use Rattle.lists.specs.Found.{AsFoundFrom}
 use Rattle.lists.proofs.Put.{put-zero, put-whole, length-part, length-put, part-put-same, part-lent, part-back}
 use Rattle.lists.proofs.Found.{found-on, found-put}
 use Rattle.lists.proofs.From.{length-from}
-use Rattle.definition.specs.Packed.{rowNumbers, rowFloats}
-use Rattle.definition.specs.Points.{extents}
+use Rattle.definition.specs.Packed.{rowNumbers}
+use Rattle.definition.specs.Points.{boxWidth, extents}
 use Rattle.definition.specs.Cut.{Domain, rootDomain, longestAxis, plane, leftOf, rightOf, leavesOf}
 use Rattle.definition.proofs.Cuts.{axis-below}
 use Rattle.queue.specs.Rows.{twoHalves, twoOwn, withOwn}
@@ -49,14 +49,14 @@ pub record Run (d : ℕ) (cs : List Float) (leaf : ℕ) (active O₀ : List ℕ)
       Inv (kind d cs pos leaf lp) (length active) (rootDomain d cs active) (packedIn (length active) w₀) O₀ at₀ k₀
       rows (roomIn (length active) w) (packedIn (length active) w) O qs head tail done k
   pub boxes :
-      Boxes (kind d cs pos leaf lp) domainBox (rowFloats d) (put B₀ (rowFloats d * k₀) (joined (map domainBox (leavesFrom d cs leaf (rootDomain d cs active ∷ []))))) floats B qs head tail k
+      Boxes (kind d cs pos leaf lp) domainBox (boxWidth d) (put B₀ (boxWidth d * k₀) (joined (map domainBox (leavesFrom d cs leaf (rootDomain d cs active ∷ []))))) floats B qs head tail k
   pub fit-w : 6 * length active ≤ length w
-  pub fit-floats : rowFloats d * (2 * length active) ≤ length floats
-  pub fit-B : rowFloats d * (k₀ + 2 * length active) ≤ length B
+  pub fit-floats : boxWidth d * (2 * length active) ≤ length floats
+  pub fit-B : boxWidth d * (k₀ + 2 * length active) ≤ length B
   pub begun : 1 ≤ tail
   pub turns : tail + k ≡ 2 * head + 1 + k₀
   pub found-w : AsFoundFrom (2 * length active + 2 * tail) w₀ w
-  pub found-floats : AsFoundFrom (rowFloats d * tail) floats₀ floats
+  pub found-floats : AsFoundFrom (boxWidth d * tail) floats₀ floats
 
 -- what is known in a turn: n rows, of which the first stretch has c from s on
 pub record Known (d : ℕ) (leaf n : ℕ) (rows w O : List ℕ) (floats B : List Float) (head tail done k s c : ℕ) : Type 0 where
@@ -67,10 +67,10 @@ pub record Known (d : ℕ) (leaf n : ℕ) (rows w O : List ℕ) (floats B : List
   pub rows-fit : done + c ≤ n
   pub leaves-fit : rowNumbers * (k + 2) ≤ length O
   pub room-fit : leaf ≤ c / 2 → 2 * tail + 4 ≤ 4 * n
-  pub read-fit : rowFloats d * head + rowFloats d ≤ rowFloats d * tail
-  pub floats-all : rowFloats d * tail ≤ length floats
-  pub floats-fit : leaf ≤ c / 2 → rowFloats d * tail + 2 * rowFloats d ≤ length floats
-  pub boxes-fit : rowFloats d * k + 2 * rowFloats d ≤ length B
+  pub read-fit : boxWidth d * head + boxWidth d ≤ boxWidth d * tail
+  pub floats-all : boxWidth d * tail ≤ length floats
+  pub floats-fit : leaf ≤ c / 2 → boxWidth d * tail + 2 * boxWidth d ≤ length floats
+  pub boxes-fit : boxWidth d * k + 2 * boxWidth d ≤ length B
 
 -- the stretch that stands first in the queue
 abbrev pub headStart : ℕ → List ℕ → ℕ → ℕ
@@ -110,7 +110,7 @@ pub record Front (d : ℕ) (cs : List Float) (leaf : ℕ) (active O₀ : List �
       Inv (kind d cs (run .pos) leaf (run .lp)) (length active) (rootDomain d cs active) (packedIn (length active) w₀) O₀ at₀ k₀
       rows (roomIn (length active) w) (packedIn (length active) w) O (q ∷ rest) head tail done k
   pub boxes :
-      Boxes (kind d cs (run .pos) leaf (run .lp)) domainBox (rowFloats d) (put B₀ (rowFloats d * k₀) (joined (map domainBox (leavesFrom d cs leaf (rootDomain d cs active ∷ []))))) floats B (q ∷ rest) head tail k
+      Boxes (kind d cs (run .pos) leaf (run .lp)) domainBox (boxWidth d) (put B₀ (boxWidth d * k₀) (joined (map domainBox (leavesFrom d cs leaf (rootDomain d cs active ∷ []))))) floats B (q ∷ rest) head tail k
 
 module _ {d : ℕ} {cs : List Float} {leaf : ℕ} {active O₀ : List ℕ} {B₀ : List Float} {w₀ : List ℕ} {floats₀ : List Float} {at₀ k₀ : ℕ}
     {rows w O : List ℕ} {floats B : List Float} {head tail done k : ℕ} where
@@ -122,7 +122,7 @@ module _ {d : ℕ} {cs : List Float} {leaf : ℕ} {active O₀ : List ℕ} {B₀
       go : (qs : List Domain)
           → Inv (kind d cs (x .pos) leaf (x .lp)) (length active) (rootDomain d cs active) (packedIn (length active) w₀) O₀ at₀ k₀
           rows (roomIn (length active) w) (packedIn (length active) w) O qs head tail done k
-          → Boxes (kind d cs (x .pos) leaf (x .lp)) domainBox (rowFloats d) (put B₀ (rowFloats d * k₀) (joined (map domainBox (leavesFrom d cs leaf (rootDomain d cs active ∷ []))))) floats B qs head tail k
+          → Boxes (kind d cs (x .pos) leaf (x .lp)) domainBox (boxWidth d) (put B₀ (boxWidth d * k₀) (joined (map domainBox (leavesFrom d cs leaf (rootDomain d cs active ∷ []))))) floats B qs head tail k
           → Front d cs leaf active O₀ B₀ w₀ floats₀ at₀ k₀ rows w O floats B head tail done k
       go [] inv b = absurd (inv-next inv h)
       go (q ∷ qs) inv b = record { run = x; more = h; q = q; rest = qs; inv = inv; boxes = b }
@@ -156,11 +156,11 @@ module _ {d : ℕ} {cs : List Float} {leaf : ℕ} {active O₀ : List ℕ} {B₀
     lent-q : Lent rows s c ≡ q .rows
     lent-q = part-lent rows s c ∙ turn-same (x .inv) (x .more) e-s e-c
 
-    box-q : part floats (rowFloats d * head) (rowFloats d) ≡ q .box
+    box-q : part floats (boxWidth d * head) (boxWidth d) ≡ q .box
     box-q = boxes-now (x .more) (x .boxes)
 
-    floats-all : rowFloats d * tail ≤ length floats
-    floats-all = let e : rowFloats d * tail ≤ rowFloats d * (2 * n) = mul-le-mul-left (rowFloats d) (omega (arith, x .inv .fits)) in omega (arith, x .run .fit-floats)
+    floats-all : boxWidth d * tail ≤ length floats
+    floats-all = let e : boxWidth d * tail ≤ boxWidth d * (2 * n) = mul-le-mul-left (boxWidth d) (omega (arith, x .inv .fits)) in omega (arith, x .run .fit-floats)
 
     pub known : Known d leaf n rows w O floats B head tail done k s c
     known =
@@ -172,10 +172,10 @@ module _ {d : ℕ} {cs : List Float} {leaf : ℕ} {active O₀ : List ℕ} {B₀
           rows-fit = omega (arith, turn-rows (x .inv) (x .more) e-s e-c, packed-length n w six);
           leaves-fit = turn-leaves (x .inv) (x .more) e-s e-c;
           room-fit = λ g. omega (arith, turn-room (x .inv) (x .more) e-s e-c g);
-          read-fit = wider (rowFloats d) head tail (omega (arith, x .more));
+          read-fit = wider (boxWidth d) head tail (omega (arith, x .more));
           floats-all = floats-all;
-          floats-fit = λ g. omega (arith, x .run .fit-floats, wider2 (rowFloats d) tail (2 * n) (omega (arith, turn-room (x .inv) (x .more) e-s e-c g)));
-          boxes-fit = omega (arith, x .run .fit-B, wider2 (rowFloats d) k (k₀ + 2 * n) (turn-end (x .inv) (x .more) e-s e-c));
+          floats-fit = λ g. omega (arith, x .run .fit-floats, wider2 (boxWidth d) tail (2 * n) (omega (arith, turn-room (x .inv) (x .more) e-s e-c g)));
+          boxes-fit = omega (arith, x .run .fit-B, wider2 (boxWidth d) k (k₀ + 2 * n) (turn-end (x .inv) (x .more) e-s e-c));
         }
 
     -- the rows that are lent to the cut, and its room
@@ -213,25 +213,25 @@ module _ {d : ℕ} {cs : List Float} {leaf : ℕ} {active O₀ : List ℕ} {B₀
     abbrev r-box : List Float
     r-box = rightOf d cs q .box
 
-    wide : length (q .box) ≡ rowFloats d
+    wide : length (q .box) ≡ boxWidth d
     wide =
         let u = known in
-        sym (ap length box-q) ∙ length-part floats (rowFloats d * head) (rowFloats d) (omega (arith, u .read-fit, floats-all))
+        sym (ap length box-q) ∙ length-part floats (boxWidth d * head) (boxWidth d) (omega (arith, u .read-fit, floats-all))
 
-    l-wide : length l-box ≡ rowFloats d
+    l-wide : length l-box ≡ boxWidth d
     l-wide = rw (box-left d cs q) (length-set (q .box) (d + longestAxis d cs (q .rows)) (plane d cs (q .rows)) ∙ wide)
 
-    r-wide : length r-box ≡ rowFloats d
+    r-wide : length r-box ≡ boxWidth d
     r-wide = rw (box-right d cs q) (length-set (q .box) (longestAxis d cs (q .rows)) (plane d cs (q .rows)) ∙ wide)
 
-    both-wide : length (l-box ++ r-box) ≡ 2 * rowFloats d
+    both-wide : length (l-box ++ r-box) ≡ 2 * boxWidth d
     both-wide = length-append l-box r-box ∙ omega (arith, l-wide, r-wide)
 
     -- What the cut and the loads bring: the lent rows as ys and the lent room as zs; axis and plane; and the floats and the dimension of
     -- the domain's box. Where both lists are again whole, they are rows₁ and w₁.
     module _ (ys zs : List ℕ) (ey : ys ≡ halved d cs (longestAxis d cs (Lent rows s c)) (Lent rows s c)) (ez : length zs ≡ length (take c w))
         (y : ℕ) (p : Float) (b : List Float) (bd : ℕ)
-        (ea : y ≡ longestAxis d cs (Lent rows s c)) (ep : p ≡ plane d cs (Lent rows s c)) (eb : b ≡ part floats (rowFloats d * head) (rowFloats d)) (ed : bd ≡ d) where
+        (ea : y ≡ longestAxis d cs (Lent rows s c)) (ep : p ≡ plane d cs (Lent rows s c)) (eb : b ≡ part floats (boxWidth d * head) (boxWidth d)) (ed : bd ≡ d) where
       abbrev both : List ℕ
       both = leftOf d cs q .rows ++ rightOf d cs q .rows
 
@@ -291,11 +291,11 @@ module _ {d : ℕ} {cs : List Float} {leaf : ℕ} {active O₀ : List ℕ} {B₀
         packed₂ : packedIn n w₂ ≡ packedIn n w
         packed₂ = rw f (room-packed n w₁ six₁ (2 * tail) (twoHalves s c) joins ∙ packed₁)
 
-        pub wait : (floats₁ : List Float) → floats₁ ≡ put floats (rowFloats d * tail) (set b (bd + y) p ++ set b y p)
+        pub wait : (floats₁ : List Float) → floats₁ ≡ put floats (boxWidth d * tail) (set b (bd + y) p ++ set b y p)
             → Run d cs leaf active O₀ B₀ w₀ floats₀ at₀ k₀ rows₁ w₂ O floats₁ B (head + 1) (tail + 2) done k
         wait floats₁ i =
             let u = known in
-            let j : floats₁ ≡ put floats (rowFloats d * tail) (l-box ++ r-box) = i ∙ ap (put floats (rowFloats d * tail)) both-boxes in
+            let j : floats₁ ≡ put floats (boxWidth d * tail) (l-box ++ r-box) = i ∙ ap (put floats (boxWidth d * tail)) both-boxes in
             record {
               pos = x .run .pos;
               few = x .run .few;
@@ -307,7 +307,7 @@ module _ {d : ℕ} {cs : List Float} {leaf : ℕ} {active O₀ : List ℕ} {B₀
               inv = rw packed₂ (inv-wait (x .inv) (x .more) e-s e-c g rows₁ (roomIn n w₂) rows-cut room₂);
               boxes = boxes-wait (x .more) (x .boxes) l-wide r-wide floats₁ (turn-wait (x .inv) (x .more) e-s e-c g) floats-all j;
               fit-w = rw (f, length-put w₁ (2 * n + 2 * tail) (twoHalves s c) (omega (arith, joins, six₁)), same-w) six;
-              fit-floats = rw (j, length-put floats (rowFloats d * tail) (l-box ++ r-box) (omega (arith, both-wide, u .floats-fit g))) (x .run .fit-floats);
+              fit-floats = rw (j, length-put floats (boxWidth d * tail) (l-box ++ r-box) (omega (arith, both-wide, u .floats-fit g))) (x .run .fit-floats);
               fit-B = x .run .fit-B;
               begun = omega arith;
               turns = omega (arith, x .run .turns);
@@ -315,9 +315,9 @@ module _ {d : ℕ} {cs : List Float} {leaf : ℕ} {active O₀ : List ℕ} {B₀
                   rw f (found-put (2 * n + 2 * (tail + 2)) w₀ w₁ (2 * n + 2 * tail) (twoHalves s c)
                   (found-on (2 * n + 2 * tail) (2 * n + 2 * (tail + 2)) w₀ w₁ found₁ (omega arith)) (omega (arith, joins, six₁)) (omega arith));
               found-floats =
-                  let e = mul-add (rowFloats d) tail 2 in
-                  rw j (found-put (rowFloats d * (tail + 2)) floats₀ floats (rowFloats d * tail) (l-box ++ r-box)
-                  (found-on (rowFloats d * tail) (rowFloats d * (tail + 2)) floats₀ floats (x .run .found-floats) (omega arith)) floats-all (omega (arith, both-wide)));
+                  let e = mul-add (boxWidth d) tail 2 in
+                  rw j (found-put (boxWidth d * (tail + 2)) floats₀ floats (boxWidth d * tail) (l-box ++ r-box)
+                  (found-on (boxWidth d * tail) (boxWidth d * (tail + 2)) floats₀ floats (x .run .found-floats) (omega arith)) floats-all (omega (arith, both-wide)));
             }
 
         pub wait-less : cutsLeft (roomIn n w₂) (head + 1) (tail + 2) < cutsLeft (roomIn n w) head tail
@@ -340,11 +340,11 @@ module _ {d : ℕ} {cs : List Float} {leaf : ℕ} {active O₀ : List ℕ} {B₀
         packed₃ : packedIn n w₂ ≡ put (packedIn n w) done (part rows₁ s c)
         packed₃ = rw f (packed-put n w₁ six₁ done (part rows₁ s c) fits₂ ∙ rw packed₁)
 
-        pub next-leaves : (O₁ : List ℕ) (B₁ : List Float) → O₁ ≡ twoOwn O k (at₀ + done) c → B₁ ≡ put B (rowFloats d * k) (set b (bd + y) p ++ set b y p)
+        pub next-leaves : (O₁ : List ℕ) (B₁ : List Float) → O₁ ≡ twoOwn O k (at₀ + done) c → B₁ ≡ put B (boxWidth d * k) (set b (bd + y) p ++ set b y p)
             → Run d cs leaf active O₀ B₀ w₀ floats₀ at₀ k₀ rows₁ w₂ O₁ floats B₁ (head + 1) tail (done + c) (k + 2)
         next-leaves O₁ B₁ o i =
             let u = known in
-            let j : B₁ ≡ put B (rowFloats d * k) (l-box ++ r-box) = i ∙ ap (put B (rowFloats d * k)) both-boxes in
+            let j : B₁ ≡ put B (boxWidth d * k) (l-box ++ r-box) = i ∙ ap (put B (boxWidth d * k)) both-boxes in
             record {
               pos = x .run .pos;
               few = x .run .few;
@@ -357,7 +357,7 @@ module _ {d : ℕ} {cs : List Float} {leaf : ℕ} {active O₀ : List ℕ} {B₀
               boxes = boxes-done (x .more) (x .boxes) l-wide r-wide B₁ (turn-done (x .inv) (x .more) e-s e-c g) (omega (arith, u .boxes-fit)) j;
               fit-w = rw (f, length-put w₁ (n + done) (part rows₁ s c) (omega (arith, fits₂, six₁)), same-w) six;
               fit-floats = x .run .fit-floats;
-              fit-B = rw (j, length-put B (rowFloats d * k) (l-box ++ r-box) (omega (arith, both-wide, u .boxes-fit))) (x .run .fit-B);
+              fit-B = rw (j, length-put B (boxWidth d * k) (l-box ++ r-box) (omega (arith, both-wide, u .boxes-fit))) (x .run .fit-B);
               begun = x .run .begun;
               turns = omega (arith, x .run .turns);
               found-w = rw f (found-put (2 * n + 2 * tail) w₀ w₁ (n + done) (part rows₁ s c) found₁ (omega (arith, fits₂, six₁)) (omega (arith, fits₂)));
@@ -371,7 +371,7 @@ module _ {d : ℕ} {cs : List Float} {leaf : ℕ} {active O₀ : List ℕ} {B₀
   pub run-end : (x : Run d cs leaf active O₀ B₀ w₀ floats₀ at₀ k₀ rows w O floats B head tail done k) → tail ≤ head
       → (k ≡ k₀ + length (leavesOf d cs leaf active)) × (packedIn (length active) w ≡ joined (map (λ (q : Domain). q .rows) (leavesOf d cs leaf active)))
       × (O ≡ withOwn at₀ (map (λ (q : Domain). q .rows) (leavesOf d cs leaf active)) k₀ O₀)
-      × (B ≡ put B₀ (rowFloats d * k₀) (joined (map domainBox (leavesOf d cs leaf active)))) × (k ≡ k₀ + tail + 1)
+      × (B ≡ put B₀ (boxWidth d * k₀) (joined (map domainBox (leavesOf d cs leaf active)))) × (k ≡ k₀ + tail + 1)
   run-end x h =
       let e = inv-end (x .inv) h in
       let are = leaves-are d cs (x .pos) leaf (x .lp) active (x .good) (x .some) in
@@ -384,7 +384,7 @@ module _ {d : ℕ} {cs : List Float} {leaf : ℕ} {active O₀ : List ℕ} {B₀
       )
 
 -- ---- where it begins: the first stretch is in the room, and the root's box in the other list
-pub length-extents : (d : ℕ) (cs : List Float) (rows : List ℕ) → length (extents d cs rows) ≡ rowFloats d
+pub length-extents : (d : ℕ) (cs : List Float) (rows : List ℕ) → length (extents d cs rows) ≡ boxWidth d
 unfolding extents
 length-extents d cs rows = simp (length-append, length-map, length-from) (omega arith)
 
@@ -396,11 +396,11 @@ root-box : (d : ℕ) (cs : List Float) (active : List ℕ) → rootDomain d cs a
 unfolding rootDomain
 root-box d cs active = refl
 
-pub width-most : (d n : ℕ) → 1 ≤ n → rowFloats d ≤ rowFloats d * (2 * n)
-width-most d n h = let a : rowFloats d * 1 ≤ rowFloats d * (2 * n) = mul-le-mul-left (rowFloats d) (omega arith) in omega (arith, mul-one (rowFloats d))
+pub width-most : (d n : ℕ) → 1 ≤ n → boxWidth d ≤ boxWidth d * (2 * n)
+width-most d n h = let a : boxWidth d * 1 ≤ boxWidth d * (2 * n) = mul-le-mul-left (boxWidth d) (omega arith) in omega (arith, mul-one (boxWidth d))
 
 module _ (d : ℕ) (cs : List Float) (pos : 0 < d) (few : d ≤ 3) (leaf : ℕ) (lp : 1 ≤ leaf) (active : List ℕ) (some : 1 ≤ length active) (good : GoodRows d cs active)
-    (w w₁ : List ℕ) (floats floats₁ : List Float) (fw : 6 * length active ≤ length w) (fh : rowFloats d * (2 * length active) ≤ length floats)
+    (w w₁ : List ℕ) (floats floats₁ : List Float) (fw : 6 * length active ≤ length w) (fh : boxWidth d * (2 * length active) ≤ length floats)
     (ew : w₁ ≡ put w (2 * length active) (0 ∷ length active ∷ [])) (eh : floats₁ ≡ put floats 0 (extents d cs active)) where
   abbrev m : ℕ
   m = length active
@@ -411,10 +411,10 @@ module _ (d : ℕ) (cs : List Float) (pos : 0 < d) (few : d ≤ 3) (leaf : ℕ) 
   length-floats : length floats₁ ≡ length floats
   length-floats = ap length eh ∙ length-put floats 0 (extents d cs active) (omega (arith, length-extents d cs active, width-most d m some))
 
-  floats-box : part floats₁ 0 (rowFloats d) ≡ rootDomain d cs active .box
-  floats-box = rw (eh, part-put-same floats 0 (extents d cs active) (rowFloats d) (omega arith) (length-extents d cs active), root-box d cs active)
+  floats-box : part floats₁ 0 (boxWidth d) ≡ rootDomain d cs active .box
+  floats-box = rw (eh, part-put-same floats 0 (extents d cs active) (boxWidth d) (omega arith) (length-extents d cs active), root-box d cs active)
 
-  pub run-first : (O₀ : List ℕ) (B₀ : List Float) (at₀ k₀ : ℕ) → rowNumbers * (k₀ + 2 * m) ≤ length O₀ → rowFloats d * (k₀ + 2 * m) ≤ length B₀
+  pub run-first : (O₀ : List ℕ) (B₀ : List Float) (at₀ k₀ : ℕ) → rowNumbers * (k₀ + 2 * m) ≤ length O₀ → boxWidth d * (k₀ + 2 * m) ≤ length B₀
       → Run d cs leaf active O₀ B₀ w₁ floats₁ at₀ k₀ active w₁ O₀ floats₁ B₀ 0 1 0 k₀
   run-first O₀ B₀ at₀ k₀ o z =
       let K = kind d cs pos leaf lp in
@@ -431,7 +431,7 @@ module _ (d : ℕ) (cs : List Float) (pos : 0 < d) (few : d ≤ 3) (leaf : ℕ) 
         inv =
             inv-first K m root (packedIn m w₁) O₀ at₀ k₀ active (roomIn m w) (roomIn m w₁) lp (sym (root-rows d cs active)) (rw (root-rows d cs active) good)
             refl some (omega (arith, room-length m w fw)) (omega (arith, packed-length m w₁ six)) o (first-room m w w₁ fw some ew);
-        boxes = boxes-first K domainBox (rowFloats d) floats₁ B₀ root k₀ floats-box;
+        boxes = boxes-first K domainBox (boxWidth d) floats₁ B₀ root k₀ floats-box;
         fit-w = six;
         fit-floats = rw length-floats fh;
         fit-B = z;
@@ -442,12 +442,12 @@ module _ (d : ℕ) (cs : List Float) (pos : 0 < d) (few : d ≤ 3) (leaf : ℕ) 
       }
 
   -- from the lists as the function found them to those that the loop ends with
-  pub found-all : (w₂ : List ℕ) (floats₂ : List Float) (t : ℕ) → 1 ≤ t → AsFoundFrom (2 * length active + 2 * t) w₁ w₂ → AsFoundFrom (rowFloats d * t) floats₁ floats₂
-      → AsFoundFrom (2 * length active + 2 * t) w w₂ × AsFoundFrom (rowFloats d * t) floats floats₂
+  pub found-all : (w₂ : List ℕ) (floats₂ : List Float) (t : ℕ) → 1 ≤ t → AsFoundFrom (2 * length active + 2 * t) w₁ w₂ → AsFoundFrom (boxWidth d * t) floats₁ floats₂
+      → AsFoundFrom (2 * length active + 2 * t) w w₂ × AsFoundFrom (boxWidth d * t) floats floats₂
   found-all w₂ floats₂ t h f g =
-      let e : rowFloats d * 1 ≤ rowFloats d * t = mul-le-mul-left (rowFloats d) h in (
+      let e : boxWidth d * 1 ≤ boxWidth d * t = mul-le-mul-left (boxWidth d) h in (
         f ∙ rw ew (found-put (2 * m + 2 * t) w w (2 * m) (0 ∷ m ∷ []) refl (omega arith) (omega arith)),
-        g ∙ rw eh (found-put (rowFloats d * t) floats floats 0 (extents d cs active) refl (omega arith) (omega (arith, length-extents d cs active, mul-one (rowFloats d)))),
+        g ∙ rw eh (found-put (boxWidth d * t) floats floats 0 (extents d cs active) refl (omega arith) (omega (arith, length-extents d cs active, mul-one (boxWidth d)))),
       )
 
 -- ---- the lists keep their lengths, which the loop's sums need

@@ -1,6 +1,6 @@
 -- What the cut stage touches of the working room. Definitions only.
 use Prim.Native.Nat.{ℕ, _+_, _-_, _*_}
-use Rattle.definition.specs.Packed.{rowFloats}
+use Rattle.definition.specs.Points.{boxWidth}
 
 -- The whole numbers that the stage touches, for `a` rows that end as m leaves: one a row for the ordering, one a row for the packed
 -- leaves, and the queue, two for each of the m - 1 cuts.
@@ -9,4 +9,4 @@ touchedWholes a m = 2 * a + 2 * (m - 1)
 
 -- The floats: a box for each cut.
 abbrev pub touchedFloats : ℕ → ℕ → ℕ
-touchedFloats d m = rowFloats d * (m - 1)
+touchedFloats d m = boxWidth d * (m - 1)

@@ -7,8 +7,8 @@ ghost use lib.ListN.{length};
 ghost use Rattle.lists.specs.Lists.{put, joined};
 ghost use Rattle.lists.specs.Ascends.{All};
 ghost use Rattle.lists.specs.Found.{AsFoundFrom};
-ghost use Rattle.definition.specs.Packed.{rowNumbers, rowFloats};
-ghost use Rattle.definition.specs.Points.{extents};
+ghost use Rattle.definition.specs.Packed.{rowNumbers};
+ghost use Rattle.definition.specs.Points.{boxWidth, extents};
 ghost use Rattle.definition.specs.Cut.{leavesOf};
 ghost use Rattle.queue.specs.Rows.{withOwn};
 ghost use Rattle.rows.specs.Rows.{Inside, GoodRows};
@@ -23,7 +23,7 @@ fn put_root(
     wholes: &mut [usize],
 )
     requires { ⌜ (dimensions ≤ 3) × (0 < length (now rows)) × All (Inside dimensions (now points)) (now rows) ⌝ }
-    requires { ⌜ (2 * length (now rows) + 2 ≤ length (now wholes)) × (rowFloats dimensions ≤ length (now floats)) ⌝ }
+    requires { ⌜ (2 * length (now rows) + 2 ≤ length (now wholes)) × (boxWidth dimensions ≤ length (now floats)) ⌝ }
     ensures floats { λ _. ⌜ now (floats .exit) ≡ put (now (floats .entry)) 0 (extents dimensions (now (points .entry)) (now (rows .entry))) ⌝ }
     ensures wholes { λ _. ⌜ now (wholes .exit) ≡ put (now (wholes .entry)) (2 * length (now (rows .entry))) (0 ∷ length (now (rows .entry)) ∷ []) ⌝ }
 {
@@ -53,18 +53,18 @@ fn cut_leaves(
     wholes: &mut [usize],
 ) -> usize
     requires { ⌜ (0 < dimensions) × (dimensions ≤ 3) × (1 ≤ leaf) × (1 ≤ length (now rows)) × GoodRows dimensions (now points) (now rows) ⌝ }
-    requires { ⌜ (6 * length (now rows) ≤ length (now wholes)) × (rowFloats dimensions * (2 * length (now rows)) ≤ length (now floats)) ⌝ }
-    requires { ⌜ (at + length (now rows) < 2 ^ 64) × (rowNumbers * (first + 2 * length (now rows)) ≤ length (now domains)) × (rowFloats dimensions * (first + 2 * length (now rows)) ≤ length (now boxes)) ⌝ }
+    requires { ⌜ (6 * length (now rows) ≤ length (now wholes)) × (boxWidth dimensions * (2 * length (now rows)) ≤ length (now floats)) ⌝ }
+    requires { ⌜ (at + length (now rows) < 2 ^ 64) × (rowNumbers * (first + 2 * length (now rows)) ≤ length (now domains)) × (boxWidth dimensions * (first + 2 * length (now rows)) ≤ length (now boxes)) ⌝ }
     ensures number { λ r. ⌜ r ≡ length (leavesOf dimensions (now (points .entry)) leaf (now (rows .entry))) ⌝ }
     ensures rows { λ _. ⌜ now (rows .exit) ≡ joined (map (λ q. q .rows) (leavesOf dimensions (now (points .entry)) leaf (now (rows .entry)))) ⌝ }
     ensures domains { λ _. ⌜ now (domains .exit) ≡ withOwn at (map (λ q. q .rows) (leavesOf dimensions (now (points .entry)) leaf (now (rows .entry)))) first (now (domains .entry)) ⌝ }
-    ensures boxes { λ _. ⌜ now (boxes .exit) ≡ put (now (boxes .entry)) (rowFloats dimensions * first) (joined (map (λ q. q .box) (leavesOf dimensions (now (points .entry)) leaf (now (rows .entry))))) ⌝ }
+    ensures boxes { λ _. ⌜ now (boxes .exit) ≡ put (now (boxes .entry)) (boxWidth dimensions * first) (joined (map (λ q. q .box) (leavesOf dimensions (now (points .entry)) leaf (now (rows .entry))))) ⌝ }
     ensures floats { λ r. ⌜ AsFoundFrom (touchedFloats dimensions r) (now (floats .entry)) (now (floats .exit)) ⌝ }
     ensures wholes { λ r. ⌜ AsFoundFrom (touchedWholes (length (now (rows .entry))) r) (now (wholes .entry)) (now (wholes .exit)) ⌝ }
 {
     let n = rows.len();
     let base = 2 * n;
-    let stride = packed::row_floats(dimensions);
+    let stride = boxes::box_width(dimensions);
     put_root(points, dimensions, rows, floats, wholes);
     let mut head: usize = 0;
     let mut tail: usize = 1;
@@ -116,12 +116,12 @@ pub fn leaves(
     wholes: &mut [usize],
 ) -> usize
     requires { ⌜ (0 < dimensions) × (dimensions ≤ 3) × (1 ≤ leaf) × (1 ≤ length (now active)) × GoodRows dimensions (now points) (now active) ⌝ }
-    requires { ⌜ (6 * length (now active) ≤ length (now wholes)) × (rowFloats dimensions * (2 * length (now active)) ≤ length (now floats)) ⌝ }
-    requires { ⌜ (at + length (now active) ≤ length (now internals)) × (rowNumbers * (first + 2 * length (now active)) ≤ length (now domains)) × (rowFloats dimensions * (first + 2 * length (now active)) ≤ length (now boxes)) ⌝ }
+    requires { ⌜ (6 * length (now active) ≤ length (now wholes)) × (boxWidth dimensions * (2 * length (now active)) ≤ length (now floats)) ⌝ }
+    requires { ⌜ (at + length (now active) ≤ length (now internals)) × (rowNumbers * (first + 2 * length (now active)) ≤ length (now domains)) × (boxWidth dimensions * (first + 2 * length (now active)) ≤ length (now boxes)) ⌝ }
     ensures number { λ r. ⌜ r ≡ length (leavesOf dimensions (now (points .entry)) leaf (now (active .entry))) ⌝ }
     ensures internals { λ _. ⌜ now (internals .exit) ≡ put (now (internals .entry)) at (joined (map (λ q. q .rows) (leavesOf dimensions (now (points .entry)) leaf (now (active .entry))))) ⌝ }
     ensures domains { λ _. ⌜ now (domains .exit) ≡ withOwn at (map (λ q. q .rows) (leavesOf dimensions (now (points .entry)) leaf (now (active .entry)))) first (now (domains .entry)) ⌝ }
-    ensures boxes { λ _. ⌜ now (boxes .exit) ≡ put (now (boxes .entry)) (rowFloats dimensions * first) (joined (map (λ q. q .box) (leavesOf dimensions (now (points .entry)) leaf (now (active .entry))))) ⌝ }
+    ensures boxes { λ _. ⌜ now (boxes .exit) ≡ put (now (boxes .entry)) (boxWidth dimensions * first) (joined (map (λ q. q .box) (leavesOf dimensions (now (points .entry)) leaf (now (active .entry))))) ⌝ }
     ensures floats { λ r. ⌜ AsFoundFrom (touchedFloats dimensions r) (now (floats .entry)) (now (floats .exit)) ⌝ }
     ensures wholes { λ r. ⌜ AsFoundFrom (touchedWholes (length (now (active .entry))) r) (now (wholes .entry)) (now (wholes .exit)) ⌝ }
 {

@@ -14,19 +14,20 @@ use lib.ListN.{length, set, length-map}
 use lib.Ieee.{Float}
 use Rattle.lists.specs.Lists.{put, joined, total, member}
 use Rattle.lists.proofs.Tests.{and-fst, and-snd, le-or-lt}
-use Rattle.lists.proofs.All.{all-map}
+use Rattle.lists.proofs.All.{all-map, all-zip}
 use Rattle.lists.proofs.Put.{set-put, put-next-at}
 use Rattle.lists.proofs.Joined.{length-joined, joined-even}
 use Rattle.definition.specs.Levels.{levelSize}
 use Rattle.definition.specs.Quotas.{quotas}
 use Rattle.definition.specs.Cut.{Domain, leavesOf}
-use Rattle.definition.specs.Tree.{Settings, Leaf, Level, coarseLevel, fineLevel, nextActive, mostFine, levelsFrom}
+use Rattle.definition.specs.Tree.{Settings, Leaf, Level, coarseLevel, fineLeaf, fineLevel, sentLists, nextActive, mostFine, levelsFrom}
 use Rattle.definition.specs.Points.{boxWidth}
-use Rattle.definition.specs.Packed.{rowFloats, packedLevelPoints}
-use Rattle.definition.proofs.Steps.{fineOf, nextOf, levels-last, levels-end, levels-more}
+use Rattle.definition.specs.Packed.{rowFloats, leafFloats, packedLevelPoints}
+use Rattle.definition.proofs.Steps.{fineOf, sizeFrom, nextOf, levels-last, levels-end, levels-more}
 use Rattle.definition.proofs.Cuts.{Good, domainSizes, leaves-sum}
 use Rattle.definition_laws.proofs.Shape.{leaves-boxes}
 use Rattle.definition_laws.proofs.Overlaps.{borrowed-most}
+use Rattle.definition_laws.proofs.Fit.{floats-length}
 use Rattle.definition.proofs.Next.{Dealt, next-length}
 use Rattle.definition.proofs.Sizes.{sized}
 use Rattle.definition.proofs.Fairness.{fair}
@@ -34,41 +35,53 @@ use Rattle.rows.specs.Rows.{GoodRows}
 use Rattle.rows.proofs.Good.{good-good, good-keep}
 use Rattle.packed.specs.Reading.{ownIn, borrowedIn, boxesIn}
 use Rattle.packed.proofs.Packing.{points-cons}
-use Rattle.fine_level.specs.Fine.{leavesAt, nextAt, Given}
-use Rattle.fine_level.proofs.Stages.{level-own, level-box, level-number, number-most, own-whole}
+use Rattle.fine_level.specs.Fine.{dividedAt, leavesAt, nextAt, Given}
+use Rattle.fine_level.proofs.Stages.{level-own, level-number, number-most, own-whole}
+use Rattle.fine_level.proofs.Sent.{sent-own, sent-borrowed, sent-number}
 
 next-good : {d : ℕ} {cs : List Float} (active : List ℕ) (sent : List (List ℕ)) → GoodRows d cs active → GoodRows d cs (nextActive active sent)
 unfolding nextActive
 next-good active sent g = good-keep active g (λ i. member i (joined sent))
 
 -- ---- what is known of a fine level, and of the rows after it
-module _ (d : ℕ) (cs : List Float) (leaf neighbours : ℕ) (active : List ℕ) (g : Given d cs leaf neighbours active) where
+module _ (d : ℕ) (cs : List Float) (leaf neighbours : ℕ) (active : List ℕ) (g : Given d cs leaf neighbours active) (size : ℕ) where
   good : Good d cs active
   good = good-good active (g .good)
 
-  pub leaves-few : length (leavesAt d cs leaf neighbours active) ≤ 2 * length active
-  leaves-few = omega (arith, level-number d cs leaf neighbours active, number-most d cs leaf neighbours active g)
+  -- the leaves before any row is sent up
+  abbrev divided : List Leaf
+  divided = dividedAt d cs leaf neighbours active
 
-  pub own-all : length (ownIn (leavesAt d cs leaf neighbours active)) ≡ length active
-  own-all = rw (level-own d cs leaf neighbours active) (own-whole d cs leaf neighbours active g)
+  pub leaves-few : length (leavesAt d cs leaf neighbours size active) ≤ 2 * length active
+  leaves-few =
+      omega (arith, sent-number d cs leaf neighbours size active, level-number d cs leaf neighbours active, number-most d cs leaf neighbours active g)
 
-  pub borrowed-few : length (borrowedIn (leavesAt d cs leaf neighbours active)) ≤ 2 * length active * (neighbours + 1)
+  pub own-all : length (ownIn (leavesAt d cs leaf neighbours size active)) ≡ length active
+  own-all = rw (sent-own d cs leaf neighbours size active, level-own d cs leaf neighbours active) (own-whole d cs leaf neighbours active g)
+
+  pub borrowed-few : length (borrowedIn (leavesAt d cs leaf neighbours size active)) ≤ 2 * length active * (neighbours + 1)
   borrowed-few =
       omega (
         arith,
-        length-joined (map (λ (f : Leaf). f .borrowed) (leavesAt d cs leaf neighbours active)),
-        ap total (map-map length (λ (f : Leaf). f .borrowed) (leavesAt d cs leaf neighbours active)),
+        ap (λ (x : List (List ℕ)). length (joined x)) (sent-borrowed d cs leaf neighbours size active),
+        length-joined (map (λ (f : Leaf). f .borrowed) divided),
+        ap total (map-map length (λ (f : Leaf). f .borrowed) divided),
+        ap total (map-map (λ (f : Leaf). length (f .borrowed)) (λ (q : Domain). fineLeaf d cs neighbours active q []) (leavesOf d cs leaf active)),
         borrowed-most d cs leaf neighbours active (g .axes) (g .leaf-some) good (g .rows-some),
       )
 
-  pub boxes-all : length (boxesIn (leavesAt d cs leaf neighbours active)) ≡ rowFloats d * length (leavesAt d cs leaf neighbours active)
+  pub boxes-all : length (boxesIn (leavesAt d cs leaf neighbours size active)) ≡ rowFloats d * length (leavesAt d cs leaf neighbours size active)
+  unfolding fineLevel
   boxes-all =
-      rw (level-box d cs leaf neighbours active, level-number d cs leaf neighbours active)
-      (joined-even (rowFloats d) (map (λ (q : Domain). q .box) (leavesOf d cs leaf active))
-      (all-map (λ (l : List Float). length l ≡ boxWidth d) (λ (q : Domain). q .box) (leavesOf d cs leaf active) (leaves-boxes d cs leaf active))
-      ∙ ap (λ (z : ℕ). rowFloats d * z) (length-map (leavesOf d cs leaf active) (λ (q : Domain). q .box)))
+      let fs = leavesAt d cs leaf neighbours size active in
+      joined-even (rowFloats d) (map leafFloats fs)
+      (all-map (λ (l : List Float). length l ≡ rowFloats d) leafFloats fs
+      (all-zip (λ (q : Domain). length (q .box) ≡ boxWidth d) (λ (f : Leaf). length (leafFloats f) ≡ rowFloats d) (fineLeaf d cs neighbours active)
+      (λ q sent e. floats-length d (fineLeaf d cs neighbours active q sent) e) (leavesOf d cs leaf active) (sentLists d cs (leavesOf d cs leaf active) size)
+      (leaves-boxes d cs leaf active)))
+      ∙ ap (λ (z : ℕ). rowFloats d * z) (length-map fs leafFloats)
 
-  module _ (size : ℕ) (small : size ≤ length active) where
+  module _ (small : size ≤ length active) where
     dealt : Dealt (domainSizes (leavesOf d cs leaf active)) size (quotas (domainSizes (leavesOf d cs leaf active)) size)
     dealt =
         let zs = domainSizes (leavesOf d cs leaf active) in
@@ -108,21 +121,21 @@ module _ (s : Settings) (cs : List Float) (c k : ℕ) where
           few false t = absurd (omega (arith, ltb-false built mostFine t))
 
   pub after-fine : (built : ℕ) (active : List ℕ) (a : ℕ) → length active ≡ a → (ltb built mostFine && ltb c a) ≡ true
-      → levelsFrom s cs c k (mostFine - built) built active ≡ fineOf s cs active ∷ levelsFrom s cs c k (mostFine - (built + 1)) (built + 1) (nextOf s cs c k built active)
+      → levelsFrom s cs c k (mostFine - built) built active ≡ fineOf s cs (sizeFrom c k built active) active ∷ levelsFrom s cs c k (mostFine - (built + 1)) (built + 1) (nextOf s cs c k built active)
   after-fine built active a n e =
       let b = ltb-true built mostFine (and-fst (ltb built mostFine) (ltb c a) e) in
       let m = ltb-true c a (and-snd (ltb built mostFine) (ltb c a) e) in
       let q : mostFine - built ≡ suc (mostFine - (built + 1)) = omega arith in
       ap (λ (z : ℕ). levelsFrom s cs c k z built active) q ∙ levels-more s cs c k (mostFine - (built + 1)) built active (omega arith)
-      ∙ ap (λ (z : ℕ). fineOf s cs active ∷ levelsFrom s cs c k (mostFine - (built + 1)) z (nextOf s cs c k built active)) (sym (add-one built))
+      ∙ ap (λ (z : ℕ). fineOf s cs (sizeFrom c k built active) active ∷ levelsFrom s cs c k (mostFine - (built + 1)) z (nextOf s cs c k built active)) (sym (add-one built))
 
   coarse-first : (active : List ℕ) → (more : List ℕ) × (packedLevelPoints (coarseLevel (s .dimension) active ∷ []) ≡ active ++ more)
   unfolding coarseLevel
   coarse-first active = (packedLevelPoints [], points-cons (coarseLevel (s .dimension) active) [])
 
-  fine-first : (active : List ℕ) (ls : List Level) → (more : List ℕ) × (packedLevelPoints (fineOf s cs active ∷ ls) ≡ active ++ more)
+  fine-first : (size : ℕ) (active : List ℕ) (ls : List Level) → (more : List ℕ) × (packedLevelPoints (fineOf s cs size active ∷ ls) ≡ active ++ more)
   unfolding fineLevel
-  fine-first active ls = (packedLevelPoints ls, points-cons (fineOf s cs active) ls)
+  fine-first size active ls = (packedLevelPoints ls, points-cons (fineOf s cs size active) ls)
 
   -- the first level's points are the active rows
   pub first-points : (fuel built : ℕ) (active : List ℕ) → (more : List ℕ) × (packedLevelPoints (levelsFrom s cs c k fuel built active) ≡ active ++ more)
@@ -130,7 +143,7 @@ module _ (s : Settings) (cs : List Float) (c k : ℕ) where
   first-points (suc fuel) built active =
       ⊎-elim
       (λ (h : length active ≤ c). rw (levels-end s cs c k fuel built active h) (coarse-first active))
-      (λ (h : c < length active). rw (levels-more s cs c k fuel built active h) (fine-first active (levelsFrom s cs c k fuel (suc built) (nextOf s cs c k built active))))
+      (λ (h : c < length active). rw (levels-more s cs c k fuel built active h) (fine-first (sizeFrom c k built active) active (levelsFrom s cs c k fuel (suc built) (nextOf s cs c k built active))))
       (le-or-lt (length active) c)
 
   pub levels-few : (fuel built : ℕ) (active : List ℕ) → length (levelsFrom s cs c k fuel built active) ≤ suc fuel
@@ -148,6 +161,6 @@ counts-more f l ls counts built x e h =
     ap (λ (z : List ℕ). put z (built + 1) (map f ls)) (set-put counts built x h)
     ∙ put-next-at counts built (x ∷ []) (map f ls) (built + 1) (omega arith) (omega arith) ∙ ap (λ (z : ℕ). put counts built (z ∷ map f ls)) (sym e)
 
-pub fine-rows : (s : Settings) (cs : List Float) (active : List ℕ) → fineOf s cs active .points ≡ active
+pub fine-rows : (s : Settings) (cs : List Float) (size : ℕ) (active : List ℕ) → fineOf s cs size active .points ≡ active
 unfolding fineLevel
-fine-rows s cs active = refl
+fine-rows s cs size active = refl

@@ -19,9 +19,8 @@ use Rattle.definition.specs.Number.{plusZero}
 use Rattle.definition.specs.Levels.{levelSize}
 use Rattle.definition.specs.Tree.{Settings, Level, mostFine, reductionsLeft, coarseLevel}
 use Rattle.definition.specs.Refusals.{mostPoints}
-use Rattle.definition.specs.Points.{boxWidth}
 use Rattle.definition.specs.Packed.{rowNumbers, rowFloats, leavesIn, packedLevelPoints, packedInternals, packedDomains, packedBoxes, packedBorrowed, stretches}
-use Rattle.definition.proofs.Steps.{fineOf, nextOf}
+use Rattle.definition.proofs.Steps.{fineOf, sizeFrom, nextOf}
 use Rattle.definition_laws.proofs.Fit.{length-stretches}
 use Rattle.packed.specs.Reading.{ownIn, borrowedIn, boxesIn}
 use Rattle.packed.proofs.Packing.{points-more, own-more, borrowed-more, boxes-more, rows-more}
@@ -109,7 +108,7 @@ module _ {d : ℕ} {cs : List Float} {leaf q n : ℕ} {P I D : List ℕ} {B : Li
 
     -- ---- after the last: the coarse level
     module _ (no : (ltb built mostFine && ltb c a) ≡ false) {I₂ D₂ : List ℕ} {B₂ : List Float} (eI : I₂ ≡ put I₁ at (part P₁ at a)) (eD : D₂ ≡ put D₁ (rowNumbers * first) (at ∷ a ∷ bat ∷ 0 ∷ []))
-        (eB : B₂ ≡ put B₁ (rowFloats d * first) (replicate (boxWidth d) plusZero)) where
+        (eB : B₂ ≡ put B₁ (rowFloats d * first) (replicate (rowFloats d) plusZero)) where
       abbrev all : List Level
       all = levelsAfter d cs leaf q c k 0 (part P 0 n)
 
@@ -164,17 +163,17 @@ module _ {d : ℕ} {cs : List Float} {leaf q n : ℕ} {P I D : List ℕ} {B : Li
       pub level-room : Room q a F₁ W₁
       level-room = fine-room space
 
-      most-leaves : {m : ℕ} → m ≡ length (leavesAt d cs leaf q (part P₁ at a)) → m ≤ 2 * a
-      most-leaves e = rw (← many) (omega (arith, e, leaves-few d cs leaf q active (v .given)))
+      most-leaves : {m : ℕ} (size : ℕ) → m ≡ length (leavesAt d cs leaf q size (part P₁ at a)) → m ≤ 2 * a
+      most-leaves size e = rw (← many) (omega (arith, e, leaves-few d cs leaf q active (v .given) size))
 
-      most-borrowed : {z : ℕ} → z ≡ length (borrowedIn (leavesAt d cs leaf q (part P₁ at a))) → z ≤ 2 * a * (q + 1)
-      most-borrowed e = rw (← many) (omega (arith, e, borrowed-few d cs leaf q active (v .given)))
+      most-borrowed : {z : ℕ} (size : ℕ) → z ≡ length (borrowedIn (leavesAt d cs leaf q size (part P₁ at a))) → z ≤ 2 * a * (q + 1)
+      most-borrowed size e = rw (← many) (omega (arith, e, borrowed-few d cs leaf q active (v .given) size))
 
-      pub first-fits : {m : ℕ} → m ≡ length (leavesAt d cs leaf q (part P₁ at a)) → first + m ≤ length D₁
-      first-fits e = omega (arith, most-leaves e, level-fits .domains)
+      pub first-fits : {m : ℕ} (size : ℕ) → m ≡ length (leavesAt d cs leaf q size (part P₁ at a)) → first + m ≤ length D₁
+      first-fits size e = omega (arith, most-leaves size e, level-fits .domains)
 
-      pub bat-fits : {z : ℕ} → z ≡ length (borrowedIn (leavesAt d cs leaf q (part P₁ at a))) → bat + z ≤ length L₁
-      bat-fits e = omega (arith, most-borrowed e, level-fits .borrowed)
+      pub bat-fits : {z : ℕ} (size : ℕ) → z ≡ length (borrowedIn (leavesAt d cs leaf q size (part P₁ at a))) → bat + z ≤ length L₁
+      bat-fits size e = omega (arith, most-borrowed size e, level-fits .borrowed)
 
       module _ {size : ℕ} (e : size ≡ levelSize a c (reductionsLeft k built)) where
         sizes : (1 ≤ size) × (size ≤ a)
@@ -188,25 +187,27 @@ module _ {d : ℕ} {cs : List Float} {leaf q n : ℕ} {P I D : List ℕ} {B : Li
 
         -- what the level has written: m leaves that borrow z rows, and b rows for the next
         module _ {P₂ I₂ D₂ : List ℕ} {B₂ : List Float} {L₂ : List ℕ} {m z b : ℕ}
-            (em : m ≡ length (leavesAt d cs leaf q (part P₁ at a))) (ez : z ≡ length (borrowedIn (leavesAt d cs leaf q (part P₁ at a)))) (eb : b ≡ length (nextAt d cs leaf size (part P₁ at a)))
-            (eP : P₂ ≡ put P₁ (at + a) (nextAt d cs leaf size (part P₁ at a))) (eI : I₂ ≡ put I₁ at (ownIn (leavesAt d cs leaf q (part P₁ at a))))
-            (eD : D₂ ≡ put D₁ (rowNumbers * first) (stretches at bat (leavesAt d cs leaf q (part P₁ at a)))) (eB : B₂ ≡ put B₁ (rowFloats d * first) (boxesIn (leavesAt d cs leaf q (part P₁ at a))))
-            (eL : L₂ ≡ put L₁ bat (borrowedIn (leavesAt d cs leaf q (part P₁ at a)))) where
+            (em : m ≡ length (leavesAt d cs leaf q size (part P₁ at a))) (ez : z ≡ length (borrowedIn (leavesAt d cs leaf q size (part P₁ at a)))) (eb : b ≡ length (nextAt d cs leaf size (part P₁ at a)))
+            (eP : P₂ ≡ put P₁ (at + a) (nextAt d cs leaf size (part P₁ at a))) (eI : I₂ ≡ put I₁ at (ownIn (leavesAt d cs leaf q size (part P₁ at a))))
+            (eD : D₂ ≡ put D₁ (rowNumbers * first) (stretches at bat (leavesAt d cs leaf q size (part P₁ at a)))) (eB : B₂ ≡ put B₁ (rowFloats d * first) (boxesIn (leavesAt d cs leaf q size (part P₁ at a))))
+            (eL : L₂ ≡ put L₁ bat (borrowedIn (leavesAt d cs leaf q size (part P₁ at a)))) where
           abbrev s : Settings
           s = levelSettings d leaf q
 
           few-leaves : m ≤ 2 * a
-          few-leaves = most-leaves em
+          few-leaves = most-leaves size em
 
           few-borrowed : z ≤ 2 * a * (q + 1)
-          few-borrowed = most-borrowed ez
+          few-borrowed = most-borrowed size ez
 
           next-is : b ≡ size
           next-is = eb ∙ next-many d cs leaf q active (v .given) size small
 
+          size-same : size ≡ sizeFrom c k built active
+          size-same = e ∙ ap (λ (x : ℕ). levelSize x c (reductionsLeft k built)) (sym many)
+
           next-same : nextAt d cs leaf size active ≡ nextOf s cs c k built active
-          next-same =
-              ap (λ (x : ℕ). nextAt d cs leaf x active) (e ∙ ap (λ (x : ℕ). levelSize x c (reductionsLeft k built)) (sym many))
+          next-same = ap (λ (x : ℕ). nextAt d cs leaf x active) size-same
 
           next-read : part P₂ (at + a) b ≡ nextOf s cs c k built active
           next-read =
@@ -216,59 +217,59 @@ module _ {d : ℕ} {cs : List Float} {leaf q n : ℕ} {P I D : List ℕ} {B : Li
           abbrev rest : List Level
           rest = levelsAfter d cs leaf q c k (built + 1) (nextOf (levelSettings d leaf q) cs c k built (part P₁ at a))
 
-          now-first : levelsAfter d cs leaf q c k built (part P₁ at a) ≡ fineOf s cs active ∷ rest
-          now-first = after-fine s cs c k built active a many yes
+          now-first : levelsAfter d cs leaf q c k built (part P₁ at a) ≡ fineOf s cs size active ∷ rest
+          now-first = after-fine s cs c k built active a many yes ∙ ap (λ (x : ℕ). fineOf s cs x active ∷ rest) (sym size-same)
 
-          pub next-rest : levelsAfter d cs leaf q c k built (part P₁ at a) ≡ fineOf (levelSettings d leaf q) cs (part P₁ at a) ∷ levelsAfter d cs leaf q c k (built + 1) (part P₂ (at + a) b)
+          pub next-rest : levelsAfter d cs leaf q c k built (part P₁ at a) ≡ fineOf (levelSettings d leaf q) cs size (part P₁ at a) ∷ levelsAfter d cs leaf q c k (built + 1) (part P₂ (at + a) b)
           next-rest = rw next-read now-first
 
           pub next-fewer : b ≤ a
           next-fewer = omega (arith, next-is, sizes .1)
 
-          own-is : length (ownIn (leavesAt d cs leaf q active)) ≡ a
-          own-is = own-all d cs leaf q active (v .given) ∙ many
+          own-is : length (ownIn (leavesAt d cs leaf q size active)) ≡ a
+          own-is = own-all d cs leaf q active (v .given) size ∙ many
 
           next-outs : Outs P I D B L (replicate 4 0) (replicate 4 0) d (levelsAfter d cs leaf q c k 0 (part P 0 n)) rest P₂ I₂ D₂ B₂ L₂ (set rows built a) (set counts built m)
               (built + 1) (at + a) (first + m) (bat + z)
           next-outs =
-              let f = fineOf s cs active in
+              let f = fineOf s cs size active in
               let h = first-points s cs c k (mostFine - (built + 1)) (built + 1) (nextOf s cs c k built active) in
               let o = rw now-first at (v .outs) in
               record {
                 level-points =
-                    points-more f rest P₁ at a (nextAt d cs leaf size active) (h .0) (fine-rows s cs active) (omega (arith, level-points-fit, next-is, eb, sizes .1))
+                    points-more f rest P₁ at a (nextAt d cs leaf size active) (h .0) (fine-rows s cs size active) (omega (arith, level-points-fit, next-is, eb, sizes .1))
                     (h .1 ∙ ap (λ (x : List ℕ). x ++ h .0) (sym next-same)) P₂ _ eP refl
                     ∙ o .level-points;
                 internals = own-more f rest I₁ at a own-is (omega (arith, level-fits .internals)) I₂ _ eI refl ∙ o .internals;
                 domains =
                     rows-more f rest D₁ first m at a bat z (sym em) own-is (sym ez) (omega (arith, level-fits .domains)) D₂ _ eD refl ∙ o .domains;
                 boxes =
-                    boxes-more f rest (rowFloats d) B₁ first m (rw em (boxes-all d cs leaf q active (v .given))) (omega (arith, mul-add (rowFloats d) first (2 * a), level-fits .boxes)) B₂ _ eB refl
+                    boxes-more f rest (rowFloats d) B₁ first m (rw em (boxes-all d cs leaf q active (v .given) size)) (omega (arith, mul-add (rowFloats d) first (2 * a), level-fits .boxes)) B₂ _ eB refl
                     ∙ o .boxes;
                 borrowed = borrowed-more f rest L₁ bat z (sym ez) (omega (arith, level-fits .borrowed)) L₂ _ eL refl ∙ o .borrowed;
                 row-counts =
-                    counts-more rowCount f rest rows built a (ap length (fine-rows s cs active) ∙ many) (omega (arith, built-below, v .slots)) ∙ o .row-counts;
+                    counts-more rowCount f rest rows built a (ap length (fine-rows s cs size active) ∙ many) (omega (arith, built-below, v .slots)) ∙ o .row-counts;
                 leaf-counts = counts-more leafCount f rest counts built m (sym em) (omega (arith, built-below, v .slots-too)) ∙ o .leaf-counts;
                 number = omega (arith, o .number);
               }
 
           next-long : (F₂ : List Float) (W₂ : List ℕ) → length F₂ ≡ length F₁ → length W₂ ≡ length W₁ → Long P₁ I₁ D₁ B₁ L₁ F₁ W₁ P₂ I₂ D₂ B₂ L₂ F₂ W₂
           next-long F₂ W₂ eF eW =
-              let rows-fit : rowFloats d * first + length (boxesIn (leavesAt d cs leaf q active)) ≤ length B₁ =
-              omega (arith, boxes-all d cs leaf q active (v .given), mul-add (rowFloats d) first (length (leavesAt d cs leaf q active)), mul-le-mul-left (rowFloats d) few-rows, level-fits .boxes) in
+              let rows-fit : rowFloats d * first + length (boxesIn (leavesAt d cs leaf q size active)) ≤ length B₁ =
+              omega (arith, boxes-all d cs leaf q active (v .given) size, mul-add (rowFloats d) first (length (leavesAt d cs leaf q size active)), mul-le-mul-left (rowFloats d) few-rows, level-fits .boxes) in
               record {
                 level-points = rw eP (length-put P₁ (at + a) (nextAt d cs leaf size active) (omega (arith, level-points-fit, next-is, eb, sizes .1)));
-                internals = rw eI (length-put I₁ at (ownIn (leavesAt d cs leaf q active)) (omega (arith, own-is, level-fits .internals)));
+                internals = rw eI (length-put I₁ at (ownIn (leavesAt d cs leaf q size active)) (omega (arith, own-is, level-fits .internals)));
                 domains =
-                    rw eD (length-put D₁ (rowNumbers * first) (stretches at bat (leavesAt d cs leaf q active))
-                    (omega (arith, length-stretches at bat (leavesAt d cs leaf q active), em, few-leaves, level-fits .domains)));
-                boxes = rw eB (length-put B₁ (rowFloats d * first) (boxesIn (leavesAt d cs leaf q active)) rows-fit);
-                borrowed = rw eL (length-put L₁ bat (borrowedIn (leavesAt d cs leaf q active)) (omega (arith, ez, few-borrowed, level-fits .borrowed)));
+                    rw eD (length-put D₁ (rowNumbers * first) (stretches at bat (leavesAt d cs leaf q size active))
+                    (omega (arith, length-stretches at bat (leavesAt d cs leaf q size active), em, few-leaves, level-fits .domains)));
+                boxes = rw eB (length-put B₁ (rowFloats d * first) (boxesIn (leavesAt d cs leaf q size active)) rows-fit);
+                borrowed = rw eL (length-put L₁ bat (borrowedIn (leavesAt d cs leaf q size active)) (omega (arith, ez, few-borrowed, level-fits .borrowed)));
                 floats = eF;
                 wholes = eW;
               }
             where
-              few-rows : first + length (leavesAt d cs leaf q active) ≤ first + 2 * a
+              few-rows : first + length (leavesAt d cs leaf q size active) ≤ first + 2 * a
               few-rows = omega (arith, em, few-leaves)
 
           pub levels-next : (F₂ : List Float) (W₂ : List ℕ) → length F₂ ≡ length F₁ → length W₂ ≡ length W₁

@@ -38,17 +38,17 @@ module _ {engine : Engine} {d : ℕ} {cs : List Float} {leaf q c k n : ℕ} {P :
         taken-fits floatOf engine (levelSettings d leaf q) cs _ (v .planes) (omega (arith, left)),
       )
 
-      pub noted-next : {P₂ : List ℕ} {b m : ℕ}
-          → levelsAfter d cs leaf q c k built (part P₁ at a) ≡ fineOf (levelSettings d leaf q) cs (part P₁ at a) ∷ levelsAfter d cs leaf q c k (built + 1) (part P₂ (at + a) b)
+      pub noted-next : (size : ℕ) {P₂ : List ℕ} {b m : ℕ}
+          → levelsAfter d cs leaf q c k built (part P₁ at a) ≡ fineOf (levelSettings d leaf q) cs size (part P₁ at a) ∷ levelsAfter d cs leaf q c k (built + 1) (part P₂ (at + a) b)
           → b ≤ a → m ≡ length (recordBy engine d cs leaf (part P₁ at a)) → m ≤ nodesFor engine a
           → {C₂ : List ℕ} {Q₂ : List Float} → C₂ ≡ put C₁ node (map wholeOf (recordBy engine d cs leaf (part P₁ at a))) → Q₂ ≡ put Q₁ node (map floatOf (recordBy engine d cs leaf (part P₁ at a)))
           → Noted engine d cs leaf q c k n P P₂ (built + 1) (at + a) b C Q C₂ Q₂ (node + m)
-      noted-next {P₂ = P₂} {b = b} {m = m} rest hb em hm {C₂ = C₂} {Q₂ = Q₂} eC eQ =
+      noted-next size {P₂ = P₂} {b = b} {m = m} rest hb em hm {C₂ = C₂} {Q₂ = Q₂} eC eQ =
           let s = levelSettings d leaf q in
           let some = levels-some s cs c k (mostFine - (built + 1)) (built + 1) (part P₂ (at + a) b) in
           record {
-            cuts = taken-next wholeOf engine s cs _ (v .cuts) (mostFine - (built + 1)) left (part P₁ at a) _ rest some b m hb em hm C₂ eC;
-            planes = taken-next floatOf engine s cs _ (v .planes) (mostFine - (built + 1)) left (part P₁ at a) _ rest some b m hb em hm Q₂ eQ;
+            cuts = taken-next wholeOf engine s cs _ (v .cuts) (mostFine - (built + 1)) left size (part P₁ at a) _ rest some b m hb em hm C₂ eC;
+            planes = taken-next floatOf engine s cs _ (v .planes) (mostFine - (built + 1)) left size (part P₁ at a) _ rest some b m hb em hm Q₂ eQ;
           }
 
     -- ---- after the last

@@ -14,7 +14,7 @@ use Rattle.lists.proofs.Tests.{le-or-lt}
 use Rattle.lists.proofs.Put.{length-put, put-nil, put-next-at}
 use Rattle.definition.specs.Tree.{Settings, Level, coarseLevel, levelsFrom}
 use Rattle.definition.specs.Record.{Node, recordOf, fineLevels, nodesIn}
-use Rattle.definition.proofs.Steps.{fineOf, nextOf, levels-last, levels-end, levels-more}
+use Rattle.definition.proofs.Steps.{fineOf, sizeFrom, nextOf, levels-last, levels-end, levels-more}
 use Rattle.cut_engine.specs.Engines.{recordBy, nodesFor}
 use Rattle.cut_engine.specs.declared.Engine.{Engine}
 use Rattle.cut_engine.specs.declared.Engine.the-variants.{Queue, DepthFirst}
@@ -35,7 +35,7 @@ module _ (s : Settings) (cs : List Float) (c k : ℕ) where
   levels-some (suc fuel) built active =
       ⊎-elim
       (λ (h : length active ≤ c). (coarseLevel (s .dimension) active, ([], levels-end s cs c k fuel built active h)))
-      (λ (h : c < length active). (fineOf s cs active, (levelsFrom s cs c k fuel (suc built) (nextOf s cs c k built active), levels-more s cs c k fuel built active h)))
+      (λ (h : c < length active). (fineOf s cs (sizeFrom c k built active) active, (levelsFrom s cs c k fuel (suc built) (nextOf s cs c k built active), levels-more s cs c k fuel built active h)))
       (le-or-lt (length active) c)
 
 -- ---- the records of a fine level and of those after it
@@ -48,12 +48,12 @@ module _ (s : Settings) (cs : List Float) where
   unfolding nodesIn fineLevels joined
   nodes-last l = refl
 
-  records-more : (engine : Engine) (active : List ℕ) (rest : List Level) (m : Level) (ls : List Level) → rest ≡ m ∷ ls
-      → recordsBy engine s cs (fineOf s cs active ∷ rest) ≡ recordBy engine (s .dimension) cs (s .leaf) active ++ recordsBy engine s cs rest
-  records-more Queue active rest m ls e = refl
-  records-more DepthFirst active rest m ls e =
-      rw e (nodes-more (fineOf s cs active) m ls
-      ∙ ap (λ (z : List ℕ). recordOf (s .dimension) cs (s .leaf) z ++ nodesIn s cs (m ∷ ls)) (fine-rows s cs active))
+  records-more : (engine : Engine) (size : ℕ) (active : List ℕ) (rest : List Level) (m : Level) (ls : List Level) → rest ≡ m ∷ ls
+      → recordsBy engine s cs (fineOf s cs size active ∷ rest) ≡ recordBy engine (s .dimension) cs (s .leaf) active ++ recordsBy engine s cs rest
+  records-more Queue size active rest m ls e = refl
+  records-more DepthFirst size active rest m ls e =
+      rw e (nodes-more (fineOf s cs size active) m ls
+      ∙ ap (λ (z : List ℕ). recordOf (s .dimension) cs (s .leaf) z ++ nodesIn s cs (m ∷ ls)) (fine-rows s cs size active))
 
   records-last : (engine : Engine) (l : Level) → recordsBy engine s cs (l ∷ []) ≡ []
   records-last Queue l = refl
@@ -76,15 +76,15 @@ module _ {A : Type 0} (f : Node → A) (engine : Engine) (s : Settings) (cs : Li
 
   -- ---- and it has written m nodes
   pub taken-next : {rest : List Level} {a t₀ : ℕ} {X X₁ : List A} {node : ℕ} (v : Taken f engine s cs all rest a t₀ X X₁ node) (t : ℕ) → t₀ ≡ suc t
-      → (active : List ℕ) (next : List Level) → rest ≡ fineOf s cs active ∷ next → (l : Level) × ((ls : List Level) × (next ≡ l ∷ ls))
+      → (size : ℕ) (active : List ℕ) (next : List Level) → rest ≡ fineOf s cs size active ∷ next → (l : Level) × ((ls : List Level) × (next ≡ l ∷ ls))
       → (b m : ℕ) → b ≤ a → m ≡ length (recordBy engine (s .dimension) cs (s .leaf) active) → m ≤ nodesFor engine a
       → (X₂ : List A) → X₂ ≡ put X₁ node (map f (recordBy engine (s .dimension) cs (s .leaf) active)) → Taken f engine s cs all next b t X X₂ (node + m)
-  taken-next {rest = rest} {a = a} {X₁ = X₁} {node = node} v t et active next first some b m hb em hm X₂ eX =
+  taken-next {rest = rest} {a = a} {X₁ = X₁} {node = node} v t et size active next first some b m hb em hm X₂ eX =
       let r = recordBy engine (s .dimension) cs (s .leaf) active in
       let mapped : length (map f r) ≡ m = length-map r f ∙ sym em in
       let room : node + suc t * nodesFor engine a ≤ length X₁ = rw et at (v .room) in
       let kept : length X₂ ≡ length X₁ = rw eX (length-put X₁ node (map f r) (omega (arith, mapped, suc-mul t (nodesFor engine a)))) in
-      let both : recordsBy engine s cs rest ≡ r ++ recordsBy engine s cs next = rw first (records-more s cs engine active next (some .0) (some .1 .0) (some .1 .1)) in
+      let both : recordsBy engine s cs rest ≡ r ++ recordsBy engine s cs next = rw first (records-more s cs engine size active next (some .0) (some .1 .0) (some .1 .1)) in
       let more : map f (recordsBy engine s cs rest) ≡ map f r ++ map f (recordsBy engine s cs next) = ap (map f) both ∙ map-append f r (recordsBy engine s cs next) in
       record {
         room = omega (arith, part-less node m (nodesFor engine a) (nodesFor engine b) t hm (nodes-fewer engine b a hb), kept);

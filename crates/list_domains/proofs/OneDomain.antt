@@ -3,26 +3,32 @@
 use mathlib.Core.Path.{_≡_, refl, sym, ap, ap₂, _∙_}
 use mathlib.Core.Bool.{Bool, true, false, _&&_, and-false}
 use mathlib.Core.List.{List}
-use Prim.Native.Nat.{ℕ, _+_, _-_, _*_, _≤_}
+use Prim.Native.Nat.{ℕ, _+_, _-_, _*_, _≤_, _<_}
 use native.Mathlib.Nat.{mul-add, mul-one}
 use native.Mathlib.Omega.{arith}
 use borrow.Author.Tests.{leb-true, eqb-true, le-leb}
 use lib.Dec.{leb, eqb}
-use lib.ListN.{length}
+use lib.ListN.{length, getD}
 use Rattle.lists.specs.Lists.{part}
 use Rattle.lists.proofs.Tests.{clash, and-true, four-pass}
 use Rattle.lists.proofs.Put.{length-part}
+use Rattle.definition.specs.Number.{plusZero}
+use Rattle.definition.specs.Points.{boxWidth}
 use Rattle.definition.specs.Packed.{rowFloats}
 use Rattle.packed.specs.Reading.{Packed, ownStart, ownCount, borrowedStart, borrowedCount, rowAt, readLeaf}
 use Rattle.packed.specs.Rows.{plainRow, IsRow}
 use Rattle.packed.specs.declared.DomainRow.{DomainRow}
-use Rattle.stored.specs.Sound.{allOf}
 use Rattle.tree_tests.specs.InTurn.{without, inOrder, boxed, leafPasses}
-use Rattle.list_domains.specs.Boxes.{boundFits}
+use Rattle.list_domains.specs.Boxes.{floatsFit}
 use Rattle.list_domains.specs.InLists.{stretchesFit, domainPasses}
 use Rattle.list_domains.specs.Passed.{Ready, RowsPassed, DomainPassed}
 use Rattle.list_domains.proofs.Boxes.{box-tests}
 use Rattle.list_domains.proofs.Starts.{row-read}
+
+-- the floats of a domain row lie inside their list
+floats-within : (l : Packed) (most j a b k : ℕ) (left listed : List ℕ) → Ready l most j 1 a b k left listed
+    → rowFloats (l .dimension) * j + boxWidth (l .dimension) < length (l .boxes)
+floats-within l most j a b k left listed ready = omega (arith, ready .boxes, mul-add (rowFloats (l .dimension)) j 1, mul-one (rowFloats (l .dimension)))
 
 module _ (coarse : Bool) (l : Packed) (most j a b k : ℕ) (left₀ listed₀ : List ℕ) (ready : Ready l most j 1 a b k left₀ listed₀) (row : DomainRow)
     (is : IsRow row (l .domains) j) (t : Bool) (tells : t ≡ stretchesFit (plainRow row) most a b k) where
@@ -73,15 +79,15 @@ module _ (coarse : Bool) (l : Packed) (most j a b k : ℕ) (left₀ listed₀ : 
     own-few : leb (length (readLeaf l j .own)) k ≡ true
     own-few = le-leb (length (readLeaf l j .own)) k (omega (arith, ap length (sym own-is) ∙ length-part (l .internals) a (row .«internal_count») own-within, is .own-count, tests .2))
 
-    -- ---- the box
-    module _ (at width : ℕ) (at-is : at ≡ rowFloats (l .dimension) * j) (width-is : width ≡ rowFloats (l .dimension)) (x : Bool)
-        (bounds : x ≡ allOf (boundFits coarse) (part (l .boxes) at width)) where
+    -- ---- the box and the cover
+    module _ (at width : ℕ) (at-is : at ≡ rowFloats (l .dimension) * j) (width-is : width ≡ boxWidth (l .dimension)) (x : Bool)
+        (floats : x ≡ floatsFit coarse (part (l .boxes) at width) (getD (l .boxes) (at + width) plusZero)) where
       box-is : x ≡ boxed (l .dimension) coarse (readLeaf l j)
       unfolding readLeaf
       box-is =
-          let w = rowFloats (l .dimension) in
-          bounds ∙ ap₂ (λ (y z : ℕ). allOf (boundFits coarse) (part (l .boxes) y z)) at-is width-is
-          ∙ box-tests (l .dimension) coarse (readLeaf l j) (length-part (l .boxes) (w * j) w (omega (arith, ready .boxes, mul-add w j 1, mul-one w)))
+          let w = boxWidth (l .dimension) in
+          floats ∙ ap₂ (λ (y z : ℕ). floatsFit coarse (part (l .boxes) y z) (getD (l .boxes) (y + z) plusZero)) at-is width-is
+          ∙ box-tests (l .dimension) coarse (readLeaf l j) (length-part (l .boxes) (rowFloats (l .dimension) * j) w (omega (arith, floats-within l most j a b k left₀ listed₀ ready)))
 
       whole : (p q : ℕ → Bool) → domainPasses coarse l most q p j a b k
           ≡ inOrder 0 p (readLeaf l j .own) && inOrder 0 (without (readLeaf l j .own) q) (readLeaf l j .borrowed) && x

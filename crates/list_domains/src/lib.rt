@@ -1,14 +1,15 @@
 // The leaves of a level that stand in packed lists, tested one after the other. Two sets of rows are kept as bits: the rows that the level
 // lists, and those of them that no leaf before has.
 ghost use mathlib.Core.Path.{_≡_};
-ghost use Prim.Native.Nat.{ℕ, _+_, _≤_};
-ghost use lib.ListN.{length};
+ghost use Prim.Native.Nat.{ℕ, _+_, _≤_, _<_};
+ghost use lib.ListN.{length, getD};
 ghost use Rattle.lists.specs.Lists.{part};
+ghost use Rattle.definition.specs.Number.{plusZero};
 ghost use Rattle.packed.specs.Reading.{packed};
 ghost use Rattle.packed.specs.Rows.{plainRow};
 ghost use Rattle.stored.specs.Sound.{allOf};
 ghost use Rattle.marks.specs.Bits.{bitAt};
-ghost use Rattle.list_domains.specs.Boxes.{boundFits};
+ghost use Rattle.list_domains.specs.Boxes.{boundFits, floatsFit};
 ghost use Rattle.list_domains.specs.InLists.{stretchesFit};
 ghost use Rattle.list_domains.specs.Passed.{Ready, RowsPassed, DomainPassed, DomainsPassed};
 use packed::DomainRow;
@@ -49,6 +50,18 @@ fn bounds_fit(boxes: &[f64], at: usize, count: usize, coarse: bool) -> bool
         bound += 1;
     }
     true
+}
+
+// Whether the floats of a domain row may stand there: the bounds of its box, `width` in number, and the cover behind them, which may be
+// any value but not-a-number.
+fn floats_fit(boxes: &[f64], at: usize, width: usize, coarse: bool) -> bool
+    requires { ⌜ at + width < length (now boxes) ⌝ }
+    ensures { λ r. ⌜ r ≡ floatsFit coarse (part (now (boxes .entry)) at width) (getD (now (boxes .entry)) (at + width) plusZero) ⌝ }
+{
+    if !bounds_fit(boxes, at, width, coarse) {
+        return false;
+    }
+    bound_fits(boxes[at + width], false)
 }
 
 // Whether a domain row's stretches start where those before them end, and end inside what is left.
@@ -132,7 +145,7 @@ pub fn check_domain(
         };
     }
     let box_at = packed::floats_before(dimensions, j);
-    if !bounds_fit(boxes, box_at, packed::row_floats(dimensions), coarse) {
+    if !floats_fit(boxes, box_at, boxes::box_width(dimensions), coarse) {
         return Passed {
             good: false,
             own: 0,

@@ -1,12 +1,12 @@
 -- What holds of each element of a list: of two lists together, by index, by membership, of what is kept. Assumes nothing.
 -- Holds: all-append, all-left, all-right, all-keep, all-take, all-drop, all-at, all-by-index, all-mem, all-of, mem-by-index,
---   all-joined, joined-all, all-imp, all-map, map-all, all-replicate
+--   all-joined, joined-all, all-imp, all-map, map-all, all-zip, all-replicate
 use mathlib.Core.Path.{refl, sym, subst}
 use Prim.Native.Nat.{ℕ, zero, suc, _<_}
 use native.Mathlib.Nat.{not-suc-le-zero, le-of-suc-le-suc}
 use native.Mathlib.Omega.{arith}
 use mathlib.Core.Bool.{Bool, true, false}
-use mathlib.Core.List.{List, [], _∷_, _++_, map, List·Memᴰ, List·Memᴰ·head, List·Memᴰ·tail}
+use mathlib.Core.List.{List, [], _∷_, _++_, map, List·Memᴰ, List·Memᴰ·head, List·Memᴰ·tail, zipWith}
 use lib.ListN.{length, getD, take, drop, replicate}
 use Rattle.lists.specs.Lists.{consIf, keep, joined}
 use Rattle.lists.specs.Ascends.{All}
@@ -104,6 +104,14 @@ pub map-all : {A B : Type 0} (P : B → Type 0) (f : A → B) (l : List A) → A
 unfolding All
 map-all P f [] h = tt
 map-all P f (x ∷ l) h = (h .0, map-all P f l (h .1))
+
+-- ---- two lists taken together
+pub all-zip : {A B C : Type 0} (Q : A → Type 0) (P : C → Type 0) (f : A → B → C) → ((x : A) (y : B) → Q x → P (f x y))
+    → (xs : List A) (ys : List B) → All Q xs → All P (zipWith f xs ys)
+unfolding All zipWith
+all-zip Q P f each [] ys h = tt
+all-zip Q P f each (x ∷ xs) [] h = tt
+all-zip Q P f each (x ∷ xs) (y ∷ ys) h = (each x y (h .0), all-zip Q P f each xs ys (h .1))
 
 -- ---- each element of a list of one value
 pub all-replicate : {A : Type 0} (P : A → Type 0) (n : ℕ) (x : A) → P x → All P (replicate n x)

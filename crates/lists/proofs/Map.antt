@@ -1,12 +1,12 @@
 -- The image of a list, element by element. Assumes nothing.
--- Holds: map-snoc, take-map, getD-map-in, map-set, map-joined, map-same, zip-map
+-- Holds: map-snoc, take-map, getD-map-in, map-set, map-joined, map-same, zip-map, zip-length, zip-first, zip-at
 use mathlib.Core.Path.{_≡_, refl, ap, _∙_}
 use Prim.Native.Nat.{ℕ, zero, suc, _<_}
 use native.Mathlib.Nat.{not-suc-le-zero, le-of-suc-le-suc}
+use native.Mathlib.Omega.{arith}
 use mathlib.Core.List.{List, [], _∷_, _++_, map, map-append, List·Memᴰ, List·Memᴰ·head, List·Memᴰ·tail, zipWith}
 use lib.ListN.{length, getD, set, take}
 use Rattle.lists.specs.Lists.{joined}
-use mathlib.Core.Bool.{_||_}
 
 module _ {A B : Type 0} (f : A → B) where
   -- ---- one more element, and stretches
@@ -48,3 +48,27 @@ module _ {A B C E : Type 0} (f : B → C → E) (g : A → B) where
   zip-map [] ys = refl
   zip-map (x ∷ xs) [] = refl
   zip-map (x ∷ xs) (y ∷ ys) = rw (zip-map xs ys)
+
+-- ---- two lists of one length, taken together
+module _ {A B C : Type 0} (f : A → B → C) where
+  pub zip-length : (xs : List A) (ys : List B) → length ys ≡ length xs → length (zipWith f xs ys) ≡ length xs
+  unfolding zipWith
+  zip-length [] ys e = refl
+  zip-length (x ∷ xs) [] e = absurd (omega arith)
+  zip-length (x ∷ xs) (y ∷ ys) e = ap suc (zip-length xs ys (omega arith))
+
+  -- what looks at the first of two alone
+  pub zip-first : {E : Type 0} (g : C → E) (h : A → E) → ((x : A) (y : B) → g (f x y) ≡ h x)
+      → (xs : List A) (ys : List B) → length ys ≡ length xs → map g (zipWith f xs ys) ≡ map h xs
+  unfolding zipWith
+  zip-first g h same [] ys e = refl
+  zip-first g h same (x ∷ xs) [] e = absurd (omega arith)
+  zip-first g h same (x ∷ xs) (y ∷ ys) e = rw (same x y, zip-first g h same xs ys (omega arith))
+
+  pub zip-at : (xs : List A) (ys : List B) → length ys ≡ length xs → (i : ℕ) (x : A) (y : B) (z : C) → i < length xs
+      → getD (zipWith f xs ys) i z ≡ f (getD xs i x) (getD ys i y)
+  unfolding zipWith
+  zip-at [] ys e i x y z l = absurd (omega arith)
+  zip-at (p ∷ xs) [] e i x y z l = absurd (omega arith)
+  zip-at (p ∷ xs) (q ∷ ys) e zero x y z l = refl
+  zip-at (p ∷ xs) (q ∷ ys) e (suc i) x y z l = zip-at xs ys (omega arith) i x y z (omega arith)

@@ -1,10 +1,11 @@
 -- Laws of `put` and `part`. Assumes nothing.
 -- Holds: put-zero, put-nil, length-put, length-part, take-put, length-head, take-put-end, drop-put-end, drop-put, drop-put-past,
---   set-put, put-def, put-next, put-next-at, put-over, put-snoc, getD-put-in, getD-put-before, getD-put-after, part-put-in,
---   part-whole, part-put-same, part-put-after, part-take, part-put-before, part-part, part-append, part-nil, part-snoc,
---   part-cons, part-drop, getD-part, part-around, put-part, put-left, put-right, put-tail, put-comm, part-first, part-second,
---   take-put-front, view-put, part-lent, copy-none, copy-more, set-two, put-before, put-set, getD-put-at, front-put, put-whole,
---   part-grown, mid-back, part-back, read-more, write-more, put-same-more, put-again, spliced, put-spliced, map-spliced
+--   set-put, put-def, put-next, put-next-at, put-longer, put-over, put-snoc, getD-put-in, getD-put-before, getD-put-after,
+--   part-put-in, part-whole, part-put-same, part-put-after, part-take, part-put-before, part-part, part-append, part-nil,
+--   part-snoc, part-cons, part-drop, getD-part, part-around, put-part, put-left, put-right, put-tail, put-comm, part-first,
+--   part-second, take-put-front, view-put, part-lent, copy-none, copy-more, set-two, put-before, put-set, getD-put-at, front-put,
+--   put-whole, part-grown, mid-back, part-back, read-more, write-more, put-same-more, put-again, spliced, put-spliced,
+--   map-spliced
 use mathlib.Core.Path.{_≡_, refl, sym, ap, _∙_, ap₂}
 use Prim.Native.Nat.{ℕ, zero, suc, _+_, _-_, _≤_, _<_}
 use native.Mathlib.Nat.{not-suc-le-zero, suc-add, zero-add, add-zero, add-assoc}
@@ -82,10 +83,13 @@ module _ {A : Type 0} where
   pub put-next-at : (l : List A) (at : ℕ) (xs ys : List A) (k : ℕ) → at ≤ length l → at + length xs ≡ k → put (put l at xs) k ys ≡ put l at (xs ++ ys)
   put-next-at l at xs ys k h e = rw (← e) (put-next l at xs ys h)
 
-  pub put-over : (l : List A) (at : ℕ) (xs ys : List A) → at ≤ length l → length xs ≡ length ys → put (put l at xs) at ys ≡ put l at ys
-  put-over l at xs ys h e =
+  pub put-longer : (l : List A) (at : ℕ) (xs ys : List A) → at ≤ length l → length xs ≤ length ys → put (put l at xs) at ys ≡ put l at ys
+  put-longer l at xs ys h g =
       put-def (put l at xs) at ys
       ∙ rw (take-put l at xs h, drop-put-past l at xs (at + length ys) h (omega arith), put-def l at ys)
+
+  pub put-over : (l : List A) (at : ℕ) (xs ys : List A) → at ≤ length l → length xs ≡ length ys → put (put l at xs) at ys ≡ put l at ys
+  put-over l at xs ys h e = put-longer l at xs ys h (omega arith)
 
   -- a store past the end of a stretch makes it one longer: the turn of a loop that writes one element after the other
   pub put-snoc : (l : List A) (at : ℕ) (xs : List A) (x : A) (k : ℕ) → at + length xs ≡ k → k < length l → set (put l at xs) k x ≡ put l at (xs ++ x ∷ [])

@@ -1,4 +1,4 @@
--- Domains and levels one after another in bytes: how many they are, that each domain has all its bounds, the first of them, and what comes
+-- Domains and levels one after another in bytes: how many they are, that each domain has all its floats, the first of them, and what comes
 -- after it. Assumes nothing.
 -- Holds: one-wide, leaves-wide, leaves-first, whole-first, after-first, level-wide, levels-wide, levels-first, level-first,
 --   wholes-next
@@ -16,7 +16,8 @@ use Rattle.lists.proofs.Joined.{joined-one}
 use Rattle.definition.specs.Number.{plusZero}
 use Rattle.definition.specs.Points.{boxWidth}
 use Rattle.definition.specs.Tree.{Level}
-use Rattle.definition.specs.Packed.{rowFloats, leavesIn}
+use Rattle.definition.specs.Packed.{rowFloats, leafFloats, leavesIn}
+use Rattle.definition_laws.proofs.Fit.{floats-length}
 use Rattle.formats.specs.Bytes.{whole, floatsAt}
 use Rattle.stored.specs.File.{domainMark}
 use Rattle.stored.specs.Stored.{boundsPlace, leafIn, leafSize, leavesAt, afterLeaves, secondCount, oneDomain, domainsPlace, levelIn, afterLevel, levelsAt}
@@ -35,7 +36,7 @@ module _ (d : ℕ) (coarse : Bool) where
       go false = length-floats-at (boxWidth d) (boundsPlace bs) bs
 
   pub one-wide : (bs : List ℕ) → Wide d (leafIn d coarse bs ∷ [])
-  one-wide bs = ap length (joined-one (leafIn d coarse bs .box)) ∙ box-wide bs ∙ omega arith
+  one-wide bs = ap length (joined-one (leafFloats (leafIn d coarse bs))) ∙ floats-length d (leafIn d coarse bs) (box-wide bs) ∙ omega arith
 
   pub leaves-wide : (m : ℕ) (bs : List ℕ) → Wide d (leavesAt d coarse m bs)
   unfolding leavesAt joined

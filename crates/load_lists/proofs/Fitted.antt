@@ -18,7 +18,7 @@ use Rattle.stored.specs.Sound.{fits}
 use Rattle.load_lists.specs.Places.{treeFrom, CanHold}
 use Rattle.load_lists.proofs.Ahead.{levels-wide}
 
--- each domain has a box of all its bounds
+-- each domain has a box of all its bounds, and a cover
 pub boxes-many : (d at : ℕ) (file : List ℕ) → length (packedBoxes (treeFrom d at file)) ≡ rowFloats d * length (leavesIn (treeFrom d at file))
 unfolding packedBoxes
 boxes-many d at file = levels-wide d mostLevels (drop at file)

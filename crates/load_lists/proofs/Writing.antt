@@ -10,7 +10,7 @@ use Rattle.lists.specs.Lists.{joined}
 use Rattle.lists.proofs.Put.{put-nil, put-next-at, length-put}
 use Rattle.lists.proofs.Joined.{joined-map-append}
 use Rattle.definition.specs.Tree.{Leaf}
-use Rattle.definition.specs.Packed.{rowNumbers, rowFloats, stretches}
+use Rattle.definition.specs.Packed.{rowNumbers, rowFloats, leafFloats, stretches}
 use Rattle.definition_laws.proofs.Fit.{length-stretches}
 use Rattle.packed.specs.Reading.{Packed, ownIn, borrowedIn, boxesIn}
 use Rattle.packed.proofs.Packing.{stretches-append}
@@ -26,9 +26,9 @@ module _ (xs ys : List Leaf) where
   borrowed-both = ap length (joined-map-append (λ (f : Leaf). f .borrowed) xs ys) ∙ length-append (borrowedIn xs) (borrowedIn ys)
 
   boxes-both : length (boxesIn (xs ++ ys)) ≡ length (boxesIn xs) + length (boxesIn ys)
-  boxes-both = ap length (joined-map-append (λ (f : Leaf). f .box) xs ys) ∙ length-append (boxesIn xs) (boxesIn ys)
+  boxes-both = ap length (joined-map-append leafFloats xs ys) ∙ length-append (boxesIn xs) (boxesIn ys)
 
--- their boxes have all their bounds
+-- their boxes have all their bounds, each with a cover
 abbrev pub Wide : ℕ → List Leaf → Type 0
 Wide d fs = length (boxesIn fs) ≡ rowFloats d * length fs
 
@@ -114,7 +114,7 @@ module _ (xs ys : List Leaf) {c r : Cursor} {p q : Packed} (e : q .dimension ≡
             (put-next-at (p .domains) (rowNumbers * c .row) (stretches (c .own) (c .borrowed) xs) (stretches (r .own) (r .borrowed) ys) (rowNumbers * r .row)
             (omega (arith, m .domains)) (omega (arith, w .row-end, length-stretches (c .own) (c .borrowed) xs)));
         boxes =
-            v .boxes ∙ rw (e, w .boxes, joined-map-append (λ (f : Leaf). f .box) xs ys)
+            v .boxes ∙ rw (e, w .boxes, joined-map-append leafFloats xs ys)
             (put-next-at (p .boxes) (rowFloats d * c .row) (boxesIn xs) (boxesIn ys) (rowFloats d * r .row)
             (omega (arith, m .boxes, mul-add (rowFloats d) (c .row) (length (xs ++ ys)))) (rw (w .row-end) (omega (arith, wide, mul-add (rowFloats d) (c .row) (length xs)))));
         borrowed =

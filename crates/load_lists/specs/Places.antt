@@ -1,13 +1,17 @@
 -- Where the records of a stored tree are read, where their parts are written, and the room for these. Definitions only.
 use Prim.Native.Nat.{ℕ, _+_, _*_, _≤_}
 use mathlib.Core.Path.{_≡_}
-use mathlib.Core.Bool.{Bool}
-use mathlib.Core.List.{List}
-use lib.ListN.{length, drop}
+use mathlib.Core.Bool.{Bool, cond}
+use mathlib.Core.List.{List, _++_}
+use lib.ListN.{length, drop, replicate}
+use lib.Ieee.{Float}
 use Rattle.lists.specs.Lists.{put}
+use Rattle.definition.specs.Number.{plusZero}
+use Rattle.definition.specs.Points.{boxWidth}
 use Rattle.definition.specs.Tree.{Leaf, Level}
 use Rattle.definition.specs.Packed.{rowNumbers, rowFloats, mostLevels, stretches, packedLevelPoints, packedInternals, packedDomains, packedBoxes, packedBorrowed}
 use Rattle.packed.specs.Reading.{Packed, ownIn, borrowedIn, boxesIn}
+use Rattle.formats.specs.Bytes.{floatsAt}
 use Rattle.stored.specs.Stored.{leafIn, leavesAt, levelIn, levelsAt}
 use Rattle.load_lists.specs.declared.Cursor.{Cursor}
 
@@ -26,6 +30,10 @@ domainsAt d coarse m c bs = leavesAt d coarse m (ahead c bs)
 -- a level
 abbrev pub levelAt : ℕ → Cursor → List ℕ → Level
 levelAt d c bs = levelIn d (ahead c bs)
+
+-- the floats of a domain row, of which those of the domain's record begin at a place: the coarse one has no box, and +0 for each bound
+abbrev pub floatsRead : ℕ → Bool → ℕ → List ℕ → List Float
+floatsRead d coarse at bs = cond coarse (replicate (boxWidth d) plusZero ++ floatsAt 1 at bs) (floatsAt (rowFloats d) at bs)
 
 -- ---- domains in the lists, from the cursor c on
 

@@ -3,21 +3,19 @@
 ghost use mathlib.Core.Path.{_≡_};
 ghost use mathlib.Core.Bool.{true, cond};
 ghost use mathlib.Core.List.{[], _∷_};
-ghost use Prim.Native.Nat.{_+_, _-_, _≤_};
+ghost use Prim.Native.Nat.{_+_, _-_, _*_, _≤_};
 ghost use lib.Dec.{eqb};
-ghost use lib.ListN.{length, drop, replicate};
+ghost use lib.ListN.{length, drop};
 ghost use Rattle.lists.specs.Lists.{put};
-ghost use Rattle.definition.specs.Number.{plusZero};
-ghost use Rattle.definition.specs.Points.{boxWidth};
-ghost use Rattle.definition.specs.Packed.{mostLevels, countsOf, packedLevelPoints, packedInternals, packedDomains, packedBoxes, packedBorrowed};
+ghost use Rattle.definition.specs.Packed.{rowFloats, mostLevels, countsOf, packedLevelPoints, packedInternals, packedDomains, packedBoxes, packedBorrowed};
 ghost use Rattle.packed.specs.Reading.{packed};
-ghost use Rattle.formats.specs.Bytes.{floatsAt, whole};
+ghost use Rattle.formats.specs.Bytes.{floatSize, whole};
 ghost use Rattle.stored.specs.File.{domainMark};
 ghost use Rattle.stored.specs.Stored.{leafSize, afterLeaves, afterLevel};
 ghost use Rattle.tree_tests.specs.Whole.{leavesWhole, levelWhole, levelsWhole};
 ghost use Rattle.tree_answer.specs.Answers.{treeAnswer};
-ghost use Rattle.file_reader.specs.Fetch.{boxBytes};
-ghost use Rattle.load_lists.specs.Places.{ahead, domainAt, domainsAt, levelAt, Room, Written, treeFrom, CanHold};
+ghost use Rattle.file_reader.specs.Fetch.{recordFloats};
+ghost use Rattle.load_lists.specs.Places.{floatsRead, ahead, domainAt, domainsAt, levelAt, Room, Written, treeFrom, CanHold};
 use tree_answer::DDMTree;
 
 // Where a level's row count and its domain count stand, and where its rows begin.
@@ -42,21 +40,30 @@ struct Cursor {
 
 // ---- a domain
 
-// Writes a domain's box, which stands at `at`, to the boxes from k on; +0 for each bound of the box that the coarse domain does not
-// have.
-fn put_box(bytes: &[u8], at: usize, dimensions: usize, coarse: bool, boxes: &mut [f64], k: usize)
-    requires { ⌜ (dimensions ≤ 3) × (at + boxBytes dimensions coarse ≤ length (now bytes)) × (k + boxWidth dimensions ≤ length (now boxes)) ⌝ }
-    ensures { λ _. ⌜ now (boxes .exit) ≡ put (now (boxes .entry)) k (cond coarse (replicate (boxWidth dimensions) plusZero) (floatsAt (boxWidth dimensions) at (now (bytes .entry)))) ⌝ }
+// Writes the floats that stand at `at` in a domain's record to the boxes from k on: its box and its cover; before the coarse domain's
+// cover +0 for each bound of the box that it does not have.
+fn put_row_floats(
+    bytes: &[u8],
+    at: usize,
+    dimensions: usize,
+    coarse: bool,
+    boxes: &mut [f64],
+    k: usize,
+)
+    requires { ⌜ (dimensions ≤ 3) × (at + floatSize * recordFloats dimensions coarse ≤ length (now bytes)) × (k + rowFloats dimensions ≤ length (now boxes)) ⌝ }
+    ensures { λ _. ⌜ now (boxes .exit) ≡ put (now (boxes .entry)) k (floatsRead dimensions coarse at (now (bytes .entry))) ⌝ }
 {
     let width = boxes::box_width(dimensions);
+    let floats = packed::row_floats(dimensions);
     if coarse {
         boxes::put_zeros(boxes, k, width);
+        bytes_in::read_floats(bytes, at, packed::COVER, boxes, k + width);
     } else {
-        bytes_in::read_floats(bytes, at, width, boxes, k);
+        bytes_in::read_floats(bytes, at, floats, boxes, k);
     }
 }
 
-// Writes the domain at the cursor: its rows, its domain row and its box. Answers with the cursor after it.
+// Writes the domain at the cursor: its rows, its domain row and its floats. Answers with the cursor after it.
 fn put_domain(
     bytes: &[u8],
     dimensions: usize,
@@ -74,7 +81,8 @@ fn put_domain(
         (packed (now (internals .entry)) (now (domains .entry)) (now (boxes .entry)) (now (borrowed .entry)) dimensions)
         (packed (now (internals .exit)) (now (domains .exit)) (now (boxes .exit)) (now (borrowed .exit)) dimensions) ⌝ }
 {
-    let found = file_reader::fetch_domain(bytes, c.at, file_reader::box_bytes(dimensions, coarse));
+    let floats = file_reader::record_floats(dimensions, coarse);
+    let found = file_reader::fetch_domain(bytes, c.at, bytes_in::FLOAT * floats);
     bytes_in::read_numbers(bytes, found.own_at, found.own, internals, c.own);
     bytes_in::read_numbers(
         bytes,
@@ -91,7 +99,7 @@ fn put_domain(
     };
     packed::put_row(domains, c.row, row);
     let box_at = packed::floats_before(dimensions, c.row);
-    put_box(bytes, found.bounds_at, dimensions, coarse, boxes, box_at);
+    put_row_floats(bytes, found.bounds_at, dimensions, coarse, boxes, box_at);
     Cursor {
         at: found.next,
         points: c.points,

@@ -12,7 +12,7 @@ use Rattle.lists.specs.Lists.{put, part, joined}
 use Rattle.lists.proofs.Put.{put-next-at, put-part, length-part, put-again}
 use Rattle.lists.proofs.Joined.{joined-cons, joined-map-append}
 use Rattle.definition.specs.Tree.{Leaf, Level}
-use Rattle.definition.specs.Packed.{rowNumbers, leavesIn, packedLevelPoints, packedInternals, packedBorrowed, packedBoxes, stretches}
+use Rattle.definition.specs.Packed.{rowNumbers, leafFloats, leavesIn, packedLevelPoints, packedInternals, packedBorrowed, packedBoxes, stretches}
 use Rattle.definition_laws.proofs.Fit.{length-stretches}
 use Rattle.packed.specs.Reading.{ownIn, borrowedIn, boxesIn}
 
@@ -35,7 +35,7 @@ module _ (l : Level) (ls : List Level) where
 
   pub boxes-cons : packedBoxes (l ∷ ls) ≡ boxesIn (l .leaves) ++ packedBoxes ls
   unfolding packedBoxes
-  boxes-cons = rw leaves-cons (joined-map-append (λ (f : Leaf). f .box) (l .leaves) (leavesIn ls))
+  boxes-cons = rw leaves-cons (joined-map-append leafFloats (l .leaves) (leavesIn ls))
 
 pub stretches-append : (a b : ℕ) (fs gs : List Leaf)
     → stretches a b (fs ++ gs) ≡ stretches a b fs ++ stretches (a + length (ownIn fs)) (b + length (borrowedIn fs)) gs

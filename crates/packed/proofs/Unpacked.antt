@@ -1,34 +1,35 @@
 -- A packed tree is read back: the rows of each level, each leaf by its domain row, and so the whole tree; and a reader who goes by the
 -- domain rows stays inside the lists. Assumes nothing.
 -- Holds: noLeaf, Packs, levels-are, rows-on, leaves-on, listed-is, own-count-is, borrowed-count-is, own-is, borrowed-is, box-is,
---   leaf-is, tree-row-fits, leaf-in, leaf-at, tree-back, tree-stands
+--   cover-is, leaf-is, tree-row-fits, leaf-in, leaf-at, tree-back, tree-stands
 use mathlib.Core.Path.{_≡_, refl, sym, ap, ap₂, _∙_}
 use mathlib.Core.Logic.{⊎-elim}
 use mathlib.Core.List.{List, [], _∷_, _++_, map, map-map, map-id, append-assoc}
 use Prim.Native.Nat.{ℕ, zero, suc, _+_, _-_, _*_, _≤_, _<_}
 use native.Mathlib.Omega.{arith}
-use native.Mathlib.Nat.{zero-add, add-zero, add-assoc}
+use native.Mathlib.Nat.{zero-add, add-zero, add-assoc, mul-add}
 use lib.ListN.{length, getD, take, length-map, length-append, List·getD-append, List·getD-eq-default}
-use lib.Seq.{getD-append-add, take-length}
+use lib.Seq.{getD-append-add, take-append-seam, take-length}
 use lib.Ieee.{Float}
 use Rattle.lists.specs.Lists.{total, from, joined, part}
 use Rattle.lists.specs.Ascends.{All}
 use Rattle.lists.proofs.Tests.{le-or-lt}
-use Rattle.lists.proofs.All.{all-map, all-at}
+use Rattle.lists.proofs.All.{all-map, all-imp, all-at}
 use Rattle.lists.proofs.Map.{take-map, getD-map-in}
 use Rattle.lists.proofs.From.{map-from-at}
-use Rattle.lists.proofs.Put.{part-nil}
+use Rattle.lists.proofs.Put.{part-nil, part-part, getD-part}
 use Rattle.lists.proofs.Joined.{joined-at, joined-fits, getD-joined, even-lengths}
+use Rattle.definition.specs.Number.{plusZero}
 use Rattle.definition.specs.Points.{boxWidth}
 use Rattle.definition.specs.Tree.{Leaf, Level, mostFine}
-use Rattle.definition.specs.Packed.{Counts, rowNumbers, rowFloats, rowOf, numbersOf, leavesIn, packedLevelPoints, packedInternals, packedBorrowed, packedDomains, packedBoxes, stretches, perLevel, countsOf}
-use Rattle.definition_laws.proofs.Fit.{length-leaves, length-points, length-domains}
-use Rattle.packed.specs.Reading.{Packed, ownStart, ownCount, borrowedStart, borrowedCount, ownAt, borrowedAt, boxAt, readLeaf, readLeaves, upTo, pointsAt, readLevel, readLevels, RowFits, Stands}
+use Rattle.definition.specs.Packed.{Counts, rowNumbers, rowFloats, rowOf, numbersOf, leafFloats, leavesIn, packedLevelPoints, packedInternals, packedBorrowed, packedDomains, packedBoxes, stretches, perLevel, countsOf}
+use Rattle.definition_laws.proofs.Fit.{length-leaves, length-points, length-domains, floats-length}
+use Rattle.packed.specs.Reading.{Packed, ownStart, ownCount, borrowedStart, borrowedCount, ownAt, borrowedAt, boxAt, coverAt, readLeaf, readLeaves, upTo, pointsAt, readLevel, readLevels, RowFits, Stands}
 use Rattle.packed.proofs.Counts.{noLevel, counts-length, counts-before, level-count}
 
 -- what stands past a level's leaves
 abbrev pub noLeaf : Leaf
-noLeaf = record { own = []; borrowed = []; box = [] }
+noLeaf = record { own = []; borrowed = []; box = []; cover = plusZero }
 
 -- ---- the numbers of the domain rows
 
@@ -172,16 +173,27 @@ module _ (ls : List Level) (p : Packed) (level-points : List ℕ) (c : Counts) (
       stretch-fits list rest e =
           omega (arith, ap length e, length-append (joined (map f all)) rest, joined-fits (map f all) j in-blocks, start-is, n, ap length named)
 
-    -- the boxes before it, each as wide as the next
-    box-start : rowFloats (p .dimension) * j ≡ total (map length (map (λ f. f .box) (take j all)))
-    box-start =
-        let w = boxWidth (p .dimension) in
-        let each : All (λ (b : List Float). length b ≡ w) (map (λ f. f .box) all) = all-map (λ (b : List Float). length b ≡ w) (λ f. f .box) all (k .boxed) in
-        sym (even-lengths w (map (λ f. f .box) all) each j (omega (arith, length-map all (λ (f : Leaf). f .box))))
-        ∙ ap (λ (x : List (List Float)). total (map length x)) (take-map (λ (f : Leaf). f .box) j all)
+    -- the floats of the leaves before it, each with as many as the next
+    floats-start : rowFloats (p .dimension) * j ≡ total (map length (map leafFloats (take j all)))
+    floats-start =
+        let w = rowFloats (p .dimension) in
+        let each : All (λ (b : List Float). length b ≡ w) (map leafFloats all) =
+        all-map (λ (b : List Float). length b ≡ w) leafFloats all
+        (all-imp (λ (f : Leaf). length (f .box) ≡ boxWidth (p .dimension)) (λ f. length (leafFloats f) ≡ w) all (floats-length (p .dimension)) (k .boxed)) in
+        sym (even-lengths w (map leafFloats all) each j (omega (arith, length-map all leafFloats)))
+        ∙ ap (λ (x : List (List Float)). total (map length x)) (take-map leafFloats j all)
 
-    box-count : boxWidth (p .dimension) ≡ length (leaf .box)
-    box-count = sym (all-at (λ (f : Leaf). length (f .box) ≡ boxWidth (p .dimension)) all j noLeaf (k .boxed) h)
+    box-count : length (leaf .box) ≡ boxWidth (p .dimension)
+    box-count = all-at (λ (f : Leaf). length (f .box) ≡ boxWidth (p .dimension)) all j noLeaf (k .boxed) h
+
+    floats-count : rowFloats (p .dimension) ≡ length (leafFloats leaf)
+    floats-count = sym (floats-length (p .dimension) leaf box-count)
+
+    floats-is : part (p .boxes) (rowFloats (p .dimension) * j) (rowFloats (p .dimension)) ≡ leafFloats leaf
+    unfolding packedBoxes
+    floats-is =
+        ap (λ (x : List Float). part x (rowFloats (p .dimension) * j) (rowFloats (p .dimension))) (k .boxes)
+        ∙ stretch-is leafFloats (rowFloats (p .dimension) * j) (rowFloats (p .dimension)) floats-start floats-count (k .boxes-rest)
 
     pub own-is : ownAt (p .internals) (p .domains) j ≡ getD (leavesIn ls) j noLeaf .own
     unfolding packedInternals
@@ -196,14 +208,26 @@ module _ (ls : List Level) (p : Packed) (level-points : List ℕ) (c : Counts) (
         ∙ stretch-is (λ f. f .borrowed) (borrowedStart (p .domains) j) (borrowedCount (p .domains) j) borrowed-start-is borrowed-count-is (k .borrowed-rest)
 
     pub box-is : boxAt (p .dimension) (p .boxes) j ≡ getD (leavesIn ls) j noLeaf .box
-    unfolding packedBoxes
+    unfolding part
     box-is =
-        ap (λ (x : List Float). part x (rowFloats (p .dimension) * j) (boxWidth (p .dimension))) (k .boxes)
-        ∙ stretch-is (λ f. f .box) (rowFloats (p .dimension) * j) (boxWidth (p .dimension)) box-start box-count (k .boxes-rest)
+        let s = rowFloats (p .dimension) * j in
+        let w = boxWidth (p .dimension) in
+        ap (λ (i : ℕ). part (p .boxes) i w) (sym (add-zero s)) ∙ sym (part-part (p .boxes) s (rowFloats (p .dimension)) 0 w (omega arith))
+        ∙ ap (λ (x : List Float). part x 0 w) floats-is
+        ∙ ap (λ (i : ℕ). take i (leafFloats leaf)) (sym box-count) ∙ take-append-seam (leaf .box) (leaf .cover ∷ [])
+
+    pub cover-is : coverAt (p .dimension) (p .boxes) j ≡ getD (leavesIn ls) j noLeaf .cover
+    cover-is =
+        let s = rowFloats (p .dimension) * j in
+        let w = boxWidth (p .dimension) in
+        sym (getD-part (p .boxes) s (rowFloats (p .dimension)) w plusZero (omega arith))
+        ∙ ap (λ (x : List Float). getD x w plusZero) floats-is
+        ∙ ap (λ (i : ℕ). getD (leafFloats leaf) i plusZero) (sym box-count ∙ sym (add-zero (length (leaf .box))))
+        ∙ getD-append-add (leaf .box) (leaf .cover ∷ []) 0 plusZero
 
     pub leaf-is : readLeaf p j ≡ getD (leavesIn ls) j noLeaf
     unfolding readLeaf
-    leaf-is = rw (own-is, borrowed-is, box-is)
+    leaf-is = rw (own-is, borrowed-is, box-is, cover-is)
 
     pub tree-row-fits : p .dimension ≤ 3 → RowFits p j
     unfolding packedInternals packedBorrowed packedBoxes
@@ -213,7 +237,12 @@ module _ (ls : List Level) (p : Packed) (level-points : List ℕ) (c : Counts) (
           row = omega (arith, ap length (k .domains), length-append (packedDomains ls) (k .domains-rest), length-domains ls, h);
           own = stretch-fits (λ f. f .own) (ownStart (p .domains) j) (ownCount (p .domains) j) own-start-is own-count-is (p .internals) (k .internals-rest) (k .internals);
           borrowed = stretch-fits (λ f. f .borrowed) (borrowedStart (p .domains) j) (borrowedCount (p .domains) j) borrowed-start-is borrowed-count-is (p .borrowed) (k .borrowed-rest) (k .borrowed);
-          box = stretch-fits (λ f. f .box) (rowFloats (p .dimension) * j) (boxWidth (p .dimension)) box-start box-count (p .boxes) (k .boxes-rest) (k .boxes);
+          floats =
+              omega (
+                arith,
+                stretch-fits leafFloats (rowFloats (p .dimension) * j) (rowFloats (p .dimension)) floats-start floats-count (p .boxes) (k .boxes-rest) (k .boxes),
+                mul-add (rowFloats (p .dimension)) j 1,
+              );
         }
 
   -- ---- leaf i of level l

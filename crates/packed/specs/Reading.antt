@@ -6,9 +6,10 @@ use mathlib.Core.List.{List, map}
 use lib.ListN.{length, getD, take}
 use lib.Ieee.{Float}
 use Rattle.lists.specs.Lists.{total, from, joined, part}
+use Rattle.definition.specs.Number.{plusZero}
 use Rattle.definition.specs.Points.{boxWidth}
 use Rattle.definition.specs.Tree.{Leaf, Level}
-use Rattle.definition.specs.Packed.{DomainRow, rowNumbers, rowFloats}
+use Rattle.definition.specs.Packed.{DomainRow, rowNumbers, rowFloats, leafFloats}
 
 -- ---- the domain row number j of a list of domain rows
 
@@ -34,7 +35,7 @@ rowAt domains j =
       borrowedCount = borrowedCount domains j;
     }
 
--- ---- what it names: the leaf's own rows, the rows that it borrows, and its box on d axes
+-- ---- what it names: the leaf's own rows, the rows that it borrows, and its floats on d axes, which are its box and its cover
 
 abbrev pub ownAt : List ℕ → List ℕ → ℕ → List ℕ
 ownAt internals domains j = part internals (ownStart domains j) (ownCount domains j)
@@ -44,6 +45,9 @@ borrowedAt borrowed domains j = part borrowed (borrowedStart domains j) (borrowe
 
 abbrev pub boxAt : ℕ → List Float → ℕ → List Float
 boxAt d boxes j = part boxes (rowFloats d * j) (boxWidth d)
+
+abbrev pub coverAt : ℕ → List Float → ℕ → Float
+coverAt d boxes j = getD boxes (rowFloats d * j + boxWidth d) plusZero
 
 -- the own rows of the m leaves from the domain row number `first` on
 unfoldable pub readOwn : List ℕ → List ℕ → ℕ → ℕ → List (List ℕ)
@@ -70,13 +74,14 @@ readLeaf p j =
       own = ownAt (p .internals) (p .domains) j;
       borrowed = borrowedAt (p .borrowed) (p .domains) j;
       box = boxAt (p .dimension) (p .boxes) j;
+      cover = coverAt (p .dimension) (p .boxes) j;
     }
 
 -- m leaves from the domain row number j on
 unfoldable pub readLeaves : Packed → ℕ → ℕ → List Leaf
 readLeaves p j m = map (readLeaf p) (from j m)
 
--- the rows, borrowed rows and boxes of leaves, leaf by leaf
+-- the rows, borrowed rows and floats of leaves, leaf by leaf
 abbrev pub ownIn : List Leaf → List ℕ
 ownIn fs = joined (map (λ f. f .own) fs)
 
@@ -84,7 +89,7 @@ abbrev pub borrowedIn : List Leaf → List ℕ
 borrowedIn fs = joined (map (λ f. f .borrowed) fs)
 
 abbrev pub boxesIn : List Leaf → List Float
-boxesIn fs = joined (map (λ f. f .box) fs)
+boxesIn fs = joined (map leafFloats fs)
 
 -- ---- levels, by the row and domain counts per level
 
@@ -109,13 +114,13 @@ readLevels p level-points rows counts n = map (readLevel p level-points rows cou
 
 -- ---- what has to stand in the lists before a reader may go by them
 
--- the domain row number j, with its stretches and its box, on up to three axes
+-- the domain row number j, with its stretches and its floats, on up to three axes
 pub record RowFits (p : Packed) (j : ℕ) : Type 0 where
   pub axes : p .dimension ≤ 3
   pub row : rowNumbers * (j + 1) ≤ length (p .domains)
   pub own : ownStart (p .domains) j + ownCount (p .domains) j ≤ length (p .internals)
   pub borrowed : borrowedStart (p .domains) j + borrowedCount (p .domains) j ≤ length (p .borrowed)
-  pub box : rowFloats (p .dimension) * j + boxWidth (p .dimension) ≤ length (p .boxes)
+  pub floats : rowFloats (p .dimension) * (j + 1) ≤ length (p .boxes)
 
 -- n levels with their counts; the last one is coarse, with one domain
 pub record Stands (p : Packed) (level-points rows counts : List ℕ) (n : ℕ) : Type 0 where

@@ -15,8 +15,11 @@ const BORROWED_START: usize = 2;
 
 const BORROWED_COUNT: usize = 3;
 
+// The floats behind the box: the cover.
+pub const COVER: usize = 1;
+
 // How many floats a domain row has on three axes, for lists of a fixed length.
-pub const MOST_ROW_FLOATS: usize = boxes::WIDEST_BOX;
+pub const MOST_ROW_FLOATS: usize = boxes::WIDEST_BOX + COVER;
 
 // A domain row: where the leaf's stretch of each list starts, and how many rows it has there.
 pub struct DomainRow {
@@ -26,15 +29,15 @@ pub struct DomainRow {
     pub borrowed_count: usize,
 }
 
-// How many floats a domain row has: those of its box.
+// How many floats a domain row has: those of its box, and its cover.
 pub fn row_floats(dimensions: usize) -> usize
     requires { ⌜ dimensions ≤ 3 ⌝ }
     ensures { λ r. ⌜ r ≡ rowFloats dimensions ⌝ }
 {
-    boxes::box_width(dimensions)
+    boxes::box_width(dimensions) + COVER
 }
 
-// How many floats the first k domain rows take up: there the box of the row number k starts.
+// How many floats the first k domain rows take up: there the box of the row number k starts, and its cover comes behind that.
 pub fn floats_before(dimensions: usize, k: usize) -> usize
     requires { ⌜ (dimensions ≤ 3) × (rowFloats dimensions * k < 2 ^ 64) ⌝ }
     ensures { λ r. ⌜ r ≡ rowFloats dimensions * k ⌝ }

@@ -1,5 +1,6 @@
 -- The texts of a list's elements, one after the other. Assumes nothing.
--- Holds: each-none, each-all, each-room, more-room, each-more, rowText, boundText, bounds-text, rows-dash, rows-listed
+-- Holds: each-none, each-all, each-room, more-room, each-more, rowText, floatText, floats-text, valued-text, rows-dash,
+--   rows-listed
 use mathlib.Core.Path.{_≡_, refl, sym}
 use Prim.Native.Nat.{ℕ, _+_, _≤_, _<_}
 use native.Mathlib.Omega.{arith}
@@ -9,7 +10,7 @@ use lib.Seq.{take-all}
 use lib.Ieee.{Float, toBits, binary64}
 use Rattle.lists.specs.Lists.{joined}
 use Rattle.lists.proofs.Joined.{joined-append, joined-map-more}
-use Rattle.formats.specs.Printout.{rowsText, boxText, decimal, hexOnto, ascii}
+use Rattle.formats.specs.Printout.{rowsText, floatsText, decimal, hexOnto, ascii}
 use Rattle.bytes_out.specs.Wrote.{Wrote, RoomFor}
 use Rattle.bytes_out.proofs.Wrote.{spelt, room-spelt, room-first, room-next, wrote-then}
 
@@ -39,16 +40,20 @@ module _ {A : Type 0} (f : A → List ℕ) where
     pub each-more : {q : ℕ} {k : List ℕ} → Wrote m r (f (getD xs i d)) q k → Wrote l at (joined (map f (take (i + 1) xs))) q k
     each-more v = spelt (sym (joined-map-more f xs i d g)) (wrote-then w step-room v)
 
--- ---- rows, and the bounds of a box
+-- ---- rows, and floats
 abbrev pub rowText : ℕ → List ℕ
 rowText j = 32 ∷ decimal j
 
-abbrev pub boundText : Float → List ℕ
-boundText x = 32 ∷ hexOnto 16 (toBits binary64 x) []
+abbrev pub floatText : Float → List ℕ
+floatText x = 32 ∷ hexOnto 16 (toBits binary64 x) []
 
-pub bounds-text : (b : List Float) → boxText b ≡ joined (map boundText b)
-unfolding boxText
-bounds-text b = refl
+pub floats-text : (xs : List Float) → floatsText xs ≡ joined (map floatText xs)
+unfolding floatsText
+floats-text xs = refl
+
+pub valued-text : (label : List ℕ) (x : Float) → label ++ floatsText (x ∷ []) ≡ joined (label ∷ floatText x ∷ [])
+unfolding floatsText joined
+valued-text label x = refl
 
 pub rows-dash : (xs : List ℕ) → length xs ≡ 0 → rowsText xs ≡ 32 ∷ 45 ∷ []
 unfolding rowsText ascii

@@ -3,7 +3,7 @@ ghost use mathlib.Core.Path.{_≡_};
 ghost use mathlib.Core.List.{[], _∷_, _++_};
 ghost use Prim.Native.Nat.{_<_};
 ghost use lib.Ieee.{toBits, binary64};
-ghost use Rattle.formats.specs.Printout.{digitOf, decimal, hexOnto, rowsText, boxText, refusalText};
+ghost use Rattle.formats.specs.Printout.{digitOf, decimal, hexOnto, rowsText, floatsText, refusalText};
 ghost use Rattle.bytes_out.specs.Wrote.{Wrote, RoomFor};
 ghost use Rattle.print_texts.specs.Refusals.{refusalOf};
 
@@ -90,7 +90,7 @@ fn write_rows(rows: &[usize], out: &mut [u8], at: usize) -> usize
 }
 
 // A space and the 16 hexadecimal digits of the bits.
-fn write_bound(x: f64, out: &mut [u8], at: usize) -> usize
+fn write_float(x: f64, out: &mut [u8], at: usize) -> usize
     requires { ⌜ RoomFor (now out) at (32 ∷ hexOnto 16 (toBits binary64 x) []) ⌝ }
     ensures { λ r. ⌜ Wrote (now (out .entry)) at (32 ∷ hexOnto 16 (toBits binary64 x) []) r (now (out .exit)) ⌝ }
 {
@@ -98,15 +98,15 @@ fn write_bound(x: f64, out: &mut [u8], at: usize) -> usize
     write_hex(16, bytes_out::bits_of(x), out, next)
 }
 
-// The same for each bound.
-pub fn write_bounds(bounds: &[f64], out: &mut [u8], at: usize) -> usize
-    requires { ⌜ RoomFor (now out) at (boxText (now bounds)) ⌝ }
-    ensures { λ r. ⌜ Wrote (now (out .entry)) at (boxText (now (bounds .entry))) r (now (out .exit)) ⌝ }
+// The same for each float.
+pub fn write_floats(floats: &[f64], out: &mut [u8], at: usize) -> usize
+    requires { ⌜ RoomFor (now out) at (floatsText (now floats)) ⌝ }
+    ensures { λ r. ⌜ Wrote (now (out .entry)) at (floatsText (now (floats .entry))) r (now (out .exit)) ⌝ }
 {
     let mut next = at;
     let mut i = 0;
-    while i < bounds.len() {
-        next = write_bound(bounds[i], out, next);
+    while i < floats.len() {
+        next = write_float(floats[i], out, next);
         i += 1;
     }
     next
@@ -128,6 +128,15 @@ pub fn write_listed(label: &[u8], rows: &[usize], out: &mut [u8], at: usize) -> 
 {
     let next = write_text(label, out, at);
     write_rows(rows, out, next)
+}
+
+// A text and a float.
+pub fn write_valued(label: &[u8], x: f64, out: &mut [u8], at: usize) -> usize
+    requires { ⌜ RoomFor (now out) at (now label ++ floatsText (x ∷ [])) ⌝ }
+    ensures { λ r. ⌜ Wrote (now (out .entry)) at (now (label .entry) ++ floatsText (x ∷ [])) r (now (out .exit)) ⌝ }
+{
+    let next = write_text(label, out, at);
+    write_float(x, out, next)
 }
 
 // The line of a refusal.

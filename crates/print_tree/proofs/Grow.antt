@@ -10,7 +10,7 @@ use mathlib.Core.List.{List, [], _∷_, _++_, append-assoc, append-nil, map}
 use lib.ListN.{length, length-append, length-map}
 use Rattle.lists.specs.Lists.{from}
 use Rattle.definition.specs.Tree.{Leaf}
-use Rattle.formats.specs.Printout.{domainLine, boxText, fineLines}
+use Rattle.formats.specs.Printout.{domainLine, floatsText, fineLines}
 use Rattle.lists.proofs.From.{from-suc, length-from}
 use Rattle.lists.proofs.Map.{map-snoc}
 use Rattle.bytes_out.specs.Wrote.{Wrote, RoomFor}
@@ -42,7 +42,7 @@ module _ (g x : ℕ → List ℕ) (grows : (k : ℕ) → g (k + 1) ≡ g k ++ x 
     grown v = spelt (sym (grows k)) (wrote-then w both v)
 
 -- ---- the lines of fine domains
-fine-one : (i : ℕ) (fs : List Leaf) (f : Leaf) → fineLines i (fs ++ f ∷ []) ≡ fineLines i fs ++ domainLine (i + length fs) f (boxText (f .box))
+fine-one : (i : ℕ) (fs : List Leaf) (f : Leaf) → fineLines i (fs ++ f ∷ []) ≡ fineLines i fs ++ domainLine (i + length fs) f (floatsText (f .box))
 unfolding fineLines
 fine-one i [] f = rw (add-zero i, append-nil)
 fine-one i (h ∷ fs) f =
@@ -62,5 +62,5 @@ module _ (p : Packed) (j : ℕ) where
       ap (λ (l : List ℕ). fineLines 0 (map (readLeaf p) l)) (from-suc j k)
       ∙ ap (fineLines 0) (map-snoc (readLeaf p) (from j k) (j + k))
       ∙ fine-one 0 (map (readLeaf p) (from j k)) (readLeaf p (j + k))
-      ∙ ap (λ (i : ℕ). fineLines 0 (map (readLeaf p) (from j k)) ++ domainLine i (readLeaf p (j + k)) (boxText (readLeaf p (j + k) .box)))
+      ∙ ap (λ (i : ℕ). fineLines 0 (map (readLeaf p) (from j k)) ++ domainLine i (readLeaf p (j + k)) (floatsText (readLeaf p (j + k) .box)))
       (zero-add _ ∙ length-map (from j k) (readLeaf p) ∙ length-from j k)

@@ -8,7 +8,7 @@ use lib.Ieee.{Float}
 use lib.ListN.{length}
 use Rattle.lists.specs.Lists.{joined}
 use Rattle.definition.specs.Tree.{Leaf, Level}
-use Rattle.formats.specs.Printout.{ascii, decimal, rowsText, boxText, domainLine, levelLine, levelsText, treeText}
+use Rattle.formats.specs.Printout.{ascii, decimal, rowsText, floatsText, domainLine, levelLine, levelsText, treeText}
 use Rattle.print_tree.specs.Unpack.{boxPart, pointsLine}
 
 abbrev pub domainTexts : ℕ → Leaf → List ℕ → List (List ℕ)
@@ -18,6 +18,7 @@ domainTexts i f box =
     ∷ (ascii " overlap" ++ rowsText (f .borrowed))
     ∷ ascii " box"
     ∷ box
+    ∷ (ascii " cover" ++ floatsText (f .cover ∷ []))
     ∷ ascii "\n"
     ∷ []
 
@@ -33,7 +34,7 @@ unfolding joined levelLine
 level-texts t rows = simp (append-assoc, append-nil)
 
 -- the box's text
-pub box-fine : (b : Bool) (box : List Float) → b ≡ true → boxPart b box ≡ boxText box
+pub box-fine : (b : Bool) (box : List Float) → b ≡ true → boxPart b box ≡ floatsText box
 unfolding boxPart
 box-fine b box e = rw e
 

@@ -5,14 +5,14 @@ use mathlib.Core.List.{List, [], _++_}
 use lib.Ieee.{Float}
 use Rattle.definition.specs.Tree.{Leaf}
 use Rattle.packed.specs.Reading.{Packed, readLeaf, readLeaves}
-use Rattle.formats.specs.Printout.{ascii, boxText, levelLine, domainLine, fineLines}
+use Rattle.formats.specs.Printout.{ascii, floatsText, levelLine, domainLine, fineLines}
 
-abbrev pub leafOf : List ℕ → List ℕ → List Float → Leaf
-leafOf own borrowed box = record { own = own; borrowed = borrowed; box = box }
+abbrev pub leafOf : List ℕ → List ℕ → List Float → Float → Leaf
+leafOf own borrowed box cover = record { own = own; borrowed = borrowed; box = box; cover = cover }
 
 -- the text of a box; a dash for the coarse domain's
 unfoldable pub boxPart : Bool → List Float → List ℕ
-boxPart fine box = cond fine (boxText box) (ascii " -")
+boxPart fine box = cond fine (floatsText box) (ascii " -")
 
 -- the line of the level number t, whose rows these are
 abbrev pub pointsLine : ℕ → List ℕ → List ℕ

@@ -12,7 +12,7 @@ fn write_box(fine: bool, bounds: &[f64], out: &mut [u8], at: usize) -> usize
     ensures { λ r. ⌜ Wrote (now (out .entry)) at (boxPart fine (now (bounds .entry))) r (now (out .exit)) ⌝ }
 {
     if fine {
-        return print_texts::write_bounds(bounds, out, at);
+        return print_texts::write_floats(bounds, out, at);
     }
     print_texts::write_text(b" -", out, at)
 }
@@ -24,17 +24,19 @@ fn write_domain(
     borrowed: &[usize],
     fine: bool,
     bounds: &[f64],
+    cover: f64,
     out: &mut [u8],
     at: usize,
 ) -> usize
-    requires { ⌜ RoomFor (now out) at (domainLine i (leafOf (now own) (now borrowed) (now bounds)) (boxPart fine (now bounds))) ⌝ }
-    ensures { λ r. ⌜ Wrote (now (out .entry)) at (domainLine i (leafOf (now (own .entry)) (now (borrowed .entry)) (now (bounds .entry))) (boxPart fine (now (bounds .entry)))) r (now (out .exit)) ⌝ }
+    requires { ⌜ RoomFor (now out) at (domainLine i (leafOf (now own) (now borrowed) (now bounds) cover) (boxPart fine (now bounds))) ⌝ }
+    ensures { λ r. ⌜ Wrote (now (out .entry)) at (domainLine i (leafOf (now (own .entry)) (now (borrowed .entry)) (now (bounds .entry)) cover) (boxPart fine (now (bounds .entry)))) r (now (out .exit)) ⌝ }
 {
     let named = print_texts::write_numbered(b"domain ", i, out, at);
     let owned = print_texts::write_listed(b" internal", own, out, named);
     let lent = print_texts::write_listed(b" overlap", borrowed, out, owned);
     let boxed = print_texts::write_text(b" box", out, lent);
-    let done = write_box(fine, bounds, out, boxed);
+    let bounded = write_box(fine, bounds, out, boxed);
+    let done = print_texts::write_valued(b" cover", cover, out, bounded);
     print_texts::write_byte(10, out, done)
 }
 
@@ -72,12 +74,14 @@ fn write_leaf(
     let be = b + row.borrowed_count;
     let x = packed::floats_before(dimensions, j);
     let xe = x + boxes::box_width(dimensions);
+    let cover = boxes[xe];
     write_domain(
         i,
         &internals[o..oe],
         &borrowed[b..be],
         fine,
         &boxes[x..xe],
+        cover,
         out,
         at,
     )

@@ -77,13 +77,13 @@ fn write_printout(input: &[u8], output: &mut [u8]) -> usize
     }
 }
 
-// What the program prints for a stream, written to the front of `output`, which is to have 131,072 bytes at least: no printout is
-// longer.
+// What the program prints for a stream, written to the front of `output`, which is to have `job_room::TEXT` bytes at least: no printout
+// is longer.
 pub fn printout(input: &[u8], output: &mut [u8]) -> Printed
     ensures answer { λ r. ⌜ printedAnswer r ≡ printAnswer (printed (now (input .entry))) (now (output .entry)) ⌝ }
     ensures output { λ _. ⌜ now (output .exit) ≡ printOutput (printed (now (input .entry))) (now (output .entry)) ⌝ }
 {
-    if output.len() < 131072 {
+    if output.len() < job_room::TEXT {
         return Printed {
             number: 11,
             place: 0,

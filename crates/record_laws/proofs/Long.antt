@@ -23,7 +23,8 @@ use Rattle.definition.specs.Tree.{Settings, Level, coarseLevel, fineLevel, next
 use Rattle.definition.specs.Packed.{BuildSizes}
 use Rattle.definition.specs.Refusals.{accepted, buildVerdict}
 use Rattle.definition.specs.Record.{Deep, levelCuts, recordOf, wholeOf, floatOf, fineLevels, nodesIn, packedCuts, packedPlanes, mostNodes}
-use Rattle.definition.proofs.Steps.{fineLeaf, fineOf, nextOf, sentFrom, levels-last, levels-end, levels-more}
+use Rattle.definition.proofs.Steps.{fineOf, sizeFrom, nextOf, sentFrom, levels-last, levels-end, levels-more}
+use Rattle.definition.proofs.FineLeaves.{fine-many}
 use Rattle.definition.proofs.Levels.{next-short}
 use Rattle.definition_laws.proofs.Shape.{leaves-most}
 use Rattle.definition_laws.proofs.Accepted.{Accepted, build-accepted}
@@ -102,7 +103,7 @@ module _ (s : Settings) (cs : List Float) (c k : ℕ) where
 
   -- Q: what the active rows have, and keep as some of them are left out; then each fine level has what follows from it
   pub fine-all : (Q : List ℕ → Type 0) → ((active : List ℕ) (sent : List (List ℕ)) → Q active → Q (nextActive active sent))
-      → (P : Level → Type 0) → ((active : List ℕ) → Q active → c < length active → P (fineOf s cs active))
+      → (P : Level → Type 0) → ((size : ℕ) (active : List ℕ) → Q active → c < length active → P (fineOf s cs size active))
       → (fuel built : ℕ) (active : List ℕ) → Q active → All P (fineLevels (levelsFrom s cs c k fuel built active))
   unfolding All
   fine-all Q stays P fine zero built active q = rw (levels-last s cs c k built active, fine-one (coarseLevel (s .dimension) active)) tt
@@ -111,21 +112,23 @@ module _ (s : Settings) (cs : List Float) (c k : ℕ) where
       (λ (few : length active ≤ c). rw (levels-end s cs c k fuel built active few, fine-one (coarseLevel (s .dimension) active)) tt)
       (λ (many : c < length active).
       let next = nextOf s cs c k built active in
-      rw (levels-more s cs c k fuel built active many, fine-cons (fineOf s cs active) (levelsFrom s cs c k fuel (suc built) next) (levels-some fuel (suc built) next))
-      (fine active q many, fine-all Q stays P fine fuel (suc built) next (stays active (sentFrom s cs c k built active) q)))
+      let size = sizeFrom c k built active in
+      rw (levels-more s cs c k fuel built active many, fine-cons (fineOf s cs size active) (levelsFrom s cs c k fuel (suc built) next) (levels-some fuel (suc built) next))
+      (fine size active q many, fine-all Q stays P fine fuel (suc built) next (stays active (sentFrom s cs c k built active) q)))
       (le-or-lt (length active) c)
 
--- what is known of a fine level of a tree over n rows: it is the one over its rows, which are good ones
+-- what is known of a fine level of a tree over n rows: it is the one over its rows, which are good ones, that sends so many up
 pub record FineIs (s : Settings) (cs : List Float) (n : ℕ) (l : Level) : Type 0 where
-  pub same : l ≡ fineOf s cs (l .points)
+  pub size : ℕ
+  pub same : l ≡ fineOf s cs size (l .points)
   pub good : GoodRows (s .dimension) cs (l .points)
   pub some-rows : 1 ≤ length (l .points)
   pub few : length (l .points) ≤ n
 
 module _ (s : Settings) (cs : List Float) (n : ℕ) where
-  fine-is : (active : List ℕ) → GoodRows (s .dimension) cs active → 1 ≤ length active → length active ≤ n → FineIs s cs n (fineOf s cs active)
+  fine-is : (size : ℕ) (active : List ℕ) → GoodRows (s .dimension) cs active → 1 ≤ length active → length active ≤ n → FineIs s cs n (fineOf s cs size active)
   unfolding fineLevel
-  fine-is active g some few = record { same = refl; good = g; some-rows = some; few = few }
+  fine-is size active g some few = record { size = size; same = refl; good = g; some-rows = some; few = few }
 
   pub fine-are : (c k fuel built : ℕ) (active : List ℕ) → GoodRows (s .dimension) cs active → length active ≤ n
       → All (FineIs s cs n) (fineLevels (levelsFrom s cs c k fuel built active))
@@ -133,16 +136,15 @@ module _ (s : Settings) (cs : List Float) (n : ℕ) where
   fine-are c k fuel built active g few =
       fine-all s cs c k (λ rows. GoodRows (s .dimension) cs rows × (length rows ≤ n))
       (λ rows sent q. (good-keep rows (q .0) (λ i. member i (joined sent)), omega (arith, next-short rows sent, q .1)))
-      (FineIs s cs n) (λ rows q many. fine-is rows (q .0) (omega arith) (q .1)) fuel built active (g, few)
+      (FineIs s cs n) (λ size rows q many. fine-is size rows (q .0) (omega arith) (q .1)) fuel built active (g, few)
 
   module _ (pos : 0 < s .dimension) (lp : 1 ≤ s .leaf) where
     -- its record has one node less than 2 times its domains
     pub fine-long : (l : Level) → FineIs s cs n l → suc (length (recordOf (s .dimension) cs (s .leaf) (l .points))) ≡ 2 * length (l .leaves)
-    unfolding fineLevel
     fine-long l f =
         let qs = leavesOf (s .dimension) cs (s .leaf) (l .points) in
         let m : length (l .leaves) ≡ length qs =
-        ap (λ (x : Level). length (x .leaves)) (f .same) ∙ length-map qs (fineLeaf (s .dimension) cs (s .neighbours) (l .points)) in
+        ap (λ (x : Level). length (x .leaves)) (f .same) ∙ fine-many s cs (f .size) (l .points) in
         omega (arith, m, record-long (s .dimension) cs pos (s .leaf) lp (l .points) (f .good) (f .some-rows))
 
     fine-most : (l : Level) → FineIs s cs n l → length (recordOf (s .dimension) cs (s .leaf) (l .points)) ≤ 4 * n

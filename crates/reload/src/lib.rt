@@ -90,12 +90,13 @@ fn write_reloaded(stream: &[u8], file: &[u8], output: &mut [u8]) -> usize
     }
 }
 
-// What is printed for a stream and a file, written to the front of `output`, which is to have 131,072 bytes at least: no text is longer.
+// What is printed for a stream and a file, written to the front of `output`, which is to have `job_room::TEXT` bytes at least: no text is
+// longer.
 pub fn reload(stream: &[u8], file: &[u8], output: &mut [u8]) -> Printed
     ensures answer { λ r. ⌜ printedAnswer r ≡ printAnswer (reloaded (now (stream .entry)) (now (file .entry))) (now (output .entry)) ⌝ }
     ensures output { λ _. ⌜ now (output .exit) ≡ printOutput (reloaded (now (stream .entry)) (now (file .entry))) (now (output .entry)) ⌝ }
 {
-    if output.len() < 131072 {
+    if output.len() < job_room::TEXT {
         return Printed {
             number: 11,
             place: 0,

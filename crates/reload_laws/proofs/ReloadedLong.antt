@@ -84,7 +84,7 @@ reloaded-for-long (job s cs) bs limits = both (ltb mostFile (length bs)) (any (l
     both true h = omega (arith, refusal-long (record { number = 17; place = 0 }))
     both false h = h
 
--- THE LAW: nothing longer than 131,072 bytes
+-- THE LAW: nothing longer than `mostBytes`
 pub reloaded-long : (stream bs : List ℕ) → length (reloaded stream bs) ≤ mostBytes
 unfolding reloaded
 reloaded-long stream bs = reloaded-for-long (jobIn stream) bs (job-limits stream)

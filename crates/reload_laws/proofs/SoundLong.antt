@@ -14,14 +14,14 @@ use Rattle.lists.proofs.Tests.{and-fst, four-pass}
 use Rattle.lists.proofs.All.{all-of}
 use Rattle.definition.specs.Points.{boxWidth}
 use Rattle.definition.specs.Tree.{Settings, Leaf, Level}
-use Rattle.definition.specs.Packed.{mostLevels, mostRows, buildStated, leavesIn, packedLevelPoints, packedInternals, packedDomains, packedBorrowed}
-use Rattle.definition_laws.proofs.Fit.{length-domains}
+use Rattle.definition.specs.Packed.{mostLevels, mostRows, leavesIn}
 use Rattle.formats.specs.Stream.{streamPoints}
 use Rattle.formats.specs.Printout.{ascii, domainLine, fineLines, coarseLines, levelLine, levelsText, treeText}
 use Rattle.stream_laws.specs.Sizes.{mostBytes}
 use Rattle.stream_laws.proofs.Long.{decimal-long, each-long, FewRows, few-from, Brief, domain-long, level-long, fine-long, dash-long}
 use Rattle.stored.specs.Sound.{soundBox, soundLevels, firstAll, fits, sound}
 use Rattle.tree_tests.proofs.AllRows.{same-is}
+use Rattle.stored_laws.proofs.Stowed.{leaves-many}
 use Rattle.tree_tests.proofs.SoundLevels.{coarse-level, fine-level, sound-rows-first, sound-rows-ascend}
 use Rattle.reload_laws.proofs.SoundRows.{few-inside, own-few, borrowed-few}
 
@@ -33,18 +33,18 @@ module _ (d : ℕ) (axes : d ≤ 3) where
 
   -- the coarse one
   coarse-long : (t : ℕ) (l : Level) → soundLevels d (l ∷ []) ≡ true → FewRows (l .points)
-      → length (levelsText t (l ∷ [])) ≤ 130 + 326 * length (l .leaves)
+      → length (levelsText t (l ∷ [])) ≤ 130 + 349 * length (l .leaves)
   unfolding levelsText coarseLines
   coarse-long t l h rows =
       let c = coarse-level d l h in
       let Few : Leaf → Type 0 = λ f. FewRows (f .own) × FewRows (f .borrowed) in
       let all : All Few (l .leaves) = all-of Few (l .leaves) (λ f m. (own-few l (c .rows) rows f m, borrowed-few l (c .rows) rows f m)) in
-      let lines = each-long (λ f. domainLine 0 f (ascii " -")) 326 Few (λ f k. omega (arith, domain-long 0 f (ascii " -") (k .0) (k .1) (omega arith), dash-long)) (l .leaves) all in
+      let lines = each-long (λ f. domainLine 0 f (ascii " -")) 349 Few (λ f k. omega (arith, domain-long 0 f (ascii " -") (k .0) (k .1) (omega arith), dash-long)) (l .leaves) all in
       omega (arith, length-append (levelLine t l) (coarseLines (l .leaves)), level-long t l rows, lines)
 
   -- one before others
   fine-text : (t : ℕ) (l m : Level) (ls : List Level) → soundLevels d (l ∷ m ∷ ls) ≡ true → FewRows (l .points) → length (l .leaves) ≤ 1000
-      → length (levelLine t l ++ fineLines 0 (l .leaves)) ≤ 130 + 326 * length (l .leaves)
+      → length (levelLine t l ++ fineLines 0 (l .leaves)) ≤ 130 + 349 * length (l .leaves)
   fine-text t l m ls h rows few =
       let c = fine-level d l m ls h in
       let all : All Brief (l .leaves) =
@@ -61,7 +61,7 @@ module _ (d : ℕ) (axes : d ≤ 3) where
       (sound-rows-ascend l (c .rows)) rows (c .inside)
 
   levels-long : (t : ℕ) (l : Level) (ls : List Level) → soundLevels d (l ∷ ls) ≡ true → FewRows (l .points) → length (leavesIn (l ∷ ls)) ≤ 1000
-      → length (levelsText t (l ∷ ls)) ≤ 130 * length (l ∷ ls) + 326 * length (leavesIn (l ∷ ls))
+      → length (levelsText t (l ∷ ls)) ≤ 130 * length (l ∷ ls) + 349 * length (leavesIn (l ∷ ls))
   unfolding levelsText leavesIn joined
   levels-long t l [] h rows few = omega (arith, coarse-long t l h rows, length-append (l .leaves) [])
   levels-long t l (m ∷ ls) h rows few =
@@ -81,23 +81,17 @@ module _ (s : Settings) (n : ℕ) (few : n ≤ streamPoints) where
   first-few l ls h = rw (same-is (l .points) (from 0 n) h) (few-from n few)
 
   tree-long : (axes : s .dimension ≤ 3) (ls : List Level) → length ls ≤ mostLevels → length (leavesIn ls) ≤ mostRows n → firstAll n ls ≡ true
-      → soundLevels (s .dimension) ls ≡ true → length (levelsText 0 ls) ≤ 63438
+      → soundLevels (s .dimension) ls ≡ true → length (levelsText 0 ls) ≤ 67877
   unfolding soundLevels
   tree-long axes [] short most first h = absurd (true≢false (sym h))
   tree-long axes (l ∷ ls) short most first h =
       omega (arith, levels-long (s .dimension) axes 0 l ls h (first-few l ls first) (omega arith))
 
-  leaves-few : (ls : List Level) → fits (s .dimension) n (s .neighbours) ls ≡ true → length (leavesIn ls) ≤ mostRows n
-  unfolding fits buildStated
-  leaves-few ls h =
-      let g = four-pass (leb (length (packedLevelPoints ls)) (4 * n)) (leb (length (packedInternals ls)) (4 * n)) (leb (length (packedDomains ls)) (4 * mostRows n)) (leb (length (packedBorrowed ls)) (6 * n * (s .neighbours + 1))) h in
-      omega (arith, leb-true (length (packedDomains ls)) (4 * mostRows n) (g .2), length-domains ls)
-
--- THE LAW: no printout of a sound tree over at most 32 rows on at most 3 axes is longer than 131,072 bytes
+-- THE LAW: no printout of a sound tree over at most 32 rows on at most 3 axes is longer than `mostBytes`
 pub sound-long : (s : Settings) (n : ℕ) (ls : List Level) → sound s n ls ≡ true → n ≤ streamPoints → s .dimension ≤ 3 → length (treeText ls) ≤ mostBytes
 unfolding sound treeText ascii
 sound-long s n ls h few axes =
     let g = four-pass (leb (length ls) mostLevels) (firstAll n ls) (soundLevels (s .dimension) ls) (fits (s .dimension) n (s .neighbours) ls) h in
     let short = leb-true (length ls) mostLevels (g .0) in
     simp length-append
-    (omega (arith, tree-long s n few axes ls short (leaves-few s n few ls (g .3)) (g .1) (g .2), decimal-long (length ls)))
+    (omega (arith, tree-long s n few axes ls short (leaves-many s n ls h) (g .1) (g .2), decimal-long (length ls)))

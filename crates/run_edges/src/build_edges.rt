@@ -100,7 +100,7 @@ fn show(points: &[f64], dimensions: usize, leaf: u32, neighbours: u32, factor: u
         &mut [9; 64],
         &mut [9; 64],
         &mut [9; 388],
-        &mut [9.0; 582],
+        &mut [9.0; 679],
         &mut [9; 384],
         &mut [9.0; 512],
         &mut [9; 1024],

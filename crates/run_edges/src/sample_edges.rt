@@ -4,6 +4,15 @@ use printing::print_named;
 use printing::print_text;
 use sampling::SampleAnswer;
 
+// The bits of a float; not-a-number has one pattern here.
+fn bits_of(x: f64) -> u64 {
+    if x == x {
+        f64::to_bits(x)
+    } else {
+        0x7ff8_0000_0000_0000
+    }
+}
+
 // One call, with the output after it, and the working room too where the call is refused.
 fn print_sample(
     points: &[f64],
@@ -26,7 +35,11 @@ fn print_sample(
         wholes,
     );
     match answer {
-        SampleAnswer::Sampled(count) => print_named(b": rows", count),
+        SampleAnswer::Sampled { rows, cover } => {
+            print_named(b": rows", rows);
+            print_text(b" cover ");
+            io::print_hex(1, bits_of(cover), 16);
+        }
         SampleAnswer::Refused(number, place) => {
             print_named(b": refused", number as usize);
             print_named(b" at", place);
@@ -55,7 +68,8 @@ fn print_rows(points: &[f64], dimensions: usize, wanted: usize, seed: usize) {
     );
 }
 
-// Samples: on a line, of equal rows, of a square's corners, and by two squares that share one root.
+// Samples: on a line, of equal rows, of a square's corners, and by two squares that share one root. The last ones tell covers: to
+// the last chosen row, of equal rows, a distance and not its square, and an overflow.
 pub fn print_samples() {
     print_rows(&[0.0, 1.0, 3.0, 7.0], 1, 3, 1);
     print_rows(&[0.0, 1.0, 3.0, 7.0], 1, 1, 3);
@@ -65,6 +79,10 @@ pub fn print_samples() {
     print_rows(&[0.0, 0.0, 0.0, 1.0, 2.0, 2.0, 3.0, 0.0, 0.0], 3, 3, 1);
     print_rows(&[0.0, 0.0, 1.0, 0.0, 1.0, 1.490116119384765625e-8], 2, 2, 0);
     print_rows(&[1.0e200, -1.0e200, 0.0, 1.0e-200], 1, 4, 2);
+    print_rows(&[0.0, 6.0, 7.0], 1, 2, 0);
+    print_rows(&[5.0, 5.0, 5.0], 1, 1, 2);
+    print_rows(&[0.0, 0.0, 3.0, 4.0], 2, 1, 0);
+    print_rows(&[1.0e200, -1.0e200], 1, 1, 0);
 }
 
 // Each refusal, and some calls that meet the conditions of two.

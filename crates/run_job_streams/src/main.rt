@@ -4,11 +4,12 @@
 ghost use mathlib.Core.Path.{_≡_};
 ghost use Prim.Native.Nat.{_+_, _≤_, _<_};
 ghost use lib.ListN.{length};
+ghost use Rattle.stream_laws.specs.Sizes.{mostBytes};
 
 // The room for a file, and for a printout.
 const FILE: usize = 1572864;
 
-const TEXT: usize = 131072;
+const TEXT: usize = job_room::TEXT;
 
 fn file_room() -> [u8; FILE]
     ensures { λ r. ⌜ 1572864 ≡ length r ⌝ }
@@ -17,7 +18,7 @@ fn file_room() -> [u8; FILE]
 }
 
 fn text_room() -> [u8; TEXT]
-    ensures { λ r. ⌜ 131072 ≡ length r ⌝ }
+    ensures { λ r. ⌜ mostBytes ≡ length r ⌝ }
 {
     [0; TEXT]
 }

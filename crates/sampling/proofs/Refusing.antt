@@ -1,7 +1,7 @@
 -- The refusals of a sampling, and what holds where it is accepted. Assumes nothing.
--- Holds: bad-found, bad-nowhere, SampleAccepted, accepted-call, rows-numbered, call-ready, call-written, call-refused,
---   call-sampled
-use mathlib.Core.Path.{_≡_, refl, sym, ap, _∙_}
+-- Holds: bad-found, bad-nowhere, SampleAccepted, accepted-call, rows-numbered, call-ready, call-written, call-covered,
+--   call-refused, call-sampled
+use mathlib.Core.Path.{_≡_, refl, sym, ap, ap₂, _∙_}
 use mathlib.Core.Bool.{Bool, true, false, not, cond, _||_}
 use mathlib.Core.List.{List, [], _∷_}
 use Prim.Native.Nat.{ℕ, zero, suc, _+_, _*_, _/_, _≤_, _<_}
@@ -22,13 +22,14 @@ use Rattle.lists.proofs.Members.{none-any}
 use Rattle.lists.proofs.Tests.{or-none}
 use Rattle.definition.specs.Packed.{sampleStated}
 use Rattle.definition.specs.Refusals.{on, Verdict, accepted, refused, wrongDimension, coordinatesMissing, firstBad, notFinite, mostPoints, sampleShort, sampleVerdict}
-use Rattle.definition.specs.Sampling.{sample}
-use Rattle.definition.specs.Outcome.{numberOf, placeOf, valueOf, written, listAfter, RoomAfter, sampleCall, sampleAnswer, sampleOutput}
+use Rattle.definition.specs.Sampling.{sample, coverOf}
+use Rattle.definition.specs.Outcome.{numberOf, placeOf, valueOf, written, listAfter, RoomAfter, sampleCall, sampleOf, sampleCover, sampleAnswer, sampleOutput}
 use Rattle.rows.specs.Rows.{GoodRows}
 use Rattle.rows.proofs.AllRows.{all-rows-good}
 use Rattle.definition_laws.proofs.Accepted.{passes, right-dimension}
-use Rattle.sampling.specs.declared.SampleAnswer.{SampleAnswer}
 use Rattle.sampling.specs.declared.SampleAnswer.the-variants.{Sampled, Refused}
+use Rattle.sampling.specs.declared.SampleTests.{SampleTests}
+use Rattle.sampling.specs.declared.SampleTests.the-variants.{Passed, Failed}
 use Rattle.sampling.specs.Answers.{sampleLent, shown, sampleReport}
 use Rattle.sampling.specs.Outcome.{RowsSampled}
 
@@ -64,10 +65,10 @@ bad-nowhere cs p e h = bad-none 0 cs (omega (arith, e))
 zero-one : {A : Type 0} → _≡_ {A = ℕ} 0 1 → A
 zero-one e = absurd (omega arith)
 
-sampled-count : (v : Verdict) (wanted count : ℕ) → shown v wanted ≡ Sampled count → (v ≡ accepted) × (wanted ≡ count)
+passed-is : (v : Verdict) → shown v ≡ Passed → v ≡ accepted
 unfolding shown
-sampled-count accepted wanted count e = (refl, cc)
-sampled-count (refused r) wanted count e = let z : _≡_ {A = ℕ} 0 1 = cc in zero-one z
+passed-is accepted e = refl
+passed-is (refused r) e = let z : _≡_ {A = ℕ} 0 1 = cc in zero-one z
 
 above-zero : (n : ℕ) → (n ≡ 0 → ⊥) → 0 < n
 above-zero zero h = absurd (h refl)
@@ -111,13 +112,13 @@ call-accepted d cs wanted seed o f w e =
       finites = all-of (λ x. finite x ≡ true) cs (λ x m. not-false (finite x) (none-any bad cs (p7 .0) m));
     }
 
--- what holds once the answer is a count
-pub accepted-call : (d : ℕ) (cs : List Float) (wanted seed o f w count : ℕ) (x : SampleAnswer)
-    → x ≡ shown (sampleVerdict d cs wanted seed (sampleLent o f w)) wanted → x ≡ Sampled count
-    → (sampleVerdict d cs wanted seed (sampleLent o f w) ≡ accepted) × (wanted ≡ count) × SampleAccepted d cs wanted seed o f w
-accepted-call d cs wanted seed o f w count x e h =
-    let c = sampled-count (sampleVerdict d cs wanted seed (sampleLent o f w)) wanted count (sym e ∙ h) in
-    (c .0, c .1, call-accepted d cs wanted seed o f w (c .0))
+-- what holds once the tests are passed
+pub accepted-call : (d : ℕ) (cs : List Float) (wanted seed o f w : ℕ) (x : SampleTests)
+    → x ≡ shown (sampleVerdict d cs wanted seed (sampleLent o f w)) → x ≡ Passed
+    → (sampleVerdict d cs wanted seed (sampleLent o f w) ≡ accepted) × SampleAccepted d cs wanted seed o f w
+accepted-call d cs wanted seed o f w x e h =
+    let c = passed-is (sampleVerdict d cs wanted seed (sampleLent o f w)) (sym e ∙ h) in
+    (c, call-accepted d cs wanted seed o f w c)
 
 -- ---- all rows of the point list
 
@@ -125,52 +126,58 @@ accepted-call d cs wanted seed o f w count x e h =
 pub rows-numbered : (n : ℕ) (w l : List ℕ) → l ≡ put w 0 (from 0 n) → take n l ≡ from 0 n
 rows-numbered n w l e = ap (take n) (e ∙ put-zero w (from 0 n)) ∙ take-at (from 0 n) (drop (length (from 0 n)) w) n (length-from 0 n)
 
-module _ (d : ℕ) (cs : List Float) (wanted seed o f w count : ℕ) (a : SampleAccepted d cs wanted seed o f w) (e : wanted ≡ count) (rows : List ℕ) (r : rows ≡ from 0 (length cs / d)) where
+module _ (d : ℕ) (cs : List Float) (wanted seed o f w : ℕ) (a : SampleAccepted d cs wanted seed o f w) (rows : List ℕ) (r : rows ≡ from 0 (length cs / d)) where
   -- what the sampling of a list of rows asks
-  pub call-ready : GoodRows d cs rows × (((0 < count) × (count ≤ length rows) × (seed < length rows)) × ((0 + count ≤ o) × (length rows ≤ f)))
+  pub call-ready : GoodRows d cs rows × (((0 < wanted) × (wanted ≤ length rows) × (seed < length rows)) × ((0 + wanted ≤ o) × (length rows ≤ f)))
   call-ready =
       let n : length rows ≡ length cs / d = ap length r ∙ length-from 0 (length cs / d) in (
         rw r
             (all-rows-good d cs (length cs / d) (a .few) (div-mul-le-self (length cs) d)
             (λ i h. all-at (λ x. finite x ≡ true) cs i nan (a .finites) h)),
         (
-          (omega (arith, a .some-wanted), omega (arith, a .wanted-in), omega (arith, a .seed-in)),
+          (a .some-wanted, omega (arith, a .wanted-in), omega (arith, a .seed-in)),
           (omega (arith, a .output), omega (arith, a .floats)),
         ),
       )
 
-  -- what it writes
-  pub call-written : (old new : List ℕ) → new ≡ put old 0 (sample d cs rows count (getD rows seed 0)) → new ≡ written (sample d cs (from 0 (length cs / d)) wanted seed) old
-  unfolding written
-  call-written old new h =
+  -- which sample that is
+  called : sample d cs rows wanted (getD rows seed 0) ≡ sampleOf d cs wanted seed
+  called =
       let s : getD (from 0 (length cs / d)) seed 0 ≡ seed = getD-from 0 (length cs / d) seed 0 (a .seed-in) ∙ zero-add seed in
-      h
-      ∙ ap (put old 0) (rw (r, s, ← e))
-      ∙ put-zero old (sample d cs (from 0 (length cs / d)) wanted seed)
+      rw (r, s)
+
+  -- what it writes
+  pub call-written : (old new : List ℕ) → new ≡ put old 0 (sample d cs rows wanted (getD rows seed 0)) → new ≡ written (sampleOf d cs wanted seed) old
+  unfolding written
+  call-written old new h = h ∙ ap (put old 0) called ∙ put-zero old (sampleOf d cs wanted seed)
+
+  -- its cover
+  pub call-covered : (x : Float) → x ≡ coverOf d cs rows (sample d cs rows wanted (getD rows seed 0)) → x ≡ sampleCover d cs wanted seed
+  call-covered x h = h ∙ ap₂ (coverOf d cs) r called
 
 -- ---- the outcome of a call
 module _ (d : ℕ) (cs : List Float) (wanted seed : ℕ) (out : List ℕ) (floats : List Float) (wholes : List ℕ) where
-  refused-is : (v : Verdict) (number place : ℕ) → shown v wanted ≡ Refused number place → v ≡ refused (record { number = number; place = place })
+  failed-is : (v : Verdict) (number place : ℕ) → shown v ≡ Failed number place → v ≡ refused (record { number = number; place = place })
   unfolding shown
-  refused-is accepted number place e = let z : _≡_ {A = ℕ} 0 1 = cc in zero-one z
-  refused-is (refused r) number place e =
+  failed-is accepted number place e = let z : _≡_ {A = ℕ} 0 1 = cc in zero-one z
+  failed-is (refused r) number place e =
       let n : r .number ≡ number = cc in
       let p : r .place ≡ place = cc in
       rw (← n, ← p)
 
   -- a refusal leaves each list as it was
-  pub call-refused : (number place : ℕ) → shown (sampleCall d cs wanted seed out floats wholes) wanted ≡ Refused number place
+  pub call-refused : (number place : ℕ) → shown (sampleCall d cs wanted seed out floats wholes) ≡ Failed number place
       → RowsSampled d cs wanted seed out out floats floats wholes wholes (sampleReport (Refused number place))
   unfolding sampleReport sampleAnswer sampleOutput numberOf placeOf valueOf listAfter RoomAfter
   call-refused number place h =
-      let e = refused-is (sampleCall d cs wanted seed out floats wholes) number place h in
+      let e = failed-is (sampleCall d cs wanted seed out floats wholes) number place h in
       record { answers = simp e; output = simp e; floats-free = simp e refl; wholes-free = simp e refl }
 
-  -- an accepted call writes the sample, and keeps the lengths of its working room
-  pub call-sampled : (count : ℕ) → sampleCall d cs wanted seed out floats wholes ≡ accepted → wanted ≡ count
-      → (new : List ℕ) → new ≡ written (sample d cs (from 0 (length cs / d)) wanted seed) out
+  -- an accepted call writes the sample, tells its cover, and keeps the lengths of its working room
+  pub call-sampled : (cover : Float) → sampleCall d cs wanted seed out floats wholes ≡ accepted → cover ≡ sampleCover d cs wanted seed
+      → (new : List ℕ) → new ≡ written (sampleOf d cs wanted seed) out
       → (floats′ : List Float) → length floats′ ≡ length floats → (wholes′ : List ℕ) → length wholes′ ≡ length wholes
-      → RowsSampled d cs wanted seed out new floats floats′ wholes wholes′ (sampleReport (Sampled count))
+      → RowsSampled d cs wanted seed out new floats floats′ wholes wholes′ (sampleReport (Sampled wanted cover))
   unfolding sampleReport sampleAnswer sampleOutput numberOf placeOf valueOf listAfter RoomAfter
-  call-sampled count e w new h floats′ f wholes′ g =
+  call-sampled cover e w new h floats′ f wholes′ g =
       record { answers = simp e (rw w); output = simp e h; floats-free = simp e f; wholes-free = simp e g }

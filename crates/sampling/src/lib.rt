@@ -10,10 +10,16 @@ ghost use Rattle.sampling.specs.Outcome.{RowsSampled};
 use distances::LocalIdx;
 use rows::MOST_POINTS;
 
-// What a sampling answers: the count of rows written, or a refusal's number and place.
+// What a sampling answers: the count of rows written and their cover, or a refusal's number and place.
 pub enum SampleAnswer {
-    Sampled(usize),
+    Sampled { rows: usize, cover: f64 },
     Refused(u8, usize),
+}
+
+// What the tests of a call find: no refusal, or its number and place.
+enum SampleTests {
+    Passed,
+    Failed(u8, usize),
 }
 
 // Whether the dimension is not 1, 2 or 3.
@@ -56,8 +62,7 @@ fn lists_short(rows: usize, wanted: usize, output: usize, floats: usize, wholes:
     wholes < rows
 }
 
-// The refusal of a sampling, or the count of rows to be written. `output`, `floats` and `wholes` are the lengths of the
-// lent lists.
+// The refusal of a sampling, if there is one. `output`, `floats` and `wholes` are the lengths of the lent lists.
 fn sampling_verdict(
     points: &[f64],
     dimensions: usize,
@@ -66,38 +71,39 @@ fn sampling_verdict(
     output: usize,
     floats: usize,
     wholes: usize,
-) -> SampleAnswer
-    ensures { λ r. ⌜ r ≡ shown (sampleVerdict dimensions (now (points .entry)) wanted seed (sampleLent output floats wholes)) wanted ⌝ }
+) -> SampleTests
+    ensures { λ r. ⌜ r ≡ shown (sampleVerdict dimensions (now (points .entry)) wanted seed (sampleLent output floats wholes)) ⌝ }
 {
     if wrong_dimension(dimensions) {
-        return SampleAnswer::Refused(1, 0);
+        return SampleTests::Failed(1, 0);
     }
     let count = points.len();
     if count == 0 {
-        return SampleAnswer::Refused(6, 0);
+        return SampleTests::Failed(6, 0);
     }
     if count % dimensions != 0 {
-        return SampleAnswer::Refused(7, 0);
+        return SampleTests::Failed(7, 0);
     }
     let rows = count / dimensions;
     if MOST_POINTS < rows {
-        return SampleAnswer::Refused(8, 0);
+        return SampleTests::Failed(8, 0);
     }
     if wrong_choice(rows, wanted, seed) {
-        return SampleAnswer::Refused(13, 0);
+        return SampleTests::Failed(13, 0);
     }
     if lists_short(rows, wanted, output, floats, wholes) {
-        return SampleAnswer::Refused(11, 0);
+        return SampleTests::Failed(11, 0);
     }
     let place = finite::first_not_finite(points);
     if place < count {
-        return SampleAnswer::Refused(10, place);
+        return SampleTests::Failed(10, place);
     }
-    SampleAnswer::Sampled(wanted)
+    SampleTests::Passed
 }
 
-// Farthest point sampling of all rows, from the row `seed` on: `wanted` rows are written to the front of `out`. The working
-// room, 2 floats and 1 whole number per row, is left free but for its length. A refusal writes to no list.
+// Farthest point sampling of all rows, from the row `seed` on: `wanted` rows are written to the front of `out`. The cover
+// is how far the worst left-out row is from its nearest chosen one. The working room, 2 floats and 1 whole number per row, is
+// left free but for its length. A refusal writes to no list.
 pub fn farthest_point_sampling(
     points: &[f64],
     dimensions: usize,
@@ -110,7 +116,7 @@ pub fn farthest_point_sampling(
     ensures { λ r. ⌜ RowsSampled dimensions (now (points .entry)) wanted seed (now (out .entry)) (now (out .exit))
         (now (floats .entry)) (now (floats .exit)) (now (wholes .entry)) (now (wholes .exit)) (sampleReport r) ⌝ }
 {
-    let answer = sampling_verdict(
+    let tests = sampling_verdict(
         points,
         dimensions,
         wanted,
@@ -119,22 +125,25 @@ pub fn farthest_point_sampling(
         floats.len(),
         wholes.len(),
     );
-    match answer {
-        SampleAnswer::Refused(number, place) => SampleAnswer::Refused(number, place),
-        SampleAnswer::Sampled(count) => {
+    match tests {
+        SampleTests::Failed(number, place) => SampleAnswer::Refused(number, place),
+        SampleTests::Passed => {
             let rows = points.len() / dimensions;
             stretches::number_rows(wholes, rows);
-            sampling_rounds::sample_rows(
+            let cover = sampling_rounds::sample_rows(
                 points,
                 dimensions,
                 &wholes[..rows],
-                count,
+                wanted,
                 LocalIdx(seed),
                 out,
                 0,
                 floats,
             );
-            SampleAnswer::Sampled(count)
+            SampleAnswer::Sampled {
+                rows: wanted,
+                cover: cover,
+            }
         }
     }
 }

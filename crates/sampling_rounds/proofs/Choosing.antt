@@ -1,5 +1,6 @@
 -- The rounds of sampling: from the seed on, one chosen row more in each. Assumes nothing.
--- Holds: reach, Entry, entry-kept, Choosing, choosing-start, choosing-kept, choosing-open, choosing-more, choosing-end
+-- Holds: reach, Entry, entry-kept, Choosing, choosing-start, choosing-kept, choosing-open, choosing-more, choosing-end,
+--   choosing-all, choosing-worst
 use mathlib.Core.Path.{_≡_, refl, sym, ap, _∙_, subst}
 use mathlib.Core.Logic.{inl, inr}
 use mathlib.Core.Bool.{Bool, true, false, not}
@@ -21,18 +22,20 @@ use Rattle.lists.proofs.Members.{mem-at, keep-at, member-last, member-other}
 use Rattle.lists.specs.Times.{times}
 use Rattle.lists.proofs.Times.{times-nil, mem-times, times-mem, others-count, member-zero, times-more}
 use Rattle.lists.proofs.Ascends.{ascends-differ}
-use Rattle.definition.specs.Number.{squareRoot}
+use Rattle.definition.specs.Number.{plusZero, squareRoot}
 use Rattle.definition.specs.Points.{distance, rowsSq, rowsApart, leastOf}
-use Rattle.definition.specs.Sampling.{gap, pick, sampleMore, sample}
+use Rattle.definition.specs.Sampling.{gap, pick, coverOf, sampleMore, sample}
 use Rattle.root_laws.specs.Sorts.{good}
+use Rattle.root_laws.proofs.Values.{root-good}
 use Rattle.rows.specs.Rows.{GoodRows}
 use Rattle.rows.proofs.Good.{good-at, good-mem, good-once}
 use Rattle.definition_laws.proofs.Finite.{rows-apart-good}
-use Rattle.sampling_rounds.specs.Rounds.{lesser, minusOne, KeptSquare, lessened, Chosen}
+use Rattle.sampling_rounds.specs.Rounds.{lesser, minusOne, KeptSquare, lessened, Chosen, Worst}
 use Rattle.sampling_rounds.proofs.Orders.{one-not-good, lesser-one, lesser-inf}
 use Rattle.sampling_rounds.proofs.Passes.{pair-good}
 use Rattle.sampling_rounds.proofs.Alike.{Alike, alike-inf, alike-lt, alike-lesser}
 use Rattle.sampling_rounds.proofs.Picking.{pick-is}
+use Rattle.sampling_rounds.proofs.Covering.{cover-is, cover-none}
 
 module _ (d : ℕ) (cs : List Float) where
   -- row i's least distance to the chosen rows, and infinity where none is chosen
@@ -201,12 +204,40 @@ module _ (d : ℕ) (cs : List Float) where
               own = times-more rows chosen (row r) (c .own) (row-times r (h .inside)) (member-zero (row r) chosen (u .0));
             }
 
-        -- all are chosen; the list was o₀ before the seed was written
-        pub choosing-end : (o₀ : List ℕ) (x : ℕ) → o ≡ set o₀ at x → wanted ≡ k → out ≡ put o₀ at (sample d cs rows wanted seed)
+        -- ---- the end: as many are chosen as are wanted
+        done : wanted ≡ k → chosen ≡ sample d cs rows wanted seed
         unfolding sampleMore chosen
+        done w = let n : wanted - k ≡ 0 = omega arith in sym (ap (λ (m : ℕ). sampleMore d cs rows m chosen) n) ∙ c .ahead
+
+        -- the list was o₀ before the seed was written
+        pub choosing-end : (o₀ : List ℕ) (x : ℕ) → o ≡ set o₀ at x → wanted ≡ k → out ≡ put o₀ at (sample d cs rows wanted seed)
+        unfolding chosen
         choosing-end o₀ x e w =
-            let n : wanted - k ≡ 0 = omega arith in
             c .written
             ∙ ap (λ (l : List ℕ). put l at chosen) e
             ∙ put-set o₀ at x chosen (omega (arith, chosen-length, c .many))
-            ∙ ap (put o₀ at) (sym (ap (λ (m : ℕ). sampleMore d cs rows m chosen) n) ∙ c .ahead)
+            ∙ ap (put o₀ at) (done w)
+
+        -- the cover where all rows are chosen
+        pub choosing-all : wanted ≡ k → k ≡ length rows → plusZero ≡ coverOf d cs rows (sample d cs rows wanted seed)
+        unfolding chosen
+        choosing-all w e =
+            cover-none d cs rows chosen (omega (arith, others-count rows (good-once rows g) chosen (c .own), chosen-length))
+            ∙ ap (coverOf d cs rows) (done w)
+
+        -- the least distance of an unchosen row
+        gap-root : (i : ℕ) → i < length rows → member (row i) chosen ≡ false → gap d cs chosen (row i) ≡ squareRoot (value i)
+        gap-root i h e = sym (reach-is i h) ∙ (subst (λ (t : Bool). Entry t (value i) (reach chosen (row i))) e (values i h)) .rooted
+
+        -- and where one is left
+        pub choosing-worst : (x : Float) → wanted ≡ k → Worst (lessened d cs rows last floats) (length rows) x → x ≡ coverOf d cs rows (sample d cs rows wanted seed)
+        unfolding value
+        choosing-worst x w h =
+            let f = entry-free (member (row (h .place)) chosen) (value (h .place)) (reach chosen (row (h .place))) (values (h .place) (h .inside)) (h .free) in
+            let e : x ≡ gap d cs chosen (row (h .place)) = h .here ∙ sym (gap-root (h .place) (h .inside) f) in
+            e
+            ∙ sym (cover-is d cs rows chosen (h .place) (h .inside) f (λ j b n.
+            let v = free-value j b n in
+            let q = gap-root j b n in
+            (rw q (root-good (value j) v), rw (← e, q) (h .greatest j b v))))
+            ∙ ap (coverOf d cs rows) (done w)

@@ -4,4 +4,5 @@ mod Passes
 mod Roots
 mod Alike
 mod Picking
+mod Covering
 mod Choosing

@@ -1,21 +1,51 @@
 -- The order of the values that are kept for the rows. Assumes nothing.
--- Holds: one-below, none-below, one-not-good, kept-above, kept-irr, kept-le, kept-asym, kept-least, kept-good, lesser-kept,
---   lesser-one, lesser-inf, nearOne, near-good
-use mathlib.Core.Path.{_≡_, refl}
+-- Holds: good-same, one-below, none-below, one-not-good, kept-above, kept-irr, kept-le, kept-asym, kept-least, kept-good,
+--   lesser-kept, lesser-one, lesser-inf, nearOne, near-good
+use mathlib.Core.Path.{_≡_, refl, sym, ap, _∙_}
 use mathlib.Core.Logic.{inl, inr}
-use mathlib.Core.Bool.{Bool, true, false, cond}
-use Prim.Native.Nat.{_+_, _*_}
+use mathlib.Core.Bool.{Bool, true, false, cond, true≢false}
+use Prim.Native.Nat.{ℕ, _+_, _-_, _*_, _/_, _^_}
+use native.Mathlib.Nat.{le-antisymm, mul-right-comm}
 use native.Mathlib.Omega.{arith}
-use borrow.Author.Tests.{lt-ltb}
-use lib.IntN.{negsuc}
-use lib.Ieee.{Float, inf, binary64, up, down, lt, neg, mul, ofBits, fits}
+use borrow.Author.Tests.{lt-ltb, ltb-false}
+use lib.Dec.{T}
+use lib.IntN.{ℤ, negsuc}
+use lib.Ieee.{Float, inf, fin, binary64, up, down, size, lt, neg, mul, ofBits, toBits, fits}
+use lib.Ieee.Bits.{ofBits-toBits}
 use lib.Ieee.Fits.{down-pos, mul-fits}
+use lib.Ieee.Nearest.{div-same}
 use Rattle.lists.proofs.Tests.{clash}
 use Rattle.definition.specs.Number.{product}
 use Rattle.root_laws.specs.Sorts.{notNegative, good}
 use Rattle.root_laws.proofs.Operations.{round-nn}
-use Rattle.root_laws.proofs.Order.{GoodFloat, top, num, view, both, lt-irrefl, lt-asym, le-le}
+use Rattle.root_laws.proofs.Order.{GoodFloat, top, num, view, fits-of, both, lt-irrefl, lt-asym, le-le}
 use Rattle.sampling_rounds.specs.Rounds.{lesser, minusOne, KeptSquare}
+
+-- ---- two squares neither of which is less are one
+
+-- one number has one pattern
+same-bits : (m : ℕ) (e : ℤ) (n : ℕ) (d : ℤ) → m * up e * down d ≡ n * up d * down e → toBits binary64 (fin false m e) ≡ toBits binary64 (fin false n d)
+unfolding toBits
+same-bits m e n d h =
+    let p = 2 ^ 1074 in
+    let q : m * up e * p * down d ≡ n * up d * p * down e =
+    mul-right-comm (m * up e) p (down d) ∙ ap (λ (x : ℕ). x * p) h ∙ mul-right-comm (n * up d) (down e) p in
+    ap (λ (z : ℕ). let k = size z - 53 in 0 + k * 2 ^ 52 + z / 2 ^ k) (div-same (m * up e * p) (down e) (n * up d * p) (down d) (down-pos e) (down-pos d) q)
+
+same-of : {x y : Float} → GoodFloat x → GoodFloat y → T (fits binary64 x) → T (fits binary64 y) → lt x y ≡ false → lt y x ≡ false → x ≡ y
+unfolding lt
+same-of top top f g h k = refl
+same-of top (num n d) f g h k = absurd (true≢false k)
+same-of (num m e) top f g h k = absurd (true≢false h)
+same-of (num m e) (num n d) f g h k =
+    sym (ofBits-toBits binary64 (fin false m e) f)
+    ∙ ap (ofBits binary64) (same-bits m e n d (le-antisymm (ltb-false (n * up d * down e) (m * up e * down d) k) (ltb-false (m * up e * down d) (n * up d * down e) h)))
+    ∙ ofBits-toBits binary64 (fin false n d) g
+
+pub good-same : (x y : Float) → good x ≡ true → good y ≡ true → lt x y ≡ false → lt y x ≡ false → x ≡ y
+good-same x y g h = same-of (view x g) (view y h) (fits-of x g) (fits-of y h)
+
+-- ---- -1 and the squares
 
 below-of : {x : Float} → GoodFloat x → lt minusOne x ≡ true
 unfolding lt neg ofBits

@@ -1,7 +1,7 @@
 -- The first place with the greatest root, found by few roots: roots keep the order of their squares. Assumes nothing.
 -- Holds: root-below, Looked, looked-none, looked-near, looked-low, looked-less, looked-here, looked-all, none-before,
---   less-before, greatest-good, first-chosen
-use mathlib.Core.Path.{_≡_, refl, _∙_, subst}
+--   less-before, greatest-good, peak-worst, first-chosen
+use mathlib.Core.Path.{_≡_, refl, ap, _∙_, subst}
 use mathlib.Core.Logic.{⊎-elim, inl, inr}
 use mathlib.Core.Bool.{true, false}
 use mathlib.Core.List.{List}
@@ -18,7 +18,7 @@ use Rattle.definition.specs.Number.{plusZero, squareRoot}
 use Rattle.root_laws.specs.Sorts.{good}
 use Rattle.root_laws.proofs.Order.{lt-irrefl, le-le, le-lt, lt-le, view, GoodFloat, top, num}
 use Rattle.root_laws.proofs.Values.{root-good, root-order}
-use Rattle.sampling_rounds.specs.Rounds.{minusOne, KeptSquare, Held, Peaked, Earliest, Chosen}
+use Rattle.sampling_rounds.specs.Rounds.{minusOne, KeptSquare, Held, Peaked, Earliest, Chosen, Worst}
 use Rattle.sampling_rounds.proofs.Orders.{one-below}
 
 -- every square up to one with a lesser root has a lesser root
@@ -104,6 +104,18 @@ module _ (v : ℕ → Float) (n best : ℕ) (most second : Float) (p : Peaked v 
   pub greatest-good : ((i : ℕ) → i < n → KeptSquare (v i)) → (i : ℕ) → i < n → good (v i) ≡ true → good (v best) ≡ true
   greatest-good k i h g =
       ⊎-elim (λ e. clash (one-below (v i) g) (subst (λ (x : Float). lt x (v i) ≡ false) (p .here ∙ e) (p .greatest i h))) (λ f. f) (k best (p .inside))
+
+  -- its root is the greatest root
+  pub peak-worst : (x : Float) → good (v best) ≡ true → x ≡ squareRoot most → Worst v n x
+  peak-worst x g e =
+      let f : x ≡ squareRoot (v best) = e ∙ ap squareRoot (p .here) in
+      record {
+        place = best;
+        inside = p .inside;
+        free = g;
+        here = f;
+        greatest = λ j b gj. rw f (root-order (v j) (v best) gj g (rw (p .here) at (p .greatest j b)));
+      }
 
   pub first-chosen : (l : List Float) (r : ℕ) → ((i : ℕ) → i < n → getD l i nan ≡ v i) → n ≤ length l → good (v best) ≡ true
       → Earliest (λ i. getD l i nan) best r → Chosen v n r (set l r minusOne)

@@ -54,3 +54,11 @@ pub record Chosen (v : ℕ → Float) (n r : ℕ) (l : List Float) : Type 0 wher
   pub first : (j : ℕ) → j < r → good (v j) ≡ true → lt (squareRoot (v j)) (squareRoot (v r)) ≡ true
   pub marked : getD l r nan ≡ minusOne
   pub others : (i : ℕ) → i < n → (i ≡ r → ⊥) → getD l i nan ≡ v i
+
+-- x is the greatest root of the n squares, among the rows that are not chosen
+pub record Worst (v : ℕ → Float) (n : ℕ) (x : Float) : Type 0 where
+  pub place : ℕ
+  pub inside : place < n
+  pub free : good (v place) ≡ true
+  pub here : x ≡ squareRoot (v place)
+  pub greatest : (j : ℕ) → j < n → good (v j) ≡ true → lt x (squareRoot (v j)) ≡ false

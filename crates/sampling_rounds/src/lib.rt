@@ -6,10 +6,10 @@ ghost use Prim.Native.Nat.{ℕ, _+_, _<_, _≤_};
 ghost use lib.ListN.{length, getD};
 ghost use lib.Ieee.{nan, inf};
 ghost use Rattle.lists.specs.Lists.{put};
-ghost use Rattle.definition.specs.Sampling.{sample};
+ghost use Rattle.definition.specs.Sampling.{sample, coverOf};
 ghost use Rattle.root_laws.specs.Sorts.{good};
 ghost use Rattle.rows.specs.Rows.{GoodRows};
-ghost use Rattle.sampling_rounds.specs.Rounds.{lesser, lessened, KeptSquare, Peaked, Held, Earliest, Chosen};
+ghost use Rattle.sampling_rounds.specs.Rounds.{lesser, lessened, KeptSquare, Peaked, Held, Earliest, Chosen, Worst};
 use distances::GlobalIdx;
 use distances::LocalIdx;
 
@@ -149,8 +149,28 @@ fn next_place(
     LocalIdx(place)
 }
 
+// The greatest least distance to a chosen row, over the rows that are not chosen: the root of the greatest least square,
+// once the last chosen row is taken in too.
+fn worst_distance(
+    points: &[f64],
+    dimensions: usize,
+    rows: &[usize],
+    last: LocalIdx,
+    floats: &mut [f64],
+) -> f64
+    requires rows { ⌜ GoodRows dimensions (now points) (now rows) ⌝ }
+    requires room { ⌜ (last .0 < length (now rows)) × (length (now rows) ≤ length (now floats)) ⌝ }
+    requires kept { ⌜ ((i : ℕ) → i < length (now rows) → KeptSquare (getD (now floats) i nan)) ⌝ }
+    requires open { ⌜ ((i : ℕ) × ((i < length (now rows)) × (good (getD (now floats) i nan) ≡ true))) ⌝ }
+    ensures { λ r. ⌜ Worst (lessened dimensions (now (points .entry)) (now (rows .entry)) (last .0) (now (floats .entry))) (length (now (rows .entry))) r ⌝ }
+{
+    let peak = lessen(points, dimensions, rows, last, floats);
+    let square = peak.most;
+    root::root(square)
+}
+
 // Writes `wanted` of the rows to `out` from `at` on: the row at the place `seed`, and then repeatedly the first unchosen
-// row whose least distance to the chosen is greatest.
+// row whose least distance to the chosen is greatest. Gives their cover: how far the worst left-out row is.
 pub fn sample_rows(
     points: &[f64],
     dimensions: usize,
@@ -160,11 +180,12 @@ pub fn sample_rows(
     out: &mut [usize],
     at: usize,
     floats: &mut [f64],
-)
+) -> f64
     requires rows { ⌜ GoodRows dimensions (now points) (now rows) ⌝ }
     requires wanted { ⌜ (0 < wanted) × (wanted ≤ length (now rows)) × (seed .0 < length (now rows)) ⌝ }
     requires room { ⌜ (at + wanted ≤ length (now out)) × (length (now rows) ≤ length (now floats)) ⌝ }
-    ensures { λ _. ⌜ now (out .exit) ≡ put (now (out .entry)) at (sample dimensions (now (points .entry)) (now (rows .entry)) wanted (getD (now (rows .entry)) (seed .0) 0)) ⌝ }
+    ensures sampled { λ _. ⌜ now (out .exit) ≡ put (now (out .entry)) at (sample dimensions (now (points .entry)) (now (rows .entry)) wanted (getD (now (rows .entry)) (seed .0) 0)) ⌝ }
+    ensures cover { λ r. ⌜ r ≡ coverOf dimensions (now (points .entry)) (now (rows .entry)) (sample dimensions (now (points .entry)) (now (rows .entry)) wanted (getD (now (rows .entry)) (seed .0) 0)) ⌝ }
 {
     clear(floats, rows.len());
     let first = seed.0;
@@ -178,4 +199,8 @@ pub fn sample_rows(
         out[at + k] = rows[place];
         k += 1;
     }
+    if wanted == rows.len() {
+        return 0.0;
+    }
+    worst_distance(points, dimensions, rows, last, floats)
 }

@@ -1,23 +1,24 @@
 -- The whole outcome of each exported call: of one with a short slot, and of one that found its slot long enough, from the outcome of
 -- the call behind it. Assumes nothing.
--- Holds: told-short, told-long, told-value, quotas-short, quotas-long, sample-short, sample-long, build-short, build-long,
---   depth-first-short, depth-first-long, store-short, store-tree-short, store-long, load-short, load-long
-use mathlib.Core.Path.{_≡_, refl, subst, ap, _∙_}
+-- Holds: told-short, told-long, told-value, quotas-short, quotas-long, sample-cover-short, sample-short, sample-long,
+--   build-short, build-long, depth-first-short, depth-first-long, store-short, store-tree-short, store-long, load-short,
+--   load-long
+use mathlib.Core.Path.{_≡_, refl, subst, ap, ap₂, _∙_}
 use mathlib.Core.List.{List, [], _∷_}
 use Prim.Native.Nat.{ℕ, _≤_, _<_}
 use native.Mathlib.Omega.{arith}
 use lib.ListN.{length, set}
 use lib.Ieee.{Float}
 use Rattle.lists.specs.Lists.{put}
-use Rattle.lists.proofs.Put.{set-put}
+use Rattle.lists.proofs.Put.{set-put, put-zero}
 use Rattle.definition.specs.Tree.{Settings}
 use Rattle.definition.specs.Packed.{Counts}
-use Rattle.definition.specs.Outcome.{Answer, Shared, TreeLists, RoomAfter, buildCall, buildAnswer, buildLists}
+use Rattle.definition.specs.Outcome.{Answer, Shared, Sampled, TreeLists, written, RoomAfter, buildCall, buildAnswer, buildLists}
 use Rattle.definition.specs.DepthFirst.{RecordLists, depthFirstCall, depthFirstAnswer, depthFirstLists, depthFirstRecords}
 use Rattle.stored.specs.Outcome.{writeAnswer, writeOutput, loadAnswer, loadLists}
 use Rattle.quotas.specs.Outcome.{SeatsShared}
 use Rattle.sampling.specs.Outcome.{RowsSampled}
-use Rattle.slots.specs.Slots.{valueSlot, placedSlot, buildSlot, countsIn}
+use Rattle.slots.specs.Slots.{valueSlot, sampleSlot, coverSlot, placedSlot, buildSlot, countsIn}
 use Rattle.slots.specs.Told.{Told, QuotasTold, SampleTold, BuildTold, DepthFirstTold, StoreTold, LoadTold}
 use Rattle.slots.proofs.Slots.{slot-short, slot-long, slot-written, room-short, room-long, number-long}
 
@@ -57,26 +58,49 @@ module _ (sizes : List ℕ) (wanted : ℕ) (out wholes slot : List ℕ) where
       }
 
 -- ---- sampling
-module _ (d : ℕ) (cs : List Float) (wanted seed : ℕ) (out : List ℕ) (floats : List Float) (wholes slot : List ℕ) where
-  pub sample-short : length slot < 2 → SampleTold d cs wanted seed out out floats floats wholes wholes slot slot 11
-  sample-short h =
+
+-- one entry, written to its slot
+set-written : {A : Type 0} (l : List A) (x : A) → 1 ≤ length l → set l 0 x ≡ written (x ∷ []) l
+unfolding written
+set-written l x h = set-put l 0 x (omega arith) ∙ put-zero l (x ∷ [])
+
+module _ (d : ℕ) (cs : List Float) (wanted seed : ℕ) (out : List ℕ) (floats : List Float) (wholes : List ℕ) (cover : List Float) (slot : List ℕ) where
+  pub sample-cover-short : length cover < 1 → SampleTold d cs wanted seed out out floats floats wholes wholes cover cover slot slot 11
+  sample-cover-short h =
       record {
-        told = told-short 2 _ slot _ h;
-        output = slot-short 2 slot _ _ h;
-        floats-free = room-short 2 slot _ _ h;
-        wholes-free = room-short 2 slot _ _ h;
+        number-is = slot-short 1 cover _ _ h;
+        cover-is = slot-short 1 cover _ _ h;
+        slot-is = slot-short 1 cover _ _ h;
+        output = slot-short 1 cover _ _ h;
+        floats-free = room-short 1 cover _ _ h;
+        wholes-free = room-short 1 cover _ _ h;
       }
 
-  pub sample-long : (out′ : List ℕ) (floats′ : List Float) (wholes′ slot′ : List ℕ) (k x y : ℕ) (a : Answer ℕ) → 2 ≤ length slot
-      → RowsSampled d cs wanted seed out out′ floats floats′ wholes wholes′ a → k ≡ a .number → x ≡ a .place → y ≡ a .value
-      → slot′ ≡ put slot 0 (x ∷ y ∷ []) → SampleTold d cs wanted seed out out′ floats floats′ wholes wholes′ slot slot′ k
-  sample-long out′ floats′ wholes′ slot′ k x y a h o e f g w =
-      record {
-        told = told-long 2 _ slot slot′ k a _ h e (w ∙ rw (f, g)) (o .answers);
-        output = slot-long 2 slot _ _ _ h (o .output);
-        floats-free = room-long 2 slot _ _ _ h (o .floats-free);
-        wholes-free = room-long 2 slot _ _ _ h (o .wholes-free);
-      }
+  module _ (h : 1 ≤ length cover) where
+    pub sample-short : length slot < 2 → SampleTold d cs wanted seed out out floats floats wholes wholes cover cover slot slot 11
+    sample-short g =
+        record {
+          number-is = slot-long 1 cover _ _ _ h (slot-short 2 slot _ _ g);
+          cover-is = slot-long 1 cover _ _ _ h (slot-short 2 slot _ _ g);
+          slot-is = slot-long 1 cover _ _ _ h (slot-short 2 slot _ _ g);
+          output = slot-long 1 cover _ _ _ h (slot-short 2 slot _ _ g);
+          floats-free = room-long 1 cover _ _ _ h (room-short 2 slot _ _ g);
+          wholes-free = room-long 1 cover _ _ _ h (room-short 2 slot _ _ g);
+        }
+
+    -- z is the cover, x the place and y the rows of the answer a
+    pub sample-long : (out′ : List ℕ) (floats′ : List Float) (wholes′ slot′ : List ℕ) (k x y : ℕ) (z : Float) (a : Answer Sampled) → 2 ≤ length slot
+        → RowsSampled d cs wanted seed out out′ floats floats′ wholes wholes′ a → k ≡ a .number → x ≡ a .place → y ≡ a .value .rows → z ≡ a .value .cover
+        → slot′ ≡ put slot 0 (x ∷ y ∷ []) → SampleTold d cs wanted seed out out′ floats floats′ wholes wholes′ cover (set cover 0 z) slot slot′ k
+    sample-long out′ floats′ wholes′ slot′ k x y z a g o e p q r w =
+        record {
+          number-is = slot-long 1 cover _ _ _ h (number-long 2 slot a _ k g e (o .answers));
+          cover-is = slot-long 1 cover _ _ _ h (slot-long 2 slot _ _ _ g (set-written cover z h ∙ ap (λ (u : List Float). written u cover) (ap (λ (u : Float). u ∷ []) r ∙ ap coverSlot (o .answers))));
+          slot-is = slot-long 1 cover _ _ _ h (slot-written 2 slot _ slot′ g (w ∙ ap (put slot 0) (ap₂ (λ (u v : ℕ). u ∷ v ∷ []) p q ∙ ap sampleSlot (o .answers))));
+          output = slot-long 1 cover _ _ _ h (slot-long 2 slot _ _ _ g (o .output));
+          floats-free = room-long 1 cover _ _ _ h (room-long 2 slot _ _ _ g (o .floats-free));
+          wholes-free = room-long 1 cover _ _ _ h (room-long 2 slot _ _ _ g (o .wholes-free));
+        }
 
 -- ---- the build
 module _ (cs : List Float) (old : TreeLists) (floats : List Float) (wholes slot : List ℕ) where

@@ -4,10 +4,11 @@ use mathlib.Core.Bool.{cond}
 use mathlib.Core.List.{List, [], _∷_, _++_}
 use lib.ListN.{length, getD}
 use lib.Dec.{ltb}
+use lib.Ieee.{Float}
 use Rattle.lists.specs.Lists.{part}
 use Rattle.definition.specs.Packed.{Counts, BuildSizes, mostLevels}
 use Rattle.definition.specs.Refusals.{Verdict, refused}
-use Rattle.definition.specs.Outcome.{Answer, Shared, written}
+use Rattle.definition.specs.Outcome.{Answer, Shared, Sampled, written}
 
 -- ---- a slot that is to have n entries
 
@@ -27,6 +28,10 @@ slotAfter n slot xs = unlessShort n slot slot (written xs slot)
 abbrev pub slotFirst : {B : Type 0} → ℕ → List B → Verdict → Verdict
 slotFirst n slot v = unlessShort n slot (refused (record { number = 11; place = 0 })) v
 
+-- sampling has a slot for its cover too: x where that or the other one is too short, and y otherwise
+abbrev pub unlessEither : {A : Type 0} → List Float → List ℕ → A → A → A
+unlessEither cover slot x y = unlessShort 1 cover x (unlessShort 2 slot x y)
+
 -- ---- what each call writes to its slot: its place, where the layout has one, and then its values
 
 abbrev pub valueSlot : {A : Type 0} → Answer A → List A
@@ -35,7 +40,14 @@ valueSlot a = a .value ∷ []
 abbrev pub quotaSlot : Answer Shared → List ℕ
 quotaSlot a = a .value .leaves ∷ a .value .seats ∷ []
 
--- sampling's and the writer's: the place, and how many rows or bytes were written
+-- sampling's: the place, and how many rows were written; and its slot of one float, the cover
+abbrev pub sampleSlot : Answer Sampled → List ℕ
+sampleSlot a = a .place ∷ a .value .rows ∷ []
+
+abbrev pub coverSlot : Answer Sampled → List Float
+coverSlot a = a .value .cover ∷ []
+
+-- the writer's: the place, and how many bytes were written
 abbrev pub placedSlot : Answer ℕ → List ℕ
 placedSlot a = a .place ∷ a .value ∷ []
 

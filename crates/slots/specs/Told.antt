@@ -5,10 +5,10 @@ use mathlib.Core.Path.{_≡_}
 use mathlib.Core.List.{List}
 use lib.Ieee.{Float}
 use Rattle.definition.specs.Tree.{Settings}
-use Rattle.definition.specs.Outcome.{Answer, TreeLists, RoomAfter, quotaCall, quotaAnswer, quotaOutput, sampleCall, sampleAnswer, sampleOutput, buildCall, buildAnswer, buildLists}
+use Rattle.definition.specs.Outcome.{Answer, TreeLists, written, RoomAfter, quotaCall, quotaAnswer, quotaOutput, sampleCall, sampleAnswer, sampleOutput, buildCall, buildAnswer, buildLists}
 use Rattle.definition.specs.DepthFirst.{RecordLists, depthFirstCall, depthFirstAnswer, depthFirstLists, depthFirstRecords}
 use Rattle.stored.specs.Outcome.{writeAnswer, writeOutput, loadAnswer, loadLists}
-use Rattle.slots.specs.Slots.{unlessShort, numberAfter, slotAfter, slotFirst, quotaSlot, placedSlot, buildSlot, countsIn}
+use Rattle.slots.specs.Slots.{unlessShort, numberAfter, slotAfter, slotFirst, unlessEither, quotaSlot, sampleSlot, coverSlot, placedSlot, buildSlot, countsIn}
 
 -- What a call returns, and its slot of n entries: `values` are those of an answer.
 pub record Told {A B : Type 0} (n : ℕ) (values : Answer A → List B) (slot slot′ : List B) (returned : ℕ) (answer : Answer A) : Type 0 where
@@ -21,12 +21,15 @@ pub record QuotasTold (sizes : List ℕ) (wanted : ℕ) (out out′ wholes whole
   pub output : out′ ≡ unlessShort 2 slot out (quotaOutput sizes wanted out wholes)
   pub wholes-free : RoomAfter (slotFirst 2 slot (quotaCall sizes out wholes)) wholes wholes′
 
--- sampling
-pub record SampleTold (d : ℕ) (cs : List Float) (wanted seed : ℕ) (out out′ : List ℕ) (floats floats′ : List Float) (wholes wholes′ slot slot′ : List ℕ) (returned : ℕ) : Type 0 where
-  pub told : Told 2 placedSlot slot slot′ returned (sampleAnswer d cs wanted seed out floats wholes)
-  pub output : out′ ≡ unlessShort 2 slot out (sampleOutput d cs wanted seed out floats wholes)
-  pub floats-free : RoomAfter (slotFirst 2 slot (sampleCall d cs wanted seed out floats wholes)) floats floats′
-  pub wholes-free : RoomAfter (slotFirst 2 slot (sampleCall d cs wanted seed out floats wholes)) wholes wholes′
+-- sampling, with its two slots: where either is too short, both stay as they were
+pub record SampleTold (d : ℕ) (cs : List Float) (wanted seed : ℕ) (out out′ : List ℕ) (floats floats′ : List Float) (wholes wholes′ : List ℕ) (cover cover′ : List Float)
+    (slot slot′ : List ℕ) (returned : ℕ) : Type 0 where
+  pub number-is : returned ≡ unlessEither cover slot 11 (sampleAnswer d cs wanted seed out floats wholes .number)
+  pub cover-is : cover′ ≡ unlessEither cover slot cover (written (coverSlot (sampleAnswer d cs wanted seed out floats wholes)) cover)
+  pub slot-is : slot′ ≡ unlessEither cover slot slot (written (sampleSlot (sampleAnswer d cs wanted seed out floats wholes)) slot)
+  pub output : out′ ≡ unlessEither cover slot out (sampleOutput d cs wanted seed out floats wholes)
+  pub floats-free : RoomAfter (slotFirst 1 cover (slotFirst 2 slot (sampleCall d cs wanted seed out floats wholes))) floats floats′
+  pub wholes-free : RoomAfter (slotFirst 1 cover (slotFirst 2 slot (sampleCall d cs wanted seed out floats wholes))) wholes wholes′
 
 -- the build
 pub record BuildTold (s : Settings) (cs : List Float) (old new : TreeLists) (floats floats′ : List Float) (wholes wholes′ slot slot′ : List ℕ) (returned : ℕ) : Type 0 where

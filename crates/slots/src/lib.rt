@@ -23,11 +23,11 @@ use root::RootAnswer;
 use sampling::SampleAnswer;
 use tree_answer::TreeCounts;
 
-// The version, 0.4.1, as one number: major, minor and patch, with two digits for each of the last two.
+// The version, 0.5.0, as one number: major, minor and patch, with two digits for each of the last two.
 pub fn version() -> usize
-    ensures { λ r. ⌜ r ≡ versionNumber 0 4 1 ⌝ }
+    ensures { λ r. ⌜ r ≡ versionNumber 0 5 0 ⌝ }
 {
-    401
+    500
 }
 
 // The refusal's number of a root.
@@ -108,19 +108,29 @@ pub fn quota_report(answer: QuotaAnswer) -> Report
 
 // Of sampling: place, rows written.
 pub fn sample_report(answer: SampleAnswer) -> Report
-    ensures { λ r. ⌜ (r .number ≡ sampleReport answer .number) × (r .first ≡ sampleReport answer .place) × (r .second ≡ sampleReport answer .value) ⌝ }
+    ensures { λ r. ⌜ (r .number ≡ sampleReport answer .number) × (r .first ≡ sampleReport answer .place) × (r .second ≡ sampleReport answer .value .rows) ⌝ }
 {
     match answer {
-        SampleAnswer::Sampled(count) => Report {
+        SampleAnswer::Sampled { rows, cover: _ } => Report {
             number: 0,
             first: 0,
-            second: count,
+            second: rows,
         },
         SampleAnswer::Refused(number, place) => Report {
             number: number as usize,
             first: place,
             second: 0,
         },
+    }
+}
+
+// The cover of a sampling, or 0 for a refusal.
+pub fn sample_cover(answer: SampleAnswer) -> f64
+    ensures { λ r. ⌜ r ≡ sampleReport answer .value .cover ⌝ }
+{
+    match answer {
+        SampleAnswer::Sampled { rows: _, cover } => cover,
+        SampleAnswer::Refused(_, _) => 0.0,
     }
 }
 

@@ -2,35 +2,26 @@
 -- Assumes nothing.
 use mathlib.Core.Path.{_≡_, sym, ap, _∙_}
 use mathlib.Core.Bool.{Bool, true, _&&_}
-use mathlib.Core.List.{List, _++_, map}
-use Prim.Native.Nat.{ℕ, zero, suc, _-_, _*_, _≤_}
-use native.Mathlib.Nat.{mul-zero, mul-suc, add-comm}
+use mathlib.Core.List.{List, _++_}
+use Prim.Native.Nat.{ℕ, _-_, _≤_}
+use native.Mathlib.Nat.{mul-le-mul-left, le-trans}
 use native.Mathlib.Omega.{arith}
 use borrow.Author.Tests.{eqb-true}
 use lib.Dec.{eqb}
 use lib.ListN.{length, take, drop, take-append-drop}
 use lib.Ieee.{Float}
-use Rattle.lists.specs.Lists.{total, from, joined, part}
-use Rattle.lists.proofs.Put.{part-append, part-nil}
-use Rattle.definition.specs.Tree.{Settings, Leaf, Level}
-use Rattle.definition.specs.Packed.{Counts, countsOf, rowFloats, leavesIn, packedLevelPoints, packedInternals, packedDomains, packedBoxes, packedBorrowed}
+use Rattle.definition.specs.Tree.{Settings, Level}
+use Rattle.definition.specs.Packed.{Counts, countsOf, rowFloats, buildStated, leavesIn, packedLevelPoints, packedInternals, packedDomains, packedBoxes, packedBorrowed}
 use Rattle.definition.specs.Outcome.{TreeLists}
-use Rattle.packed.specs.Reading.{Packed, packed, readLeaf, readLeaves, readLevels, Stands}
+use Rattle.packed.specs.Reading.{Packed, packed, Stands}
 use Rattle.packed.proofs.Unpacked.{Packs, levels-are, leaf-in, tree-stands}
 use Rattle.stored.specs.Sound.{same, sound}
 use Rattle.stored.specs.Outcome.{treeHeld, leads, packs}
 use Rattle.tree_tests.proofs.AllRows.{same-is}
 use Rattle.tree_tests.proofs.Several.{three-pass}
 use Rattle.stored_rules.proofs.SoundTree.{sound-tree}
-use Rattle.list_levels.proofs.Levels.{countsFrom, leaves-held}
-
--- ---- the boxes of domain rows stand one after the other
-boxes-joined : (p : Packed) (m j : ℕ) → joined (map (λ f. f .box) (readLeaves p j m)) ≡ part (p .boxes) (rowFloats (p .dimension) * j) (rowFloats (p .dimension) * m)
-unfolding readLeaves from joined readLeaf
-boxes-joined p zero j = rw (mul-zero (rowFloats (p .dimension))) (sym (part-nil (p .boxes) (rowFloats (p .dimension) * j)))
-boxes-joined p (suc m) j =
-    let w = rowFloats (p .dimension) in
-    rw (boxes-joined p m (suc j), mul-suc w j, mul-suc w m, add-comm (w * m) w) (part-append (p .boxes) (w * j) w (w * m))
+use Rattle.stored_laws.proofs.Stowed.{leaves-many}
+use Rattle.stored_laws.proofs.Fronts.{boxes-held}
 
 -- ---- numbers that lead a list, and what stands after them
 leads-append : (xs l : List ℕ) → leads xs l ≡ true → l ≡ xs ++ drop (length xs) l
@@ -52,15 +43,6 @@ module _ (s : Settings) (n : ℕ) (c : Counts) (l : TreeLists) where
 
   abbrev ls : List Level
   ls = treeHeld d c l
-
-  boxes-lead : l .boxes ≡ packedBoxes ls ++ drop (rowFloats d * countsFrom (c .domains) 0 (c .levels)) (l .boxes)
-  unfolding treeHeld readLevels packedBoxes total part
-  boxes-lead =
-      let m = countsFrom (c .domains) 0 (c .levels) in
-      let e : packedBoxes ls ≡ part (l .boxes) 0 (rowFloats d * m) =
-      ap (λ (fs : List Leaf). joined (map (λ f. f .box) fs)) (leaves-held p (l .level-points) c (c .levels) 0) ∙ boxes-joined p m 0
-      ∙ ap (λ (at : ℕ). part (l .boxes) at (rowFloats d * m)) (mul-zero (rowFloats d)) in
-      sym (take-append-drop (rowFloats d * m) (l .boxes)) ∙ ap (λ (xs : List Float). xs ++ drop (rowFloats d * m) (l .boxes)) (sym e)
 
   -- the tests of `packs`, taken apart
   abbrev front : Bool
@@ -84,14 +66,22 @@ module _ (s : Settings) (n : ℕ) (c : Counts) (l : TreeLists) where
       counts-from-parts c (countsOf ls) (eqb-true (c .levels) (countsOf ls .levels) (f .0)) (same-is (c .rows) (countsOf ls .rows) (f .1))
       (same-is (c .domains) (countsOf ls .domains) (f .2))
 
-  -- the tree stands at the front of the lists
-  module _ (packing : packs c l (treeHeld (s .dimension) c l) ≡ true) (passing : sound s n (treeHeld (s .dimension) c l) ≡ true) where
+  -- the tree stands at the front of the lists, which have room for its boxes
+  module _ (packing : packs c l (treeHeld (s .dimension) c l) ≡ true) (passing : sound s n (treeHeld (s .dimension) c l) ≡ true)
+      (room : buildStated (s .dimension) n (s .neighbours) .boxes ≤ length (l .boxes)) where
     tests : (front ≡ true) × (rows-lead ≡ true) × (own-lead ≡ true) × (domains-lead ≡ true) × (borrowed-lead ≡ true)
     unfolding packs
     tests =
         let f = three-pass (front && rows-lead && own-lead) domains-lead borrowed-lead packing in
         let g = three-pass front rows-lead own-lead (f .0) in
         (g .0, g .1, g .2, f .1, f .2)
+
+    boxes-lead : l .boxes ≡ packedBoxes ls ++ drop (length (packedBoxes ls)) (l .boxes)
+    unfolding buildStated
+    boxes-lead =
+        let k = length (packedBoxes ls) in
+        let e = boxes-held d c l (le-trans (mul-le-mul-left (rowFloats d) (leaves-many s n ls passing)) room) in
+        sym (take-append-drop k (l .boxes)) ∙ ap (λ (xs : List Float). xs ++ drop k (l .boxes)) (sym e)
 
     at-front : Packs ls p (l .level-points) c
     at-front =
@@ -106,7 +96,7 @@ module _ (s : Settings) (n : ℕ) (c : Counts) (l : TreeLists) where
           internals = leads-append (packedInternals ls) (l .internals) (tests .2);
           domains-rest = drop (length (packedDomains ls)) (l .domains);
           domains = leads-append (packedDomains ls) (l .domains) (tests .3);
-          boxes-rest = drop (rowFloats d * countsFrom (c .domains) 0 (c .levels)) (l .boxes);
+          boxes-rest = drop (length (packedBoxes ls)) (l .boxes);
           boxes = boxes-lead;
           borrowed-rest = drop (length (packedBorrowed ls)) (l .borrowed);
           borrowed = leads-append (packedBorrowed ls) (l .borrowed) (tests .4);

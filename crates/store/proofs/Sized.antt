@@ -1,5 +1,5 @@
 -- A call whose own tests passed, and a sound tree in its lists: the counts keep to their limits, and give the length of the file. Assumes nothing.
--- Holds: own-passed, tree-bad, tree-good, tree-packs, tree-sound, tree-limited, tree-size
+-- Holds: own-passed, tree-bad, tree-good, tree-packs, tree-sound, tree-room, tree-limited, tree-size
 use mathlib.Core.Path.{_≡_, sym, ap, _∙_}
 use mathlib.Core.Bool.{Bool, true, false, _&&_}
 use mathlib.Core.List.{List}
@@ -25,6 +25,7 @@ use Rattle.tree_tests.proofs.Several.{three-pass}
 use Rattle.tree_tests.proofs.Passed.{passed-is, points-most}
 use Rattle.tree_tests.proofs.Limits.{sound-counted}
 use Rattle.tree_tests.proofs.FileLength.{file-length}
+use Rattle.stored_laws.proofs.Verdicts.{own-boxes}
 use Rattle.list_levels.specs.Passed.{TreePassed}
 use Rattle.list_levels.specs.declared.ListsPassed.{ListsPassed}
 use Rattle.store.specs.Limits.{Limited}
@@ -65,6 +66,10 @@ module _ (s : Settings) (cs : List Float) (c : Counts) (l : TreeLists) (own : ve
   pub tree-sound : sound s (pointCount (s .dimension) cs) (treeHeld (s .dimension) c l) ≡ true
   tree-sound = and-snd (packs c l ls) (sound s n ls) tree-good
 
+  -- the box list has room for its boxes
+  pub tree-room : buildStated (s .dimension) (pointCount (s .dimension) cs) (s .neighbours) .boxes ≤ length (l .boxes)
+  tree-room = own-boxes s cs l own
+
   abbrev few-leaves : Bool
   few-leaves = leb (length (leavesIn ls)) (mostRows n)
 
@@ -75,7 +80,7 @@ module _ (s : Settings) (cs : List Float) (c : Counts) (l : TreeLists) (own : ve
   passes = three-pass (leb (length ls) mostLevels) (levelsPass d (λ a. eqb a n) (λ i. ltb i n) ls) (few-leaves && few-borrowed) (sym (sound-counted s n ls) ∙ tree-sound)
 
   levels-are : c .levels ≡ length ls
-  levels-are = held-levels s n c l tree-packs tree-sound
+  levels-are = held-levels s n c l tree-packs tree-sound tree-room
 
   -- THE LAWS: the counts keep to their limits
   pub tree-limited : Limited (s .dimension) (pointCount (s .dimension) cs) (c .levels) (r .rows) (r .domains) (r .borrowed)
@@ -90,7 +95,7 @@ module _ (s : Settings) (cs : List Float) (c : Counts) (l : TreeLists) (own : ve
         points = p .rows-few;
         few = omega (arith, levels-are, few);
         rows-few = omega (arith, tested .rows good, rows);
-        some = omega (arith, tested .domains good, held-some s n c l tree-packs tree-sound);
+        some = omega (arith, tested .domains good, held-some s n c l tree-packs tree-sound tree-room);
         domains-few = omega (arith, tested .domains good, leb-true (length (leavesIn ls)) (mostRows n) (and-fst few-leaves few-borrowed (passes .2)));
         borrowed-few = omega (arith, tested .borrowed good, borrowed);
       }

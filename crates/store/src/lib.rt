@@ -37,7 +37,7 @@ fn refusal(number: usize, place: usize) -> StoreAnswer
 }
 
 // The bytes of a tree's file, by its counts: the rows, domains and borrowed rows of all its levels. Each of its rows stands in it twice, as
-// a level's row and as a domain's own; the coarse domain has no box.
+// a level's row and as a domain's own; each domain has a cover, and all but the coarse one a box.
 fn file_size(
     dimensions: usize,
     n: usize,
@@ -50,11 +50,12 @@ fn file_size(
     ensures { λ r. ⌜ r ≡ fileSize dimensions n levels rows domains borrowed ⌝ }
 {
     let point = bytes_in::MARK + bytes_in::FLOAT * dimensions;
-    let bounds = bytes_in::FLOAT * packed::row_floats(dimensions);
+    let bounds = bytes_in::FLOAT * boxes::box_width(dimensions);
     let front = HEAD + n * point;
     let counts = COUNTS * (levels + domains);
     let numbers = bytes_in::NUMBER * (2 * rows + borrowed);
-    front + counts + numbers + bounds * (domains - 1)
+    let covers = bytes_in::FLOAT * domains;
+    front + counts + numbers + covers + bounds * (domains - 1)
 }
 
 // The tree of a call that the build's own tests let pass: 20 where the lists and counts are not those of a sound tree, 11 where the file list

@@ -1,24 +1,27 @@
 -- The records of a stored tree as the parts that the code writes one after the other. Assumes nothing.
--- Holds: counts-parts, head-parts, point-parts, level-parts, bounds-none, bounds-all, domainParts, domain-parts
-use mathlib.Core.Path.{_≡_, sym, ap₂, _∙_}
-use Prim.Native.Nat.{ℕ, _+_, _*_, _≤_}
+-- Holds: counts-parts, head-parts, point-parts, level-parts, cover-given, all-given, domainParts, domain-parts
+use mathlib.Core.Path.{_≡_, sym, ap, ap₂, _∙_}
+use Prim.Native.Nat.{ℕ, suc, _+_, _*_, _≤_}
+use native.Mathlib.Nat.{mul-add}
+use native.Mathlib.Omega.{arith}
 use mathlib.Core.Bool.{Bool, true, false}
 use mathlib.Core.List.{List, [], _∷_, _++_, map, append-assoc, append-nil}
 use lib.ListN.{length}
 use lib.Ieee.{Float, nan}
 use Rattle.lists.specs.Lists.{joined, part, from}
-use Rattle.lists.proofs.Put.{length-part, getD-part}
+use Rattle.lists.proofs.Put.{length-part, part-nil, part-cons, part-append, getD-part}
 use Rattle.lists.proofs.From.{list-below}
+use Rattle.definition.specs.Number.{plusZero}
 use Rattle.definition.specs.Points.{coordinate, boxWidth}
 use Rattle.definition.specs.Tree.{Settings}
 use Rattle.definition.specs.Packed.{rowFloats}
 use Rattle.formats.specs.Bytes.{Mark, markBytes, numberBytes, numbersBytes, floatsBytes}
 use Rattle.formats.specs.Stream.{settingsBytes}
 use Rattle.packed.specs.declared.DomainRow.{DomainRow}
-use Rattle.packed.specs.Reading.{Packed, readLeaf, ownAt, borrowedAt, boxAt, RowFits, ownStart, ownCount, borrowedStart, borrowedCount}
+use Rattle.packed.specs.Reading.{Packed, readLeaf, ownAt, borrowedAt, boxAt, coverAt, RowFits, ownStart, ownCount, borrowedStart, borrowedCount}
 use Rattle.packed.specs.Rows.{IsRow}
 use Rattle.stored.specs.File.{headMark, filePointMark, levelMark, domainMark, headBytes, pointBytes, domainBytes}
-use Rattle.store_records.specs.Records.{countsBytes, levelRecord, boundsGiven, domainRecord}
+use Rattle.store_records.specs.Records.{countsBytes, levelRecord, boundsGiven, floatsGiven, domainRecord}
 
 -- ---- records with a number of parts that is fixed
 pub counts-parts : (m : Mark) (a b : ℕ) → countsBytes m a b ≡ joined (markBytes m ∷ numberBytes a ∷ numberBytes b ∷ [])
@@ -42,16 +45,26 @@ pub level-parts : (rows : List ℕ) (start count m : ℕ) → start + count ≤ 
 unfolding levelRecord joined
 level-parts rows start count m h = rw (length-part rows start count h, append-nil)
 
--- ---- the box, found at x with w bounds
-module _ (coarse : Bool) (d : ℕ) (boxes : List Float) (j : ℕ) where
-  pub bounds-none : coarse ≡ true → [] ≡ floatsBytes (boundsGiven coarse (boxAt d boxes j))
-  unfolding boundsGiven floatsBytes joined
-  bounds-none e = rw e
+-- ---- the floats of a domain row, found at x, and the cover w floats on
+module _ (coarse : Bool) (d : ℕ) (boxes : List Float) (j : ℕ) (fits : rowFloats d * (j + 1) ≤ length boxes) (x : ℕ) (ex : x ≡ rowFloats d * j) where
+  cover-one : part boxes (rowFloats d * j + boxWidth d) 1 ≡ coverAt d boxes j ∷ []
+  cover-one =
+      let k = rowFloats d * j + boxWidth d in
+      part-cons boxes k 0 plusZero (omega (arith, fits, mul-add (rowFloats d) j 1)) ∙ ap (λ (xs : List Float). coverAt d boxes j ∷ xs) (part-nil boxes (suc k))
 
-  pub bounds-all : (x w : ℕ) → coarse ≡ false → x ≡ rowFloats d * j → w ≡ boxWidth d
-      → floatsBytes (boundsGiven coarse (boxAt d boxes j)) ≡ floatsBytes (part boxes x w)
+  -- the coarse domain's cover alone
+  pub cover-given : (w : ℕ) → coarse ≡ true → w ≡ boxWidth d
+      → floatsBytes (floatsGiven coarse (boxAt d boxes j) (coverAt d boxes j)) ≡ floatsBytes (part boxes (x + w) 1)
   unfolding boundsGiven
-  bounds-all x w e ex ew = rw (e, ex, ew)
+  cover-given w e ew = rw (e, ex, ew) (ap floatsBytes (sym cover-one))
+
+  -- all of a fine domain's
+  pub all-given : (n : ℕ) → coarse ≡ false → n ≡ rowFloats d
+      → floatsBytes (floatsGiven coarse (boxAt d boxes j) (coverAt d boxes j)) ≡ floatsBytes (part boxes x n)
+  unfolding boundsGiven
+  all-given n e en =
+      rw (e, ex, en)
+      (ap floatsBytes (ap (λ (xs : List Float). boxAt d boxes j ++ xs) (sym cover-one) ∙ part-append boxes (rowFloats d * j) (boxWidth d) 1))
 
 -- ---- a domain's record, by the row r that was read
 six-parts : (a b c d e f : List ℕ) → a ++ b ++ c ++ d ++ e ++ f ≡ joined ((a ++ b ++ c) ∷ d ∷ e ∷ f ∷ [])
@@ -64,7 +77,7 @@ module _ (coarse : Bool) (p : Packed) (j : ℕ) (fits : RowFits p j) (r : Domain
       countsBytes domainMark (r .«internal_count») (r .«borrowed_count»)
       ∷ numbersBytes (part (p .internals) (r .«internal_start») (r .«internal_count»))
       ∷ numbersBytes (part (p .borrowed) (r .«borrowed_start») (r .«borrowed_count»))
-      ∷ floatsBytes (boundsGiven coarse (boxAt (p .dimension) (p .boxes) j))
+      ∷ floatsBytes (floatsGiven coarse (boxAt (p .dimension) (p .boxes) j) (coverAt (p .dimension) (p .boxes) j))
       ∷ []
 
   pub domain-parts : domainRecord coarse (readLeaf p j) ≡ joined domainParts
@@ -72,9 +85,9 @@ module _ (coarse : Bool) (p : Packed) (j : ℕ) (fits : RowFits p j) (r : Domain
   domain-parts =
       let own = ownAt (p .internals) (p .domains) j in
       let lent = borrowedAt (p .borrowed) (p .domains) j in
-      let bounds = floatsBytes (boundsGiven coarse (boxAt (p .dimension) (p .boxes) j)) in
+      let floats = floatsBytes (floatsGiven coarse (boxAt (p .dimension) (p .boxes) j) (coverAt (p .dimension) (p .boxes) j)) in
       rw (e .own-start, e .own-count, e .borrowed-start, e .borrowed-count)
-      (six-parts (markBytes domainMark) (numberBytes (length own)) (numberBytes (length lent)) (numbersBytes own) (numbersBytes lent) bounds
-      ∙ ap₂ (λ (x y : ℕ). joined ((markBytes domainMark ++ numberBytes x ++ numberBytes y) ∷ numbersBytes own ∷ numbersBytes lent ∷ bounds ∷ []))
+      (six-parts (markBytes domainMark) (numberBytes (length own)) (numberBytes (length lent)) (numbersBytes own) (numbersBytes lent) floats
+      ∙ ap₂ (λ (x y : ℕ). joined ((markBytes domainMark ++ numberBytes x ++ numberBytes y) ∷ numbersBytes own ∷ numbersBytes lent ∷ floats ∷ []))
       (length-part (p .internals) (ownStart (p .domains) j) (ownCount (p .domains) j) (fits .own))
       (length-part (p .borrowed) (borrowedStart (p .domains) j) (borrowedCount (p .domains) j) (fits .borrowed)))

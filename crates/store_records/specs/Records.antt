@@ -1,7 +1,7 @@
 -- The records of a stored tree, as the code writes them. Definitions only.
 use Prim.Native.Nat.{ℕ}
 use mathlib.Core.Bool.{Bool, cond}
-use mathlib.Core.List.{List, [], _++_}
+use mathlib.Core.List.{List, [], _∷_, _++_}
 use lib.ListN.{length}
 use lib.Ieee.{Float}
 use Rattle.definition.specs.Tree.{Leaf}
@@ -19,6 +19,10 @@ levelRecord rows m = countsBytes levelMark (length rows) m ++ numbersBytes rows
 -- the bounds that a domain's record has: those of its box; the coarse domain has none
 unfoldable pub boundsGiven : Bool → List Float → List Float
 boundsGiven coarse box = cond coarse [] box
+
+-- the floats that it ends with
+abbrev pub floatsGiven : Bool → List Float → Float → List Float
+floatsGiven coarse box cover = boundsGiven coarse box ++ cover ∷ []
 
 -- a domain's record
 unfoldable pub domainRecord : Bool → Leaf → List ℕ

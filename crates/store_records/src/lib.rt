@@ -7,14 +7,13 @@ use config::DDMParams;
 ghost use Prim.Native.Nat.{_+_, _*_, _≤_, _<_};
 ghost use lib.ListN.{length};
 ghost use Rattle.lists.specs.Lists.{part};
-ghost use Rattle.definition.specs.Points.{boxWidth};
 ghost use Rattle.definition.specs.Packed.{rowFloats};
 ghost use Rattle.formats.specs.Bytes.{markOf, numbersBytes, floatsBytes};
 ghost use Rattle.config.specs.Params.{settingsOf};
 ghost use Rattle.bytes_out.specs.Wrote.{Wrote, RoomFor};
-ghost use Rattle.packed.specs.Reading.{packed, RowFits, boxAt, readLeaf};
+ghost use Rattle.packed.specs.Reading.{packed, RowFits, boxAt, coverAt, readLeaf};
 ghost use Rattle.stored.specs.File.{headBytes, pointBytes};
-ghost use Rattle.store_records.specs.Records.{countsBytes, levelRecord, boundsGiven, domainRecord};
+ghost use Rattle.store_records.specs.Records.{countsBytes, levelRecord, floatsGiven, domainRecord};
 
 // The first byte of every mark, and the second one of the head's, a point's, a level's and a domain's.
 const TREE: u8 = 0x54;
@@ -62,8 +61,8 @@ fn put_counts(kind: u8, first: usize, second: usize, out: &mut [u8], at: usize) 
     last + NUMBER
 }
 
-// The box of the domain row number j; nothing for the coarse domain.
-fn put_bounds(
+// The floats of the domain row number j, its box and its cover; of the coarse domain's the cover alone.
+fn put_row_floats(
     boxes: &[f64],
     dimensions: usize,
     j: usize,
@@ -71,16 +70,17 @@ fn put_bounds(
     out: &mut [u8],
     at: usize,
 ) -> usize
-    requires { ⌜ (dimensions ≤ 3) × (rowFloats dimensions * j + boxWidth dimensions ≤ length (now boxes)) ⌝ }
-    requires { ⌜ RoomFor (now out) at (floatsBytes (boundsGiven coarse (boxAt dimensions (now boxes) j))) ⌝ }
-    ensures { λ r. ⌜ Wrote (now (out .entry)) at (floatsBytes (boundsGiven coarse (boxAt dimensions (now (boxes .entry)) j))) r (now (out .exit)) ⌝ }
+    requires { ⌜ (dimensions ≤ 3) × (rowFloats dimensions * (j + 1) ≤ length (now boxes)) ⌝ }
+    requires { ⌜ RoomFor (now out) at (floatsBytes (floatsGiven coarse (boxAt dimensions (now boxes) j) (coverAt dimensions (now boxes) j))) ⌝ }
+    ensures { λ r. ⌜ Wrote (now (out .entry)) at (floatsBytes (floatsGiven coarse (boxAt dimensions (now (boxes .entry)) j) (coverAt dimensions (now (boxes .entry)) j))) r (now (out .exit)) ⌝ }
 {
-    if coarse {
-        return at;
-    }
     let start = packed::floats_before(dimensions, j);
-    let width = packed::row_floats(dimensions);
-    put_reals(boxes, start, width, out, at)
+    let width = boxes::box_width(dimensions);
+    let floats = packed::row_floats(dimensions);
+    if coarse {
+        return put_reals(boxes, start + width, packed::COVER, out, at);
+    }
+    put_reals(boxes, start, floats, out, at)
 }
 
 // ---- records
@@ -146,5 +146,5 @@ pub fn put_domain(
     let counted = put_counts(DOMAIN, own, lent, out, at);
     let owned = put_rows(internals, row.internal_start, own, out, counted);
     let listed = put_rows(borrowed, row.borrowed_start, lent, out, owned);
-    put_bounds(boxes, dimensions, j, coarse, out, listed)
+    put_row_floats(boxes, dimensions, j, coarse, out, listed)
 }

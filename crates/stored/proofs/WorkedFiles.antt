@@ -6,35 +6,40 @@ use mathlib.Core.Bool.{Bool, true, false}
 use mathlib.Core.Path.{_≡_, refl}
 use mathlib.Core.List.{List, [], _∷_, _++_, map}
 use lib.ListN.{set, getD, take, length, replicate}
-use lib.Ieee.{Float, binary64, ofBits}
-use Rattle.lists.specs.Lists.{joined}
+use lib.Ieee.{Float, nan, binary64, ofBits}
+use Rattle.lists.specs.Lists.{joined, part, put}
+use Rattle.definition.specs.Number.{plusZero, plusInfinity}
 use Rattle.definition.specs.Levels.{Policy, auto, fixed}
 use Rattle.definition.specs.Tree.{Settings, Leaf, Level, levels}
 use Rattle.definition.specs.Packed.{Counts}
 use Rattle.definition.specs.Outcome.{Answer, TreeLists, zeroCounts, buildLists}
 use Rattle.definition.proofs.WorkedSamples.{opened, line, onLine, nines, floatRoom, wholeRoom}
 use Rattle.packed.specs.Reading.{readLeaf, readLeaves, readLevel, readLevels}
-use Rattle.formats.specs.Bytes.{little, bytesOf, numbersAt, numbersBytes, floatsAt, floatsBytes}
+use Rattle.formats.specs.Bytes.{little, bytesOf, numbersAt, numbersBytes, floatBytes, floatsAt, floatsBytes}
 use Rattle.formats.specs.Stream.{settingsIn, settingsBytes, policyFits, readPoints, held, jobIn}
-use Rattle.formats.specs.Printout.{ascii, decimalOnto, decimal, hexOnto, rowsText, boxText, domainLine, fineLines, coarseLines, levelLine, levelsText, treeText, refusalText, builtText, jobText, printout}
+use Rattle.formats.specs.Printout.{ascii, decimalOnto, decimal, hexOnto, rowsText, floatsText, domainLine, fineLines, coarseLines, levelLine, levelsText, treeText, refusalText, builtText, jobText, printout}
 use Rattle.stored.specs.File.{headBytes, pointBytes, frontBytes, levelBytes, domainBytes, treeRecords, fileBytes}
 use Rattle.stored.specs.Sound.{same, ascending, partitioned, soundLeaf, soundBox, noBox, soundRows, properPart, soundLevels, firstAll, fits, sound}
 use Rattle.stored.specs.Stored.{leafIn, leafSize, leavesAt, afterLeaves, levelIn, afterLevel, levelsAt, pointsIn, treeIn, taken, buildable, wellFormed}
-use Rattle.stored.specs.Programs.{Kept, file, nothing, keptBy, keptJob, kept, blankLists, reloadedBy, reloadedFor, reloaded}
+use Rattle.stored.specs.Programs.{file, nothing, keptBy, keptJob, kept, blankLists, reloadedBy, reloadedFor, reloaded}
 use Rattle.stored.specs.Outcome.{listsShort, ownTests, loadVerdict, loadAnswer, loadLists, treeHeld, packs, writeVerdict, writeAnswer, writeOutput}
 
--- head; four points; level 0 and its four domains; level 1 and the coarse domain
+-- head; four points; level 0 and its four domains, each with its box and its cover; level 1 and the coarse domain, with its cover
 unfoldable pub fourFile : List ℕ
 fourFile =
     (0x54 ∷ 0x48 ∷ 1 ∷ 2 ∷ 0 ∷ 0 ∷ 0 ∷ 1 ∷ 0 ∷ 0 ∷ 0 ∷ 2 ∷ 0 ∷ 0 ∷ 0 ∷ 1 ∷ 2 ∷ 0 ∷ 0 ∷ 0 ∷ 4 ∷ 0 ∷ 0 ∷ 0 ∷ [])
     ++ (0x54 ∷ 0x50 ∷ 0 ∷ 0 ∷ 0 ∷ 0 ∷ 0 ∷ 0 ∷ 0 ∷ 0 ∷ 0x54 ∷ 0x50 ∷ 0 ∷ 0 ∷ 0 ∷ 0 ∷ 0 ∷ 0 ∷ 0xf0 ∷ 0x3f ∷ 0x54 ∷ 0x50 ∷ 0 ∷ 0 ∷ 0 ∷ 0 ∷ 0 ∷ 0 ∷ 8 ∷ 0x40 ∷ 0x54 ∷ 0x50 ∷ 0 ∷ 0 ∷ 0 ∷ 0 ∷ 0 ∷ 0 ∷ 0x1c ∷ 0x40 ∷ [])
     ++ (0x54 ∷ 0x4c ∷ 4 ∷ 0 ∷ 0 ∷ 0 ∷ 4 ∷ 0 ∷ 0 ∷ 0 ∷ 0 ∷ 0 ∷ 0 ∷ 0 ∷ 1 ∷ 0 ∷ 0 ∷ 0 ∷ 2 ∷ 0 ∷ 0 ∷ 0 ∷ 3 ∷ 0 ∷ 0 ∷ 0 ∷ [])
-    ++ (0x54 ∷ 0x44 ∷ 1 ∷ 0 ∷ 0 ∷ 0 ∷ 1 ∷ 0 ∷ 0 ∷ 0 ∷ 0 ∷ 0 ∷ 0 ∷ 0 ∷ 1 ∷ 0 ∷ 0 ∷ 0 ∷ 0 ∷ 0 ∷ 0 ∷ 0 ∷ 0 ∷ 0 ∷ 0 ∷ 0 ∷ 0 ∷ 0 ∷ 0 ∷ 0 ∷ 0 ∷ 0 ∷ 0xf0 ∷ 0x3f ∷ [])
-    ++ (0x54 ∷ 0x44 ∷ 1 ∷ 0 ∷ 0 ∷ 0 ∷ 2 ∷ 0 ∷ 0 ∷ 0 ∷ 1 ∷ 0 ∷ 0 ∷ 0 ∷ 0 ∷ 0 ∷ 0 ∷ 0 ∷ 2 ∷ 0 ∷ 0 ∷ 0 ∷ 0 ∷ 0 ∷ 0 ∷ 0 ∷ 0 ∷ 0 ∷ 0xf0 ∷ 0x3f ∷ 0 ∷ 0 ∷ 0 ∷ 0 ∷ 0 ∷ 0 ∷ 8 ∷ 0x40 ∷ [])
-    ++ (0x54 ∷ 0x44 ∷ 1 ∷ 0 ∷ 0 ∷ 0 ∷ 2 ∷ 0 ∷ 0 ∷ 0 ∷ 2 ∷ 0 ∷ 0 ∷ 0 ∷ 1 ∷ 0 ∷ 0 ∷ 0 ∷ 3 ∷ 0 ∷ 0 ∷ 0 ∷ 0 ∷ 0 ∷ 0 ∷ 0 ∷ 0 ∷ 0 ∷ 8 ∷ 0x40 ∷ 0 ∷ 0 ∷ 0 ∷ 0 ∷ 0 ∷ 0 ∷ 0x1c ∷ 0x40 ∷ [])
-    ++ (0x54 ∷ 0x44 ∷ 1 ∷ 0 ∷ 0 ∷ 0 ∷ 1 ∷ 0 ∷ 0 ∷ 0 ∷ 3 ∷ 0 ∷ 0 ∷ 0 ∷ 2 ∷ 0 ∷ 0 ∷ 0 ∷ 0 ∷ 0 ∷ 0 ∷ 0 ∷ 0 ∷ 0 ∷ 0x1c ∷ 0x40 ∷ 0 ∷ 0 ∷ 0 ∷ 0 ∷ 0 ∷ 0 ∷ 0x1c ∷ 0x40 ∷ [])
+    ++ (0x54 ∷ 0x44 ∷ 1 ∷ 0 ∷ 0 ∷ 0 ∷ 1 ∷ 0 ∷ 0 ∷ 0 ∷ 0 ∷ 0 ∷ 0 ∷ 0 ∷ 1 ∷ 0 ∷ 0 ∷ 0 ∷ 0 ∷ 0 ∷ 0 ∷ 0 ∷ 0 ∷ 0 ∷ 0 ∷ 0 ∷ 0 ∷ 0 ∷ 0 ∷ 0 ∷ 0 ∷ 0 ∷ 0xf0 ∷ 0x3f ∷ 0 ∷ 0 ∷ 0 ∷ 0 ∷ 0 ∷ 0 ∷ 0 ∷ 0 ∷ [])
+    ++ (0x54 ∷ 0x44 ∷ 1 ∷ 0 ∷ 0 ∷ 0 ∷ 2 ∷ 0 ∷ 0 ∷ 0 ∷ 1 ∷ 0 ∷ 0 ∷ 0 ∷ 0 ∷ 0 ∷ 0 ∷ 0 ∷ 2 ∷ 0 ∷ 0 ∷ 0 ∷ 0 ∷ 0 ∷ 0 ∷ 0 ∷ 0 ∷ 0 ∷ 0xf0 ∷ 0x3f ∷ 0 ∷ 0 ∷ 0 ∷ 0 ∷ 0 ∷ 0 ∷ 8 ∷ 0x40 ∷ 0 ∷ 0 ∷ 0 ∷ 0 ∷ 0 ∷ 0 ∷ 0 ∷ 0 ∷ [])
+    ++ (0x54 ∷ 0x44 ∷ 1 ∷ 0 ∷ 0 ∷ 0 ∷ 2 ∷ 0 ∷ 0 ∷ 0 ∷ 2 ∷ 0 ∷ 0 ∷ 0 ∷ 1 ∷ 0 ∷ 0 ∷ 0 ∷ 3 ∷ 0 ∷ 0 ∷ 0 ∷ 0 ∷ 0 ∷ 0 ∷ 0 ∷ 0 ∷ 0 ∷ 8 ∷ 0x40 ∷ 0 ∷ 0 ∷ 0 ∷ 0 ∷ 0 ∷ 0 ∷ 0x1c ∷ 0x40 ∷ 0 ∷ 0 ∷ 0 ∷ 0 ∷ 0 ∷ 0 ∷ 0xf0 ∷ 0x7f ∷ [])
+    ++ (0x54 ∷ 0x44 ∷ 1 ∷ 0 ∷ 0 ∷ 0 ∷ 1 ∷ 0 ∷ 0 ∷ 0 ∷ 3 ∷ 0 ∷ 0 ∷ 0 ∷ 2 ∷ 0 ∷ 0 ∷ 0 ∷ 0 ∷ 0 ∷ 0 ∷ 0 ∷ 0 ∷ 0 ∷ 0x1c ∷ 0x40 ∷ 0 ∷ 0 ∷ 0 ∷ 0 ∷ 0 ∷ 0 ∷ 0x1c ∷ 0x40 ∷ 0 ∷ 0 ∷ 0 ∷ 0 ∷ 0 ∷ 0 ∷ 0xf0 ∷ 0x7f ∷ [])
     ++ (0x54 ∷ 0x4c ∷ 2 ∷ 0 ∷ 0 ∷ 0 ∷ 1 ∷ 0 ∷ 0 ∷ 0 ∷ 0 ∷ 0 ∷ 0 ∷ 0 ∷ 1 ∷ 0 ∷ 0 ∷ 0 ∷ [])
-    ++ (0x54 ∷ 0x44 ∷ 2 ∷ 0 ∷ 0 ∷ 0 ∷ 0 ∷ 0 ∷ 0 ∷ 0 ∷ 0 ∷ 0 ∷ 0 ∷ 0 ∷ 1 ∷ 0 ∷ 0 ∷ 0 ∷ [])
+    ++ (0x54 ∷ 0x44 ∷ 2 ∷ 0 ∷ 0 ∷ 0 ∷ 0 ∷ 0 ∷ 0 ∷ 0 ∷ 0 ∷ 0 ∷ 0 ∷ 0 ∷ 1 ∷ 0 ∷ 0 ∷ 0 ∷ 0 ∷ 0 ∷ 0 ∷ 0 ∷ 0 ∷ 0 ∷ 0 ∷ 0 ∷ [])
+
+-- the file of the form before, without covers
+unfoldable oldFile : List ℕ
+oldFile = part fourFile 0 124 ++ part fourFile 132 38 ++ part fourFile 178 38 ++ part fourFile 224 34 ++ part fourFile 266 36
 
 -- the settings and points, the tree, its counts and its lists, with tails of nines
 abbrev place : List Float
@@ -48,6 +53,12 @@ fourCounts = record { levels = 2; rows = 4 ∷ 2 ∷ 0 ∷ 0 ∷ []; domains = 4
 
 abbrev fourLists : TreeLists
 fourLists = buildLists (onLine 2 2) place (nines 4) (floatRoom 4) (wholeRoom 4)
+
+abbrev one : Float
+one = ofBits binary64 0x3ff0000000000000
+
+abbrev minusZero : Float
+minusZero = ofBits binary64 0x8000000000000000
 
 -- answers
 abbrev reports : {A : Type 0} → A → Answer A
@@ -66,6 +77,10 @@ stream threshold =
 -- the file with one byte changed
 abbrev with : ℕ → ℕ → List ℕ
 with at b = set fourFile at b
+
+-- the file with the float at this place changed
+abbrev withFloat : ℕ → Float → List ℕ
+withFloat at x = put fourFile at (floatBytes x)
 
 abbrev load : List ℕ → Answer Counts
 load bs = loadAnswer (onLine 2 2) place bs (nines 4)
@@ -100,21 +115,27 @@ withBoxes boxes =
       borrowed = fourLists .borrowed;
     }
 
-abbrev withBound : ℕ → Float → TreeLists
-withBound at x = withBoxes (set (fourLists .boxes) at x)
+abbrev withBoxFloat : ℕ → Float → TreeLists
+withBoxFloat at x = withBoxes (set (fourLists .boxes) at x)
+
+-- the box list one float short of 75, which is 3 for each of 25 domains
+abbrev shortBoxes : TreeLists
+shortBoxes = withBoxes (line (replicate 74 9))
 
 abbrev counts : ℕ → List ℕ → List ℕ → Counts
 counts n rows domains = record { levels = n; rows = rows; domains = domains }
 
 -- ---- the limits: two points, two leaves of one row each, then leaves without rows, and a coarse level of one row
 
+-- a leaf with the box 0, 1 and the cover 3
 abbrev leaf : List ℕ → List ℕ → Leaf
-leaf own borrowed = record { own = own; borrowed = borrowed; box = line (0 ∷ 1 ∷ []) }
+leaf own borrowed =
+    record { own = own; borrowed = borrowed; box = line (0 ∷ 1 ∷ []); cover = ofBits binary64 0x4008000000000000 }
 
 unfoldable pair : List Leaf → List Level
 pair more =
     record { points = 0 ∷ 1 ∷ []; leaves = leaf (0 ∷ []) [] ∷ leaf (1 ∷ []) [] ∷ more }
-    ∷ record { points = 0 ∷ []; leaves = record { own = 0 ∷ []; borrowed = []; box = line (0 ∷ 0 ∷ []) } ∷ [] }
+    ∷ record { points = 0 ∷ []; leaves = record { own = 0 ∷ []; borrowed = []; box = line (0 ∷ 0 ∷ []); cover = plusZero } ∷ [] }
     ∷ []
 
 -- so many leaves that hold and borrow nothing, and that borrow both rows
@@ -133,61 +154,77 @@ passes neighbours more = wellFormed (fileBytes (onPair neighbours) (line (0 ∷ 
 
 -- To unfold this is to unfold every definition that its line names.
 unfoldable pub everything : ℕ
-unfolding opened little bytesOf numbersAt numbersBytes floatsAt floatsBytes settingsIn settingsBytes readLeaf readLeaves readLevel readLevels headBytes pointBytes frontBytes levelBytes domainBytes treeRecords fileBytes same ascending partitioned soundLeaf soundBox noBox soundRows properPart soundLevels firstAll fits sound leafIn leafSize leavesAt afterLeaves levelIn afterLevel levelsAt pointsIn treeIn taken buildable wellFormed listsShort ownTests loadVerdict loadAnswer loadLists treeHeld packs writeVerdict writeAnswer writeOutput fourFile pair policyFits readPoints held jobIn ascii decimalOnto decimal hexOnto rowsText boxText domainLine fineLines coarseLines levelLine levelsText treeText refusalText builtText jobText printout keptBy keptJob kept blankLists reloadedBy reloadedFor reloaded stream
+unfolding opened little bytesOf numbersAt numbersBytes floatsAt floatsBytes settingsIn settingsBytes readLeaf readLeaves readLevel readLevels headBytes pointBytes frontBytes levelBytes domainBytes treeRecords fileBytes same ascending partitioned soundLeaf soundBox noBox soundRows properPart soundLevels firstAll fits sound leafIn leafSize leavesAt afterLeaves levelIn afterLevel levelsAt pointsIn treeIn taken buildable wellFormed listsShort ownTests loadVerdict loadAnswer loadLists treeHeld packs writeVerdict writeAnswer writeOutput fourFile pair policyFits readPoints held jobIn ascii decimalOnto decimal hexOnto rowsText floatsText domainLine fineLines coarseLines levelLine levelsText treeText refusalText builtText jobText printout keptBy keptJob kept blankLists reloadedBy reloadedFor reloaded stream oldFile
 everything = 0
 
 pub record Files : Type 0 where
-  -- a domain record: internal rows, then borrowed rows; lower bounds, then upper ones; the coarse domain has none
-  internal-first : domainBytes [] (leaf (1 ∷ []) (0 ∷ 2 ∷ [])) ≡ 0x54 ∷ 0x44 ∷ numbersBytes (1 ∷ 2 ∷ 1 ∷ 0 ∷ 2 ∷ [])
-  lower-first : domainBytes (line (0 ∷ 1 ∷ [])) (leaf (1 ∷ []) []) ≡ 0x54 ∷ 0x44 ∷ numbersBytes (1 ∷ 0 ∷ 1 ∷ 0 ∷ 0 ∷ 0 ∷ 0x3ff00000 ∷ [])
-  coarse-bare : getD (treeRecords four) 6 [] ≡ 0x54 ∷ 0x44 ∷ numbersBytes (2 ∷ 0 ∷ 0 ∷ 1 ∷ [])
-  -- the writer's bytes, 270 of them, and the tree read back
+  -- a domain record: internal rows, then borrowed rows; lower bounds, then upper ones, then the cover; the coarse domain has no bounds
+  internal-first : domainBytes [] (leaf (1 ∷ []) (0 ∷ 2 ∷ [])) ≡ 0x54 ∷ 0x44 ∷ numbersBytes (1 ∷ 2 ∷ 1 ∷ 0 ∷ 2 ∷ 0 ∷ 0x40080000 ∷ [])
+  lower-first :
+      domainBytes (line (0 ∷ 1 ∷ [])) (leaf (1 ∷ []) []) ≡ 0x54 ∷ 0x44 ∷ numbersBytes (1 ∷ 0 ∷ 1 ∷ 0 ∷ 0 ∷ 0 ∷ 0x3ff00000 ∷ 0 ∷ 0x40080000 ∷ [])
+  coarse-bare : getD (treeRecords four) 6 [] ≡ 0x54 ∷ 0x44 ∷ numbersBytes (2 ∷ 0 ∷ 0 ∷ 1 ∷ 0 ∷ 0 ∷ [])
+  -- the writer's bytes, 310 of them, and the tree read back
   whole-file : fileBytes (onLine 2 2) place four ≡ fourFile
-  bytes : length fourFile ≡ 270
+  bytes : length fourFile ≡ 310
   tree : treeIn fourFile ≡ four
   -- loaded: the counts and lists of the build
   loaded : load fourFile ≡ reports fourCounts
   lists : loadLists (onLine 2 2) place fourFile (nines 4) ≡ fourLists
-  -- nothing at all, one byte less, one byte more
+  -- nothing at all, one byte less, one byte more, and the form before, without covers
   no-bytes : load [] ≡ refuses 20 zeroCounts
-  cut : load (take 269 fourFile) ≡ refuses 20 zeroCounts
+  cut : load (take 309 fourFile) ≡ refuses 20 zeroCounts
   longer : load (fourFile ++ 0 ∷ []) ≡ refuses 20 zeroCounts
+  old-bytes : length oldFile ≡ 270
+  old-form : load oldFile ≡ refuses 20 zeroCounts
   -- a mark, a policy, a leaf threshold that the build refuses
   mark : load (with 91 0x45) ≡ refuses 20 zeroCounts
   policy : load (with 15 2) ≡ refuses 20 zeroCounts
   threshold-zero : load (with 3 0) ≡ refuses 20 zeroCounts
-  -- a NaN bound; an own row borrowed; a row in two leaves; a first level without its last row; a next level with a row twice
-  bound : load (set (with 122 0xf8) 123 0x7f) ≡ refuses 20 zeroCounts
+  -- a NaN bound; a NaN cover of a fine and of the coarse domain
+  bound : load (withFloat 116 nan) ≡ refuses 20 zeroCounts
+  cover : load (withFloat 124 nan) ≡ refuses 20 zeroCounts
+  coarse-cover : load (withFloat 302 nan) ≡ refuses 20 zeroCounts
+  -- an own row borrowed; a row in two leaves; a next level with a row twice
   own-borrowed : load (with 104 0) ≡ refuses 20 zeroCounts
-  two-leaves : load (with 134 0) ≡ refuses 20 zeroCounts
-  next-twice : load (with 248 0) ≡ refuses 20 zeroCounts
-  -- a bound turned or infinite, and another foreign row, are not noticed
-  infinite : load (set (with 122 0xf0) 123 0x7f) ≡ reports fourCounts
+  two-leaves : load (with 142 0) ≡ refuses 20 zeroCounts
+  next-twice : load (with 280 0) ≡ refuses 20 zeroCounts
+  -- a bound turned or infinite, another cover, of the coarse domain too, and another foreign row, are not noticed
+  infinite : load (withFloat 116 plusInfinity) ≡ reports fourCounts
+  other-cover : load (withFloat 124 minusZero) ≡ reports fourCounts
+  coarse-cover-one : load (withFloat 302 one) ≡ reports fourCounts
   other-row : load (with 104 3) ≡ reports fourCounts
+  -- a box list that is one float short
+  short-boxes : loadAnswer (onLine 2 2) place fourFile shortBoxes ≡ refuses 11 zeroCounts
   -- other settings, other points, and -0 for +0; of two refusals the one that comes first
   settings : loadAnswer (onLine 2 3) place fourFile (nines 4) ≡ refuses 18 zeroCounts
   points : loadAnswer (onLine 2 2) (line (0 ∷ 1 ∷ 3 ∷ 8 ∷ [])) fourFile (nines 4) ≡ refuses 19 zeroCounts
-  sign : loadAnswer (onLine 2 2) (set place 0 (ofBits binary64 0x8000000000000000)) fourFile (nines 4) ≡ refuses 19 zeroCounts
+  sign : loadAnswer (onLine 2 2) (set place 0 minusZero) fourFile (nines 4) ≡ refuses 19 zeroCounts
   settings-first : loadAnswer (onLine 2 3) (line (0 ∷ 1 ∷ 3 ∷ 8 ∷ [])) fourFile (nines 4) ≡ refuses 18 zeroCounts
   file-first : loadAnswer (onLine 2 3) place (with 91 0x45) (nines 4) ≡ refuses 20 zeroCounts
   own-first : loadAnswer (onLine 0 3) place (with 91 0x45) (nines 4) ≡ refuses 2 zeroCounts
   -- Auto is not the number that it resolves to
   as-given : loadAnswer (onAuto auto) place (fileBytes (onAuto (fixed 512)) place (levels (onAuto (fixed 512)) place)) (nines 4) ≡ refuses 18 zeroCounts
   -- written: as many bytes, the bytes, and what stood behind them
-  written : write fourCounts fourLists 271 ≡ reports 270
-  output : writeOutput (onLine 2 2) place fourCounts fourLists (replicate 271 9) ≡ fourFile ++ 9 ∷ []
-  no-room : write fourCounts fourLists 269 ≡ refuses 11 0
+  written : write fourCounts fourLists 311 ≡ reports 310
+  output : writeOutput (onLine 2 2) place fourCounts fourLists (replicate 311 9) ≡ fourFile ++ 9 ∷ []
+  no-room : write fourCounts fourLists 309 ≡ refuses 11 0
   -- no level, five, a count past the last level, a count that no list holds
-  no-level : write (counts 0 (0 ∷ 0 ∷ 0 ∷ 0 ∷ []) (0 ∷ 0 ∷ 0 ∷ 0 ∷ [])) fourLists 270 ≡ refuses 20 0
-  past-last : write (counts 2 (4 ∷ 2 ∷ 0 ∷ 0 ∷ []) (4 ∷ 1 ∷ 0 ∷ 1 ∷ [])) fourLists 270 ≡ refuses 20 0
-  rows-past : write (counts 2 (4 ∷ 2 ∷ 1 ∷ 0 ∷ []) (4 ∷ 1 ∷ 0 ∷ 0 ∷ [])) fourLists 270 ≡ refuses 20 0
+  no-level : write (counts 0 (0 ∷ 0 ∷ 0 ∷ 0 ∷ []) (0 ∷ 0 ∷ 0 ∷ 0 ∷ [])) fourLists 310 ≡ refuses 20 0
+  past-last : write (counts 2 (4 ∷ 2 ∷ 0 ∷ 0 ∷ []) (4 ∷ 1 ∷ 0 ∷ 1 ∷ [])) fourLists 310 ≡ refuses 20 0
+  rows-past : write (counts 2 (4 ∷ 2 ∷ 1 ∷ 0 ∷ []) (4 ∷ 1 ∷ 0 ∷ 0 ∷ [])) fourLists 310 ≡ refuses 20 0
   -- a last level with several domains, although each has +0 for a box
-  several-last : write (counts 1 (4 ∷ 0 ∷ 0 ∷ 0 ∷ []) (4 ∷ 0 ∷ 0 ∷ 0 ∷ [])) (withBoxes (line (replicate 50 0))) 270 ≡ refuses 20 0
+  several-last : write (counts 1 (4 ∷ 0 ∷ 0 ∷ 0 ∷ []) (4 ∷ 0 ∷ 0 ∷ 0 ∷ [])) (withBoxes (line (replicate 75 0))) 310 ≡ refuses 20 0
   -- a stretch that starts elsewhere, and one that ends past its list
-  elsewhere : write fourCounts (withDomain 4 2) 270 ≡ refuses 20 0
-  past-list : write fourCounts (withDomain 17 64) 270 ≡ refuses 20 0
+  elsewhere : write fourCounts (withDomain 4 2) 310 ≡ refuses 20 0
+  past-list : write fourCounts (withDomain 17 64) 310 ≡ refuses 20 0
   -- a coarse box of -0; before that the room for the file does not count
-  minus-zero : write fourCounts (withBound 9 (ofBits binary64 0x8000000000000000)) 0 ≡ refuses 20 0
+  minus-zero : write fourCounts (withBoxFloat 13 minusZero) 0 ≡ refuses 20 0
+  -- a NaN cover of a fine and of the coarse domain; a coarse cover of 1 is written; a box list that is one float short
+  write-cover : write fourCounts (withBoxFloat 2 nan) 310 ≡ refuses 20 0
+  write-coarse-cover : write fourCounts (withBoxFloat 14 nan) 310 ≡ refuses 20 0
+  write-coarse-one : write fourCounts (withBoxFloat 14 one) 310 ≡ reports 310
+  one-written : writeOutput (onLine 2 2) place fourCounts (withBoxFloat 14 one) (replicate 310 9) ≡ withFloat 302 one
+  write-short-boxes : write fourCounts shortBoxes 310 ≡ refuses 11 0
   -- the programs: a job's file, and its printout again; a refusal of the stream, of the build, and of the file
   keeps : kept (stream 2) ≡ file fourFile
   keeps-nothing : kept [] ≡ nothing (record { number = 16; place = 0 })
@@ -216,15 +253,22 @@ files =
       no-bytes = refl;
       cut = refl;
       longer = refl;
+      old-bytes = refl;
+      old-form = refl;
       mark = refl;
       policy = refl;
       threshold-zero = refl;
       bound = refl;
+      cover = refl;
+      coarse-cover = refl;
       own-borrowed = refl;
       two-leaves = refl;
       next-twice = refl;
       infinite = refl;
+      other-cover = refl;
+      coarse-cover-one = refl;
       other-row = refl;
+      short-boxes = refl;
       settings = refl;
       points = refl;
       sign = refl;
@@ -242,6 +286,11 @@ files =
       elsewhere = refl;
       past-list = refl;
       minus-zero = refl;
+      write-cover = refl;
+      write-coarse-cover = refl;
+      write-coarse-one = refl;
+      one-written = refl;
+      write-short-boxes = refl;
       keeps = refl;
       keeps-nothing = refl;
       build-refuses = refl;

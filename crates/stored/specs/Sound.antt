@@ -4,12 +4,12 @@ use mathlib.Core.Bool.{Bool, true, false, not, _&&_}
 use mathlib.Core.List.{List, [], _∷_, map}
 use lib.ListN.{length, replicate}
 use lib.Dec.{leb, ltb, eqb}
-use lib.Ieee.{Float, binary64, toBits, isNan}
+use lib.Ieee.{binary64, toBits, isNan}
 use Rattle.lists.specs.Lists.{anyOf, member, count, from, joined}
 use Rattle.definition.specs.Number.{plusZero}
 use Rattle.definition.specs.Points.{boxWidth}
 use Rattle.definition.specs.Tree.{Settings, Leaf, Level}
-use Rattle.definition.specs.Packed.{mostLevels, buildStated, packedLevelPoints, packedInternals, packedDomains, packedBorrowed}
+use Rattle.definition.specs.Packed.{mostLevels, leafFloats, buildStated, packedLevelPoints, packedInternals, packedDomains, packedBorrowed}
 
 -- ---- lists
 
@@ -42,13 +42,13 @@ unfoldable pub soundLeaf : List ℕ → Leaf → Bool
 soundLeaf active f =
     ascending (f .own) && ascending (f .borrowed) && allOf (λ j. member j active && not (member j (f .own))) (f .borrowed)
 
--- a box of two bounds on each axis, none of them a NaN
+-- a box of two bounds on each axis and a cover, none of them a NaN
 unfoldable pub soundBox : ℕ → Leaf → Bool
-soundBox d f = eqb (length (f .box)) (boxWidth d) && not (anyOf isNan (f .box))
+soundBox d f = eqb (length (f .box)) (boxWidth d) && not (anyOf isNan (leafFloats f))
 
--- no box: +0 for each bound
+-- no box, that is +0 for each bound, and a cover that is no NaN
 unfoldable pub noBox : ℕ → Leaf → Bool
-noBox d f = same (map (toBits binary64) (f .box)) (map (toBits binary64) (replicate (boxWidth d) plusZero))
+noBox d f = same (map (toBits binary64) (f .box)) (map (toBits binary64) (replicate (boxWidth d) plusZero)) && not (isNan (f .cover))
 
 unfoldable pub soundRows : Level → Bool
 soundRows l = ascending (l .points) && partitioned l && allOf (soundLeaf (l .points)) (l .leaves)

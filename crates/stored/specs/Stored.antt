@@ -11,7 +11,7 @@ use Rattle.definition.specs.Points.{boxWidth}
 use Rattle.definition.specs.Tree.{Settings, Leaf, Level, pointCount}
 use Rattle.definition.specs.Packed.{mostLevels}
 use Rattle.definition.specs.Refusals.{Verdict, accepted, refused, verdict, buildTests, notFinite}
-use Rattle.formats.specs.Bytes.{markSize, numberSize, numberAt, numbersAt, floatSize, floatsAt}
+use Rattle.formats.specs.Bytes.{markSize, numberSize, numberAt, numbersAt, floatSize, floatAt, floatsAt}
 use Rattle.formats.specs.Stream.{settingsIn, settingsSize, pointSize}
 use Rattle.stored.specs.File.{fileBytes}
 use Rattle.stored.specs.Sound.{same, sound}
@@ -33,12 +33,15 @@ firstCount bs = numberAt markSize bs
 abbrev pub secondCount : List ℕ → ℕ
 secondCount bs = numberAt (markSize + numberSize) bs
 
--- where a domain's borrowed rows, and its bounds, begin
+-- where a domain's borrowed rows, its bounds and its cover begin; the coarse one has no bounds
 abbrev pub borrowedPlace : List ℕ → ℕ
 borrowedPlace bs = countsSize + numberSize * firstCount bs
 
 abbrev pub boundsPlace : List ℕ → ℕ
 boundsPlace bs = countsSize + numberSize * (firstCount bs + secondCount bs)
+
+abbrev pub coverPlace : ℕ → Bool → List ℕ → ℕ
+coverPlace d coarse bs = boundsPlace bs + cond coarse 0 (floatSize * boxWidth d)
 
 -- the domain at the front of bs; the coarse one has no box
 unfoldable pub leafIn : ℕ → Bool → List ℕ → Leaf
@@ -47,11 +50,12 @@ leafIn d coarse bs =
       own = numbersAt (firstCount bs) countsSize bs;
       borrowed = numbersAt (secondCount bs) (borrowedPlace bs) bs;
       box = cond coarse (replicate (boxWidth d) plusZero) (floatsAt (boxWidth d) (boundsPlace bs) bs);
+      cover = floatAt (coverPlace d coarse bs) bs;
     }
 
 -- its bytes
 unfoldable pub leafSize : ℕ → Bool → List ℕ → ℕ
-leafSize d coarse bs = boundsPlace bs + cond coarse 0 (floatSize * boxWidth d)
+leafSize d coarse bs = coverPlace d coarse bs + floatSize
 
 -- m domains one after another, and what stands after them
 unfoldable pub leavesAt : ℕ → Bool → ℕ → List ℕ → List Leaf

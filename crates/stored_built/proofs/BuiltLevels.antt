@@ -1,20 +1,20 @@
 -- The levels of the build pass the tests of a stored tree, each with the one below it. Assumes nothing.
-use mathlib.Core.Path.{_≡_, refl, subst}
+use mathlib.Core.Path.{_≡_, refl, ap, subst}
 use mathlib.Core.Logic.{⊎-elim}
 use mathlib.Core.Bool.{true, false, not, _&&_}
-use mathlib.Core.List.{List, [], _∷_, map, map-map}
+use mathlib.Core.List.{List, [], _∷_, map, zipWith}
 use Prim.Native.Nat.{ℕ, zero, suc, _≤_, _<_}
 use native.Mathlib.Omega.{arith}
 use native.Mathlib.Decide.{decLt}
 use borrow.Author.Tests.{lt-ltb, eq-eqb, ne-eqb}
 use lib.Dec.{eqb}
-use lib.ListN.{length, replicate, length-map}
+use lib.ListN.{length, replicate}
 use lib.Ieee.{Float, isNan, binary64, toBits}
 use Rattle.lists.specs.Lists.{member, anyOf, joined}
 use Rattle.lists.specs.Ascends.{All, Ascends}
 use Rattle.lists.specs.Times.{times}
 use Rattle.lists.proofs.Tests.{and-of, le-or-lt}
-use Rattle.lists.proofs.All.{all-imp, all-map, all-mem, all-of}
+use Rattle.lists.proofs.All.{all-append, all-mem, all-of, joined-all}
 use Rattle.lists.proofs.Ascends.{ascends-keep, ascends-once}
 use Rattle.lists.proofs.Joined.{joined-one}
 use Rattle.lists.proofs.Times.{from-times, member-some, member-none, times-keep-le}
@@ -23,10 +23,12 @@ use Rattle.definition.specs.Number.{plusZero}
 use Rattle.definition.specs.Points.{boxWidth}
 use Rattle.definition.specs.Cut.{Domain, leavesOf}
 use Rattle.definition.specs.Overlaps.{borrowedBy}
-use Rattle.definition.specs.Tree.{Settings, Leaf, Level, coarseLevel, fineLevel, nextActive, reductionsLeft, levelsFrom}
+use Rattle.definition.specs.Tree.{Settings, Leaf, Level, coarseLevel, fineLeaf, fineLevel, nextActive, reductionsLeft, levelsFrom}
+use Rattle.definition.specs.Packed.{leafFloats}
 use Rattle.definition.proofs.Cuts.{Good, rowsOf, leaves-ascend}
 use Rattle.definition.proofs.Borrowed.{borrows-not-own}
-use Rattle.definition.proofs.Steps.{fineLeaf, fineOf, nextOf, sentFrom, levels-last, levels-end, levels-more}
+use Rattle.definition.proofs.Steps.{fineOf, sizeFrom, nextOf, sentFrom, levels-last, levels-end, levels-more}
+use Rattle.definition.proofs.FineLeaves.{fine-many, fine-map, fine-each}
 use Rattle.definition.proofs.Sizes.{sized}
 use Rattle.definition.proofs.OneLevel.{OneLevel, one-level}
 use Rattle.definition_laws.proofs.Shape.{leaves-boxes}
@@ -35,7 +37,7 @@ use Rattle.stored.specs.Sound.{allOf, ascending, partitioned, soundLeaf, soundB
 use Rattle.tree_tests.proofs.AllPass.{all-pass, ascends-ascending}
 use Rattle.tree_tests.proofs.AllRows.{same-self}
 use Rattle.tree_tests.proofs.Partition.{times-divided}
-use Rattle.stored_built.proofs.FineLeaves.{leaves-two, leaves-known}
+use Rattle.stored_built.proofs.FineLeaves.{leaves-two, zero-known, Finite, cover-known, leaves-known}
 
 next-ascends : (active : List ℕ) (sent : List (List ℕ)) → Ascends active → Ascends (nextActive active sent)
 unfolding nextActive
@@ -51,7 +53,7 @@ pub record Starts (active : List ℕ) (ls : List Level) : Type 0 where
 -- ---- the coarse level
 module _ (d : ℕ) (active : List ℕ) (ascends : Ascends active) where
   abbrev coarseLeaf : Leaf
-  coarseLeaf = record { own = active; borrowed = []; box = replicate (boxWidth d) plusZero }
+  coarseLeaf = record { own = active; borrowed = []; box = replicate (boxWidth d) plusZero; cover = plusZero }
 
   coarse-leaf : soundLeaf active coarseLeaf ≡ true
   unfolding soundLeaf ascending anyOf
@@ -66,11 +68,19 @@ module _ (d : ℕ) (active : List ℕ) (ascends : Ascends active) where
 
   coarse-box : noBox d coarseLeaf ≡ true
   unfolding noBox
-  coarse-box = same-self (map (toBits binary64) (replicate (boxWidth d) plusZero))
+  coarse-box = and-of (same-self (map (toBits binary64) (replicate (boxWidth d) plusZero))) (ap not zero-known)
 
   coarse-passes : soundLevels d (coarseLevel d active ∷ []) ≡ true
   unfolding soundLevels coarseLevel All
   coarse-passes = and-of (and-of coarse-rows refl) (all-pass (noBox d) (coarseLeaf ∷ []) (coarse-box, tt))
+
+-- two lists taken together, with what holds of each
+all-zipped : {A B C : Type 0} (Q : A → Type 0) (R : B → Type 0) (P : C → Type 0) (f : A → B → C) → ((x : A) (y : B) → Q x → R y → P (f x y))
+    → (xs : List A) (ys : List B) → All Q xs → All R ys → All P (zipWith f xs ys)
+unfolding All zipWith
+all-zipped Q R P f each [] ys h g = tt
+all-zipped Q R P f each (x ∷ xs) [] h g = tt
+all-zipped Q R P f each (x ∷ xs) (y ∷ ys) h g = (each x y (h .0) (g .0), all-zipped Q R P f each xs ys (h .1) (g .1))
 
 -- ---- a fine level
 module _ (s : Settings) (cs : List Float) (c k built : ℕ) (active : List ℕ) (pos : 0 < s .dimension) (lp : 1 ≤ s .leaf) (cp : 1 ≤ c)
@@ -81,8 +91,18 @@ module _ (s : Settings) (cs : List Float) (c k built : ℕ) (active : List ℕ) 
   abbrev qs : List Domain
   qs = leavesOf (s .dimension) cs (s .leaf) active
 
-  abbrev toLeaf : Domain → Leaf
+  abbrev sent : List (List ℕ)
+  sent = sentFrom s cs c k built active
+
+  abbrev toLeaf : Domain → List ℕ → Leaf
   toLeaf = fineLeaf (s .dimension) cs (s .neighbours) active
+
+  abbrev size : ℕ
+  size = sizeFrom c k built active
+
+  -- its leaves
+  abbrev fs : List Leaf
+  fs = fineOf s cs (sizeFrom c k built active) active .leaves
 
   level : OneLevel s cs c k built active
   level = one-level s cs c k built active pos lp cp good many
@@ -117,44 +137,58 @@ module _ (s : Settings) (cs : List Float) (c k built : ℕ) (active : List ℕ) 
         (from-times (λ j. member j active && not (member j own) ≡ true) borrowed
         (λ r m. and-of (borrows-listed r m) (rw (member-none r own (borrows-foreign r m)) refl)))
 
-  fine-leaf : (q : Domain) → Ascends (q .rows) → soundLeaf active (toLeaf q) ≡ true
+  fine-leaf : (q : Domain) (up : List ℕ) → Ascends (q .rows) → soundLeaf active (toLeaf q up) ≡ true
   unfolding soundLeaf
-  fine-leaf q h = and-of (and-of (ascends-ascending (q .rows) h) (ascends-ascending (borrowed (q .rows)) (borrows-ascending (q .rows)))) (borrows-pass (q .rows))
+  fine-leaf q up h = and-of (and-of (ascends-ascending (q .rows) h) (ascends-ascending (borrowed (q .rows)) (borrows-ascending (q .rows)))) (borrows-pass (q .rows))
 
-  own-rows : map (λ (f : Leaf). f .own) (map toLeaf qs) ≡ map (λ (q : Domain). q .rows) qs
-  own-rows = map-map (λ (f : Leaf). f .own) toLeaf qs
+  own-rows : map (λ (f : Leaf). f .own) fs ≡ map (λ (q : Domain). q .rows) qs
+  own-rows = fine-map s cs size active (λ f. f .own) (λ q. q .rows) (λ q up. refl)
 
-  fine-rows : soundRows (fineOf s cs active) ≡ true
+  fine-rows : soundRows (fineOf s cs size active) ≡ true
   unfolding soundRows partitioned fineLevel
   fine-rows =
       and-of
       (and-of (ascends-ascending active ascends) (rw own-rows (times-divided active (rowsOf qs) (level .once) (level .internal-once))))
-      (all-pass (soundLeaf active) (map toLeaf qs)
-      (all-map (λ f. soundLeaf active f ≡ true) toLeaf qs
-      (all-imp (λ q. Ascends (q .rows)) (λ q. soundLeaf active (toLeaf q) ≡ true) qs fine-leaf (leaves-ascend d cs (s .leaf) active ascends))))
+      (all-pass (soundLeaf active) fs
+      (fine-each s cs size active (λ q. Ascends (q .rows)) (λ f. soundLeaf active f ≡ true) fine-leaf (leaves-ascend d cs (s .leaf) active ascends)))
 
-  -- ---- its boxes
-  box-passes : (q : Domain) → length (q .box) ≡ boxWidth d → All (λ x. isNan x ≡ false) (q .box) → soundBox d (toLeaf q) ≡ true
-  unfolding soundBox
-  box-passes q w h = and-of (eq-eqb (length (q .box)) (boxWidth d) w) (rw (none-passes isNan (q .box) (all-mem (λ x. isNan x ≡ false) (q .box) h)) refl)
+  -- ---- its boxes and covers: the rows that a leaf sends up are active ones
+  sent-finite : All (λ rows. All (Finite d cs) rows) sent
+  sent-finite =
+      joined-all (Finite d cs) sent
+      (from-times (Finite d cs) (joined sent) (λ r m. good .finite-at r (omega (arith, m, level .next-lists-sent r, level .next-once r))))
 
-  fine-boxes : allOf (soundBox d) (map toLeaf qs) ≡ true
-  fine-boxes =
+  -- what is known of a leaf of the cut
+  abbrev Boxed : Domain → Type 0
+  Boxed q = (length (q .box) ≡ boxWidth d) × Good d cs (q .rows) × All (λ x. isNan x ≡ false) (q .box)
+
+  box-passes : (q : Domain) (up : List ℕ) → Boxed q → All (Finite d cs) up → soundBox d (toLeaf q up) ≡ true
+  unfolding soundBox All
+  box-passes q up b h =
+      let f = toLeaf q up in
+      let known = all-append (λ x. isNan x ≡ false) (q .box) (f .cover ∷ []) (b .2) (cover-known d cs (q .rows) up (b .1) h, tt) in
+      and-of (eq-eqb (length (q .box)) (boxWidth d) (b .0)) (rw (none-passes isNan (leafFloats f) (all-mem (λ x. isNan x ≡ false) (leafFloats f) known)) refl)
+
+  leaves-boxed : All Boxed qs
+  leaves-boxed =
       let width = leaves-boxes d cs (s .leaf) active in
       let known = leaves-known d cs pos (s .leaf) active good in
-      all-pass (soundBox d) (map toLeaf qs)
-      (all-map (λ f. soundBox d f ≡ true) toLeaf qs
-      (all-of (λ q. soundBox d (toLeaf q) ≡ true) qs
-      (λ q m. box-passes q
-      (all-mem (λ q. length (q .box) ≡ boxWidth d) qs width q m)
-      (all-mem (λ q. All (λ x. isNan x ≡ false) (q .box)) qs known q m))))
+      all-of Boxed qs
+      (λ q m.
+      let g = all-mem (λ q. Good d cs (q .rows) × All (λ x. isNan x ≡ false) (q .box)) qs known q m in
+      (all-mem (λ q. length (q .box) ≡ boxWidth d) qs width q m, g .0, g .1))
+
+  fine-boxes : allOf (soundBox d) fs ≡ true
+  unfolding fineLevel
+  fine-boxes =
+      all-pass (soundBox d) fs (all-zipped Boxed (All (Finite d cs)) (λ f. soundBox d f ≡ true) toLeaf box-passes qs sent leaves-boxed sent-finite)
 
   -- ---- two leaves or more, so that it isn't taken for the coarse level
-  fine-count : not (eqb (length (map toLeaf qs)) 1) ≡ true
+  fine-count : not (eqb (length fs) 1) ≡ true
   fine-count =
       let two = leaves-two d cs pos (s .leaf) lp active good (omega arith) in
-      let no : length (map toLeaf qs) ≡ 1 → ⊥ = λ e. omega (arith, two, length-map qs toLeaf) in
-      rw (ne-eqb (length (map toLeaf qs)) 1 no) refl
+      let no : length fs ≡ 1 → ⊥ = λ e. omega (arith, two, fine-many s cs size active) in
+      rw (ne-eqb (length fs) 1 no) refl
 
   -- ---- the rows of the level below it
   next-passes : properPart (nextOf s cs c k built active) active ≡ true
@@ -168,7 +202,7 @@ module _ (s : Settings) (cs : List Float) (c k built : ℕ) (active : List ℕ) 
       (lt-ltb (length next) (length active) (omega (arith, level .next-size, level .size-fewer))))
       (all-pass (λ i. member i active) next (from-times (λ i. member i active ≡ true) next (λ r m. member-some r active (omega (arith, m, level .next-once r)))))
 
-  fine-passes : (ls : List Level) → Starts (nextOf s cs c k built active) ls → soundLevels d ls ≡ true → soundLevels d (fineOf s cs active ∷ ls) ≡ true
+  fine-passes : (ls : List Level) → Starts (nextOf s cs c k built active) ls → soundLevels d ls ≡ true → soundLevels d (fineOf s cs size active ∷ ls) ≡ true
   unfolding soundLevels fineLevel
   fine-passes ls st h =
       let below = subst (λ (x : List Level). soundLevels d x ≡ true) (st .are) h in
@@ -187,7 +221,7 @@ module _ (s : Settings) (cs : List Float) (c k : ℕ) where
       record { first = coarseLevel (s .dimension) active; rest = []; are = levels-end s cs c k fuel built active few; lists = refl })
       (λ (many : c < length active).
       record {
-        first = fineOf s cs active;
+        first = fineOf s cs (sizeFrom c k built active) active;
         rest = levelsFrom s cs c k fuel (suc built) (nextOf s cs c k built active);
         are = levels-more s cs c k fuel built active many;
         lists = refl;

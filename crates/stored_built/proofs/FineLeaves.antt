@@ -1,16 +1,18 @@
--- The leaves of a fine level: at least two, and no NaN in their boxes. Assumes nothing.
+-- The leaves of a fine level: at least two, and no NaN in their boxes and covers. Assumes nothing.
+-- Holds: leaves-two, zero-known, Finite, cover-known, leaves-known
 use mathlib.Core.Path.{_≡_, refl}
 use mathlib.Core.Logic.{⊎-elim}
-use mathlib.Core.Bool.{false}
+use mathlib.Core.Bool.{true, false}
 use mathlib.Core.List.{List, [], _∷_, _++_, map}
 use Prim.Native.Nat.{ℕ, zero, suc, _+_, _-_, _*_, _/_, _≤_, _<_}
 use native.Mathlib.Omega.{arith}
 use lib.ListN.{length, set, length-append}
 use lib.Ieee.{Float, isNan, ofBits}
+use lib.Ieee.Scale.{finite}
 use Rattle.lists.specs.Lists.{from}
 use Rattle.lists.specs.Ascends.{All}
 use Rattle.lists.proofs.Tests.{le-or-lt}
-use Rattle.lists.proofs.All.{all-append, all-map, all-imp, all-keep}
+use Rattle.lists.proofs.All.{all-append, all-map, all-keep}
 use Rattle.lists.proofs.From.{all-from}
 use Rattle.lists.proofs.Best.{best-in}
 use Rattle.lists.proofs.Times.{from-times}
@@ -18,9 +20,12 @@ use Rattle.lists.proofs.Sums.{sum-nil, sum-cons}
 use Rattle.definition.specs.Number.{plusZero}
 use Rattle.definition.specs.Points.{coordinate, column, leastOf, greatestOf, lowerBound, upperBound, extents}
 use Rattle.definition.specs.Keys.{Key, keyed, keyAt}
+use Rattle.definition.specs.Sampling.{leafCover}
 use Rattle.definition.specs.Cut.{Domain, rootDomain, longestAxis, cutKeys, planeOf, plane, leftOf, rightOf, queueLeaves, leavesOf}
 use Rattle.definition.proofs.Halves.{keyOf}
 use Rattle.definition.proofs.Steps.{queue-wait, queue-done}
+use Rattle.definition_laws.proofs.Finite.{good-known}
+use Rattle.definition_laws.proofs.Covers.{leaf-cover-good}
 use Rattle.definition.proofs.Cuts.{Good, finite-known, axis-below, left-good, right-good, leaves-all, cutsFor, Full, full-wait, cuts-wait, cuts-done}
 
 -- ---- at least two leaves: the root is cut
@@ -60,7 +65,7 @@ module _ (d : ℕ) (cs : List Float) (pos : 0 < d) (leaf : ℕ) (lp : 1 ≤ leaf
 abbrev Known : Float → Type 0
 Known x = isNan x ≡ false
 
-zero-known : isNan plusZero ≡ false
+pub zero-known : isNan plusZero ≡ false
 unfolding isNan ofBits
 zero-known = refl
 
@@ -96,6 +101,15 @@ module _ (d : ℕ) (cs : List Float) where
       (all-map Known (lowerBound d cs rows) (from 0 d) (all-from (λ a. Known (lowerBound d cs rows a)) 0 d (λ a l h. least-known (column d cs rows a) (column-known rows g a (omega arith)))))
       (all-map Known (upperBound d cs rows) (from 0 d) (all-from (λ a. Known (upperBound d cs rows a)) 0 d (λ a l h. greatest-known (column d cs rows a) (column-known rows g a (omega arith)))))
 
+  -- row i has a finite coordinate on each axis
+  abbrev pub Finite : ℕ → Type 0
+  Finite i = (a : ℕ) → a < d → finite (coordinate d cs i a) ≡ true
+
+  -- THE LAW: the cover of a leaf that owns good rows is no NaN
+  pub cover-known : (rows sent : List ℕ) → Good d cs rows → All Finite sent → isNan (leafCover d cs rows sent) ≡ false
+  cover-known rows sent g h =
+      good-known (leafCover d cs rows sent) (leaf-cover-good d cs rows sent (from-times Finite rows (g .finite-at)) h)
+
   module _ (pos : 0 < d) where
     -- the plane of a cut is a coordinate of the domain, or +0 where it is empty
     plane-of : (keys : List Key) → All (λ (p : Key). Known (p .value)) keys → Known (planeOf keys)
@@ -124,9 +138,8 @@ module _ (d : ℕ) (cs : List Float) where
     unfolding rightOf
     right-boxed q h = (right-good d cs q (h .0), all-set Known (q .box) (longestAxis d cs (q .rows)) (plane d cs (q .rows)) (h .1) (plane-known (q .rows) (h .0)))
 
-    -- THE LAW: no box of a leaf has a NaN
-    pub leaves-known : (leaf : ℕ) (active : List ℕ) → Good d cs active → All (λ (q : Domain). All (λ x. isNan x ≡ false) (q .box)) (leavesOf d cs leaf active)
+    -- THE LAW: each leaf owns good rows, and its box has no NaN
+    pub leaves-known : (leaf : ℕ) (active : List ℕ) → Good d cs active
+        → All (λ (q : Domain). Good d cs (q .rows) × All (λ x. isNan x ≡ false) (q .box)) (leavesOf d cs leaf active)
     unfolding rootDomain
-    leaves-known leaf active g =
-        all-imp Boxed (λ (q : Domain). All Known (q .box)) (leavesOf d cs leaf active) (λ q h. h .1)
-        (leaves-all d cs Boxed left-boxed right-boxed leaf active (g, extents-known active g))
+    leaves-known leaf active g = leaves-all d cs Boxed left-boxed right-boxed leaf active (g, extents-known active g)

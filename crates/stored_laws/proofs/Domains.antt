@@ -1,24 +1,25 @@
 -- A domain's record read back, its size, and what stands after it. Assumes nothing.
--- Holds: Stowed, boundsOf, Boxed, domain-parts, leaf-back, leaf-size, leaf-after
+-- Holds: Stowed, boundsOf, floatsOf, BoxIs, Boxed, domain-parts, leaf-back, leaf-size, leaf-after
 use mathlib.Core.Path.{_≡_, refl, sym, ap, ap₂, _∙_}
 use Prim.Native.Nat.{ℕ, _+_, _*_}
 use native.Mathlib.Omega.{arith}
-use mathlib.Core.Bool.{Bool, true, false}
-use mathlib.Core.List.{List, [], _++_, append-assoc}
+use mathlib.Core.Bool.{Bool, true, false, cond}
+use mathlib.Core.List.{List, [], _∷_, _++_, append-assoc}
 use lib.ListN.{length, drop, replicate}
 use lib.Seq.{drop-at}
 use lib.Ieee.{Float}
 use Rattle.lists.specs.Ascends.{All}
+use Rattle.lists.proofs.All.{all-left, all-right}
 use Rattle.definition.specs.Number.{plusZero}
 use Rattle.definition.specs.Points.{boxWidth}
 use Rattle.definition.specs.Tree.{Leaf}
-use Rattle.formats.specs.Bytes.{markSize, markBytes, numberSize, numberBytes, numbersAt, numbersBytes, floatSize, floatsAt, floatsBytes}
+use Rattle.formats.specs.Bytes.{markSize, markBytes, numberSize, numberBytes, numbersAt, numbersBytes, floatSize, floatAt, floatsAt, floatBytes, floatsBytes}
 use Rattle.bytes_out.proofs.Bytes.{length-bytes}
-use Rattle.tree_tests.proofs.Lengths.{length-numbers, length-domain}
+use Rattle.tree_tests.proofs.Lengths.{length-numbers, length-floats, length-domain}
 use Rattle.stored.specs.File.{domainMark, domainBytes}
-use Rattle.stored.specs.Stored.{countsSize, firstCount, secondCount, borrowedPlace, boundsPlace, leafIn, leafSize}
+use Rattle.stored.specs.Stored.{countsSize, firstCount, secondCount, borrowedPlace, boundsPlace, coverPlace, leafIn, leafSize}
 use Rattle.stored_laws.specs.Writable.{NumberFits, FloatFits}
-use Rattle.stored_laws.proofs.Fields.{field-back, drop-on, numbers-back, floats-back}
+use Rattle.stored_laws.proofs.Fields.{field-back, drop-on, numbers-back, float-back, floats-back, floats-parts}
 
 -- ---- a leaf that its record holds
 pub record Stowed (f : Leaf) : Type 0 where
@@ -27,22 +28,29 @@ pub record Stowed (f : Leaf) : Type 0 where
   pub own-small : All NumberFits (f .own)
   pub borrowed-small : All NumberFits (f .borrowed)
 
--- the bounds that stand in the record, and the box that goes with them
+-- the bounds that stand in the record, and its floats: these and the cover
 abbrev pub boundsOf : Bool → Leaf → List Float
 boundsOf true f = []
 boundsOf false f = f .box
 
+abbrev pub floatsOf : Bool → Leaf → List Float
+floatsOf coarse f = boundsOf coarse f ++ f .cover ∷ []
+
+-- the box that goes with them, and floats of the format
+abbrev pub BoxIs : ℕ → Bool → Leaf → Type 0
+BoxIs d true f = f .box ≡ replicate (boxWidth d) plusZero
+BoxIs d false f = length (f .box) ≡ boxWidth d
+
 abbrev pub Boxed : ℕ → Bool → Leaf → Type 0
-Boxed d true f = f .box ≡ replicate (boxWidth d) plusZero
-Boxed d false f = (length (f .box) ≡ boxWidth d) × All FloatFits (f .box)
+Boxed d coarse f = BoxIs d coarse f × All FloatFits (floatsOf coarse f)
 
 -- ---- the record
 -- its fields, one after the other
 pub domain-parts : (bounds : List Float) (f : Leaf) (rest : List ℕ)
     → domainBytes bounds f ++ rest
-    ≡ markBytes domainMark ++ (numberBytes (length (f .own)) ++ (numberBytes (length (f .borrowed)) ++ (numbersBytes (f .own) ++ (numbersBytes (f .borrowed) ++ (floatsBytes bounds ++ rest)))))
+    ≡ markBytes domainMark ++ (numberBytes (length (f .own)) ++ (numberBytes (length (f .borrowed)) ++ (numbersBytes (f .own) ++ (numbersBytes (f .borrowed) ++ (floatsBytes bounds ++ (floatBytes (f .cover) ++ rest))))))
 unfolding domainBytes
-domain-parts bounds f rest = simp append-assoc
+domain-parts bounds f rest = simp append-assoc (rw (floats-parts bounds (f .cover) rest) refl)
 
 module _ (f : Leaf) (bounds : List Float) (bs rest : List ℕ) (k : Stowed f) (e : bs ≡ domainBytes bounds f ++ rest) where
   abbrev o : ℕ
@@ -51,8 +59,11 @@ module _ (f : Leaf) (bounds : List Float) (bs rest : List ℕ) (k : Stowed f) (e
   abbrev b : ℕ
   b = length (f .borrowed)
 
+  abbrev r5 : List ℕ
+  r5 = floatBytes (f .cover) ++ rest
+
   abbrev r4 : List ℕ
-  r4 = floatsBytes bounds ++ rest
+  r4 = floatsBytes bounds ++ r5
 
   abbrev r3 : List ℕ
   r3 = numbersBytes (f .borrowed) ++ r4
@@ -95,38 +106,53 @@ module _ (f : Leaf) (bounds : List Float) (bs rest : List ℕ) (k : Stowed f) (e
       ap₂ (λ (n m : ℕ). numbersAt n (countsSize + numberSize * m) bs) borrowed-count own-count
       ∙ numbers-back (f .borrowed) (countsSize + numberSize * o) bs r4 (k .borrowed-small) at-borrowed
 
-  bounds-back : All FloatFits bounds → floatsAt (length bounds) (boundsPlace bs) bs ≡ bounds
-  bounds-back h =
-      ap₂ (λ (n m : ℕ). floatsAt (length bounds) (countsSize + numberSize * (n + m)) bs) own-count borrowed-count
-      ∙ floats-back bounds (countsSize + numberSize * (o + b)) bs rest h at-bounds
+  module _ (h : All FloatFits (bounds ++ f .cover ∷ [])) where
+    bounds-back : floatsAt (length bounds) (boundsPlace bs) bs ≡ bounds
+    bounds-back =
+        ap₂ (λ (n m : ℕ). floatsAt (length bounds) (countsSize + numberSize * (n + m)) bs) own-count borrowed-count
+        ∙ floats-back bounds (countsSize + numberSize * (o + b)) bs r5 (all-left FloatFits bounds (f .cover ∷ []) h) at-bounds
 
-  domain-size : boundsPlace bs + floatSize * length bounds ≡ length (domainBytes bounds f)
+    cover-back : floatAt (boundsPlace bs + floatSize * length bounds) bs ≡ f .cover
+    unfolding All
+    cover-back =
+        let at = countsSize + numberSize * (o + b) in
+        ap₂ (λ (n m : ℕ). floatAt (countsSize + numberSize * (n + m) + floatSize * length bounds) bs) own-count borrowed-count
+        ∙ float-back (f .cover) (at + floatSize * length bounds) bs rest (all-right FloatFits bounds (f .cover ∷ []) h .0)
+        (drop-on at (floatSize * length bounds) bs (floatsBytes bounds) r5 (length-floats bounds) at-bounds)
+
+  domain-size : boundsPlace bs + floatSize * length bounds + floatSize ≡ length (domainBytes bounds f)
   domain-size =
-      ap₂ (λ (n m : ℕ). countsSize + numberSize * (n + m) + floatSize * length bounds) own-count borrowed-count
-      ∙ sym (length-domain bounds f)
+      ap₂ (λ (n m : ℕ). countsSize + numberSize * (n + m) + floatSize * length bounds + floatSize) own-count borrowed-count
+      ∙ omega (arith, length-domain bounds f)
 
 -- ---- the leaf
-abbrev leaf : List ℕ → List ℕ → List Float → Leaf
-leaf own borrowed box = record { own = own; borrowed = borrowed; box = box }
+abbrev leaf : List ℕ → List ℕ → List Float → Float → Leaf
+leaf own borrowed box cover = record { own = own; borrowed = borrowed; box = box; cover = cover }
 
 module _ (d : ℕ) where
+  bounds-wide : (coarse : Bool) (f : Leaf) → BoxIs d coarse f → floatSize * length (boundsOf coarse f) ≡ cond coarse 0 (floatSize * boxWidth d)
+  bounds-wide true f x = refl
+  bounds-wide false f x = omega (arith, x)
+
+  box-back : (coarse : Bool) (f : Leaf) (bs rest : List ℕ) → Stowed f → Boxed d coarse f → bs ≡ domainBytes (boundsOf coarse f) f ++ rest
+      → cond coarse (replicate (boxWidth d) plusZero) (floatsAt (boxWidth d) (boundsPlace bs) bs) ≡ f .box
+  box-back true f bs rest k x e = sym (x .0)
+  box-back false f bs rest k x e = ap (λ (n : ℕ). floatsAt n (boundsPlace bs) bs) (sym (x .0)) ∙ bounds-back f (f .box) bs rest k e (x .1)
+
   pub leaf-back : (coarse : Bool) (f : Leaf) (bs rest : List ℕ) → Stowed f → Boxed d coarse f → bs ≡ domainBytes (boundsOf coarse f) f ++ rest → leafIn d coarse bs ≡ f
   unfolding leafIn
-  leaf-back true f bs rest k x e =
-      ap (λ (own : List ℕ). leaf own (numbersAt (secondCount bs) (borrowedPlace bs) bs) (replicate (boxWidth d) plusZero)) (own-back f [] bs rest k e)
-      ∙ ap₂ (λ (borrowed : List ℕ) (box : List Float). leaf (f .own) borrowed box) (borrowed-back f [] bs rest k e) (sym x)
-  leaf-back false f bs rest k x e =
-      ap (λ (own : List ℕ). leaf own (numbersAt (secondCount bs) (borrowedPlace bs) bs) (floatsAt (boxWidth d) (boundsPlace bs) bs)) (own-back f (f .box) bs rest k e)
-      ∙ ap₂ (λ (borrowed : List ℕ) (box : List Float). leaf (f .own) borrowed box) (borrowed-back f (f .box) bs rest k e)
-      (ap (λ (n : ℕ). floatsAt n (boundsPlace bs) bs) (sym (x .0)) ∙ bounds-back f (f .box) bs rest k e (x .1))
+  leaf-back coarse f bs rest k x e =
+      let bounds = boundsOf coarse f in
+      let box = cond coarse (replicate (boxWidth d) plusZero) (floatsAt (boxWidth d) (boundsPlace bs) bs) in
+      ap₂ (λ (own borrowed : List ℕ). leaf own borrowed box (floatAt (coverPlace d coarse bs) bs)) (own-back f bounds bs rest k e) (borrowed-back f bounds bs rest k e)
+      ∙ ap₂ (λ (box : List Float) (cover : Float). leaf (f .own) (f .borrowed) box cover) (box-back coarse f bs rest k x e)
+      (ap (λ (n : ℕ). floatAt (boundsPlace bs + n) bs) (sym (bounds-wide coarse f (x .0))) ∙ cover-back f bounds bs rest k e (x .1))
 
   pub leaf-size : (coarse : Bool) (f : Leaf) (bs rest : List ℕ) → Stowed f → Boxed d coarse f → bs ≡ domainBytes (boundsOf coarse f) f ++ rest
       → leafSize d coarse bs ≡ length (domainBytes (boundsOf coarse f) f)
   unfolding leafSize
-  leaf-size true f bs rest k x e = domain-size f [] bs rest k e
-  leaf-size false f bs rest k x e =
-      let z : floatSize * boxWidth d ≡ floatSize * length (f .box) = omega (arith, x .0) in
-      ap (λ (n : ℕ). boundsPlace bs + n) z ∙ domain-size f (f .box) bs rest k e
+  leaf-size coarse f bs rest k x e =
+      ap (λ (n : ℕ). boundsPlace bs + n + floatSize) (sym (bounds-wide coarse f (x .0))) ∙ domain-size f (boundsOf coarse f) bs rest k e
 
   pub leaf-after : (coarse : Bool) (f : Leaf) (bs rest : List ℕ) → Stowed f → Boxed d coarse f → bs ≡ domainBytes (boundsOf coarse f) f ++ rest → drop (leafSize d coarse bs) bs ≡ rest
   leaf-after coarse f bs rest k x e =

@@ -1,5 +1,5 @@
 -- Numbers and floats read back from the place at which their bytes stand, and what stands after them. Assumes nothing.
--- Holds: field-back, drop-on, read-each, numbers-back, floats-back
+-- Holds: field-back, drop-on, read-each, numbers-back, float-back, floats-back, floats-parts
 use mathlib.Core.Path.{_≡_, refl, sym, ap, ap₂, _∙_}
 use Prim.Native.Nat.{ℕ, suc, _+_, _*_, _^_, _<_}
 use native.Mathlib.Nat.{mul-zero}
@@ -11,6 +11,7 @@ use lib.Ieee.{Float, binary64, toBits, ofBits}
 use lib.Ieee.Bits.{ofBits-toBits, toBits-lt}
 use Rattle.lists.specs.Lists.{from, joined}
 use Rattle.lists.specs.Ascends.{All}
+use Rattle.lists.proofs.Joined.{joined-map-snoc}
 use Rattle.formats.specs.Bytes.{little, field, bytesOf, numberSize, numberAt, numbersAt, numberBytes, numbersBytes, floatSize, floatAt, floatsAt, floatBytes, floatsBytes}
 use Rattle.bytes_out.proofs.Bytes.{length-bytes}
 use Rattle.bytes_out.proofs.Back.{little-back}
@@ -51,13 +52,19 @@ numbers-back ns at bs rest h e =
     ns 0 rest h (ap (λ (k : ℕ). drop k bs) (start numberSize at) ∙ e)
 
 -- ---- floats
-float-read : (x : Float) (at : ℕ) (bs rest : List ℕ) → FloatFits x → drop at bs ≡ floatBytes x ++ rest → floatAt at bs ≡ x
-float-read x at bs rest h e = ap (ofBits binary64) (field-back floatSize (toBits binary64 x) at bs rest (toBits-lt binary64 x h) e) ∙ ofBits-toBits binary64 x h
+pub float-back : (x : Float) (at : ℕ) (bs rest : List ℕ) → FloatFits x → drop at bs ≡ floatBytes x ++ rest → floatAt at bs ≡ x
+float-back x at bs rest h e = ap (ofBits binary64) (field-back floatSize (toBits binary64 x) at bs rest (toBits-lt binary64 x h) e) ∙ ofBits-toBits binary64 x h
 
 pub floats-back : (xs : List Float) (at : ℕ) (bs rest : List ℕ) → All FloatFits xs → drop at bs ≡ floatsBytes xs ++ rest → floatsAt (length xs) at bs ≡ xs
 unfolding floatsBytes floatsAt
 floats-back xs at bs rest h e =
     read-each FloatFits floatSize floatBytes (λ x s. length-bytes floatSize (toBits binary64 x)) (λ i. at + floatSize * i) (λ i. floatAt (at + floatSize * i) bs) bs
     (λ i. omega arith)
-    (λ i x more s d. float-read x (at + floatSize * i) bs more s d)
+    (λ i x more s d. float-back x (at + floatSize * i) bs more s d)
     xs 0 rest h (ap (λ (k : ℕ). drop k bs) (start floatSize at) ∙ e)
+
+-- one float more, and what stands after it
+pub floats-parts : (xs : List Float) (x : Float) (rest : List ℕ) → floatsBytes (xs ++ x ∷ []) ++ rest ≡ floatsBytes xs ++ (floatBytes x ++ rest)
+unfolding floatsBytes
+floats-parts xs x rest =
+    ap (λ (l : List ℕ). l ++ rest) (joined-map-snoc floatBytes xs x) ∙ append-assoc (joined (map floatBytes xs)) (floatBytes x) rest

@@ -1,6 +1,6 @@
 -- Whatever bytes stand in a field are the bytes of what is read from it: a number of k bytes, n numbers, n floats none of which is a
 -- NaN, and a mark. Assumes nothing.
--- Holds: field-again, field-small, each-again, NoNan, numbers-again, floats-again, mark-again
+-- Holds: field-again, field-small, each-again, NoNan, numbers-again, float-again, floats-again, mark-again
 use mathlib.Core.Path.{_≡_, refl, sym, ap, ap₂, subst, _∙_}
 use Prim.Native.Nat.{ℕ, zero, suc, _+_, _*_, _/_, _%_, _^_, _≤_, _<_}
 use native.Mathlib.Nat.{pow-zero, pow-succ', mul-zero, mul-suc, add-zero}
@@ -94,14 +94,16 @@ module _ (bs : List ℕ) (bytes : All IsByte bs) where
       even-again numberBytes (λ i. numberAt (at + numberSize * i) bs) numberSize at n bs
       (λ j l. field-again bs bytes numberSize (at + numberSize * j) (omega arith))
 
+  pub float-again : (at : ℕ) → at + floatSize ≤ length bs → NoNan (floatAt at bs) → floatBytes (floatAt at bs) ++ drop (at + floatSize) bs ≡ drop at bs
+  float-again at h known =
+      ap (λ (v : ℕ). bytesOf floatSize v ++ drop (at + floatSize) bs) (bits-again (field floatSize at bs) (field-small bs bytes floatSize at) known)
+      ∙ field-again bs bytes floatSize at h
+
   pub floats-again : (n at : ℕ) → at + floatSize * n ≤ length bs → All NoNan (floatsAt n at bs) → floatsBytes (floatsAt n at bs) ++ drop (at + floatSize * n) bs ≡ drop at bs
   unfolding floatsBytes floatsAt
   floats-again n at h clean =
       even-again floatBytes (λ i. floatAt (at + floatSize * i) bs) floatSize at n bs
-      (λ j l.
-      ap (λ (v : ℕ). bytesOf floatSize v ++ drop (at + floatSize * j + floatSize) bs)
-      (bits-again (field floatSize (at + floatSize * j) bs) (field-small bs bytes floatSize (at + floatSize * j)) (known j l))
-      ∙ field-again bs bytes floatSize (at + floatSize * j) (omega arith))
+      (λ j l. float-again (at + floatSize * j) (omega arith) (known j l))
     where
       known : (j : ℕ) → j < n → NoNan (floatAt (at + floatSize * j) bs)
       known j l = all-mem NoNan (map (λ i. floatAt (at + floatSize * i) bs) (from 0 n)) clean (floatAt (at + floatSize * j) bs) (mem-map (λ i. floatAt (at + floatSize * i) bs) (from 0 n) (mem-from 0 n (omega arith) (omega arith)))

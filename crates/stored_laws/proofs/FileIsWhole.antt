@@ -5,7 +5,7 @@ use Prim.Native.Nat.{ℕ, zero, suc, _+_, _*_, _%_}
 use native.Mathlib.Nat.{mul-mod-right}
 use native.Mathlib.Omega.{arith}
 use mathlib.Core.Bool.{Bool, true, false, not, _&&_, cond}
-use mathlib.Core.List.{List, [], _++_, map, append-assoc}
+use mathlib.Core.List.{List, [], _∷_, _++_, map, append-assoc}
 use lib.ListN.{length, drop}
 use lib.Dec.{leb}
 use lib.Ieee.{Float, binary64}
@@ -15,12 +15,12 @@ use borrow.Author.Tests.{eq-eqb, not-false}
 use Rattle.lists.specs.Lists.{from, joined}
 use Rattle.lists.specs.Ascends.{All}
 use Rattle.lists.proofs.Tests.{same-test, and-of, and-fst, and-snd, three-pass, four-pass}
-use Rattle.lists.proofs.All.{all-map, all-of, all-joined, all-drop}
+use Rattle.lists.proofs.All.{all-append, all-map, all-of, all-joined, all-drop}
 use Rattle.lists.proofs.Members.{none-any}
 use Rattle.definition.specs.Points.{boxWidth}
 use Rattle.definition.specs.Levels.{policyFrom}
 use Rattle.definition.specs.Tree.{Settings, Leaf, Level, pointCount}
-use Rattle.definition.specs.Packed.{mostLevels}
+use Rattle.definition.specs.Packed.{mostLevels, leafFloats}
 use Rattle.definition.specs.Refusals.{notFinite}
 use Rattle.definition.proofs.Cuts.{finite-known}
 use Rattle.definition_laws.proofs.Accepted.{Passed}
@@ -28,7 +28,7 @@ use Rattle.formats.specs.Bytes.{markSize, whole, field, valueAt, numberSize, fl
 use Rattle.formats.specs.Stream.{leafField, factorField, policyField, thresholdField, settingsIn, policyFits}
 use Rattle.stored.specs.File.{headMark, headBytes, pointBytes, frontBytes, fileBytes}
 use Rattle.stored.specs.Sound.{same, firstAll, soundLevels, fits, sound}
-use Rattle.stored.specs.Stored.{headSize, boundsPlace, leafIn, leafSize, leavesAt, secondCount, oneDomain, domainsPlace, levelIn, afterLevel, levelsAt, countIn, pointsIn, levelsPlace, treeIn, buildable}
+use Rattle.stored.specs.Stored.{headSize, boundsPlace, coverPlace, leafIn, leafSize, leavesAt, secondCount, oneDomain, domainsPlace, levelIn, afterLevel, levelsAt, countIn, pointsIn, levelsPlace, treeIn, buildable}
 use Rattle.tree_tests.specs.Whole.{pointsWhole, frontWhole, levelsWhole}
 use Rattle.tree_tests.proofs.AllRows.{same-is, same-self}
 use Rattle.stored_laws.specs.Writable.{NumberFits, FloatFits, IsByte, policyThreshold, BoxesFit, SettingsFit, Writable}
@@ -39,7 +39,7 @@ use Rattle.stored_laws.proofs.FieldsAgain.{field-small, NoNan}
 use Rattle.stored_laws.proofs.LevelsAgain.{levels-again}
 use Rattle.stored_laws.proofs.FrontAgain.{head-again, length-points-in, count-is, points-again}
 
--- ---- what is read is of the format: floats, boxes, settings
+-- ---- what is read is of the format: floats, boxes and covers, settings
 floats-fit : (n at : ℕ) (bs : List ℕ) → All FloatFits (floatsAt n at bs)
 unfolding floatsAt
 floats-fit n at bs =
@@ -51,10 +51,16 @@ unfolding leafIn
 box-fits d true bs = zeros-fit (boxWidth d)
 box-fits d false bs = floats-fit (boxWidth d) (boundsPlace bs) bs
 
-leaves-fit : (d : ℕ) (coarse : Bool) (m : ℕ) (bs : List ℕ) → All (λ (f : Leaf). All FloatFits (f .box)) (leavesAt d coarse m bs)
+leaf-fits : (d : ℕ) (coarse : Bool) (bs : List ℕ) → All FloatFits (leafFloats (leafIn d coarse bs))
+unfolding leafIn All
+leaf-fits d coarse bs =
+    all-append FloatFits (leafIn d coarse bs .box) (leafIn d coarse bs .cover ∷ []) (box-fits d coarse bs)
+    (ofBits-fits binary64 (field floatSize (coverPlace d coarse bs) bs), tt)
+
+leaves-fit : (d : ℕ) (coarse : Bool) (m : ℕ) (bs : List ℕ) → All (λ (f : Leaf). All FloatFits (leafFloats f)) (leavesAt d coarse m bs)
 unfolding leavesAt All
 leaves-fit d coarse zero bs = tt
-leaves-fit d coarse (suc m) bs = (box-fits d coarse bs, leaves-fit d coarse m (drop (leafSize d coarse bs) bs))
+leaves-fit d coarse (suc m) bs = (leaf-fits d coarse bs, leaves-fit d coarse m (drop (leafSize d coarse bs) bs))
 
 pub levels-fit : (d fuel : ℕ) (bs : List ℕ) → All BoxesFit (levelsAt d fuel bs)
 unfolding levelsAt levelIn All

@@ -1,24 +1,28 @@
--- Lists that pack a tree: its counts, and the fronts of the lists, are the tree's; so are the boxes of the tree that stands in them.
--- Assumes nothing.
-use mathlib.Core.Path.{_≡_, refl, sym, ap, ap₂, _∙_}
+-- Lists that pack a tree: its counts, and the fronts of the lists, are the tree's; so are the boxes of the tree that stands in them,
+-- where the list of boxes is long enough. Assumes nothing.
+use mathlib.Core.Path.{_≡_, refl, sym, ap, ap₂, subst, _∙_}
 use mathlib.Core.Logic.{⊎-elim}
 use Prim.Native.Nat.{ℕ, zero, suc, _*_, _≤_, _<_}
-use native.Mathlib.Nat.{zero-add}
+use native.Mathlib.Nat.{zero-add, mul-suc, mul-le-mul-left, le-trans}
+use native.Mathlib.Numerals.{add-one}
 use native.Mathlib.Omega.{arith}
 use mathlib.Core.Bool.{Bool, true, _&&_}
 use mathlib.Core.List.{List, _++_, map, map-map, map-append}
-use lib.ListN.{length, getD, take}
+use lib.ListN.{length, getD, take, length-map}
 use lib.Seq.{take-all, length-take-le}
 use lib.Dec.{eqb}
 use borrow.Author.Tests.{eqb-true}
-use Rattle.lists.specs.Lists.{from, joined, total}
+use Rattle.lists.specs.Lists.{from, joined, total, part}
 use Rattle.lists.proofs.Tests.{le-or-lt, four-pass}
 use Rattle.lists.proofs.Sums.{total-more}
-use Rattle.lists.proofs.From.{below-snoc, from-append}
+use Rattle.lists.proofs.Map.{map-same}
+use Rattle.lists.proofs.From.{from-mem, length-from, below-snoc, from-append}
+use Rattle.lists.proofs.Put.{part-snoc}
 use Rattle.lists.proofs.Joined.{joined-map-snoc, parts-front}
+use Rattle.definition.specs.Number.{plusZero}
 use Rattle.definition.specs.Points.{boxWidth}
 use Rattle.definition.specs.Tree.{Leaf, Level}
-use Rattle.definition.specs.Packed.{Counts, countsOf, leavesIn, packedLevelPoints, packedInternals, packedDomains, packedBoxes, packedBorrowed}
+use Rattle.definition.specs.Packed.{Counts, rowFloats, leafFloats, countsOf, leavesIn, packedLevelPoints, packedInternals, packedDomains, packedBoxes, packedBorrowed}
 use Rattle.definition.specs.Refusals.{accepted}
 use Rattle.definition.specs.Outcome.{TreeLists, written, listAfter, treeListsAfter}
 use Rattle.packed.specs.Reading.{Packed, packed, upTo, readLeaf, readLeaves, readLevel, readLevels}
@@ -53,15 +57,32 @@ leaves-held p level-points rows counts (suc n) =
     ∙ ap (map (readLeaf p)) (ap (λ (a : ℕ). from 0 k ++ from a m) (sym (zero-add k)) ∙ sym (from-append 0 k m))
     ∙ ap (λ (a : ℕ). map (readLeaf p) (from 0 a)) (sym (total-more counts n))
 
-pub boxes-held : (d : ℕ) (c : Counts) (l : TreeLists) → packedBoxes (treeHeld d c l) ≡ take (length (packedBoxes (treeHeld d c l))) (l .boxes)
-unfolding treeHeld packedBoxes readLeaf
-boxes-held d c l =
+-- the floats of the domain row j, where the boxes have them
+row-floats : (p : Packed) (j : ℕ) → rowFloats (p .dimension) * suc j ≤ length (p .boxes)
+    → leafFloats (readLeaf p j) ≡ part (p .boxes) (rowFloats (p .dimension) * j) (rowFloats (p .dimension))
+unfolding readLeaf
+row-floats p j h =
+    let w = boxWidth (p .dimension) in
+    let at = rowFloats (p .dimension) * j in
+    sym (ap (part (p .boxes) at) (add-one w) ∙ part-snoc (p .boxes) at w plusZero (omega (arith, h, mul-suc (rowFloats (p .dimension)) j)))
+
+pub boxes-held : (d : ℕ) (c : Counts) (l : TreeLists) → rowFloats d * length (leavesIn (treeHeld d c l)) ≤ length (l .boxes)
+    → packedBoxes (treeHeld d c l) ≡ take (length (packedBoxes (treeHeld d c l))) (l .boxes)
+unfolding treeHeld packedBoxes
+boxes-held d c l long =
     let p = packed (l .internals) (l .domains) (l .boxes) (l .borrowed) d in
     let m = upTo (c .domains) (c .levels) in
-    front-again (l .boxes) (boxWidth d * m) (joined (map (λ f. f .box) (leavesIn (readLevels p (l .level-points) (c .rows) (c .domains) (c .levels)))))
-    (ap (λ (fs : List Leaf). joined (map (λ f. f .box) fs)) (leaves-held p (l .level-points) (c .rows) (c .domains) (c .levels))
-    ∙ ap joined (map-map (λ (f : Leaf). f .box) (readLeaf p) (from 0 m))
-    ∙ parts-front (l .boxes) (boxWidth d) m)
+    let w = rowFloats d in
+    let fs = leavesIn (readLevels p (l .level-points) (c .rows) (c .domains) (c .levels)) in
+    let are = leaves-held p (l .level-points) (c .rows) (c .domains) (c .levels) in
+    let many : length fs ≡ m = ap length are ∙ length-map (from 0 m) (readLeaf p) ∙ length-from 0 m in
+    let enough : w * m ≤ length (l .boxes) = subst (λ (k : ℕ). w * k ≤ length (l .boxes)) many long in
+    front-again (l .boxes) (w * m) (joined (map leafFloats fs))
+    (ap (λ (fs : List Leaf). joined (map leafFloats fs)) are
+    ∙ ap joined (map-map leafFloats (readLeaf p) (from 0 m))
+    ∙ ap joined (map-same (λ j. leafFloats (readLeaf p j)) (λ j. part (l .boxes) (w * j) w) (from 0 m)
+    (λ j u. let below : suc j ≤ m = omega (arith, from-mem 0 m u .1) in row-floats p j (le-trans (mul-le-mul-left w below) enough)))
+    ∙ parts-front (l .boxes) w m)
 
 -- ---- lists and counts that are those of the tree
 seven-pass : (a b c d e f g : Bool) → a && b && c && d && e && f && g ≡ true

@@ -1,7 +1,8 @@
 -- Writing and loading undo each other, as whole calls: `load-of-write` and `write-of-load`. Assumes nothing.
 -- Holds: written-file, load-of-write, loaded-counts, loaded-lists, write-of-load
 use mathlib.Core.Path.{_≡_, sym, ap, subst, _∙_}
-use Prim.Native.Nat.{ℕ, _≤_}
+use Prim.Native.Nat.{ℕ, _*_, _≤_}
+use native.Mathlib.Nat.{mul-le-mul-left, le-trans}
 use native.Mathlib.Omega.{arith}
 use mathlib.Core.Bool.{true, false}
 use mathlib.Core.List.{List, [], _∷_, _++_}
@@ -13,7 +14,7 @@ use Rattle.lists.specs.Ascends.{All}
 use Rattle.lists.proofs.All.{all-imp, all-append}
 use Rattle.definition.specs.Points.{boxWidth}
 use Rattle.definition.specs.Tree.{Settings, Leaf, Level, pointCount}
-use Rattle.definition.specs.Packed.{mostLevels, Counts, countsOf, buildStated, leavesIn}
+use Rattle.definition.specs.Packed.{mostLevels, rowFloats, Counts, countsOf, buildStated, leavesIn}
 use Rattle.definition.specs.Refusals.{Verdict, accepted}
 use Rattle.definition.specs.Outcome.{answered, numberOf, placeOf, valueOf, TreeLists, written, listAfter, treeListsAfter, zeroCounts}
 use Rattle.stored.specs.File.{fileBytes}
@@ -26,9 +27,10 @@ use Rattle.stored_laws.specs.Writable.{FloatFits, SettingsFit}
 use Rattle.stored_laws.specs.RoundTrip.{LoadsBack, WritesBack}
 use Rattle.stored_laws.proofs.Domains.{Boxed}
 use Rattle.stored_laws.proofs.Levels.{StowedTree}
-use Rattle.stored_laws.proofs.Verdicts.{own-whole, own-long, own-takes, own-accepts}
+use Rattle.stored_laws.proofs.Stowed.{leaves-many}
+use Rattle.stored_laws.proofs.Verdicts.{own-whole, own-long, own-boxes, own-takes, own-accepts}
 use Rattle.stored_laws.proofs.Loaded.{load-answers, load-lists, loaded-own, loaded-well, loaded-settings, loaded-file, loaded-sound}
-use Rattle.stored_laws.proofs.Writes.{writes-own, writes-packs, writes}
+use Rattle.stored_laws.proofs.Writes.{writes-own, writes-packs, writes-sound, writes}
 use Rattle.stored_laws.proofs.WellFormed.{well-formed-writable}
 use Rattle.stored_laws.proofs.ReadBack.{tree-stowed}
 use Rattle.stored_laws.proofs.Fronts.{boxes-held, packs-counts, packs-fronts}
@@ -48,6 +50,13 @@ module _ (s : Settings) (cs : List Float) (c : Counts) (l : TreeLists) (file : L
       ap (λ (v : Verdict). take (length (fileBytes s cs tree)) (listAfter v (fileBytes s cs tree) file)) ok
       ∙ take-append-seam (fileBytes s cs tree) (drop (length (fileBytes s cs tree)) file)
 
+  -- the box list holds the floats of each leaf
+  boxes-long : rowFloats (s .dimension) * length (leavesIn tree) ≤ length (l .boxes)
+  unfolding buildStated
+  boxes-long =
+      le-trans (mul-le-mul-left (rowFloats (s .dimension)) (leaves-many s (pointCount (s .dimension) cs) tree (writes-sound s cs c l file ok)))
+      (own-boxes s cs l (writes-own s cs c l file ok))
+
   pub load-of-write : SettingsFit s → All FloatFits cs → All FloatFits (l .boxes) → (old : TreeLists)
       → listsShort old (buildStated (s .dimension) (pointCount (s .dimension) cs) (s .neighbours)) ≡ false → LoadsBack s cs c l bytesWritten old
   load-of-write fit held boxes old long =
@@ -61,7 +70,7 @@ module _ (s : Settings) (cs : List Float) (c : Counts) (l : TreeLists) (file : L
             ∙ ap (λ (k : Counts). answered accepted k zeroCounts) (sym (packs-counts c l tree packed));
         lists =
             ap (λ (bs : List ℕ). loadLists s cs bs old) written-file ∙ load-lists s cs tree old opened w
-            ∙ packs-fronts c l tree packed (boxes-held (s .dimension) c l) old;
+            ∙ packs-fronts c l tree packed (boxes-held (s .dimension) c l boxes-long) old;
       }
 
 -- ---- a write of what was loaded
@@ -73,7 +82,7 @@ Wide d f = length (f .box) ≡ boxWidth d
 boxes-wide : (d : ℕ) (ls : List Level) → StowedTree d ls → All (Wide d) (leavesIn ls)
 unfolding StowedTree leavesIn joined All
 boxes-wide d [] k = tt
-boxes-wide d (l ∷ []) k = all-append (Wide d) (l .leaves) [] (all-imp (Boxed d true) (Wide d) (l .leaves) (λ f e. ap length e ∙ simp length-replicate) (k .boxed)) tt
+boxes-wide d (l ∷ []) k = all-append (Wide d) (l .leaves) [] (all-imp (Boxed d true) (Wide d) (l .leaves) (λ f e. ap length (e .0) ∙ simp length-replicate) (k .boxed)) tt
 boxes-wide d (l ∷ m ∷ ls) k =
     all-append (Wide d) (l .leaves) (leavesIn (m ∷ ls)) (all-imp (Boxed d false) (Wide d) (l .leaves) (λ f e. e .0) (k .0 .boxed)) (boxes-wide d (m ∷ ls) (k .1))
 

@@ -1,4 +1,6 @@
--- A tree that passes the tests, over at most 1,048,576 rows and with bounds of the format, fits the fields of its file. Assumes nothing.
+-- A tree that passes the tests, over at most 1,048,576 rows and with bounds and covers of the format, fits the fields of its file. Assumes
+-- nothing.
+-- Holds: zeros-fit, coarse-boxed, leaves-many, sound-stowed
 use mathlib.Core.Path.{_≡_, sym, ap, ap₂, subst, _∙_, refl}
 use Prim.Native.Nat.{ℕ, _*_, _≤_, _<_}
 use native.Mathlib.Omega.{arith}
@@ -12,20 +14,20 @@ use borrow.Author.Tests.{leb-true, eqb-true, eq-eqb}
 use Rattle.lists.specs.Lists.{anyOf, member, count, from, joined}
 use Rattle.lists.specs.Ascends.{All}
 use Rattle.lists.proofs.Tests.{clash, and-fst, and-snd, three-pass, four-pass}
-use Rattle.lists.proofs.All.{all-of, all-mem, joined-all, map-all, all-replicate}
+use Rattle.lists.proofs.All.{all-of, all-mem, all-left, all-right, joined-all, map-all, all-replicate}
 use Rattle.lists.proofs.From.{all-from, length-from}
 use Rattle.lists.proofs.Members.{member-mem}
 use Rattle.lists.proofs.Ascends.{ascends-few}
 use Rattle.definition.specs.Number.{plusZero}
 use Rattle.definition.specs.Points.{boxWidth}
 use Rattle.definition.specs.Tree.{Settings, Leaf, Level}
-use Rattle.definition.specs.Packed.{mostLevels, mostRows, rowNumbers, buildStated, leavesIn, packedLevelPoints, packedInternals, packedDomains, packedBorrowed}
+use Rattle.definition.specs.Packed.{mostLevels, mostRows, rowNumbers, leafFloats, buildStated, leavesIn, packedLevelPoints, packedInternals, packedDomains, packedBorrowed}
 use Rattle.definition.specs.Refusals.{mostPoints}
 use Rattle.definition_laws.proofs.Fit.{length-domains}
 use Rattle.tree_tests.proofs.AllPass.{all-pass-each, ascending-ascends}
 use Rattle.tree_tests.proofs.AllRows.{same-is}
 use Rattle.tree_tests.proofs.SoundLevels.{coarse-level, fine-level}
-use Rattle.stored.specs.Sound.{allOf, ascending, partitioned, soundLeaf, soundBox, noBox, soundRows, soundLevels, firstAll, fits, sound}
+use Rattle.stored.specs.Sound.{allOf, same, ascending, partitioned, soundLeaf, soundBox, noBox, soundRows, soundLevels, firstAll, fits, sound}
 use Rattle.stored_laws.specs.Writable.{NumberFits, FloatFits, BoxesFit}
 use Rattle.stored_laws.proofs.Domains.{Stowed, Boxed}
 use Rattle.stored_laws.proofs.Levels.{StowedLevel, StowedTree}
@@ -55,7 +57,7 @@ leaf-stowed n active f h k o e =
       borrowed-small = small n (f .borrowed) h b;
     }
 
--- ---- boxes
+-- ---- boxes and covers
 -- values with the same bits are the same
 unbits : (xs : List Float) → All FloatFits xs → map (ofBits binary64) (map (toBits binary64) xs) ≡ xs
 unfolding All
@@ -65,17 +67,20 @@ unbits (x ∷ xs) h = ap₂ (λ (y : Float) (ys : List Float). y ∷ ys) (ofBits
 pub zeros-fit : (k : ℕ) → All FloatFits (replicate k plusZero)
 zeros-fit k = all-replicate FloatFits k plusZero (ofBits-fits binary64 0)
 
-pub coarse-boxed : (d : ℕ) (f : Leaf) → All FloatFits (f .box) → noBox d f ≡ true → Boxed d true f
+pub coarse-boxed : (d : ℕ) (f : Leaf) → All FloatFits (leafFloats f) → noBox d f ≡ true → Boxed d true f
 unfolding noBox
 coarse-boxed d f h e =
     let z = replicate (boxWidth d) plusZero in
-    sym (unbits (f .box) h)
-    ∙ ap (map (ofBits binary64)) (same-is (map (toBits binary64) (f .box)) (map (toBits binary64) z) e)
-    ∙ unbits z (zeros-fit (boxWidth d))
+    let zeros = and-fst (same (map (toBits binary64) (f .box)) (map (toBits binary64) z)) (not (isNan (f .cover))) e in (
+      sym (unbits (f .box) (all-left FloatFits (f .box) (f .cover ∷ []) h))
+          ∙ ap (map (ofBits binary64)) (same-is (map (toBits binary64) (f .box)) (map (toBits binary64) z) zeros)
+          ∙ unbits z (zeros-fit (boxWidth d)),
+      all-right FloatFits (f .box) (f .cover ∷ []) h,
+    )
 
-fine-boxed : (d : ℕ) (f : Leaf) → All FloatFits (f .box) → soundBox d f ≡ true → Boxed d false f
+fine-boxed : (d : ℕ) (f : Leaf) → All FloatFits (leafFloats f) → soundBox d f ≡ true → Boxed d false f
 unfolding soundBox
-fine-boxed d f h e = (eqb-true (length (f .box)) (boxWidth d) (and-fst (eqb (length (f .box)) (boxWidth d)) (not (anyOf isNan (f .box))) e), h)
+fine-boxed d f h e = (eqb-true (length (f .box)) (boxWidth d) (and-fst (eqb (length (f .box)) (boxWidth d)) (not (anyOf isNan (leafFloats f))) e), h)
 
 -- ---- a level over rows below n
 abbrev Inside : ℕ → Level → Type 0
@@ -118,21 +123,23 @@ unfolding StowedTree leavesIn joined All
 levels-stowed d n l [] h k m b e =
     let g = coarse-level d l e in
     level-stowed d n true l h k (omega (arith, length-append (l .leaves) [], m)) (g .rows) (eq-eqb (length (l .leaves)) 1 (g .one))
-    (all-of (Boxed d true) (l .leaves) (λ f u. coarse-boxed d f (all-mem (λ x. All FloatFits (x .box)) (l .leaves) (b .0) f u) (g .boxes f u)))
+    (all-of (Boxed d true) (l .leaves) (λ f u. coarse-boxed d f (all-mem (λ x. All FloatFits (leafFloats x)) (l .leaves) (b .0) f u) (g .boxes f u)))
 levels-stowed d n l (t ∷ ls) h k m b e =
     let g = fine-level d l t ls e in
     let z = length-append (l .leaves) (leavesIn (t ∷ ls)) in (
       level-stowed d n false l h k (omega (arith, z, m)) (g .rows) (g .more)
-          (all-of (Boxed d false) (l .leaves) (λ f u. fine-boxed d f (all-mem (λ x. All FloatFits (x .box)) (l .leaves) (b .0) f u) (g .boxes f u))),
+          (all-of (Boxed d false) (l .leaves) (λ f u. fine-boxed d f (all-mem (λ x. All FloatFits (leafFloats x)) (l .leaves) (b .0) f u) (g .boxes f u))),
       levels-stowed d n t ls h (next-inside d n l t ls k e) (omega (arith, z, m)) (b .1) (g .later),
     )
 
 -- ---- the tree
-leaves-many : (d n k : ℕ) (ls : List Level) → fits d n k ls ≡ true → length (leavesIn ls) ≤ mostRows n
-unfolding fits buildStated
-leaves-many d n k ls e =
-    let stated = buildStated d n k in
-    let g = four-pass (leb (length (packedLevelPoints ls)) (stated .level-points)) (leb (length (packedInternals ls)) (stated .internals)) (leb (length (packedDomains ls)) (stated .domains)) (leb (length (packedBorrowed ls)) (stated .borrowed)) e in
+pub leaves-many : (s : Settings) (n : ℕ) (ls : List Level) → sound s n ls ≡ true → length (leavesIn ls) ≤ mostRows n
+unfolding sound fits buildStated
+leaves-many s n ls e =
+    let d = s .dimension in
+    let stated = buildStated d n (s .neighbours) in
+    let t = four-pass (leb (length ls) mostLevels) (firstAll n ls) (soundLevels d ls) (fits d n (s .neighbours) ls) e .3 in
+    let g = four-pass (leb (length (packedLevelPoints ls)) (stated .level-points)) (leb (length (packedInternals ls)) (stated .internals)) (leb (length (packedDomains ls)) (stated .domains)) (leb (length (packedBorrowed ls)) (stated .borrowed)) t in
     let m : length (packedDomains ls) ≤ rowNumbers * mostRows n = leb-true (length (packedDomains ls)) (stated .domains) (g .2) in
     omega (arith, m, length-domains ls)
 
@@ -141,7 +148,7 @@ unfolding sound firstAll
 sound-stowed s n ls h b e =
     let d = s .dimension in
     let g = four-pass (leb (length ls) mostLevels) (firstAll n ls) (soundLevels d ls) (fits d n (s .neighbours) ls) e in
-    (leb-true (length ls) mostLevels (g .0), go ls b (g .1) (g .2) (leaves-many d n (s .neighbours) ls (g .3)))
+    (leb-true (length ls) mostLevels (g .0), go ls b (g .1) (g .2) (leaves-many s n ls e))
   where
     go : (ls : List Level) → All BoxesFit ls → firstAll n ls ≡ true → soundLevels (s .dimension) ls ≡ true → length (leavesIn ls) ≤ mostRows n → StowedTree (s .dimension) ls
     go [] b f e m = clash f refl

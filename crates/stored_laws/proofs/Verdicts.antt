@@ -1,9 +1,14 @@
 -- The build's own tests among those of the loader and the writer. Assumes nothing.
--- Holds: own-whole, own-long, own-takes, own-accepts
+-- Holds: own-whole, own-long, own-boxes, own-takes, own-accepts
 use mathlib.Core.Path.{_≡_, refl, sym, ap, ap₂, _∙_}
-use mathlib.Core.Bool.{Bool, true, false}
+use Prim.Native.Nat.{_≤_}
+use mathlib.Core.Bool.{Bool, true, false, _||_}
 use mathlib.Core.List.{List}
+use lib.ListN.{length}
+use lib.Dec.{ltb}
 use lib.Ieee.{Float}
+use borrow.Author.Tests.{ltb-false}
+use Rattle.lists.proofs.Tests.{or-none}
 use Rattle.definition.specs.Tree.{Settings, pointCount}
 use Rattle.definition.specs.Packed.{buildStated}
 use Rattle.definition.specs.Refusals.{Verdict, accepted, verdict, coordinatesMissing, notFinite, buildTests}
@@ -37,6 +42,18 @@ module _ (s : Settings) (cs : List Float) (old : TreeLists) where
 
     pub own-long : short ≡ false
     own-long = all-passed .none-short
+
+    -- the box list among the five
+    pub own-boxes : buildStated (s .dimension) (pointCount (s .dimension) cs) (s .neighbours) .boxes ≤ length (old .boxes)
+    unfolding listsShort
+    own-boxes =
+        let stated = buildStated (s .dimension) (pointCount (s .dimension) cs) (s .neighbours) in
+        let a = ltb (length (old .level-points)) (stated .level-points) in
+        let b = ltb (length (old .internals)) (stated .internals) in
+        let c = ltb (length (old .domains)) (stated .domains) in
+        let e = ltb (length (old .boxes)) (stated .boxes) in
+        let f = ltb (length (old .borrowed)) (stated .borrowed) in
+        ltb-false (length (old .boxes)) (stated .boxes) (or-none (a || b || c) e (or-none (a || b || c || e) f own-long .0) .1)
 
     pub own-takes : buildable s cs ≡ true
     unfolding buildable taken

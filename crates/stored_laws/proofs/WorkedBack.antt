@@ -18,5 +18,5 @@ four-writable =
       whole = refl;
       points-fit = (tt, (tt, (tt, (tt, tt))));
       passes = refl;
-      boxes-fit = (((tt, (tt, tt)), ((tt, (tt, tt)), ((tt, (tt, tt)), ((tt, (tt, tt)), tt)))), (((tt, (tt, tt)), tt), tt));
+      boxes-fit = (((tt, (tt, (tt, tt))), ((tt, (tt, (tt, tt))), ((tt, (tt, (tt, tt))), ((tt, (tt, (tt, tt))), tt)))), (((tt, (tt, (tt, tt))), tt), tt));
     }

@@ -9,6 +9,7 @@ use lib.Ieee as ieee
 use Rattle.lists.specs.Ascends.{All}
 use Rattle.definition.specs.Levels.{Policy, auto, fixed}
 use Rattle.definition.specs.Tree.{Settings, Level, pointCount}
+use Rattle.definition.specs.Packed.{leafFloats}
 use Rattle.definition.specs.Refusals.{coordinatesMissing}
 use Rattle.formats.specs.Bytes.{numberSize}
 use Rattle.stored.specs.File.{fileBytes}
@@ -39,9 +40,9 @@ abbrev pub policyThreshold : Policy → ℕ
 policyThreshold auto = 0
 policyThreshold (fixed c) = c
 
--- the bounds of a level's boxes are values of the format
+-- the bounds and the covers of a level's leaves are values of the format
 abbrev pub BoxesFit : Level → Type 0
-BoxesFit l = All (λ f. All FloatFits (f .box)) (l .leaves)
+BoxesFit l = All (λ f. All FloatFits (leafFloats f)) (l .leaves)
 
 -- settings that their fields hold (dimension and neighbour count are small where the build takes them)
 pub record SettingsFit (s : Settings) : Type 0 where
@@ -55,7 +56,7 @@ pub record Writable (s : Settings) (cs : List Float) (ls : List Level) : Type 0 
   pub takes : buildable s cs ≡ true
   pub whole : coordinatesMissing (s .dimension) cs ≡ false
   pub points-fit : All FloatFits cs
-  -- a tree that passes the tests, with bounds of the format
+  -- a tree that passes the tests, with bounds and covers of the format
   pub passes : sound s (pointCount (s .dimension) cs) ls ≡ true
   pub boxes-fit : All BoxesFit ls
 

@@ -1,4 +1,4 @@
--- A file's tree that passes the tests has demand 3's rules where it is handed out, because the bounds that stand in a file are values of
+-- A file's tree that passes the tests has demand 3's rules where it is handed out, because the floats that stand in a file are values of
 -- the format. So it is with what an accepted call of the loader hands out. Assumes nothing.
 use mathlib.Core.Path.{_≡_}
 use mathlib.Core.Bool.{true, false, not}

@@ -10,6 +10,7 @@ use lib.Ieee.{binary64, toBits}
 use Rattle.lists.specs.Lists.{joined}
 use Rattle.lists.specs.Ascends.{All}
 use Rattle.lists.specs.Times.{times}
+use Rattle.lists.proofs.Tests.{both-pass}
 use Rattle.lists.proofs.All.{all-at}
 use Rattle.lists.proofs.Ascends.{ascends-unique-count}
 use Rattle.lists.proofs.Joined.{joined-one}
@@ -17,6 +18,7 @@ use Rattle.lists.proofs.Times.{times-one}
 use Rattle.definition.specs.Number.{plusZero}
 use Rattle.definition.specs.Points.{boxWidth}
 use Rattle.definition.specs.Tree.{Leaf, Level}
+use Rattle.definition.specs.Packed.{leafFloats}
 use Rattle.packed.proofs.Unpacked.{noLeaf}
 use Rattle.stored.specs.Sound.{noBox}
 use Rattle.tree_tests.proofs.AllRows.{same-is}
@@ -33,7 +35,7 @@ none-stands (x ∷ xs) h = absurd (h x (omega (arith, times-one x xs)))
 
 no-box-bits : (d : ℕ) (f : Leaf) → noBox d f ≡ true → map (toBits binary64) (f .box) ≡ map (toBits binary64) (replicate (boxWidth d) plusZero)
 unfolding noBox
-no-box-bits d f h = same-is (map (toBits binary64) (f .box)) (map (toBits binary64) (replicate (boxWidth d) plusZero)) h
+no-box-bits d f h = same-is (map (toBits binary64) (f .box)) (map (toBits binary64) (replicate (boxWidth d) plusZero)) (both-pass h .0)
 
 -- as many as a box has
 pub no-box-width : (d : ℕ) (f : Leaf) → noBox d f ≡ true → length (f .box) ≡ boxWidth d
@@ -69,5 +71,5 @@ module _ (l : Level) (rows : LevelRows l) (one : length (l .leaves) ≡ 1) where
       → getD (l .leaves) 0 noLeaf .box ≡ replicate (boxWidth d) plusZero
   last-no-box d h fit =
       coarse-boxed d leaf
-      (all-at (λ f. All FloatFits (f .box)) (l .leaves) 0 noLeaf fit (omega arith))
-      (all-at (λ f. noBox d f ≡ true) (l .leaves) 0 noLeaf h (omega arith))
+      (all-at (λ f. All FloatFits (leafFloats f)) (l .leaves) 0 noLeaf fit (omega arith))
+      (all-at (λ f. noBox d f ≡ true) (l .leaves) 0 noLeaf h (omega arith)) .0

@@ -139,7 +139,7 @@ module _ (d : ℕ) (ls : List Level) (h : Handed) (packs : PackedIn d ls h) wher
       none-beyond = handed-beyond d ls h packs;
     }
 
--- THE LAW: the lists after an accepted call that writes the tree ls, with its counts. The bounds of its boxes are values of the format.
+-- THE LAW: the lists after an accepted call that writes the tree ls, with its counts. Its bounds and covers are values of the format.
 pub loaded-rules : (s : Settings) (n : ℕ) (ls : List Level) (old : TreeLists) → sound s n ls ≡ true
     → All BoxesFit ls
     → LoadedTree (s .dimension) n (handed (record { number = 0; place = 0; value = countsOf ls }) (treeListsAfter accepted ls old))

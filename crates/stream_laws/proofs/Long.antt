@@ -10,14 +10,14 @@ use Prim.Native.Nat.{ℕ, zero, suc, _+_, _*_, _/_, _%_, _^_, _≤_, _<_}
 use native.Mathlib.Nat.{pow-succ'}
 use native.Mathlib.Omega.{arith}
 use mathlib.Core.List.{List, [], _∷_, _++_, map, map-map}
-use lib.ListN.{length, replicate, length-append, length-map}
+use lib.ListN.{length, replicate, length-append}
 use lib.Dec.{ltb}
 use borrow.Author.Tests.{lt-ltb}
 use lib.Ieee.{Float, binary64, toBits}
 use Rattle.lists.specs.Lists.{keep, joined, from, total}
 use Rattle.lists.specs.Ascends.{All}
 use Rattle.lists.proofs.Tests.{le-or-lt}
-use Rattle.lists.proofs.All.{all-keep, all-mem}
+use Rattle.lists.proofs.All.{all-keep, all-mem, all-of}
 use Rattle.lists.proofs.Count.{count-len, length-keep}
 use Rattle.lists.proofs.From.{all-from, length-from}
 use Rattle.lists.proofs.Joined.{length-joined}
@@ -30,10 +30,11 @@ use Rattle.definition.specs.Points.{boxWidth}
 use Rattle.definition.specs.Tree.{Settings, Leaf, Level, coarseLevel, fineLevel, mostFine, nextActive, levelsFrom, levelsOver, pointCount, levels}
 use Rattle.definition.specs.Refusals.{Refusal, Verdict, accepted, refused}
 use Rattle.formats.specs.Stream.{Job, job, broken, streamPoints, jobIn}
-use Rattle.formats.specs.Printout.{ascii, digitOf, decimal, decimalOnto, hexOnto, rowsText, boxText, domainLine, fineLines, coarseLines, levelLine, levelsText, treeText, refusalText, builtText, jobText, printout}
+use Rattle.formats.specs.Printout.{ascii, digitOf, decimal, decimalOnto, hexOnto, rowsText, floatsText, domainLine, fineLines, coarseLines, levelLine, levelsText, treeText, refusalText, builtText, jobText, printout}
 use Rattle.definition.proofs.Halves.{first-rows, other-rows}
 use Rattle.definition.proofs.Cuts.{leaves-all}
-use Rattle.definition.proofs.Steps.{fineLeaf, fineOf, nextOf, queue-wait, queue-done, levels-last, levels-end, levels-more}
+use Rattle.definition.proofs.Steps.{fineOf, sizeFrom, nextOf, queue-wait, queue-done, levels-last, levels-end, levels-more}
+use Rattle.definition.proofs.FineLeaves.{fine-many, fine-each}
 use Rattle.definition_laws.proofs.Shape.{leaves-boxes}
 use Rattle.stream_laws.proofs.Shape.{levels-shaped}
 use Rattle.stream_laws.specs.Sizes.{JobLimits, WithinLimits, mostBytes}
@@ -140,11 +141,11 @@ module _ (d : ℕ) (cs : List Float) where
   leaves-many leaf active h = omega (arith, queue-many leaf (2 * length active) (rootDomain d cs active ∷ []))
 
 -- ---- lines
-box-long : (b : List Float) → length (boxText b) ≡ 17 * length b
-unfolding boxText joined
-box-long [] = omega arith
-box-long (x ∷ b) =
-    omega (arith, box-long b, hex-long 16 (toBits binary64 x) [], length-append (32 ∷ hexOnto 16 (toBits binary64 x) []) (boxText b))
+floats-long : (b : List Float) → length (floatsText b) ≡ 17 * length b
+unfolding floatsText joined
+floats-long [] = omega arith
+floats-long (x ∷ b) =
+    omega (arith, floats-long b, hex-long 16 (toBits binary64 x) [], length-append (32 ∷ hexOnto 16 (toBits binary64 x) []) (floatsText b))
 
 -- a leaf whose line is not long
 pub record Brief (f : Leaf) : Type 0 where
@@ -152,23 +153,24 @@ pub record Brief (f : Leaf) : Type 0 where
   pub borrowed : FewRows (f .borrowed)
   pub box : length (f .box) ≤ 6
 
-pub domain-long : (i : ℕ) (f : Leaf) (box : List ℕ) → FewRows (f .own) → FewRows (f .borrowed) → i < 1000 → length (domainLine i f box) ≤ 224 + length box
+pub domain-long : (i : ℕ) (f : Leaf) (box : List ℕ) → FewRows (f .own) → FewRows (f .borrowed) → i < 1000 → length (domainLine i f box) ≤ 247 + length box
 unfolding domainLine ascii
-domain-long i f box h g small = simp length-append (omega (arith, decimal-short 2 i small, rows-long (f .own) h, rows-long (f .borrowed) g))
+domain-long i f box h g small =
+    simp length-append (omega (arith, decimal-short 2 i small, rows-long (f .own) h, rows-long (f .borrowed) g, floats-long (f .cover ∷ [])))
 
 pub level-long : (t : ℕ) (l : Level) → FewRows (l .points) → length (levelLine t l) ≤ 130
 unfolding levelLine ascii
 level-long t l s = simp length-append (omega (arith, decimal-long t, rows-long (l .points) s))
 
-pub fine-long : (i : ℕ) (fs : List Leaf) → i + length fs ≤ 1000 → All Brief fs → length (fineLines i fs) ≤ 326 * length fs
+pub fine-long : (i : ℕ) (fs : List Leaf) → i + length fs ≤ 1000 → All Brief fs → length (fineLines i fs) ≤ 349 * length fs
 unfolding fineLines All
 fine-long i [] h a = omega arith
 fine-long i (f ∷ fs) h a =
     omega (
       arith,
-      length-append (domainLine i f (boxText (f .box))) (fineLines (suc i) fs),
-      domain-long i f (boxText (f .box)) (a .0 .own) (a .0 .borrowed) (omega arith),
-      box-long (f .box),
+      length-append (domainLine i f (floatsText (f .box))) (fineLines (suc i) fs),
+      domain-long i f (floatsText (f .box)) (a .0 .own) (a .0 .borrowed) (omega arith),
+      floats-long (f .box),
       a .0 .box,
       fine-long (suc i) fs (omega arith) (a .1),
     )
@@ -186,30 +188,39 @@ more-text t l (m ∷ ls) h = refl
 
 module _ (s : Settings) (cs : List Float) (axes : s .dimension ≤ 3) where
   module _ (active : List ℕ) (a : FewRows active) where
-    abbrev leafFrom : Domain → Leaf
-    leafFrom = fineLeaf (s .dimension) cs (s .neighbours) active
+    abbrev qs : List Domain
+    qs = leavesOf (s .dimension) cs (s .leaf) active
 
-    leaves-brief : (qs : List Domain) → All (λ (q : Domain). FewRows (q .rows)) qs → All (λ (q : Domain). length (q .box) ≡ boxWidth (s .dimension)) qs
-        → All Brief (map leafFrom qs)
-    unfolding All borrowedBy
-    leaves-brief [] h g = tt
-    leaves-brief (q ∷ qs) h g =
-        (record { own = h .0; borrowed = few-keep _ active a; box = omega (arith, g .0) }, leaves-brief qs (h .1) (g .1))
+    -- what is known of a leaf of the cut
+    abbrev Narrow : Domain → Type 0
+    Narrow q = FewRows (q .rows) × (length (q .box) ≡ boxWidth (s .dimension))
 
-    fine-level-long : (t : ℕ) → length (levelLine t (fineOf s cs active)) + length (fineLines 0 (fineOf s cs active .leaves)) ≤ 41858
-    unfolding fineLevel
-    fine-level-long t =
+    leaves-narrow : All Narrow qs
+    leaves-narrow =
         let d = s .dimension in
-        let qs = leavesOf d cs (s .leaf) active in
-        let brief = leaves-brief qs (leaves-rows d cs (s .leaf) active a) (leaves-boxes d cs (s .leaf) active) in
-        let many = leaves-many d cs (s .leaf) active (a .few) in
-        let same = length-map qs leafFrom in
-        omega (arith, level-long t (fineOf s cs active) a, fine-long 0 (map leafFrom qs) (omega arith) brief)
+        all-of Narrow qs
+        (λ q m. (
+          all-mem (λ (q : Domain). FewRows (q .rows)) qs (leaves-rows d cs (s .leaf) active a) q m,
+          all-mem (λ (q : Domain). length (q .box) ≡ boxWidth d) qs (leaves-boxes d cs (s .leaf) active) q m,
+        ))
 
-    coarse-long : (t : ℕ) → length (levelsText t (coarseLevel (s .dimension) active ∷ [])) ≤ 356
+    leaves-brief : (size : ℕ) → All Brief (fineOf s cs size active .leaves)
+    unfolding borrowedBy
+    leaves-brief size =
+        fine-each s cs size active Narrow Brief (λ q sent h. record { own = h .0; borrowed = few-keep _ active a; box = omega (arith, h .1) }) leaves-narrow
+
+    fine-level-long : (size t : ℕ) → length (levelLine t (fineOf s cs size active)) + length (fineLines 0 (fineOf s cs size active .leaves)) ≤ 44802
+    unfolding fineLevel
+    fine-level-long size t =
+        let l = fineOf s cs size active in
+        let many = leaves-many (s .dimension) cs (s .leaf) active (a .few) in
+        let same = fine-many s cs size active in
+        omega (arith, level-long t l a, fine-long 0 (l .leaves) (omega arith) (leaves-brief size))
+
+    coarse-long : (t : ℕ) → length (levelsText t (coarseLevel (s .dimension) active ∷ [])) ≤ 379
     unfolding levelsText coarseLevel coarseLines joined
     coarse-long t =
-        let f : Leaf = record { own = active; borrowed = []; box = replicate (boxWidth (s .dimension)) plusZero } in
+        let f : Leaf = record { own = active; borrowed = []; box = replicate (boxWidth (s .dimension)) plusZero; cover = plusZero } in
         let l : Level = record { points = active; leaves = f ∷ [] } in
         omega (
           arith,
@@ -224,20 +235,20 @@ module _ (s : Settings) (cs : List Float) (axes : s .dimension ≤ 3) where
   unfolding nextActive
   next-few c k built active a = few-keep _ active a
 
-  levels-long : (c k fuel built t : ℕ) (active : List ℕ) → FewRows active → length (levelsText t (levelsFrom s cs c k fuel built active)) ≤ 356 + 41858 * fuel
+  levels-long : (c k fuel built t : ℕ) (active : List ℕ) → FewRows active → length (levelsText t (levelsFrom s cs c k fuel built active)) ≤ 379 + 44802 * fuel
   levels-long c k zero built t active a = rw (levels-last s cs c k built active) (coarse-long active a t)
   levels-long c k (suc fuel) built t active a =
       ⊎-elim
       (λ (few : length active ≤ c). rw (levels-end s cs c k fuel built active few) (omega (arith, coarse-long active a t)))
       (λ (many : c < length active). rw (levels-more s cs c k fuel built active many)
-      (let l = fineOf s cs active in
+      (let l = fineOf s cs (sizeFrom c k built active) active in
       let ls = levelsFrom s cs c k fuel (suc built) (nextOf s cs c k built active) in
       omega (
         arith,
         ap length (more-text t l ls (levels-shaped s cs c k fuel (suc built) (nextOf s cs c k built active) .some)),
         length-append (levelLine t l ++ fineLines 0 (l .leaves)) (levelsText (suc t) ls),
         length-append (levelLine t l) (fineLines 0 (l .leaves)),
-        fine-level-long active a t,
+        fine-level-long active a (sizeFrom c k built active) t,
         levels-long c k fuel (suc built) (suc t) (nextOf s cs c k built active) (next-few c k built active a),
       )))
       (le-or-lt (length active) c)
@@ -271,7 +282,7 @@ unfolding jobText
 job-long (job s cs) limits = built-long _ s cs limits
 job-long (broken r) limits = omega (arith, refusal-long r)
 
--- no printout is longer than 131,072 bytes
+-- no printout is longer than `mostBytes`
 pub printout-long : (bs : List ℕ) → length (printout bs) ≤ mostBytes
 unfolding printout
 printout-long bs = job-long (jobIn bs) (job-limits bs)

@@ -2,7 +2,7 @@
 -- `levels-shaped` has it of the levels from any on, `tree-shaped` of the tree. Assumes nothing.
 use mathlib.Core.Path.{_≡_, refl, ap, _∙_}
 use mathlib.Core.Logic.{⊎-elim}
-use Prim.Native.Nat.{ℕ, zero, suc, _-_, _*_, _≤_, _<_}
+use Prim.Native.Nat.{ℕ, zero, suc, _-_, _≤_, _<_}
 use native.Mathlib.Omega.{arith}
 use mathlib.Core.List.{List, [], _∷_, map}
 use lib.ListN.{length, getD, length-replicate}
@@ -10,14 +10,15 @@ use lib.Ieee.{Float}
 use Rattle.lists.specs.Lists.{joined, from}
 use Rattle.lists.specs.Ascends.{All}
 use Rattle.lists.proofs.Tests.{le-or-lt}
-use Rattle.lists.proofs.All.{all-append, all-map}
+use Rattle.lists.proofs.All.{all-append}
 use Rattle.definition.specs.Number.{plusZero}
 use Rattle.definition.specs.Levels.{threshold, reductions}
-use Rattle.definition.specs.Cut.{leavesOf}
-use Rattle.definition.specs.Tree.{Settings, Leaf, Level, coarseLevel, fineLevel, mostFine, levelsFrom, levelsOver, pointCount, levels}
+use Rattle.definition.specs.Cut.{Domain}
+use Rattle.definition.specs.Tree.{Settings, Leaf, Level, coarseLevel, mostFine, levelsFrom, levelsOver, pointCount, levels}
 use Rattle.definition.specs.Points.{boxWidth}
 use Rattle.definition.specs.Packed.{leavesIn}
-use Rattle.definition.proofs.Steps.{fineLeaf, fineOf, nextOf, levels-last, levels-end, levels-more}
+use Rattle.definition.proofs.Steps.{fineOf, sizeFrom, nextOf, levels-last, levels-end, levels-more}
+use Rattle.definition.proofs.FineLeaves.{fine-each}
 use Rattle.definition_laws.proofs.Shape.{leaves-boxes}
 
 -- a tree of at most `most` levels over points with boxes of w bounds
@@ -43,13 +44,12 @@ unfolding leavesIn joined coarseLevel All
 shaped-one d most active h =
     record { some = omega arith; few = h; last = refl; wide = (length-replicate (boxWidth d) plusZero, tt) }
 
-fine-wide : (s : Settings) (cs : List Float) (active : List ℕ) → All (λ (f : Leaf). length (f .box) ≡ boxWidth (s .dimension)) (fineOf s cs active .leaves)
-unfolding fineLevel
-fine-wide s cs active =
+fine-wide : (s : Settings) (cs : List Float) (size : ℕ) (active : List ℕ)
+    → All (λ (f : Leaf). length (f .box) ≡ boxWidth (s .dimension)) (fineOf s cs size active .leaves)
+fine-wide s cs size active =
     let d = s .dimension in
-    all-map (λ (f : Leaf). length (f .box) ≡ boxWidth d)
-    (fineLeaf d cs (s .neighbours) active)
-    (leavesOf d cs (s .leaf) active) (leaves-boxes d cs (s .leaf) active)
+    fine-each s cs size active (λ (q : Domain). length (q .box) ≡ boxWidth d) (λ (f : Leaf). length (f .box) ≡ boxWidth d) (λ q sent h. h)
+    (leaves-boxes d cs (s .leaf) active)
 
 module _ (s : Settings) (cs : List Float) (c k : ℕ) where
   pub levels-shaped : (fuel built : ℕ) (active : List ℕ) → Shaped (boxWidth (s .dimension)) (suc fuel) (levelsFrom s cs c k fuel built active)
@@ -58,7 +58,7 @@ module _ (s : Settings) (cs : List Float) (c k : ℕ) where
       ⊎-elim
       (λ (few : length active ≤ c). rw (levels-end s cs c k fuel built active few) (shaped-one (s .dimension) (suc (suc fuel)) active (omega arith)))
       (λ (many : c < length active). rw (levels-more s cs c k fuel built active many)
-      (shaped-more (boxWidth (s .dimension)) (suc fuel) (fineOf s cs active) _ (fine-wide s cs active)
+      (shaped-more (boxWidth (s .dimension)) (suc fuel) (fineOf s cs (sizeFrom c k built active) active) _ (fine-wide s cs (sizeFrom c k built active) active)
       (levels-shaped fuel (suc built) (nextOf s cs c k built active))))
       (le-or-lt (length active) c)
 

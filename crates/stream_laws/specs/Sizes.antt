@@ -21,6 +21,6 @@ WithinLimits (broken r) = Unit {0}
 abbrev pub decisive : ℕ
 decisive = settingsSize + suc streamPoints * pointSize 3
 
--- the size of the output list that always suffices
+-- the size of the output list that always suffices (`printout-long`)
 abbrev pub mostBytes : ℕ
-mostBytes = 131072
+mostBytes = 135168

@@ -24,7 +24,7 @@ unfoldable pub inOrder : ℕ → (ℕ → Bool) → List ℕ → Bool
 inOrder least p [] = true
 inOrder least p (x ∷ xs) = leb least x && p x && inOrder (suc x) p xs
 
--- ---- the box of a leaf: the coarse level's domain has none
+-- ---- the box and the cover of a leaf: the coarse level's domain has no box
 abbrev pub boxed : ℕ → Bool → Leaf → Bool
 boxed d coarse = cond coarse (noBox d) (soundBox d)
 

@@ -5,8 +5,7 @@
 #[path = "../../src/packed.rs"]
 pub mod packed;
 
-pub use packed::row_floats;
-use packed::ROW_NUMBERS;
+use packed::{box_floats, ROW_NUMBERS};
 use std::ffi::{c_char, c_int, c_void, CStr, CString};
 use std::hint::black_box;
 
@@ -20,11 +19,27 @@ extern "C" {
 const RTLD_LOCAL: c_int = 0;
 const RTLD_NOW: c_int = 2;
 
-/// The two shared libraries that a comparison with an earlier commit is given: the earlier one, and the present one.
-pub fn libraries() -> [*mut c_void; 2] {
-    let paths: Vec<String> = std::env::args().skip(1).collect();
-    let [before, now] = &paths[..] else {
-        eprintln!("two shared libraries are needed: BEFORE NOW");
+/// The first version whose domain rows and samples have covers.
+const COVERS: usize = 500;
+
+/// What a comparison with an earlier commit is given: two shared libraries, the earlier one and the present one, and the earlier version.
+pub struct Against {
+    pub libraries: [*mut c_void; 2],
+    version: usize,
+}
+
+impl Against {
+    /// Whether the earlier library has covers.
+    pub fn had_covers(&self) -> bool {
+        self.version >= COVERS
+    }
+}
+
+/// The libraries and the version that the command names.
+pub fn against() -> Against {
+    let words: Vec<String> = std::env::args().skip(1).collect();
+    let ([before, now], Some(version)) = (&words[..words.len().min(2)], words.get(2).and_then(|word| word.parse().ok())) else {
+        eprintln!("two shared libraries and the version of the first are needed: BEFORE NOW VERSION");
         std::process::exit(2);
     };
     let libraries = [before, now].map(|path| {
@@ -34,7 +49,7 @@ pub fn libraries() -> [*mut c_void; 2] {
         library
     });
     assert!(libraries[0] != libraries[1], "one library twice");
-    libraries
+    Against { libraries, version }
 }
 
 /// What this library exports under this name.
@@ -124,7 +139,7 @@ impl Lent {
     /// Lists that are long enough to cut `n` rows.
     pub fn for_cut(n: usize, d: usize) -> Lent {
         let leaves = 2 * n;
-        Lent::new(n, ROW_NUMBERS * leaves, row_floats(d) * leaves, row_floats(d) * leaves, 6 * n)
+        Lent::new(n, ROW_NUMBERS * leaves, box_floats(d) * leaves, box_floats(d) * leaves, 6 * n)
     }
 
     /// Cuts the rows into leaves. The answer is their number.

@@ -1,4 +1,4 @@
-//! Document 01 with requests 2 and 4 of document 02 in plain Rust, from the papers alone: what the library's answers are compared with.
+//! Document 01 with requests 2, 4 and 5 of document 02 in plain Rust, from the papers alone: what the library's answers are compared with.
 #![allow(dead_code)]
 
 pub mod random;
@@ -24,6 +24,7 @@ pub struct Leaf {
     pub borrowed: Vec<usize>,
     pub lower: Vec<f64>,
     pub upper: Vec<f64>,
+    pub cover: f64,
 }
 
 #[derive(Clone, Debug, PartialEq)]
@@ -72,10 +73,20 @@ pub fn lent_refusal(coords: &[f64], d: usize, s: &Settings, lent: &[usize]) -> O
     if short { Some((11, 0)) } else { coordinate_refusal(coords) }
 }
 
+/// A box: its bounds.
+pub fn box_floats(d: usize) -> usize {
+    2 * d
+}
+
+/// What a domain row has in the list of the boxes: its box, then its cover.
+pub fn row_floats(d: usize) -> usize {
+    box_floats(d) + 1
+}
+
 /// The entries that each list needs: level_points, internals, domains, boxes, borrowed, floats, wholes; cuts, planes.
 pub fn stated(n: usize, d: usize, neighbours: u32) -> [usize; 9] {
     let (domains, near) = (6 * n + 1, neighbours as usize + 1);
-    [4 * n, 4 * n, 4 * domains, 2 * d * domains, 6 * n * near, 32 * n, 32 * n + 8 * n * near, 12 * n, 12 * n]
+    [4 * n, 4 * n, 4 * domains, row_floats(d) * domains, 6 * n * near, 32 * n, 32 * n + 8 * n * near, 12 * n, 12 * n]
 }
 
 fn coordinate_refusal(coords: &[f64]) -> Option<(usize, usize)> {
@@ -213,6 +224,15 @@ pub fn sample(points: &Points, rows: &[usize], wanted: usize, seed: usize) -> Ve
     out
 }
 
+/// How far the worst of the rows that were not chosen is from the nearest one that was: 0 where all were chosen, infinite where there are
+/// rows and none was.
+pub fn cover(points: &Points, rows: &[usize], chosen: &[usize]) -> f64 {
+    let apart = |i: usize, j: usize| distance_sq(points.row(i), points.row(j)).sqrt();
+    let nearest = |i: usize| chosen.iter().map(|j| apart(i, *j)).fold(f64::INFINITY, f64::min);
+    let left_out = rows.iter().filter(|i| !chosen.contains(i));
+    left_out.map(|i| nearest(*i)).fold(0.0, f64::max)
+}
+
 // ---- one level
 
 struct Domain {
@@ -270,7 +290,7 @@ pub fn leaves(points: &Points, leaf: u32, active: &[usize]) -> Vec<Leaf> {
             if domain.rows.len() as u64 >= 2 * leaf as u64 {
                 queue.push_back(half);
             } else {
-                out.push(Leaf { own: half.rows, borrowed: Vec::new(), lower: half.lower, upper: half.upper });
+                out.push(Leaf { own: half.rows, borrowed: Vec::new(), lower: half.lower, upper: half.upper, cover: 0.0 });
             }
         }
     }
@@ -385,6 +405,14 @@ pub fn send(points: &Points, leaves: &[Leaf], size: usize) -> Vec<usize> {
     next
 }
 
+/// Gives each leaf the cover of the rows that it sends: those of its own that are in the next level.
+pub fn set_covers(points: &Points, leaves: &mut [Leaf], next: &[usize]) {
+    for leaf in leaves {
+        let sent: Vec<usize> = leaf.own.iter().copied().filter(|i| next.binary_search(i).is_ok()).collect();
+        leaf.cover = cover(points, &leaf.own, &sent);
+    }
+}
+
 pub fn build(coords: &[f64], d: usize, s: &Settings) -> Result<Vec<Level>, (usize, usize)> {
     if let Some(refused) = refusal(coords, d, s) {
         return Err(refused);
@@ -400,11 +428,12 @@ pub fn build(coords: &[f64], d: usize, s: &Settings) -> Result<Vec<Level>, (usiz
         borrow(&points, s.neighbours, &active, &mut leaves);
         let r = k.saturating_sub(levels.len() as u32).max(1);
         let next = send(&points, &leaves, level_size(active.len(), c, r));
+        set_covers(&points, &mut leaves, &next);
         levels.push(Level { rows: active, leaves });
         active = next;
     }
     let zeros = vec![0.0; d];
-    let leaf = Leaf { own: active.clone(), borrowed: Vec::new(), lower: zeros.clone(), upper: zeros };
+    let leaf = Leaf { own: active.clone(), borrowed: Vec::new(), lower: zeros.clone(), upper: zeros, cover: 0.0 };
     levels.push(Level { rows: active, leaves: vec![leaf] });
     Ok(levels)
 }

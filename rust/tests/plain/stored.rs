@@ -1,5 +1,5 @@
-//! Request 1 of document 02 in plain Rust, written from its words alone: the file of a tree, and a loader with the same tests.
-use super::{Leaf, Level, Policy, Settings};
+//! Requests 1 and 5 of document 02 in plain Rust, written from their words alone: the file of a tree, and a loader with the same tests.
+use super::{box_floats, row_floats, Level, Policy, Settings};
 
 /// The five lists of a tree, packed level by level and leaf by leaf.
 #[derive(Clone, Debug, Default, PartialEq)]
@@ -23,8 +23,10 @@ pub fn packed(tree: &[Level], d: usize) -> Packed {
             lists.domains.extend([lists.internals.len(), leaf.own.len(), lists.borrowed.len(), leaf.borrowed.len()]);
             lists.internals.extend(&leaf.own);
             lists.borrowed.extend(&leaf.borrowed);
+            let start = lists.boxes.len();
             lists.boxes.extend(leaf.lower.iter().chain(&leaf.upper));
-            lists.boxes.resize(lists.domains.len() / 4 * 2 * d, 0.0);
+            lists.boxes.resize(start + box_floats(d), 0.0);
+            lists.boxes.push(leaf.cover);
         }
     }
     lists
@@ -84,9 +86,9 @@ pub fn store(coords: &[f64], d: usize, s: &Settings, lists: &Packed) -> Vec<u8> 
             numbers(&mut out, &[at[1], at[3]]);
             numbers(&mut out, &lists.internals[at[0]..at[0] + at[1]]);
             numbers(&mut out, &lists.borrowed[at[2]..at[2] + at[3]]);
-            if t + 1 < lists.rows.len() {
-                floats(&mut out, &lists.boxes[2 * d * j..2 * d * (j + 1)]);
-            }
+            let row = &lists.boxes[row_floats(d) * j..row_floats(d) * (j + 1)];
+            let coarse = t + 1 == lists.rows.len();
+            floats(&mut out, if coarse { &row[box_floats(d)..] } else { row });
         }
         row += rows;
         domain += leaves;
@@ -122,8 +124,8 @@ pub fn passes(coords: &[f64], d: usize, s: &Settings, lists: &Packed) -> bool {
                 return false;
             }
             own.iter().for_each(|&i| above[i] = true);
-            let bounds = &lists.boxes[2 * d * j..2 * d * (j + 1)];
-            if bounds.iter().any(|x| if last { x.to_bits() != 0 } else { x.is_nan() }) {
+            let (bounds, cover) = lists.boxes[row_floats(d) * j..row_floats(d) * (j + 1)].split_at(box_floats(d));
+            if bounds.iter().any(|x| if last { x.to_bits() != 0 } else { x.is_nan() }) || cover[0].is_nan() {
                 return false;
             }
             (own_at, lent) = (own_at + at[1], lent + at[3]);
@@ -249,15 +251,14 @@ fn level(r: &mut Reader, d: usize, n: usize, above: &mut Vec<bool>, lists: &mut 
         }
         many += own;
         lists.domains.extend([first, own, next, borrowed]);
-        if domains == 1 {
-            lists.boxes.extend(std::iter::repeat(0.0).take(2 * d));
-        } else {
-            for x in r.floats(2 * d)? {
-                if x.is_nan() {
-                    return None;
-                }
-                lists.boxes.push(x);
+        // the coarse domain has a cover and no box
+        let absent = if domains == 1 { box_floats(d) } else { 0 };
+        lists.boxes.extend(std::iter::repeat(0.0).take(absent));
+        for x in r.floats(row_floats(d) - absent)? {
+            if x.is_nan() {
+                return None;
             }
+            lists.boxes.push(x);
         }
     }
     lists.rows.push(count);
@@ -311,9 +312,4 @@ pub fn load(coords: &[f64], d: usize, s: &Settings, bytes: &[u8]) -> Result<Pack
         return Err(18);
     }
     if stood.same_points { Ok(stood.lists) } else { Err(19) }
-}
-
-/// A leaf without a box, for trees made by hand.
-pub fn bare(own: Vec<usize>, borrowed: Vec<usize>, lower: Vec<f64>, upper: Vec<f64>) -> Leaf {
-    Leaf { own, borrowed, lower, upper }
 }

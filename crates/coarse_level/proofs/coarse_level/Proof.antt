@@ -12,8 +12,8 @@ put-row-requires c κs = search needs
 floats-before-requires : tie.Need-floats-before-requires
 floats-before-requires c κs = search needs
 
-box-width-requires : tie.Need-box-width-requires
-box-width-requires c κs = search needs
+row-floats-requires : tie.Need-row-floats-requires
+row-floats-requires c κs = search needs
 
 put-zeros-requires : tie.Need-put-zeros-requires
 put-zeros-requires c κs = search needs
@@ -30,7 +30,7 @@ same-length-3 c = search needs
 returns : tie.Need-returns
 returns c =
     let zeros = c .before .before .put-zeros .ensures in
-    let width = c .before .before .before .box-width .ensures in
+    let width = c .before .before .before .row-floats .ensures in
     let start = c .before .before .before .before .floats-before .ensures in
     (c .before .before .before .before .before .before .before .before .before .before .before .before .copy-rows .ensures, (c .before .before .before .before .before .before .before .before .put-row .ensures, rw (start, width) at zeros))
 
@@ -41,7 +41,7 @@ coarse-level-spec =
     copy-rows-requires
     put-row-requires
     floats-before-requires
-    box-width-requires
+    row-floats-requires
     put-zeros-requires
     same-length
     same-length-2

@@ -1,10 +1,6 @@
 -- `coarse_points::send_leaf` meets its contract: the lent stretch of the internals is the leaf's own rows. Assumes nothing.
-use mathlib.Core.Path.{ap, _∙_}
-use mathlib.Core.List.{List}
-use Prim.Native.Nat.{ℕ}
 use native.Mathlib.Omega.{arith}
-use Rattle.lists.specs.Lists.{put}
-use Rattle.definition.specs.Sampling.{sentBy}
+use Rattle.coarse_points.proofs.Covering.{leaf-lent}
 use Rattle.coarse_points.proofs.Stages.{own-lent, lent-good, lent-length}
 use borrow.Author.Needs.{needs}
 use Rattle.coarse_points.proofs.send_leaf.Statement.{statement}
@@ -50,8 +46,9 @@ returns : tie.Need-returns
 returns c =
     let a = c .before .before .before .before .before .before .before .before .before .before .before .before .before .before .before .args in
     let row = c .before .before .before .before .before .before .before .before .before .read-row in
-    c .before .before .before .before .sample-leaf .ensures
-    ∙ ap (λ (z : List ℕ). put (a .level-points .now) (a .at) (sentBy (a .dimensions) (a .points .now) z (a .quota))) (own-lent (a .internals .now) (a .domains .now) (a .r) (row .result) (row .ensures))
+    let sl = c .before .before .before .before .sample-leaf in
+    leaf-lent (a .dimensions) (a .points .now) _ _ (a .quota) (own-lent (a .internals .now) (a .domains .now) (a .r) (row .result) (row .ensures))
+    (a .level-points .now) _ (a .at) (sl .result) (sl .ensures .0) (sl .ensures .1)
 
 pub send-leaf-spec : {M : Type 1} → statement M
 send-leaf-spec =

@@ -6,7 +6,7 @@ use native.Mathlib.Omega.{arith}
 use borrow.Author.Needs.{needs}
 use lib.Ieee.{Float}
 use Rattle.lists.specs.Lists.{put, joined}
-use Rattle.definition.specs.Packed.{rowFloats}
+use Rattle.definition.specs.Points.{boxWidth}
 use Rattle.queue.specs.Rows.{withOwn}
 use Rattle.rows.proofs.Good.{good-inside}
 use Rattle.record_laws.specs.Table.{rowsUnder}
@@ -104,7 +104,7 @@ returns c =
           (
             e .1 .0 ∙ ap (λ (z : List (List ℕ)). withOwn (a .args .at) z (a .args .first) (a .args .domains .now)) rows,
             (
-              e .1 .1 .0 ∙ ap (λ (z : List (List Float)). put (a .args .boxes .now) (rowFloats d * a .args .first) (joined z)) (level.level-boxes d cs (g .0) leaf (g .2) R (g .4) (g .3) (x .last .1 .1 .1 .0) (x .last .1 .1 .1 .1 .1 .1 .1 .1 .0) (x .last .1 .1 .1 .1 .1 .1 .1 .0) (x .last .1 .1 .1 .1 .1 .1 .1 .1 .1 .0) (x .last .1 .1 .1 .1 .1 .1 .1 .1 .1 .1 .0) eR w (x .kept .1 .1 .1 .0) (x .kept .1 .1 .1 .1 .1 .1 .1 .1 .0) (x .kept .1 .1 .1 .1 .1 .1 .1 .0) (x .kept .1 .1 .1 .1 .1 .1 .1 .1 .1 .0) room),
+              e .1 .1 .0 ∙ ap (λ (z : List (List Float)). put (a .args .boxes .now) (boxWidth d * a .args .first) (joined z)) (level.level-boxes d cs (g .0) leaf (g .2) R (g .4) (g .3) (x .last .1 .1 .1 .0) (x .last .1 .1 .1 .1 .1 .1 .1 .1 .0) (x .last .1 .1 .1 .1 .1 .1 .1 .0) (x .last .1 .1 .1 .1 .1 .1 .1 .1 .1 .0) (x .last .1 .1 .1 .1 .1 .1 .1 .1 .1 .1 .0) eR w (x .kept .1 .1 .1 .0) (x .kept .1 .1 .1 .1 .1 .1 .1 .1 .0) (x .kept .1 .1 .1 .1 .1 .1 .1 .0) (x .kept .1 .1 .1 .1 .1 .1 .1 .1 .1 .0) room),
               (e .1 .1 .1 ∙ level.level-cuts-are d cs (g .0) leaf (g .2) R (g .4) (g .3) (x .last .1 .1 .1 .0) (x .last .1 .1 .1 .1 .1 .1 .1 .1 .0) (x .last .1 .1 .1 .1 .1 .1 .1 .0) (x .last .1 .1 .1 .1 .1 .1 .1 .1 .1 .0) (x .last .1 .1 .1 .1 .1 .1 .1 .1 .1 .1 .0) eR w (x .kept .1 .1 .1 .0) (x .kept .1 .1 .1 .1 .1 .1 .1 .1 .0) (x .kept .1 .1 .1 .1 .1 .1 .1 .0) (x .kept .1 .1 .1 .1 .1 .1 .1 .1 .1 .0) room, level.level-planes d cs (g .0) leaf (g .2) R (g .4) (g .3) (x .last .1 .1 .1 .0) (x .last .1 .1 .1 .1 .1 .1 .1 .1 .0) (x .last .1 .1 .1 .1 .1 .1 .1 .0) (x .last .1 .1 .1 .1 .1 .1 .1 .1 .1 .0) (x .last .1 .1 .1 .1 .1 .1 .1 .1 .1 .1 .0) eR w (x .kept .1 .1 .1 .0) (x .kept .1 .1 .1 .1 .1 .1 .1 .1 .0) (x .kept .1 .1 .1 .1 .1 .1 .1 .0) (x .kept .1 .1 .1 .1 .1 .1 .1 .1 .1 .0) room),
             ),
           ),

@@ -3,13 +3,19 @@ use mathlib.Core.Path.{refl}
 use native.Mathlib.Omega.{arith}
 use borrow.Author.Tests.{not-true, not-false}
 use Rattle.file_reader.proofs.Fetches.{parts-within}
+use Rattle.file_reader.proofs.LastFloats.{record-few}
 use Rattle.file_domains.proofs.OneDomain.{no-record, too-many, bad-rows, bad-box, domain-good}
 use borrow.Author.Needs.{needs}
 use Rattle.file_domains.proofs.check_domain.Statement.{statement}
 use Rattle.file_domains.proofs.check_domain.Tie as tie
 
-box-bytes-requires : tie.Need-box-bytes-requires
-box-bytes-requires c κs = search needs
+record-floats-requires : tie.Need-record-floats-requires
+record-floats-requires c κs = search needs
+
+mul-fetch-domain : tie.Need-mul-fetch-domain
+mul-fetch-domain c =
+    let a = c .before .before .before .before .args in
+    omega (arith, c .record-floats .ensures, record-few (a .dimensions) (a .coarse), c .before .before .before .before .pre .0)
 
 fetch-domain-requires : tie.Need-fetch-domain-requires
 fetch-domain-requires c κs = search needs
@@ -20,7 +26,7 @@ not-passed-requires c κs = search needs
 returns : tie.Need-returns
 returns c =
     let f = c .before .before .before in
-    λ p q m n. no-record _ _ _ _ _ _ (f .before .box-bytes .ensures) (f .fetch-domain .ensures) _ p q _ _ _ (not-true _ (c .before .if1 .taken)) (c .not-passed .ensures)
+    λ p q m n. no-record _ _ _ _ _ _ (f .before .record-floats .ensures) (f .fetch-domain .ensures) _ p q _ _ _ (not-true _ (c .before .if1 .taken)) (c .not-passed .ensures)
 
 not-passed-requires-2 : tie.Need-not-passed-requires-2
 not-passed-requires-2 c κs = search needs
@@ -28,7 +34,7 @@ not-passed-requires-2 c κs = search needs
 returns-2 : tie.Need-returns-2
 returns-2 c =
     let f = c .before .before .before .before .before in
-    λ p q m n. too-many _ _ _ _ _ _ (f .before .box-bytes .ensures) (f .fetch-domain .ensures) _ p q _ _ _ (not-false _ (c .before .before .before .if1 .left)) (c .before .if2 .taken) (c .not-passed2 .ensures)
+    λ p q m n. too-many _ _ _ _ _ _ (f .before .record-floats .ensures) (f .fetch-domain .ensures) _ p q _ _ _ (not-false _ (c .before .before .before .if1 .left)) (c .before .if2 .taken) (c .not-passed2 .ensures)
 
 rows-pass-requires : tie.Need-rows-pass-requires
 rows-pass-requires c κs =
@@ -49,15 +55,15 @@ same-length-2 c = search needs
 returns-3 : tie.Need-returns-3
 returns-3 c =
     let f = c .before .before .before .before .before .before .before .before .before .before .before .before .before in
-    λ p q m n. bad-rows _ _ _ _ _ _ (f .before .box-bytes .ensures) (f .fetch-domain .ensures) _ p q _ _ _ (not-false _ (c .before .before .before .before .before .before .before .before .before .before .before .if1 .left)) (c .before .before .before .before .before .before .before .before .before .if2 .left)
+    λ p q m n. bad-rows _ _ _ _ _ _ (f .before .record-floats .ensures) (f .fetch-domain .ensures) _ p q _ _ _ (not-false _ (c .before .before .before .before .before .before .before .before .before .before .before .if1 .left)) (c .before .before .before .before .before .before .before .before .before .if2 .left)
     _ (c .before .before .before .before .before .before .rows-pass .ensures p q m n) (not-true _ (c .before .if3 .taken)) (c .not-passed3 .ensures)
 
-box-passes-requires : tie.Need-box-passes-requires
-box-passes-requires c κs =
+no-nan-at-requires : tie.Need-no-nan-at-requires
+no-nan-at-requires c κs =
     let f = c .before .before .before .before .before .before .before .before .before .before .before .before in
     let a = f .before .before .before .before .before .args in
     let k = parts-within (a .bytes .now) (a .at) _ (f .fetch-domain .result) (f .fetch-domain .ensures) (not-false _ (c .before .before .before .before .before .before .before .before .before .before .if1 .left)) in
-    (omega arith, omega (arith, f .before .box-bytes .ensures))
+    omega arith
 
 not-passed-requires-4 : tie.Need-not-passed-requires-4
 not-passed-requires-4 c κs = search needs
@@ -71,8 +77,8 @@ same-length-4 c = search needs
 returns-4 : tie.Need-returns-4
 returns-4 c =
     let f = c .before .before .before .before .before .before .before .before .before .before .before .before .before .before .before in
-    λ p q m n. bad-box _ _ _ _ _ _ (f .before .box-bytes .ensures) (f .fetch-domain .ensures) _ p q _ _ _ (not-false _ (c .before .before .before .before .before .before .before .before .before .before .before .before .before .if1 .left)) (c .before .before .before .before .before .before .before .before .before .before .before .if2 .left)
-    _ (c .before .before .before .before .before .before .before .before .rows-pass .ensures p q m n) (not-false _ (c .before .before .before .if3 .left)) _ (c .before .before .box-passes .ensures) (not-true _ (c .before .if4 .taken)) (c .not-passed4 .ensures)
+    λ p q m n. bad-box _ _ _ _ _ _ (f .before .record-floats .ensures) (f .fetch-domain .ensures) _ p q _ _ _ (not-false _ (c .before .before .before .before .before .before .before .before .before .before .before .before .before .if1 .left)) (c .before .before .before .before .before .before .before .before .before .before .before .if2 .left)
+    _ (c .before .before .before .before .before .before .before .before .rows-pass .ensures p q m n) (not-false _ (c .before .before .before .if3 .left)) _ (c .before .before .no-nan-at .ensures) (not-true _ (c .before .if4 .taken)) (c .not-passed4 .ensures)
 
 same-length-5 : tie.Need-same-length-5
 same-length-5 c = search needs
@@ -83,14 +89,15 @@ same-length-6 c = search needs
 returns-5 : tie.Need-returns-5
 returns-5 c =
     let f = c .before .before .before .before .before .before .before .before .before .before .before .before .before .before in
-    λ p q m n. domain-good _ _ _ _ _ _ (f .before .box-bytes .ensures) (f .fetch-domain .ensures) _ p q _ _ _ (not-false _ (c .before .before .before .before .before .before .before .before .before .before .before .before .if1 .left)) (c .before .before .before .before .before .before .before .before .before .before .if2 .left)
-    _ (c .before .before .before .before .before .before .before .rows-pass .ensures p q m n) (not-false _ (c .before .before .if3 .left)) _ (c .before .box-passes .ensures) (not-false _ (c .if4 .left)) refl
+    λ p q m n. domain-good _ _ _ _ _ _ (f .before .record-floats .ensures) (f .fetch-domain .ensures) _ p q _ _ _ (not-false _ (c .before .before .before .before .before .before .before .before .before .before .before .before .if1 .left)) (c .before .before .before .before .before .before .before .before .before .before .if2 .left)
+    _ (c .before .before .before .before .before .before .before .rows-pass .ensures p q m n) (not-false _ (c .before .before .if3 .left)) _ (c .before .no-nan-at .ensures) (not-false _ (c .if4 .left)) refl
 
 pub check-domain-spec : {M : Type 1} → statement M
 check-domain-spec =
     tie.close
     (tie.spec
-    box-bytes-requires
+    record-floats-requires
+    mul-fetch-domain
     fetch-domain-requires
     not-passed-requires
     returns
@@ -101,7 +108,7 @@ check-domain-spec =
     same-length
     same-length-2
     returns-3
-    box-passes-requires
+    no-nan-at-requires
     not-passed-requires-4
     same-length-3
     same-length-4

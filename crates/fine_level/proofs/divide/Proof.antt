@@ -1,15 +1,27 @@
 -- `fine_level::divide` meets its contract. Assumes nothing.
 use mathlib.Core.Path.{sym, ap, _∙_}
 use mathlib.Core.List.{List}
-use Prim.Native.Nat.{ℕ, _*_}
+use Prim.Native.Nat.{ℕ}
 use native.Mathlib.Omega.{arith}
 use borrow.Author.Needs.{needs}
 use lib.ListN.{length}
-use lib.Ieee.{Float}
 use Rattle.lists.specs.Lists.{put, joined}
-use Rattle.fine_level.proofs.Stages.{level-own, level-borrowed, level-box, level-number, leaves-read, overlaps-ready, overlaps-rows, boxes-room, codes-room}
+use Rattle.fine_level.proofs.Stages.{level-own, level-borrowed, level-number, leaves-read, overlaps-ready, overlaps-rows, boxes-room, codes-room}
+use Rattle.fine_level.proofs.Sent.{lent-fits, boxes-packed}
 use Rattle.fine_level.proofs.divide.Statement.{statement}
 use Rattle.fine_level.proofs.divide.Tie as tie
+
+mul-cut-level : tie.Need-mul-cut-level
+mul-cut-level c = search needs
+
+sub-cut-level : tie.Need-sub-cut-level
+sub-cut-level c = search needs
+
+part-cut-level-start : tie.Need-part-cut-level-start
+part-cut-level-start c = search needs
+
+part-cut-level-end : tie.Need-part-cut-level-end
+part-cut-level-end c = search needs
 
 cut-level-requires : tie.Need-cut-level-requires
 cut-level-requires c κs =
@@ -18,7 +30,7 @@ cut-level-requires c κs =
       (p .0 .axes, p .0 .axes-few, p .0 .leaf-some, p .0 .rows-some, p .0 .good),
       (
         (omega (arith, p .1 .1 .0 .wholes), omega (arith, boxes-room (P .plan .dimensions) (length (P .active .now)) (p .0 .axes-few), p .1 .1 .0 .floats)),
-        ((p .1 .0 .internals, p .1 .0 .domains, p .1 .0 .boxes), p .1 .1 .1),
+        ((p .1 .0 .internals, p .1 .0 .domains, lent-fits _ _ _ _ _ (p .0) (P .boxes .now) (P .place .first) (p .1 .0 .boxes)), p .1 .1 .1),
       ),
     )
 
@@ -69,7 +81,7 @@ returns c =
         (
           rows,
           (
-            l .1 .1 .1 .0 ∙ ap (λ (z : List (List Float)). put (P .boxes .now) (2 * P .plan .dimensions * P .place .first) (joined z)) (sym (level-box _ _ _ (P .plan .neighbours) _)),
+            boxes-packed _ _ _ _ _ (p .0) (P .boxes .now) (P .place .first) (p .1 .0 .boxes) _ (l .1 .1 .1 .0),
             (lent .1 .0, l .1 .1 .1 .1),
           ),
         ),
@@ -80,6 +92,10 @@ pub divide-spec : {M : Type 1} → statement M
 divide-spec =
     tie.close
     (tie.spec
+    mul-cut-level
+    sub-cut-level
+    part-cut-level-start
+    part-cut-level-end
     cut-level-requires
     overlaps-requires
     same-length

@@ -9,7 +9,7 @@ use Rattle.lists.proofs.Put.{put-whole}
 use Rattle.rows.proofs.Good.{good-inside}
 use Rattle.queue.proofs.Loop.{cutsLeft}
 use Rattle.queue.proofs.View.{roomIn, packed-length}
-use Rattle.definition.specs.Packed.{rowFloats}
+use Rattle.definition.specs.Points.{boxWidth}
 use Rattle.boxes.specs.Boxes.{floatsOf}
 use Rattle.leaves.proofs.Turns.{Run, KeptLengths, kept-next, run-first, run-end, found-all, front, known}
 use Rattle.leaves.proofs.Turns.{lent-good, lent-some, spare-length, lent-room, rows-kept, room-kept, wait, wait-less, next-leaves, next-leaves-less, width-most, axis-fit}
@@ -19,7 +19,7 @@ use Rattle.leaves.proofs.cut_leaves.Tie as tie
 abbrev Inv-loop : tie.InvT-loop
 Inv-loop points dimensions leaf rows₀ at domains₀ first boxes₀ floats₀ wholes₀ n base stride head₀ tail₀ done₀ k₀ rows domains boxes floats wholes head tail done k =
     Run dimensions points leaf rows₀ domains₀ boxes₀ wholes₀ floats₀ at first rows wholes domains floats boxes head tail done k
-    × KeptLengths wholes₀ domains₀ floats₀ boxes₀ wholes domains floats boxes × (stride ≡ rowFloats dimensions)
+    × KeptLengths wholes₀ domains₀ floats₀ boxes₀ wholes domains floats boxes × (stride ≡ boxWidth dimensions)
 
 abbrev μ-loop : tie.MeasureT-loop
 μ-loop points dimensions leaf rows₀ at domains₀ first boxes₀ floats₀ wholes₀ n base stride head₀ tail₀ done₀ k₀ rows domains boxes floats wholes head tail done k =
@@ -28,8 +28,8 @@ abbrev μ-loop : tie.MeasureT-loop
 mul-base : tie.Need-mul-base Inv-loop μ-loop
 mul-base c = search needs
 
-row-floats-requires : tie.Need-row-floats-requires Inv-loop μ-loop
-row-floats-requires c κs = search needs
+box-width-requires : tie.Need-box-width-requires Inv-loop μ-loop
+box-width-requires c κs = search needs
 
 put-root-requires : tie.Need-put-root-requires Inv-loop μ-loop
 put-root-requires c κs =
@@ -54,7 +54,7 @@ loop-holds c =
         cap-floats = omega (arith, r .put-root .kept .1 .1 .1 .0, a .good .1 .1 .1 .1 .1 .1 .1 .1 .0 .0);
         cap-B = omega (arith, a .good .1 .1 .1 .1 .1 .1 .1 .0 .0);
       },
-      c .before .before .before .before .before .before .before .before .row-floats .ensures,
+      c .before .before .before .before .before .before .before .before .box-width .ensures,
     )
 
 mul-place : tie.Need-mul-place Inv-loop μ-loop
@@ -382,7 +382,7 @@ cut-leaves-spec =
     Inv-loop
     μ-loop
     mul-base
-    row-floats-requires
+    box-width-requires
     put-root-requires
     loop-holds
     mul-place

@@ -60,7 +60,7 @@ add-first c =
     let yes = sym (c .before .before .before .before .before .before .before .before .before .before .before .before .before .before .before .before .before .before .before .before .before .before .before .before .before .before .before .before .before .before .before .is-fine .ensures) ∙ c .before .before .before .before .before .before .before .before .before .before .before .before .before .before .before .before .before .before .before .before .before .before .before .before .before .before .before .before .before .before .if1 .taken in
     let some = c .before .before .before .before .before .before .before .before .before .before .before .before .before .before .before .before .before .before .before .before .before .before .before .before .before .before .before .before .before .before .before .before .before .before .before .before .before .before .before .before .before .before .before .pre .0 .0 in
     let good = c .before .before .before .before .before .before .before .before .before .before .before .before .before .before .before .before .before .before .before .before .before .before .before .before .before .before .before .before .before .before .before .before .before .before .before .before .before .before .before .before .before .before .before .good in
-    omega (arith, v .long .domains, first-fits _ _ v yes some (c .before .before .before .before .before .before .before .before .before .before .before .before .before .before .before .before .before .before .before .fine-level .ensures .0 .0))
+    omega (arith, v .long .domains, first-fits _ _ v yes some _ (c .before .before .before .before .before .before .before .before .before .before .before .before .before .before .before .before .before .before .before .fine-level .ensures .0 .0))
 
 add-bat : tie.Need-add-bat Inv-loop μ-loop
 add-bat c =
@@ -68,7 +68,7 @@ add-bat c =
     let yes = sym (c .before .before .before .before .before .before .before .before .before .before .before .before .before .before .before .before .before .before .before .before .before .before .before .before .before .before .before .before .before .before .before .before .is-fine .ensures) ∙ c .before .before .before .before .before .before .before .before .before .before .before .before .before .before .before .before .before .before .before .before .before .before .before .before .before .before .before .before .before .before .before .if1 .taken in
     let some = c .before .before .before .before .before .before .before .before .before .before .before .before .before .before .before .before .before .before .before .before .before .before .before .before .before .before .before .before .before .before .before .before .before .before .before .before .before .before .before .before .before .before .before .before .pre .0 .0 in
     let good = c .before .before .before .before .before .before .before .before .before .before .before .before .before .before .before .before .before .before .before .before .before .before .before .before .before .before .before .before .before .before .before .before .before .before .before .before .before .before .before .before .before .before .before .before .good in
-    omega (arith, v .long .borrowed, bat-fits _ _ v yes some (c .before .before .before .before .before .before .before .before .before .before .before .before .before .before .before .before .before .before .before .before .fine-level .ensures .0 .1))
+    omega (arith, v .long .borrowed, bat-fits _ _ v yes some _ (c .before .before .before .before .before .before .before .before .before .before .before .before .before .before .before .before .before .before .before .before .fine-level .ensures .0 .1))
 
 add-node : tie.Need-add-node Inv-loop μ-loop
 add-node c =
@@ -97,7 +97,7 @@ loop-again c =
     let rest = next-rest _ _ v yes some size (w .0 .0) (w .0 .1) (w .0 .2) (w .1 .0) (w .1 .1 .0) (w .1 .1 .1 .0) (w .1 .1 .1 .1 .0) (w .1 .1 .1 .1 .1 .0) in
     let fewer = next-fewer _ _ v yes some size (w .0 .0) (w .0 .1) (w .0 .2) (w .1 .0) (w .1 .1 .0) (w .1 .1 .1 .0) (w .1 .1 .1 .1 .0) (w .1 .1 .1 .1 .1 .0) in (
       levels-next _ _ v yes some size (w .0 .0) (w .0 .1) (w .0 .2) (w .1 .0) (w .1 .1 .0) (w .1 .1 .1 .0) (w .1 .1 .1 .1 .0) (w .1 .1 .1 .1 .1 .0) _ _ (search needs) (search needs),
-      noted-next (c .before .before .before .before .before .before .before .before .before .before .before .before .before .before .before .before .before .before .before .before .before .before .before .before .before .before .before .before .before .before .before .before .before .before .loop .inv .1) (levels-left _ _ v yes some) rest fewer (w .0 .3) (w .0 .4) (w .1 .1 .1 .1 .1 .1 .0) (w .1 .1 .1 .1 .1 .1 .1),
+      noted-next (c .before .before .before .before .before .before .before .before .before .before .before .before .before .before .before .before .before .before .before .before .before .before .before .before .before .before .before .before .before .before .before .before .before .before .loop .inv .1) (levels-left _ _ v yes some) _ rest fewer (w .0 .3) (w .0 .4) (w .1 .1 .1 .1 .1 .1 .0) (w .1 .1 .1 .1 .1 .1 .1),
     )
 
 coarse-level-requires : tie.Need-coarse-level-requires Inv-loop μ-loop

@@ -20,18 +20,18 @@ returns c =
 floats-before-requires : tie.Need-floats-before-requires
 floats-before-requires c κs = search needs
 
-row-floats-requires : tie.Need-row-floats-requires
-row-floats-requires c κs = search needs
+box-width-requires : tie.Need-box-width-requires
+box-width-requires c κs = search needs
 
-bounds-fit-requires : tie.Need-bounds-fit-requires
-bounds-fit-requires c κs = search needs
+floats-fit-requires : tie.Need-floats-fit-requires
+floats-fit-requires c κs = search needs
 
 returns-2 : tie.Need-returns-2
 returns-2 c =
     let start = c .before .before .before .before .before .before .before .before .before .before .before .before .before in
     let tested = c .before .before .before .before in
     box-off _ _ _ _ _ _ _ _ _ (start .pre) _ (tested .before .before .read-row .ensures) _ (tested .before .stretches-fit .ensures) (not-false _ (tested .if1 .left)) _ _
-    (c .before .before .before .floats-before .ensures) (c .before .before .row-floats .ensures) _ (c .before .bounds-fit .ensures) (not-true _ (c .if2 .taken)) _ _
+    (c .before .before .before .floats-before .ensures) (c .before .before .box-width .ensures) _ (c .before .floats-fit .ensures) (not-true _ (c .if2 .taken)) _ _
 
 rows-pass-requires : tie.Need-rows-pass-requires
 rows-pass-requires c κs =
@@ -62,7 +62,7 @@ returns-3 c =
     let tested = boxes .before .before .before .before in
     let start = tested .before .before .before .before .before .before .before .before .before in
     rows-tell _ _ _ _ _ _ _ _ _ (start .pre) _ (tested .before .before .read-row .ensures) _ (tested .before .stretches-fit .ensures) (not-false _ (tested .if1 .left)) _ _
-    (boxes .before .before .before .floats-before .ensures) (boxes .before .before .row-floats .ensures) _ (boxes .before .bounds-fit .ensures) (not-false _ (boxes .if2 .left)) _ _ _
+    (boxes .before .before .before .floats-before .ensures) (boxes .before .before .box-width .ensures) _ (boxes .before .floats-fit .ensures) (not-false _ (boxes .if2 .left)) _ _ _
     (at-rows .rows-pass .ensures)
 
 pub check-domain-spec : {M : Type 1} → statement M
@@ -73,8 +73,8 @@ check-domain-spec =
     stretches-fit-requires
     returns
     floats-before-requires
-    row-floats-requires
-    bounds-fit-requires
+    box-width-requires
+    floats-fit-requires
     returns-2
     rows-pass-requires
     same-length

@@ -6,14 +6,14 @@ use borrow.Author.Needs.{needs}
 use Rattle.print_tree.proofs.write_box.Statement.{statement}
 use Rattle.print_tree.proofs.write_box.Tie as tie
 
-write-bounds-requires : tie.Need-write-bounds-requires
-write-bounds-requires c κs = room-spelt (box-fine _ _ (c .before .if1 .taken)) (c .before .before .before .before .pre)
+write-floats-requires : tie.Need-write-floats-requires
+write-floats-requires c κs = room-spelt (box-fine _ _ (c .before .if1 .taken)) (c .before .before .before .before .pre)
 
 same-length : tie.Need-same-length
 same-length c = search needs
 
 returns : tie.Need-returns
-returns c = spelt (sym (box-fine _ _ (c .before .before .before .before .if1 .taken))) (c .before .before .write-bounds .ensures)
+returns c = spelt (sym (box-fine _ _ (c .before .before .before .before .if1 .taken))) (c .before .before .write-floats .ensures)
 
 slice-aggregate-write-text : tie.Need-slice-aggregate-write-text
 slice-aggregate-write-text c = search needs
@@ -31,7 +31,7 @@ pub write-box-spec : {M : Type 1} → statement M
 write-box-spec =
     tie.close
     (tie.spec
-    write-bounds-requires
+    write-floats-requires
     same-length
     returns
     slice-aggregate-write-text

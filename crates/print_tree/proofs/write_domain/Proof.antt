@@ -15,7 +15,7 @@ unfolding ascii
 write-numbered-requires c κs =
     let start = c .before .before .before .before .before .before in
     let a = start .args in
-    let f = leafOf (a .own .now) (a .borrowed .now) (a .bounds .now) in
+    let f = leafOf (a .own .now) (a .borrowed .now) (a .bounds .now) (a .cover) in
     let box = boxPart (a .fine) (a .bounds .now) in
     let w0 = begin (domainTexts (a .i) f box) (domain-texts (a .i) f box) (start .pre) in
     text-room w0 tt
@@ -28,7 +28,7 @@ unfolding ascii
 write-listed-requires c κs =
     let start = c .before .before .before .before .before .before .before .before .before .before .before in
     let a = start .args in
-    let f = leafOf (a .own .now) (a .borrowed .now) (a .bounds .now) in
+    let f = leafOf (a .own .now) (a .borrowed .now) (a .bounds .now) (a .cover) in
     let box = boxPart (a .fine) (a .bounds .now) in
     let w0 = begin (domainTexts (a .i) f box) (domain-texts (a .i) f box) (start .pre) in
     let w1 = text-added w0 tt (c .before .before .before .before .write-numbered .ensures) in
@@ -42,7 +42,7 @@ unfolding ascii
 write-listed-requires-2 c κs =
     let start = c .before .before .before .before .before .before .before .before .before .before .before .before .before .before .before .before in
     let a = start .args in
-    let f = leafOf (a .own .now) (a .borrowed .now) (a .bounds .now) in
+    let f = leafOf (a .own .now) (a .borrowed .now) (a .bounds .now) (a .cover) in
     let box = boxPart (a .fine) (a .bounds .now) in
     let w0 = begin (domainTexts (a .i) f box) (domain-texts (a .i) f box) (start .pre) in
     let w1 = text-added w0 tt (c .before .before .before .before .before .before .before .before .before .write-numbered .ensures) in
@@ -57,7 +57,7 @@ unfolding ascii
 write-text-requires c κs =
     let start = c .before .before .before .before .before .before .before .before .before .before .before .before .before .before .before .before .before .before .before .before .before in
     let a = start .args in
-    let f = leafOf (a .own .now) (a .borrowed .now) (a .bounds .now) in
+    let f = leafOf (a .own .now) (a .borrowed .now) (a .bounds .now) (a .cover) in
     let box = boxPart (a .fine) (a .bounds .now) in
     let w0 = begin (domainTexts (a .i) f box) (domain-texts (a .i) f box) (start .pre) in
     let w1 = text-added w0 tt (c .before .before .before .before .before .before .before .before .before .before .before .before .before .before .write-numbered .ensures) in
@@ -70,7 +70,7 @@ unfolding ascii
 write-box-requires c κs =
     let start = c .before .before .before .before .before .before .before .before .before .before .before .before .before .before .before .before .before .before .before .before .before .before .before .before .before in
     let a = start .args in
-    let f = leafOf (a .own .now) (a .borrowed .now) (a .bounds .now) in
+    let f = leafOf (a .own .now) (a .borrowed .now) (a .bounds .now) (a .cover) in
     let box = boxPart (a .fine) (a .bounds .now) in
     let w0 = begin (domainTexts (a .i) f box) (domain-texts (a .i) f box) (start .pre) in
     let w1 = text-added w0 tt (c .before .before .before .before .before .before .before .before .before .before .before .before .before .before .before
@@ -80,22 +80,39 @@ write-box-requires c κs =
     let w4 = text-added w3 tt (c .before .before .before .write-text .ensures) in
     text-room w4 tt
 
+slice-aggregate-write-valued : tie.Need-slice-aggregate-write-valued
+slice-aggregate-write-valued c = search needs
+
+write-valued-requires : tie.Need-write-valued-requires
+unfolding ascii
+write-valued-requires c κs =
+    let start = c .before .before .before .before .before .before .before .before .before .before .before .before .before .before .before .before .before .before .before .before .before .before .before .before .before .before .before .before .before .before in
+    let a = start .args in
+    let f = leafOf (a .own .now) (a .borrowed .now) (a .bounds .now) (a .cover) in
+    let box = boxPart (a .fine) (a .bounds .now) in
+    let w0 = begin (domainTexts (a .i) f box) (domain-texts (a .i) f box) (start .pre) in
+    let w1 = text-added w0 tt (c .before .before .before .before .before .before .before .before .before .before .before .before .before .before .before .before .before .before .before .before .before .before .before .write-numbered .ensures) in
+    let w2 = text-added w1 tt (c .before .before .before .before .before .before .before .before .before .before .before .before .before .before .before .before .before .before .write-listed .ensures) in
+    let w3 = text-added w2 tt (c .before .before .before .before .before .before .before .before .before .before .before .before .before .write-listed2 .ensures) in
+    let w4 = text-added w3 tt (c .before .before .before .before .before .before .before .before .write-text .ensures) in
+    let w5 = text-added w4 tt (c .before .before .before .before .write-box .ensures) in
+    text-room w5 tt
+
 write-byte-requires : tie.Need-write-byte-requires
 unfolding ascii
 write-byte-requires c κs =
-    let start = c .before .before .before .before .before .before .before .before .before .before .before .before .before .before .before .before .before .before .before .before .before .before .before .before .before .before .before .before .before in
+    let start = c .before .before .before .before .before .before .before .before .before .before .before .before .before .before .before .before .before .before .before .before .before .before .before .before .before .before .before .before .before .before .before .before .before .before in
     let a = start .args in
-    let f = leafOf (a .own .now) (a .borrowed .now) (a .bounds .now) in
+    let f = leafOf (a .own .now) (a .borrowed .now) (a .bounds .now) (a .cover) in
     let box = boxPart (a .fine) (a .bounds .now) in
     let w0 = begin (domainTexts (a .i) f box) (domain-texts (a .i) f box) (start .pre) in
-    let w1 = text-added w0 tt (c .before .before .before .before .before .before .before .before .before .before .before .before .before .before .before
-    .before .before .before .before .before .before .before .write-numbered .ensures) in
-    let w2 = text-added w1 tt (c .before .before .before .before .before .before .before .before .before .before .before .before .before .before .before
-    .before .before .write-listed .ensures) in
-    let w3 = text-added w2 tt (c .before .before .before .before .before .before .before .before .before .before .before .before .write-listed2 .ensures) in
-    let w4 = text-added w3 tt (c .before .before .before .before .before .before .before .write-text .ensures) in
-    let w5 = text-added w4 tt (c .before .before .before .write-box .ensures) in
-    text-room w5 tt
+    let w1 = text-added w0 tt (c .before .before .before .before .before .before .before .before .before .before .before .before .before .before .before .before .before .before .before .before .before .before .before .before .before .before .before .write-numbered .ensures) in
+    let w2 = text-added w1 tt (c .before .before .before .before .before .before .before .before .before .before .before .before .before .before .before .before .before .before .before .before .before .before .write-listed .ensures) in
+    let w3 = text-added w2 tt (c .before .before .before .before .before .before .before .before .before .before .before .before .before .before .before .before .before .write-listed2 .ensures) in
+    let w4 = text-added w3 tt (c .before .before .before .before .before .before .before .before .before .before .before .before .write-text .ensures) in
+    let w5 = text-added w4 tt (c .before .before .before .before .before .before .before .before .write-box .ensures) in
+    let w6 = text-added w5 tt (c .before .before .before .write-valued .ensures) in
+    text-room w6 tt
 
 same-length : tie.Need-same-length
 same-length c = search needs
@@ -103,21 +120,19 @@ same-length c = search needs
 returns : tie.Need-returns
 unfolding ascii
 returns c =
-    let start = c .before .before .before .before .before .before .before .before .before .before .before .before .before .before .before .before .before .before .before .before .before .before .before .before .before .before .before .before .before .before .before .before in
+    let start = c .before .before .before .before .before .before .before .before .before .before .before .before .before .before .before .before .before .before .before .before .before .before .before .before .before .before .before .before .before .before .before .before .before .before .before .before .before in
     let a = start .args in
-    let f = leafOf (a .own .now) (a .borrowed .now) (a .bounds .now) in
+    let f = leafOf (a .own .now) (a .borrowed .now) (a .bounds .now) (a .cover) in
     let box = boxPart (a .fine) (a .bounds .now) in
     let w0 = begin (domainTexts (a .i) f box) (domain-texts (a .i) f box) (start .pre) in
-    let w1 = text-added w0 tt (c .before .before .before .before .before .before .before .before .before .before .before .before .before .before .before
-    .before .before .before .before .before .before .before .before .before .before .write-numbered .ensures) in
-    let w2 = text-added w1 tt (c .before .before .before .before .before .before .before .before .before .before .before .before .before .before .before
-    .before .before .before .before .before .write-listed .ensures) in
-    let w3 = text-added w2 tt (c .before .before .before .before .before .before .before .before .before .before .before .before .before .before .before
-    .write-listed2 .ensures) in
-    let w4 = text-added w3 tt (c .before .before .before .before .before .before .before .before .before .before .write-text .ensures) in
-    let w5 = text-added w4 tt (c .before .before .before .before .before .before .write-box .ensures) in
-    let w6 = text-added w5 tt (c .before .before .write-byte .ensures) in
-    finish (domainTexts (a .i) f box) (domain-texts (a .i) f box) w6
+    let w1 = text-added w0 tt (c .before .before .before .before .before .before .before .before .before .before .before .before .before .before .before .before .before .before .before .before .before .before .before .before .before .before .before .before .before .before .write-numbered .ensures) in
+    let w2 = text-added w1 tt (c .before .before .before .before .before .before .before .before .before .before .before .before .before .before .before .before .before .before .before .before .before .before .before .before .before .write-listed .ensures) in
+    let w3 = text-added w2 tt (c .before .before .before .before .before .before .before .before .before .before .before .before .before .before .before .before .before .before .before .before .write-listed2 .ensures) in
+    let w4 = text-added w3 tt (c .before .before .before .before .before .before .before .before .before .before .before .before .before .before .before .write-text .ensures) in
+    let w5 = text-added w4 tt (c .before .before .before .before .before .before .before .before .before .before .before .write-box .ensures) in
+    let w6 = text-added w5 tt (c .before .before .before .before .before .before .write-valued .ensures) in
+    let w7 = text-added w6 tt (c .before .before .write-byte .ensures) in
+    finish (domainTexts (a .i) f box) (domain-texts (a .i) f box) w7
 
 pub write-domain-spec : {M : Type 1} → statement M
 write-domain-spec =
@@ -132,6 +147,8 @@ write-domain-spec =
     slice-aggregate-write-text
     write-text-requires
     write-box-requires
+    slice-aggregate-write-valued
+    write-valued-requires
     write-byte-requires
     same-length
     returns)

@@ -25,6 +25,12 @@ box-width-requires c κs = search needs
 add-xe : tie.Need-add-xe
 add-xe c = search needs
 
+mul-cover : tie.Need-mul-cover
+mul-cover c = search needs
+
+shared-slice-read-cover : tie.Need-shared-slice-read-cover
+shared-slice-read-cover c = search needs
+
 mul-write-domain : tie.Need-mul-write-domain
 mul-write-domain c = search needs
 
@@ -63,14 +69,14 @@ part-write-domain-end-3 c = search needs
 
 write-domain-requires : tie.Need-write-domain-requires
 write-domain-requires c κs =
-    let start = c .before .before .before .before .before .before .before .before .before .before .before .before .before .before in
+    let start = c .before .before .before .before .before .before .before .before .before .before .before .before .before .before .before in
     let a = start .args in
-    let row = c .before .before .before .before .before .before .before .before .read-row in
-    let from = c .before .before .before .before .before .floats-before in
-    let width = c .before .before .before .before .box-width in
+    let row = c .before .before .before .before .before .before .before .before .before .read-row in
+    let from = c .before .before .before .before .before .before .floats-before in
+    let width = c .before .before .before .before .before .box-width in
     room-spelt
     (leaf-line (a .fine) (a .i) (packed (a .internals .now) (a .domains .now) (a .boxes .now) (a .borrowed .now) (a .dimensions)) (a .j) (row .result) (row .ensures) (from .result)
-    (width .result) (from .ensures) (width .ensures))
+    (width .result) (from .ensures) (width .ensures) (start .pre .0))
     (start .pre .1)
 
 same-length : tie.Need-same-length
@@ -78,14 +84,14 @@ same-length c = search needs
 
 returns : tie.Need-returns
 returns c =
-    let start = c .before .before .before .before .before .before .before .before .before .before .before .before .before .before .before .before .before in
+    let start = c .before .before .before .before .before .before .before .before .before .before .before .before .before .before .before .before .before .before in
     let a = start .args in
-    let row = c .before .before .before .before .before .before .before .before .before .before .before .read-row in
-    let from = c .before .before .before .before .before .before .before .before .floats-before in
-    let width = c .before .before .before .before .before .before .before .box-width in
+    let row = c .before .before .before .before .before .before .before .before .before .before .before .before .read-row in
+    let from = c .before .before .before .before .before .before .before .before .before .floats-before in
+    let width = c .before .before .before .before .before .before .before .before .box-width in
     spelt (sym
     (leaf-line (a .fine) (a .i) (packed (a .internals .now) (a .domains .now) (a .boxes .now) (a .borrowed .now) (a .dimensions)) (a .j) (row .result) (row .ensures) (from .result)
-    (width .result) (from .ensures) (width .ensures)))
+    (width .result) (from .ensures) (width .ensures) (start .pre .0)))
     (c .before .before .write-domain .ensures)
 
 pub write-leaf-spec : {M : Type 1} → statement M
@@ -98,6 +104,8 @@ write-leaf-spec =
     floats-before-requires
     box-width-requires
     add-xe
+    mul-cover
+    shared-slice-read-cover
     mul-write-domain
     sub-write-domain
     part-write-domain-start

@@ -3,7 +3,7 @@ use mathlib.Core.Path.{sym, ap, _∙_}
 use borrow.Author.Needs.{needs}
 use borrow.Author.Tests.{lt-ltb, le-ltb, eq-eqb, ne-eqb}
 use Rattle.definition.specs.Refusals.{verdict, sampleVerdict}
-use Rattle.sampling.specs.declared.SampleAnswer.the-variants.{Refused}
+use Rattle.sampling.specs.declared.SampleTests.the-variants.{Failed}
 use Rattle.sampling.specs.Answers.{shown}
 use Rattle.definition_laws.proofs.Accepted.{right-dimension}
 use Rattle.sampling.proofs.Refusing.{bad-found, bad-nowhere}
@@ -89,7 +89,7 @@ returns-7 c = simp (
   sym (c .before .before .before .lists-short .ensures) ∙ c .before .before .if6 .left,
   bad-found _ _ (c .before .first-not-finite .ensures) (c .if7 .taken),
 )
-    (ap (Refused 10) (c .before .first-not-finite .ensures))
+    (ap (Failed 10) (c .before .first-not-finite .ensures))
 
 returns-8 : tie.Need-returns-8
 unfolding sampleVerdict verdict shown

@@ -1,6 +1,6 @@
 -- `sampling_rounds::sample_rows` meets its contract. The loop's invariant: `Choosing`, and the lists keep their lengths.
 -- Assumes nothing.
-use mathlib.Core.Path.{_≡_, refl, _∙_}
+use mathlib.Core.Path.{_≡_, refl, sym, _∙_}
 use Prim.Native.Nat.{ℕ, _+_, _≤_, _<_, _-_}
 use native.Mathlib.Nat.{le-antisymm}
 use native.Mathlib.Omega.{arith}
@@ -8,7 +8,7 @@ use lib.ListN.{length, getD, set, length-set}
 use lib.Seq.{getD-set-same, getD-set-other}
 use lib.Ieee.{nan}
 use Rattle.sampling_rounds.specs.Rounds.{minusOne}
-use Rattle.sampling_rounds.proofs.Choosing.{Choosing, choosing-start, choosing-kept, choosing-open, choosing-more, choosing-end}
+use Rattle.sampling_rounds.proofs.Choosing.{Choosing, choosing-start, choosing-kept, choosing-open, choosing-more, choosing-end, choosing-all, choosing-worst}
 use Rattle.sampling_rounds.proofs.sample_rows.Statement.{statement}
 use Rattle.sampling_rounds.proofs.sample_rows.Tie as tie
 
@@ -104,15 +104,43 @@ loop-again c = let s = c .before .before .before .before .before .before .before
     )
 
 same-length : tie.Need-same-length Inv-loop μ-loop
-same-length c = c .before .loop .inv .1 .0 .0 .0 ∙ simp length-set
+same-length c = c .before .before .loop .inv .1 .0 .0 .0 ∙ simp length-set
 
 same-length-2 : tie.Need-same-length-2 Inv-loop μ-loop
-same-length-2 c = c .before .loop .inv .1 .0 .0 .1 ∙ simp length-set (c .before .before .before .before .before .clear .kept .0)
+same-length-2 c = c .before .before .loop .inv .1 .0 .0 .1 ∙ simp length-set (c .before .before .before .before .before .before .clear .kept .0)
 
 returns : tie.Need-returns Inv-loop μ-loop
-returns c = let s = c .before .before .before .before .before .before .before .before .before .before .before in
-    let l = c .before .loop in
-    choosing-end _ _ _ (s .pre .0) _ _ _ _ _ _ _ _ (l .inv .1 .1) (s .args .out .now) _ refl (le-antisymm (c .loop-test .left) (l .inv .0))
+returns c = let s = c .before .before .before .before .before .before .before .before .before .before .before .before in
+    let l = c .before .before .loop in
+    let w = le-antisymm (c .before .loop-test .left) (l .inv .0) in (
+      choosing-end _ _ _ (s .pre .0) _ _ _ _ _ _ _ _ (l .inv .1 .1) (s .args .out .now) _ refl w,
+      choosing-all _ _ _ (s .pre .0) _ _ _ _ _ _ _ _ (l .inv .1 .1) w (sym w ∙ c .if1 .taken),
+    )
+
+worst-distance-requires : tie.Need-worst-distance-requires Inv-loop μ-loop
+worst-distance-requires c κs = let s = c .before .before .before .before .before .before .before .before .before .before .before .before .before in
+    let l = c .before .before .before .loop in
+    let t = choosing-kept _ _ _ (s .pre .0) _ _ _ _ _ _ _ _ (l .inv .1 .1) in
+    let o = choosing-open _ _ _ (s .pre .0) _ _ _ _ _ _ _ _ (l .inv .1 .1) (omega (arith, s .pre, l .inv .0, c .before .before .loop-test .left, c .before .if1 .left)) in
+    (s .pre .0, ((omega (arith, s .pre, l .inv .1 .1 .within), l .inv .1 .0 .1 .1), (t, o)))
+
+same-length-3 : tie.Need-same-length-3 Inv-loop μ-loop
+same-length-3 c = c .before .before .before .before .before .before .loop .inv .1 .0 .0 .0 ∙ simp length-set
+
+same-length-4 : tie.Need-same-length-4 Inv-loop μ-loop
+same-length-4 c =
+    c .before .before .worst-distance .kept .1 .1 .1 .1 .0
+    ∙ c .before .before .before .before .before .before .loop .inv .1 .0 .0 .1
+    ∙ simp length-set (c .before .before .before .before .before .before .before .before .before .before .clear .kept .0)
+
+returns-2 : tie.Need-returns-2 Inv-loop μ-loop
+returns-2 c = let s = c .before .before .before .before .before .before .before .before .before .before .before .before .before .before .before .before in
+    let l = c .before .before .before .before .before .before .loop in
+    let d = c .before .before .worst-distance in
+    let w = le-antisymm (c .before .before .before .before .before .loop-test .left) (l .inv .0) in (
+      choosing-end _ _ _ (s .pre .0) _ _ _ _ _ _ _ _ (l .inv .1 .1) (s .args .out .now) _ refl w,
+      choosing-worst _ _ _ (s .pre .0) _ _ _ _ _ _ _ _ (l .inv .1 .1) (d .result) w (d .ensures),
+    )
 
 pub sample-rows-spec : {M : Type 1} → statement M
 sample-rows-spec =
@@ -139,4 +167,8 @@ sample-rows-spec =
     loop-again
     same-length
     same-length-2
-    returns)
+    returns
+    worst-distance-requires
+    same-length-3
+    same-length-4
+    returns-2)

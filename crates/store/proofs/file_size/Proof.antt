@@ -11,8 +11,8 @@ mul-point c = search needs
 add-point : tie.Need-add-point
 add-point c = search needs
 
-row-floats-requires : tie.Need-row-floats-requires
-row-floats-requires c κs = search needs
+box-width-requires : tie.Need-box-width-requires
+box-width-requires c κs = search needs
 
 mul-bounds : tie.Need-mul-bounds
 mul-bounds c = search needs
@@ -38,23 +38,29 @@ add-numbers c = search needs
 mul-numbers-2 : tie.Need-mul-numbers-2
 mul-numbers-2 c = search needs
 
+mul-covers : tie.Need-mul-covers
+mul-covers c = search needs
+
 add-result : tie.Need-add-result
 add-result c = record { fits = omega (arith, points-most (c .before .pre)) }
 
 add-result-2 : tie.Need-add-result-2
 add-result-2 c = record { fits = omega (arith, points-most (c .before .pre)) }
 
+add-result-3 : tie.Need-add-result-3
+add-result-3 c = record { fits = omega (arith, points-most (c .before .pre)) }
+
 sub-result : tie.Need-sub-result
 sub-result c = search needs
 
 mul-result : tie.Need-mul-result
-mul-result c = record { fits = omega (arith, boxes-most (c .before .pre) (c .row-floats .result) (c .row-floats .ensures)) }
+mul-result c = record { fits = omega (arith, boxes-most (c .before .pre) (c .box-width .result) (c .box-width .ensures)) }
 
-add-result-3 : tie.Need-add-result-3
-add-result-3 c = record { fits = omega (arith, points-most (c .before .pre), boxes-most (c .before .pre) (c .row-floats .result) (c .row-floats .ensures)) }
+add-result-4 : tie.Need-add-result-4
+add-result-4 c = record { fits = omega (arith, points-most (c .before .pre), boxes-most (c .before .pre) (c .box-width .result) (c .box-width .ensures)) }
 
 returns : tie.Need-returns
-returns c = rw (c .row-floats .ensures)
+returns c = rw (c .box-width .ensures)
 
 pub file-size-spec : {M : Type 1} → statement M
 file-size-spec =
@@ -62,7 +68,7 @@ file-size-spec =
     (tie.spec
     mul-point
     add-point
-    row-floats-requires
+    box-width-requires
     mul-bounds
     mul-front
     add-front
@@ -71,9 +77,11 @@ file-size-spec =
     mul-numbers
     add-numbers
     mul-numbers-2
+    mul-covers
     add-result
     add-result-2
+    add-result-3
     sub-result
     mul-result
-    add-result-3
+    add-result-4
     returns)

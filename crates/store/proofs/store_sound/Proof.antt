@@ -5,7 +5,7 @@ use borrow.Author.Tests.{not-true, not-false}
 use Rattle.config.specs.Params.{settingsOf}
 use Rattle.tree_answer.specs.Answers.{countsGiven, listsOf}
 use Rattle.store.proofs.Held.{held-stands}
-use Rattle.store.proofs.Sized.{own-passed, tree-bad, tree-good, tree-packs, tree-sound, tree-limited, tree-size}
+use Rattle.store.proofs.Sized.{own-passed, tree-bad, tree-good, tree-packs, tree-sound, tree-room, tree-limited, tree-size}
 use Rattle.store.proofs.Outcomes.{tree-refused, file-refused, file-written}
 use borrow.Author.Needs.{needs}
 use Rattle.store.proofs.store_sound.Statement.{statement}
@@ -85,8 +85,9 @@ put-file-requires c κs =
     let p = own-passed s cs l (start .pre) in
     let packing = tree-packs s cs (countsGiven (a .counts)) l (start .pre) _ tested good in
     let passing = tree-sound s cs (countsGiven (a .counts)) l (start .pre) _ tested good in
+    let room = tree-room s cs (countsGiven (a .counts)) l (start .pre) _ tested good in
     let size = tree-size s cs (countsGiven (a .counts)) l (start .pre) _ tested good _ (c .before .before .file-size .ensures) in
-    ((p .axes, p .axes-few), (held-stands s _ (countsGiven (a .counts)) l packing passing (p .axes-few), omega (arith, size, c .before .if2 .left)))
+    ((p .axes, p .axes-few), (held-stands s _ (countsGiven (a .counts)) l packing passing room (p .axes-few), omega (arith, size, c .before .if2 .left)))
 
 same-length : tie.Need-same-length
 same-length c = search needs

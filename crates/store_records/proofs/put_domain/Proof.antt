@@ -43,8 +43,8 @@ put-rows-requires-2 c κs =
     let w2 = part-written w1 (c .before .before .before .put-rows .ensures) in
     (omega (arith, start .pre .0 .borrowed, row .ensures .borrowed-start, row .ensures .borrowed-count), room-now w2)
 
-put-bounds-requires : tie.Need-put-bounds-requires
-put-bounds-requires c κs =
+put-row-floats-requires : tie.Need-put-row-floats-requires
+put-row-floats-requires c κs =
     let start = c .before .before .before .before .before .before .before .before .before .before .before .before .before .before .before .before .before .before .before in
     let a = start .args in
     let row = c .before .before .before .before .before .before .before .before .before .before .before .before .before .read-row in
@@ -54,7 +54,7 @@ put-bounds-requires c κs =
     let w1 = part-written w0 (c .before .before .before .before .before .before .before .before .before .before .before .put-counts .ensures) in
     let w2 = part-written w1 (c .before .before .before .before .before .before .before .put-rows .ensures) in
     let w3 = part-written w2 (c .before .before .before .put-rows2 .ensures) in
-    ((start .pre .0 .axes, start .pre .0 .box), room-now w3)
+    ((start .pre .0 .axes, start .pre .0 .floats), room-now w3)
 
 same-length : tie.Need-same-length
 same-length c = search needs
@@ -70,7 +70,7 @@ returns c =
     let w1 = part-written w0 (c .before .before .before .before .before .before .before .before .before .before .before .before .before .before .put-counts .ensures) in
     let w2 = part-written w1 (c .before .before .before .before .before .before .before .before .before .before .put-rows .ensures) in
     let w3 = part-written w2 (c .before .before .before .before .before .before .put-rows2 .ensures) in
-    done (part-written w3 (c .before .before .put-bounds .ensures))
+    done (part-written w3 (c .before .before .put-row-floats .ensures))
 
 pub put-domain-spec : {M : Type 1} → statement M
 put-domain-spec =
@@ -80,6 +80,6 @@ put-domain-spec =
     put-counts-requires
     put-rows-requires
     put-rows-requires-2
-    put-bounds-requires
+    put-row-floats-requires
     same-length
     returns)

@@ -1,11 +1,11 @@
--- `print_texts::write_bound` meets its contract. Assumes nothing.
+-- `print_texts::write_float` meets its contract. Assumes nothing.
 use Rattle.print_texts.proofs.Digits.{bitsText, bits-text}
 use Rattle.bytes_out.proofs.Wrote.{spelt, room-spelt, room-first, room-next, wrote-then}
 use mathlib.Core.List.{[], _∷_}
 use mathlib.Core.Path.{sym}
 use borrow.Author.Needs.{needs}
-use Rattle.print_texts.proofs.write_bound.Statement.{statement}
-use Rattle.print_texts.proofs.write_bound.Tie as tie
+use Rattle.print_texts.proofs.write_float.Statement.{statement}
+use Rattle.print_texts.proofs.write_float.Tie as tie
 
 write-byte-requires : tie.Need-write-byte-requires
 write-byte-requires c κs = room-first (32 ∷ []) (bitsText (c .before .before .args .x)) (c .before .before .pre)
@@ -27,7 +27,7 @@ returns c =
     (c .before .before .before .before .before .before .before .before .before .before .pre)
     (spelt (sym (bits-text _ _ (c .before .before .before .before .bits-of .ensures))) (c .before .before .write-hex .ensures))
 
-pub write-bound-spec : {M : Type 1} → statement M
-write-bound-spec =
+pub write-float-spec : {M : Type 1} → statement M
+write-float-spec =
     tie.close
     (tie.spec write-byte-requires bits-of-requires write-hex-requires same-length returns)

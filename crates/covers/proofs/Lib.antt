@@ -1,0 +1,2 @@
+-- Laws of covered boxes.
+pub mod Moved

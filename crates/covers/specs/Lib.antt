@@ -1,0 +1,2 @@
+-- What the contracts of a level's covers cite.
+pub mod Covered

@@ -1,0 +1,37 @@
+-- The floats that end a domain's record: how many, the bytes up to their end, and the leaf's box and cover in them. Assumes nothing.
+-- Holds: record-few, leaf-size, fine-floats, coarse-floats
+use mathlib.Core.Path.{_≡_, refl, sym}
+use mathlib.Core.Bool.{Bool, true, false}
+use mathlib.Core.List.{List, _++_}
+use Prim.Native.Nat.{ℕ, _+_, _*_, _≤_}
+use native.Mathlib.Omega.{arith}
+use lib.ListN.{replicate}
+use Rattle.lists.specs.Lists.{from}
+use Rattle.lists.proofs.From.{map-below-suc}
+use Rattle.definition.specs.Number.{plusZero}
+use Rattle.definition.specs.Points.{boxWidth}
+use Rattle.definition.specs.Packed.{rowFloats, leafFloats}
+use Rattle.formats.specs.Bytes.{floatSize, floatAt, floatsAt}
+use Rattle.stored.specs.Stored.{boundsPlace, leafIn, leafSize}
+use Rattle.file_reader.specs.Fetch.{recordFloats}
+
+-- no more than a domain row has
+pub record-few : (d : ℕ) (coarse : Bool) → recordFloats d coarse ≤ rowFloats d
+record-few d true = omega arith
+record-few d false = omega arith
+
+pub leaf-size : (d : ℕ) (coarse : Bool) (bs : List ℕ) → leafSize d coarse bs ≡ boundsPlace bs + floatSize * recordFloats d coarse
+unfolding leafSize
+leaf-size d true bs = omega arith
+leaf-size d false bs = omega arith
+
+module _ (d : ℕ) (bs : List ℕ) where
+  -- a fine domain's are its row's
+  pub fine-floats : leafFloats (leafIn d false bs) ≡ floatsAt (rowFloats d) (boundsPlace bs) bs
+  unfolding leafIn floatsAt
+  fine-floats = sym (map-below-suc (λ i. floatAt (boundsPlace bs + floatSize * i) bs) (boxWidth d))
+
+  -- the coarse one's is its cover, which stands behind zeros in its row
+  pub coarse-floats : leafFloats (leafIn d true bs) ≡ replicate (boxWidth d) plusZero ++ floatsAt 1 (boundsPlace bs) bs
+  unfolding leafIn floatsAt from
+  coarse-floats = refl
