@@ -14,7 +14,7 @@
  * ddm_load, whose sets of rows take 256 KiB more; nothing is allocated.
  * Memory. A build over n points asks for 816 + 96 * dimensions + 112 * (K + 1) bytes a point in its seven lists, with K neighbours:
  * 2,912 in two dimensions with 16. That is the most that any input can need, and few are touched: 5,000 random wells in two dimensions
- * write some 70 of them a well at the default settings, some 640 at leaf threshold 1. So lists from calloc cost little. The two lists of
+ * write some 70 of them a well at the default settings, some 630 at leaf threshold 1. So lists from calloc cost little. The two lists of
  * ddm_build_depth_first's cut record are 192 bytes a point more.
  * Machine. x86-64 Linux only.
  * Floating environment. Round to nearest, and no flush to zero (the state in which a program starts). A program linked with -Ofast or

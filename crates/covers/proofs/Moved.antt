@@ -1,5 +1,5 @@
 -- One turn of the loop that puts boxes to their rows, from the last on, and its start and end. Assumes nothing.
--- Holds: rowsFrom, Moved, moved-start, box-same, moved-turn, covered-length, moved-end
+-- Holds: rowsFrom, Moved, moved-start, moved-turn, covered-length, moved-end
 use mathlib.Core.Path.{_≡_, refl, sym, ap, ap₂, _∙_}
 use mathlib.Core.List.{List, [], _∷_, _++_, map, append-assoc}
 use Prim.Native.Nat.{ℕ, suc, _+_, _-_, _*_, _≤_, _<_}
@@ -60,7 +60,7 @@ module _ (d : ℕ) (B₀ : List Float) (at : ℕ) (covers : List Float) where
         le-suc : (n : ℕ) → n ≤ n + 1
         le-suc n = omega arith
 
-    pub box-same : part B (at + boxWidth d * l) (boxWidth d) ≡ part B₀ (at + boxWidth d * l) (boxWidth d)
+    box-same : part B (at + boxWidth d * l) (boxWidth d) ≡ part B₀ (at + boxWidth d * l) (boxWidth d)
     box-same =
         sym (part-take B (at + w * suc l) (at + w * l) w (omega (arith, box-end)))
         ∙ ap (λ (z : List Float). part z (at + w * l) w) (m .front)

@@ -1,6 +1,6 @@
 -- The leaves of a level before any row is sent up, and those that the definition has: alike in all but the covers; and the floats of their
 -- domain rows, as the stages leave them. Assumes nothing.
--- Holds: covered-are, sent-own, sent-borrowed, sent-number, sent-stretches, floats-are, lent-fits, boxes-packed, boxes-stay
+-- Holds: sent-own, sent-borrowed, sent-number, sent-stretches, floats-are, lent-fits, boxes-packed
 use mathlib.Core.Path.{_≡_, refl, sym, ap, ap₂, _∙_}
 use mathlib.Core.List.{List, [], _∷_, _++_, map, map-map, zipWith, append-nil}
 use Prim.Native.Nat.{ℕ, _+_, _-_, _*_, _≤_, _<_}
@@ -47,7 +47,7 @@ module _ (d : ℕ) (bs : List (List Float)) (even : All (λ (b : List Float). le
       ∙ ap (part (joined bs ++ []) (total (map length (take i bs)))) (sym (all-at (λ (b : List Float). length b ≡ w) bs i [] even h))
       ∙ joined-at bs [] i h
 
-  pub covered-are : (B : List Float) (s : ℕ) → s ≤ length B → (cv : List Float) → length cv ≡ length bs
+  covered-are : (B : List Float) (s : ℕ) → s ≤ length B → (cv : List Float) → length cv ≡ length bs
       → covered d (put B s (joined bs)) s cv ≡ joined (zipWith (λ b c. b ++ c ∷ []) bs cv)
   unfolding covered
   covered-are B s fits cv many =
@@ -195,9 +195,3 @@ module _ (d : ℕ) (cs : List Float) (leaf neighbours : ℕ) (active : List ℕ)
       ap (putMid first (length B - first) B) e
       ∙ tail-back B first (boxWidth d * first) (joined cutBoxes) (omega (arith, boxes-fit)) boxes-fit
       ∙ ap₂ (λ (k : ℕ) (x : List (List Float)). put B k (joined x)) at (sym (map-map (λ (f : Leaf). f .box) (λ q. fineLeaf d cs neighbours active q []) (leavesOf d cs leaf active)))
-
-  -- how long the list stays
-  pub boxes-stay : (ys : List Float) → length ys ≡ length (take (length B - first) (drop first B)) → length (putMid first (length B - first) B ys) ≡ length B
-  boxes-stay ys e =
-      let n : length ys ≡ length B - first = e ∙ ap length (tail-all B first) ∙ length-drop first B in
-      ap length (mid-back B first (length B - first) ys n) ∙ length-put B first ys (omega (arith, n, fits, row-is (first + 2 * length active)))

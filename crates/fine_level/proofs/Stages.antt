@@ -1,8 +1,8 @@
 -- How the stages of a level fit together: what one has written, the next one reads; and what all have written is the definition's
 -- level. Assumes nothing.
--- Holds: levelRows, level-own, level-borrowed, level-box, level-number, level-next, number-most, own-whole, own-shared,
---   leaves-read, leaves-named, overlaps-ready, overlaps-read, overlaps-named, overlaps-rows, packed-read, packed-named,
---   packed-sends, boxes-room, codes-room
+-- Holds: levelRows, level-own, level-borrowed, level-number, level-next, number-most, own-whole, own-shared, leaves-read,
+--   leaves-named, overlaps-ready, overlaps-read, overlaps-named, overlaps-rows, packed-read, packed-named, packed-sends,
+--   boxes-room, codes-room
 use mathlib.Core.Path.{_≡_, refl, sym, _∙_}
 use mathlib.Core.Logic.{⊎-elim}
 use mathlib.Core.Bool.{Bool}
@@ -61,9 +61,6 @@ module _ (d : ℕ) (cs : List Float) (leaf neighbours : ℕ) (active : List ℕ)
   level-borrowed =
       map-map (λ (f : Leaf). f .borrowed) toLeaf qs
       ∙ sym (map-map (borrowedBy d cs neighbours active) (λ (q : Domain). q .rows) qs)
-
-  pub level-box : map (λ (f : Leaf). f .box) (dividedAt d cs leaf neighbours active) ≡ map (λ (q : Domain). q .box) (leavesOf d cs leaf active)
-  level-box = map-map (λ (f : Leaf). f .box) toLeaf qs
 
   pub level-number : length (dividedAt d cs leaf neighbours active) ≡ length (leavesOf d cs leaf active)
   level-number = length-map qs toLeaf

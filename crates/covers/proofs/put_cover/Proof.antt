@@ -51,11 +51,11 @@ returns c =
     let d = P .dimensions in
     let to = c .before .before .before .before .before .before .before .floats-before .ensures in
     let read = rw (c .before .before .before .before .before .before .before .before .bounds-before .ensures) at (c .before .before .before .before .before .read-box .ensures .1) in
-    let wrote = rw (read, to) at (c .before .before .before .write-box .ensures) in
+    let wrote = rw read at (c .before .before .before .write-box .ensures) in
     let box = part (P .boxes .now) (P .start + boxWidth d * P .l) (boxWidth d) in
     let fits = c .before .before .before .before .before .before .before .before .before .before .pre .1 in
     let n : length box ≡ boxWidth d = length-part (P .boxes .now) (P .start + boxWidth d * P .l) (boxWidth d) (omega (arith, fits, mul-add (rowFloats d) (P .l) 1, before d (P .l))) in
-    rw (to, c .box-width .ensures, wrote)
+    rw (wrote, to, c .box-width .ensures)
     (put-snoc (P .boxes .now) (P .start + rowFloats d * P .l) box (P .cover) (P .start + rowFloats d * P .l + boxWidth d) (omega (arith, n)) (omega (arith, fits, mul-add (rowFloats d) (P .l) 1)))
   where
     before : (d l : ℕ) → boxWidth d * l ≤ rowFloats d * l
