@@ -54,7 +54,7 @@ static void print_level(const ddm_tree *tree, size_t level) {
         box(ddm_tree_box(tree, level, leaf), ddm_tree_dimensions(tree));
         printf(" cover");
         print_bits(ddm_tree_cover(tree, level, leaf));
-        printf("\n");
+        printf(" depth %zu\n", ddm_tree_depth(tree, level, leaf));
     }
 }
 

@@ -45,6 +45,7 @@ static void trees() {
     const double *box = ddm_tree_box(tree, 0, 1);
     EXPECT(box != nullptr && box[0] == 2.0 && box[1] == 10.0 && ddm_tree_box(tree, 1, 0) == nullptr);
     EXPECT(ddm_tree_cover(tree, 0, 0) == 1.0 && ddm_tree_cover(tree, 0, 1) == 8.0 && ddm_tree_cover(tree, 1, 0) == 0.0);
+    EXPECT(ddm_tree_depth(tree, 0, 0) == 1 && ddm_tree_depth(tree, 0, 1) == 1 && ddm_tree_depth(tree, 1, 0) == 0);
     EXPECT(ddm_tree_record(tree, 0).count == 0 && ddm_tree_record(tree, 0).cuts == nullptr);
     ddm_tree_free(tree);
     tree = ddm_tree_build_depth_first(points, 4, 1, params, &error);

@@ -12,9 +12,9 @@
  * shared, since they are only read.
  * Stack. Under 16 KiB for any input (the depth-first build nests 21 calls at most, and takes some 15 KiB then), but for ddm_store and
  * ddm_load, whose sets of rows take 256 KiB more; nothing is allocated.
- * Memory. A build over n points asks for 816 + 96 * dimensions + 112 * (K + 1) bytes a point in its seven lists, with K neighbours:
- * 2,912 in two dimensions with 16. That is the most that any input can need, and few are touched: 5,000 random wells in two dimensions
- * write some 70 of them a well at the default settings, some 630 at leaf threshold 1. So lists from calloc cost little. The two lists of
+ * Memory. A build over n points asks for 864 + 96 * dimensions + 112 * (K + 1) bytes a point in its seven lists, with K neighbours:
+ * 2,960 in two dimensions with 16. That is the most that any input can need, and few are touched: 5,000 random wells in two dimensions
+ * write some 70 of them a well at the default settings, some 650 at leaf threshold 1. So lists from calloc cost little. The two lists of
  * ddm_build_depth_first's cut record are 192 bytes a point more.
  * Machine. x86-64 Linux only.
  * Floating environment. Round to nearest, and no flush to zero (the state in which a program starts). A program linked with -Ofast or
@@ -33,7 +33,7 @@ extern "C" {
 
 /* major * 10000 + minor * 100 + patch, of this header; ddm_version gives that of the library. Another minor version may have wider rows
  * and more lists, so that a program which loads the shared library tests ddm_version() / 100 == DDM_VERSION / 100 first. */
-#define DDM_VERSION 500
+#define DDM_VERSION 600
 
 /* ---- limits and settings */
 
@@ -47,12 +47,15 @@ extern "C" {
 /* ---- the packed lists: level by level and leaf by leaf, each stretch starting where the last one of its list ended */
 
 /* A domain row has DDM_ROW_NUMBERS entries in `domains`: where the leaf's own (internal) rows start in `internals` and how many they
- * are, then the same of its borrowed rows in `borrowed`. */
+ * are, the same of its borrowed rows in `borrowed`, and its depth: how often its level was cut to make it. In a level the depths never fall
+ * from one domain to the next, none is above DDM_RECORD_DEEPEST, and a leaf at depth e in a level of a rows has a / 2^e of them, rounded
+ * down, or one more. The coarse domain, which was not cut, has depth 0. */
 #define DDM_COLUMN_OWN_START 0
 #define DDM_COLUMN_OWN_COUNT 1
 #define DDM_COLUMN_BORROWED_START 2
 #define DDM_COLUMN_BORROWED_COUNT 3
-#define DDM_ROW_NUMBERS 4
+#define DDM_COLUMN_DEPTH 4
+#define DDM_ROW_NUMBERS 5
 
 /* The box itself: its lower bounds by axis, then its upper bounds; all +0 for the coarse domain, which has none. */
 #define DDM_BOX_FLOATS(dimensions) (2 * (dimensions))
@@ -72,7 +75,7 @@ extern "C" {
 /* How many nodes a fine level's record has, by the level's domains. The coarse level has none. The records of the fine levels stand one
  * after the other from the front of both lists, so no count of them comes back. */
 #define DDM_RECORD_NODES(domains) (2 * (domains) - 1)
-/* No leaf of a record is deeper than this many cuts. */
+/* No leaf is deeper than this many cuts. */
 #define DDM_RECORD_DEEPEST 21
 /* The entries that each of the two lists needs, for n points. */
 #define DDM_RECORD_ENTRIES(n) (12 * (n))
@@ -168,14 +171,15 @@ size_t ddm_load(const double *points, size_t points_len, size_t dimensions, uint
 
 /* The bytes of a tree's file, exactly: n points, the slot that its build or load wrote, and the rows that its leaves borrow in all (the
  * last domain row's start and count of them, added). They are the head's; the points'; a mark and two counts for each level and domain;
- * each level row and, as an internal row, once more; the borrowed rows; and the floats of each domain row but for the coarse box. */
+ * each level row and, as an internal row, once more; the borrowed rows; a depth for each domain; and the floats of each domain row but for
+ * the coarse box. */
 static inline size_t ddm_file_size(size_t dimensions, size_t n, const size_t *tree, size_t borrowed) {
     size_t rows = 0, domains = 0, level;
     for (level = 0; level < DDM_MOST_LEVELS; level++) {
         rows += tree[DDM_SLOT_ROWS + level];
         domains += tree[DDM_SLOT_DOMAINS + level];
     }
-    return 24 + n * (2 + 8 * dimensions) + 10 * (tree[DDM_SLOT_LEVELS] + domains) + 4 * (2 * rows + borrowed)
+    return 24 + n * (2 + 8 * dimensions) + 10 * (tree[DDM_SLOT_LEVELS] + domains) + 4 * (2 * rows + borrowed + domains)
            + 8 * (DDM_ROW_FLOATS(dimensions) * domains - DDM_BOX_FLOATS(dimensions));
 }
 

@@ -18,7 +18,7 @@
  *
  * The lists come from calloc, so that what the build does not touch costs nothing; afterwards the working room is given back and the
  * others are cut to what they hold. A tree is only read by the functions that walk it: any number of threads may do so at once. A level
- * or leaf that is not there has no rows, no leaves, no box, no record, and the cover 0.
+ * or leaf that is not there has no rows, no leaves, no box, no record, and the cover and the depth 0.
  */
 #ifndef DDM_TREE_H
 #define DDM_TREE_H
@@ -422,11 +422,18 @@ static inline size_t ddm_tree_domain(const ddm_tree *tree, size_t level, size_t 
     return ddm_tree_sum(tree->result + DDM_SLOT_DOMAINS, level) + leaf;
 }
 
+/* A leaf's domain row. */
+static inline const size_t *ddm_tree_row(const ddm_tree *tree, size_t level, size_t leaf) {
+    if (leaf >= ddm_tree_leaves(tree, level))
+        return NULL;
+    return tree->domains + DDM_ROW_NUMBERS * ddm_tree_domain(tree, level, leaf);
+}
+
 /* The stretch of a list that two columns of a leaf's domain row name. */
 static inline ddm_rows ddm_tree_stretch(const ddm_tree *tree, size_t level, size_t leaf, const size_t *list, size_t start, size_t count) {
     ddm_rows rows = {NULL, 0};
-    if (leaf < ddm_tree_leaves(tree, level)) {
-        const size_t *row = tree->domains + DDM_ROW_NUMBERS * ddm_tree_domain(tree, level, leaf);
+    const size_t *row = ddm_tree_row(tree, level, leaf);
+    if (row) {
         rows.rows = list + row[start];
         rows.count = row[count];
     }
@@ -460,6 +467,13 @@ static inline const double *ddm_tree_box(const ddm_tree *tree, size_t level, siz
 static inline double ddm_tree_cover(const ddm_tree *tree, size_t level, size_t leaf) {
     const double *floats = ddm_tree_floats(tree, level, leaf);
     return floats ? floats[DDM_ROW_COVER(tree->dimensions)] : 0.0;
+}
+
+/* A leaf's depth: how often its level was cut to make it, at most DDM_RECORD_DEEPEST. From one leaf of a level to the next it never falls.
+ * 0 for the coarse domain. A loaded tree has the depths of its file. */
+static inline size_t ddm_tree_depth(const ddm_tree *tree, size_t level, size_t leaf) {
+    const size_t *row = ddm_tree_row(tree, level, leaf);
+    return row ? row[DDM_COLUMN_DEPTH] : 0;
 }
 
 /* A level's cut record, of DDM_RECORD_NODES(leaves) nodes. It is empty at the coarse level, and in a tree that ddm_tree_build built or

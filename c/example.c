@@ -19,8 +19,9 @@ static void level_line(const ddm_tree *tree, size_t level) {
         most = count > most ? count : most;
         far = cover > far ? cover : far;
     }
-    printf("level %zu: %zu wells in %zu leaves, at most %zu a leaf, %zu borrowed; own wells %zu; greatest cover %.2f\n", level,
-           ddm_tree_rows(tree, level).count, ddm_tree_leaves(tree, level), most, lent, own, far);
+    printf("level %zu: %zu wells in %zu leaves, at most %zu a leaf, %zu borrowed; own wells %zu; greatest cover %.2f; depths %zu to %zu\n",
+           level, ddm_tree_rows(tree, level).count, ddm_tree_leaves(tree, level), most, lent, own, far, ddm_tree_depth(tree, level, 0),
+           ddm_tree_depth(tree, level, ddm_tree_leaves(tree, level) - 1));
 }
 
 static int owns(const ddm_tree *tree, size_t level, size_t leaf, size_t well) {

@@ -21,9 +21,9 @@ print("levels", len(levels))
 for number, (rows, leaves) in enumerate(levels):
     own = sorted(i for leaf in leaves for i in leaf[0])
     assert own == rows, "the leaves do not share out the level"
-    print("level %d: %d wells in %d leaves, at most %d a leaf, %d borrowed; own wells %d; greatest cover %.2f" % (
+    print("level %d: %d wells in %d leaves, at most %d a leaf, %d borrowed; own wells %d; greatest cover %.2f; depths %d to %d" % (
         number, len(rows), len(leaves), max(len(leaf[0]) for leaf in leaves), sum(len(leaf[1]) for leaf in leaves), len(own),
-        max(leaf[3] for leaf in leaves)))
+        max(leaf[3] for leaf in leaves), min(leaf[4] for leaf in leaves), max(leaf[4] for leaf in leaves)))
 
 rows, steps, leaf = list(range(WELLS)), [], [WELL in leaf[0] for leaf in levels[0][1]].index(True)
 while True:

@@ -19,7 +19,8 @@ static void *list(size_t entries, size_t size) {
 
 /* Prints the line of a level whose first domain row stands at `row`, with its floats at `box`; the next level's row. */
 static const size_t *level_line(size_t level, const size_t *result, const size_t *row, const double *box, const size_t *sizes) {
-    size_t own = 0, lent = 0, most = 0;
+    size_t own = 0, lent = 0, most = 0, deepest = 0;
+    const size_t least = row[DDM_COLUMN_DEPTH];
     double far = 0.0;
     for (size_t leaf = 0; leaf < result[DDM_SLOT_DOMAINS + level]; leaf++, row += DDM_ROW_NUMBERS, box += DDM_ROW_FLOATS(AXES)) {
         if (ddm_row_test(row[DDM_COLUMN_OWN_START], row[DDM_COLUMN_OWN_COUNT], sizes[DDM_SIZES_INTERNALS])
@@ -31,9 +32,11 @@ static const size_t *level_line(size_t level, const size_t *result, const size_t
         lent += row[DDM_COLUMN_BORROWED_COUNT];
         most = row[DDM_COLUMN_OWN_COUNT] > most ? row[DDM_COLUMN_OWN_COUNT] : most;
         far = box[DDM_ROW_COVER(AXES)] > far ? box[DDM_ROW_COVER(AXES)] : far;
+        /* depths never fall, so the last one is the greatest */
+        deepest = row[DDM_COLUMN_DEPTH];
     }
-    printf("level %zu: %zu wells in %zu leaves, at most %zu a leaf, %zu borrowed; own wells %zu; greatest cover %.2f\n", level,
-           result[DDM_SLOT_ROWS + level], result[DDM_SLOT_DOMAINS + level], most, lent, own, far);
+    printf("level %zu: %zu wells in %zu leaves, at most %zu a leaf, %zu borrowed; own wells %zu; greatest cover %.2f; depths %zu to %zu\n",
+           level, result[DDM_SLOT_ROWS + level], result[DDM_SLOT_DOMAINS + level], most, lent, own, far, least, deepest);
     return row;
 }
 

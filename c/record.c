@@ -170,7 +170,7 @@ static size_t walk_leaf(walk *w, size_t node, size_t depth) {
     const size_t leaf = w->cuts[node] - DDM_RECORD_LEAF, *row = w->domains + DDM_ROW_NUMBERS * leaf;
     EXPECT(bits(w->planes[node]) == 0 && leaf < w->leaves);
     if (leaf < w->leaves) {
-        EXPECT(w->depth[leaf] == 0);
+        EXPECT(w->depth[leaf] == 0 && row[DDM_COLUMN_DEPTH] == depth);
         w->depth[leaf] = depth;
         w->node[leaf] = node;
         for (size_t i = 0; i < row[DDM_COLUMN_OWN_COUNT] && w->count < MOST; i++)

@@ -162,7 +162,8 @@ static void build_sizes(void) {
     EXPECT(ddm_build_sizes((size_t)-1, 3, 0, slot, DDM_SIZES_SLOT) == 8);
     EXPECT(ddm_build_sizes(DDM_MOST_POINTS, 3, DDM_MOST_NEIGHBOURS, slot, DDM_SIZES_SLOT) == 0);
     EXPECT(slot[DDM_SIZES_BORROWED] == (size_t)6 * DDM_MOST_POINTS * (DDM_MOST_NEIGHBOURS + 1));
-    /* a box of six bounds and a cover */
+    /* two stretches and a depth; a box of six bounds and a cover */
+    EXPECT(slot[DDM_SIZES_DOMAINS] == ((size_t)6 * DDM_MOST_POINTS + 1) * 5);
     EXPECT(slot[DDM_SIZES_BOXES] == (size_t)7 * (6 * DDM_MOST_POINTS + 1));
 }
 
@@ -212,13 +213,14 @@ static void refused_builds(void) {
     }
 }
 
-/* Whether a domain row, in one dimension, has these stretches, this box and this cover. */
-static int row_is(size_t domain, size_t own, size_t owned, size_t lent, size_t count, double lower, double upper, double far) {
+/* Whether a domain row, in one dimension, has these stretches, this depth, this box and this cover. */
+static int row_is(size_t domain, size_t own, size_t owned, size_t lent, size_t count, size_t depth, double lower, double upper,
+                  double far) {
     const size_t *row = domains + DDM_ROW_NUMBERS * domain;
     const double *box = boxes + DDM_ROW_FLOATS(1) * domain;
     return row[DDM_COLUMN_OWN_START] == own && row[DDM_COLUMN_OWN_COUNT] == owned && row[DDM_COLUMN_BORROWED_START] == lent
-           && row[DDM_COLUMN_BORROWED_COUNT] == count && box[0] == lower && box[1] == upper && box[DDM_ROW_COVER(1)] == far
-           && !signbit(box[DDM_ROW_COVER(1)]);
+           && row[DDM_COLUMN_BORROWED_COUNT] == count && row[DDM_COLUMN_DEPTH] == depth && box[0] == lower && box[1] == upper
+           && box[DDM_ROW_COVER(1)] == far && !signbit(box[DDM_ROW_COVER(1)]);
 }
 
 static void builds(void) {
@@ -227,12 +229,13 @@ static void builds(void) {
     EXPECT(build(points, 1, 2, DDM_POLICY_AUTO, 0, DDM_BUILD_SLOT) == 0 && slot[DDM_SLOT_PLACE] == 0 && slot[DDM_SLOT_LEVELS] == 1);
     EXPECT(slot[DDM_SLOT_ROWS] == N && zeros(slot + DDM_SLOT_ROWS + 1, DDM_MOST_LEVELS - 1));
     EXPECT(slot[DDM_SLOT_DOMAINS] == 1 && zeros(slot + DDM_SLOT_DOMAINS + 1, DDM_MOST_LEVELS - 1));
+    EXPECT(row_is(0, 0, N, 0, 0, 0, 0.0, 0.0, 0.0) && marked(domains + DDM_ROW_NUMBERS, ROOM - DDM_ROW_NUMBERS));
     /* Fixed at 2: two leaves of two rows, each with a row of the other's, and then the coarse level */
     EXPECT(build(points, 3, 2, DDM_POLICY_FIXED, 2, DDM_BUILD_SLOT + 1) == 0 && slot[DDM_BUILD_SLOT] == MARK);
     EXPECT(slot[DDM_SLOT_PLACE] == 0 && slot[DDM_SLOT_LEVELS] == 2 && slot[DDM_SLOT_ROWS] == N && slot[DDM_SLOT_ROWS + 1] == 2);
     EXPECT(zeros(slot + DDM_SLOT_ROWS + 2, DDM_MOST_LEVELS - 2));
     EXPECT(slot[DDM_SLOT_DOMAINS] == 2 && slot[DDM_SLOT_DOMAINS + 1] == 1 && zeros(slot + DDM_SLOT_DOMAINS + 2, DDM_MOST_LEVELS - 2));
-    EXPECT(row_is(0, 0, 2, 0, 1, 0.0, 2.0, 1.0) && row_is(1, 2, 2, 1, 1, 2.0, 10.0, 8.0) && row_is(2, N, 2, 2, 0, 0.0, 0.0, 0.0));
+    EXPECT(row_is(0, 0, 2, 0, 1, 1, 0.0, 2.0, 1.0) && row_is(1, 2, 2, 1, 1, 1, 2.0, 10.0, 8.0) && row_is(2, N, 2, 2, 0, 0, 0.0, 0.0, 0.0));
     EXPECT(borrowed[0] == 2 && borrowed[1] == 1 && marked(borrowed + 2, ROOM - 2));
     EXPECT(marked(level_points + N + 2, ROOM - N - 2) && marked(internals + N + 2, ROOM - N - 2));
     EXPECT(marked(domains + 3 * DDM_ROW_NUMBERS, ROOM - 3 * DDM_ROW_NUMBERS) && boxes[3 * DDM_ROW_FLOATS(1)] == MARK);
@@ -241,6 +244,7 @@ static void builds(void) {
     for (size_t leaf = 0; leaf < 8; leaf++) {
         const double far = boxes[DDM_ROW_FLOATS(1) * leaf + DDM_ROW_COVER(1)];
         EXPECT(domains[DDM_ROW_NUMBERS * leaf + DDM_COLUMN_OWN_COUNT] == leaf % 2 && far == (leaf == 5 || leaf == 7 ? INFINITY : 0.0));
+        EXPECT(domains[DDM_ROW_NUMBERS * leaf + DDM_COLUMN_DEPTH] == 3);
     }
 }
 

@@ -44,7 +44,7 @@ static int same_trees(const ddm_tree *a, const ddm_tree *b) {
         for (size_t leaf = 0; leaf < ddm_tree_leaves(a, level); leaf++)
             if (!same_rows(ddm_tree_own(a, level, leaf), ddm_tree_own(b, level, leaf))
                 || !same_rows(ddm_tree_borrowed(a, level, leaf), ddm_tree_borrowed(b, level, leaf)) || !same_box(a, b, level, leaf)
-                || !same_cover(a, b, level, leaf))
+                || !same_cover(a, b, level, leaf) || ddm_tree_depth(a, level, leaf) != ddm_tree_depth(b, level, leaf))
                 return 0;
     }
     return 1;
@@ -92,8 +92,10 @@ static void round_trip(void) {
 
 /* ---- refused calls */
 
-/* The file of the four wells has BYTES bytes, and a domain record from MARKED on. A cover has COVER_BYTES, and ends the file. */
-enum { WELLS = 4, NEAR = 1, ROWS = 6 * WELLS + 1, BYTES = 310, MARKED = 224, COVER_BYTES = 8, FILE_BYTES = 340 };
+/* The file of the four wells has BYTES bytes, and the record of the last leaf from MARKED to MARKED_END. A cover has COVER_BYTES, and a depth,
+ * which comes behind it and ends each record, DEPTH_BYTES. */
+enum { WELLS = 4, NEAR = 1, ROWS = 6 * WELLS + 1, BYTES = 330, MARKED = 236, MARKED_END = 282, COVER_BYTES = 8, DEPTH_BYTES = 4 };
+enum { FILE_BYTES = 360 };
 
 /* Everything that one call is lent. */
 typedef struct lent {
@@ -167,7 +169,8 @@ static void too_many_points(const lent *built, const size_t *tree) {
     free(points);
 }
 
-/* The coarse cover, which ends a file: any value is kept bit for bit, but a NaN, and a file that ends before it, are refused. */
+/* The coarse cover, before the depth that ends a file: any value is kept bit for bit, but a NaN, and a file that ends before it, are
+ * refused. */
 static void coarse_covers(lent *built, const size_t *tree) {
     static lent other;
     const uint64_t kept[5] = {UINT64_C(1) << 63, 1, UINT64_C(0x3ff0000000000000), UINT64_C(0x7ff0000000000000), UINT64_C(0xfff0000000000000)};
@@ -178,20 +181,62 @@ static void coarse_covers(lent *built, const size_t *tree) {
     size_t slot[DDM_STORE_SLOT], result[DDM_BUILD_SLOT];
     memcpy(file, built->file, BYTES);
     for (size_t i = 0; i < 5; i++) {
-        memcpy(file + BYTES - COVER_BYTES, &kept[i], COVER_BYTES);
+        memcpy(file + BYTES - DEPTH_BYTES - COVER_BYTES, &kept[i], COVER_BYTES);
         EXPECT(load_into(&other, file, BYTES, 2, 6 * WELLS * (NEAR + 1), result, DDM_BUILD_SLOT) == 0);
         EXPECT(memcmp(other.boxes + DDM_ROW_FLOATS(1) * WELLS + DDM_ROW_COVER(1), &kept[i], COVER_BYTES) == 0);
         EXPECT(store_from(&other, result, DDM_BUILD_SLOT, other.file, FILE_BYTES, slot, DDM_STORE_SLOT) == 0);
         EXPECT(slot[DDM_STORE_BYTES] == BYTES && memcmp(other.file, file, BYTES) == 0);
     }
     for (size_t i = 0; i < 4; i++) {
-        memcpy(file + BYTES - COVER_BYTES, &nans[i], COVER_BYTES);
+        memcpy(file + BYTES - DEPTH_BYTES - COVER_BYTES, &nans[i], COVER_BYTES);
         refused_load(file, BYTES, 2, 6 * WELLS * (NEAR + 1), DDM_BUILD_SLOT, 20);
         memcpy(cover, &nans[i], COVER_BYTES);
         refused_store(built, tree, DDM_BUILD_SLOT, BYTES, DDM_STORE_SLOT, 20);
     }
     *cover = zero;
-    refused_load(built->file, BYTES - COVER_BYTES, 2, 6 * WELLS * (NEAR + 1), DDM_BUILD_SLOT, 20);
+    refused_load(built->file, BYTES - DEPTH_BYTES - COVER_BYTES, 2, 6 * WELLS * (NEAR + 1), DDM_BUILD_SLOT, 20);
+}
+
+/* Another depth in the record that ends at `end`, and in the domain row `domain`: each is refused. */
+static void refused_depth(lent *built, const size_t *tree, size_t domain, size_t end, size_t depth) {
+    unsigned char file[FILE_BYTES];
+    size_t *mine = built->domains + DDM_ROW_NUMBERS * domain + DDM_COLUMN_DEPTH;
+    const size_t right = *mine;
+    const uint32_t stored = (uint32_t)depth;
+    memcpy(file, built->file, BYTES);
+    memcpy(file + end - DEPTH_BYTES, &stored, DEPTH_BYTES);
+    if (stored == depth)
+        refused_load(file, BYTES, 2, 6 * WELLS * (NEAR + 1), DDM_BUILD_SLOT, 20);
+    *mine = depth;
+    refused_store(built, tree, DDM_BUILD_SLOT, BYTES, DDM_STORE_SLOT, 20);
+    *mine = right;
+}
+
+/* The last leaf has one of four rows, behind leaves at depth 2: it may lie as deep, or deeper. The coarse depth is 0. A depth that is right
+ * in its low bits alone is refused too, and so is a file without its last depth. */
+static void depths(lent *built, const size_t *tree) {
+    static lent other;
+    const size_t wide = (size_t)1 << 32, last[3] = {3, 20, DDM_RECORD_DEEPEST};
+    const size_t never[8] = {0, 1, DDM_RECORD_DEEPEST + 1, 64 + 2, UINT32_MAX, wide + 2, SIZE_MAX - 1, SIZE_MAX};
+    const size_t not_coarse[6] = {1, 2, 64, UINT32_MAX, wide, SIZE_MAX};
+    unsigned char file[FILE_BYTES];
+    size_t slot[DDM_STORE_SLOT], result[DDM_BUILD_SLOT];
+    memcpy(file, built->file, BYTES);
+    EXPECT(built->domains[DDM_ROW_NUMBERS * (WELLS - 1) + DDM_COLUMN_DEPTH] == 2);
+    EXPECT(built->domains[DDM_ROW_NUMBERS * WELLS + DDM_COLUMN_DEPTH] == 0);
+    for (size_t i = 0; i < 3; i++) {
+        const uint32_t stored = (uint32_t)last[i];
+        memcpy(file + MARKED_END - DEPTH_BYTES, &stored, DEPTH_BYTES);
+        EXPECT(load_into(&other, file, BYTES, 2, 6 * WELLS * (NEAR + 1), result, DDM_BUILD_SLOT) == 0);
+        EXPECT(other.domains[DDM_ROW_NUMBERS * (WELLS - 1) + DDM_COLUMN_DEPTH] == last[i]);
+        EXPECT(store_from(&other, result, DDM_BUILD_SLOT, other.file, FILE_BYTES, slot, DDM_STORE_SLOT) == 0);
+        EXPECT(slot[DDM_STORE_BYTES] == BYTES && memcmp(other.file, file, BYTES) == 0);
+    }
+    for (size_t i = 0; i < 8; i++)
+        refused_depth(built, tree, WELLS - 1, MARKED_END, never[i]);
+    for (size_t i = 0; i < 6; i++)
+        refused_depth(built, tree, WELLS, BYTES, not_coarse[i]);
+    refused_load(built->file, BYTES - DEPTH_BYTES, 2, 6 * WELLS * (NEAR + 1), DDM_BUILD_SLOT, 20);
 }
 
 static void refusals(void) {
@@ -211,6 +256,7 @@ static void refusals(void) {
     refused_load(built.file, BYTES, 2, 6 * WELLS * (NEAR + 1) - 1, DDM_BUILD_SLOT, 11);
     refused_load(built.file, BYTES, 2, 6 * WELLS * (NEAR + 1), DDM_BUILD_SLOT - 1, 11);
     coarse_covers(&built, tree);
+    depths(&built, tree);
     built.file[MARKED] ^= 0x40;
     refused_load(built.file, BYTES, 2, 6 * WELLS * (NEAR + 1), DDM_BUILD_SLOT, 20);
     refused_store(&built, tree, DDM_BUILD_SLOT, BYTES - 1, DDM_STORE_SLOT, 11);

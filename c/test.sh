@@ -49,7 +49,7 @@ right_example() {
 }
 
 # ---- strides and slots stand by name in every program: a request that widens a row changes the headers alone
-literal='(row|result)\[[0-9]|[0-9] \+ level|[^0-9](4|12) \* |2 \* (d|dimensions?|AXES|domains|leaves)[^a-z]|(BOX|box)_(FLOATS|floats)\([^)]*\) \+ 1'
+literal='(row|result)\[[0-9]|[0-9] \+ level|[^0-9](4|5|12) \* |2 \* (d|dimensions?|AXES|domains|leaves)[^a-z]|(BOX|box)_(FLOATS|floats)\([^)]*\) \+ 1'
 ! grep -nE "$literal" c/*.c c/*.cpp c/ddm_tree.h rust/src/[!p]*.rs rust/examples/*.rs rust/examples/*/*.rs rust/tests/*.rs \
     || failed "a stride or a slot without its name"
 

@@ -55,6 +55,14 @@ static uint64_t below(uint64_t n) {
 
 /* ---- the tree is what the lists hold */
 
+/* The depth of a domain row says how many of the level's `rows` it has, and does not fall from the row `before`. */
+static void right_depth(const size_t *row, const size_t *before, size_t rows, int coarse) {
+    const size_t depth = row[DDM_COLUMN_DEPTH], own = row[DDM_COLUMN_OWN_COUNT];
+    EXPECT(coarse ? depth == 0 : 0 < depth && depth <= DDM_RECORD_DEEPEST);
+    EXPECT(!before || before[DDM_COLUMN_DEPTH] <= depth);
+    EXPECT(own == rows >> depth || (own == (rows >> depth) + 1 && rows >> depth << depth != rows));
+}
+
 /* One level: its leaves' domain rows start at `row`, their floats at `box`. */
 static void same_level(const ddm_tree *tree, const ddm_lists *lists, size_t level, const size_t *row, const double *box) {
     const size_t d = ddm_tree_dimensions(tree), last = ddm_tree_levels(tree) - 1;
@@ -63,6 +71,8 @@ static void same_level(const ddm_tree *tree, const ddm_lists *lists, size_t leve
         EXPECT(same(ddm_tree_borrowed(tree, level, leaf), lists->borrowed + row[DDM_COLUMN_BORROWED_START],
                     row[DDM_COLUMN_BORROWED_COUNT]));
         EXPECT(memcmp(&(double){ddm_tree_cover(tree, level, leaf)}, box + DDM_ROW_COVER(d), sizeof *box) == 0);
+        EXPECT(ddm_tree_depth(tree, level, leaf) == row[DDM_COLUMN_DEPTH]);
+        right_depth(row, leaf ? row - DDM_ROW_NUMBERS : NULL, ddm_tree_rows(tree, level).count, level == last);
         if (level == last)
             EXPECT(!ddm_tree_box(tree, level, leaf));
         else
@@ -218,7 +228,7 @@ static void lent_bytes(uint32_t leaf_threshold, size_t most) {
         bytes += lists.sizes[i] * sizeof(uint64_t);
         memset(all[i], 0xff, lists.sizes[i] * sizeof(uint64_t));
     }
-    EXPECT(bytes / WELLS == 816 + 96 * AXES + 112 * (params.overlap_knn + 1));
+    EXPECT(bytes / WELLS == 864 + 96 * AXES + 112 * (params.overlap_knn + 1));
     EXPECT(DDM_RECORD_ENTRIES(WELLS) * (sizeof(size_t) + sizeof(double)) / WELLS == 192);
     EXPECT(ddm_lists_build(&lists, points, AXES * WELLS, AXES, params, result) == 0);
     for (size_t i = 0; i < DDM_SIZES_SLOT; i++)
@@ -257,6 +267,8 @@ static void nowhere(void) {
     EXPECT(ddm_tree_box(tree, 0, 1) && !ddm_tree_box(tree, 0, 2) && !ddm_tree_box(tree, 1, 0) && !ddm_tree_box(tree, far, 0));
     EXPECT(!ddm_tree_box(tree, 2, 0) && !ddm_tree_box(tree, 0, far) && ddm_tree_cover(tree, 0, 1) == 8.0);
     EXPECT(ddm_tree_cover(tree, 0, 2) == 0.0 && ddm_tree_cover(tree, 2, 0) == 0.0 && ddm_tree_cover(tree, far, far) == 0.0);
+    EXPECT(ddm_tree_depth(tree, 0, 1) == 1 && ddm_tree_depth(tree, 1, 0) == 0);
+    EXPECT(ddm_tree_depth(tree, 0, 2) == 0 && ddm_tree_depth(tree, 2, 0) == 0 && ddm_tree_depth(tree, far, far) == 0);
     ddm_tree_free(tree);
     tree = ddm_tree_build_depth_first(points, 4, 1, params, &error);
     EXPECT(tree && ddm_tree_record(tree, 0).count == DDM_RECORD_NODES(2));

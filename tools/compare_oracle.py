@@ -5,7 +5,8 @@ ORACLE and each DRIVER read a batch of jobs on standard input and print the tree
 Rust built against stand-ins for the crates that can't be had; it is not part of this repository. Jobs cover dimensions 1 to 3, up to
 5,000 points, lattices, duplicates, signed zeros, subnormals and 1e308. Two kinds of jobs are outside the comparison, and are counted:
 those on which the Rust's floating level size is not document 01's exact one (both are computed here), and those of which a neighbour
-cut falls on a tie (TIES says which, rust/examples/ties.rs). The Rust holds no covers, so those that a DRIVER prints are left out."""
+cut falls on a tie (TIES says which, rust/examples/ties.rs). The Rust holds no covers and no depths, so those that a DRIVER
+prints are left out."""
 import argparse
 import collections
 import math
@@ -20,7 +21,7 @@ import model
 KINDS = ("smooth", "lattice", "edges of the format", "subnormal", "magnitudes", "one decimal place", "nested")
 NESTED = KINDS.index("nested")
 FLOATING, CLEAR, TIE, TIE_AT_ZERO = "floating level size", "clear", "tie", "tie at zero"
-COVER = re.compile(r" cover [0-9a-f]{16}$", re.MULTILINE)
+COVER_AND_DEPTH = re.compile(r" cover [0-9a-f]{16} depth \d+$", re.MULTILINE)
 LOT = 2000
 
 Job = collections.namedtuple("Job", "kind cs d leaf neighbours factor c")
@@ -123,8 +124,8 @@ def clear_jobs(r, ties, wanted):
 
 
 def trees(command, jobs):
-    """The printouts of the jobs, without their covers."""
-    return [COVER.sub("", part.split("\n", 1)[1]) for part in answer(command, jobs).split("=== ")[1:]]
+    """The printouts of the jobs, without their covers and depths."""
+    return [COVER_AND_DEPTH.sub("", part.split("\n", 1)[1]) for part in answer(command, jobs).split("=== ")[1:]]
 
 
 def main(argv):

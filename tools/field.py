@@ -3,8 +3,9 @@
 
 The table has the form that make_job.py --help shows (settings, a head such as 'well,x,y', the wells), with up to 1,048,576 wells and 64
 neighbours; --columns reads any other table that has a head. The folder gets level0.svg, level1.svg, .. and summary.txt, which has the
-wall sheet's lines: A the settings and what they come to, B who owns each well, C what each leaf sends up. Line C has the greatest cover of
-each level, by which the factor is set: how far the worst well that stays is from the nearest one of its leaf that goes up.
+wall sheet's lines: A the settings and what they come to, B who owns each well, C what each leaf sends up. Line B has the leaves per depth,
+which is how often a leaf was cut from its level. Line C has the greatest cover of each level, by which the factor is set: how far the worst
+well that stays is from the nearest one of its leaf that goes up.
 
 --store FILE keeps the tree beside that, and --load FILE takes it from there instead of building it: only for the settings and wells that it
 was built for, bit for bit.

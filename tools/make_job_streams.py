@@ -12,7 +12,7 @@ import struct
 import model
 
 PATH = "crates/run_job_streams/data/streams"
-MOST_BYTES = 1_572_864   # the room of crates/run_job_streams
+MOST_BYTES = 1_703_936   # the room of crates/run_job_streams
 WORD = 2 ** 32 - 1
 INFINITY = 0x7FF0000000000000
 SIGN = 1 << 63
@@ -214,6 +214,23 @@ def covers(rng):
             point([value(rng, kind) for _ in range(d)]) for _ in range(n))
 
 
+def depths():
+    """Leaves at one depth, and at two next to each other; the deepest ones, of leaf threshold 1; levels with other depths; and the coarse
+    level alone."""
+    for leaf in (1, 2, 3, 4):
+        # half of so many rows is just below twice the threshold, or reaches it; and so is a quarter
+        for n in (4 * leaf - 2, 4 * leaf - 1, 4 * leaf, 4 * leaf + 1, 8 * leaf - 5, 8 * leaf - 1):
+            yield settings(1, leaf, 0, n, 1, 1) + some_points(1, n)
+    for d in (2, 3):
+        for leaf, n in ((1, 3), (1, 5), (1, 7), (2, 7), (2, 15), (3, 11), (3, 13), (4, 15)):
+            yield settings(d, leaf, 1, 2, 1, n - 1) + some_points(d, n)
+    for leaf, n, number in ((1, 31, 4), (1, 21, 3), (3, 27, 5), (3, 21, 3), (5, 32, 4)):
+        yield settings(1, leaf, 0, 2, 1, number) + points(1, [5] * n)
+    for d, n in ((1, 1), (2, 1), (3, 1), (1, 5), (2, 4), (3, 7)):
+        yield settings(d, 1, 2, 2, 1, n) + some_points(d, n)
+        yield settings(d, 1, 2, 2, 0, 0) + some_points(d, n)
+
+
 def value(rng, kind):
     if kind == 0:
         return bits(float(rng.randint(0, 3)))
@@ -266,7 +283,7 @@ def all_streams():
     rng = random.Random(20261009)
     groups = [document(), cut_at_each_byte(), wrong_marks(), policies(), dimensions(), point_counts(), neighbour_counts(),
               refusals(), thresholds(), not_finite(), edge_values(rng), duplicates(rng), trees(rng, 330, 10),
-              trees(rng, 40, 32), flipped(rng, 300), garbage(rng), nested(), covers(rng)]
+              trees(rng, 40, 32), flipped(rng, 300), garbage(rng), nested(), covers(rng), depths()]
     seen = set()
     for group in groups:
         for stream in group:

@@ -22,8 +22,10 @@ import struct
 import stored_model as m
 
 PATH = "crates/run_stored_calls/data/calls"
-FORM_BEFORE = os.path.join(os.path.dirname(os.path.abspath(__file__)), "tests", "form_before.txt")
-MOST_BYTES = 3_200_000
+TESTS = os.path.join(os.path.dirname(os.path.abspath(__file__)), "tests")
+# Files without covers, and files with covers but without depths.
+FORMS_BEFORE = ("form_before.txt", "form_with_covers.txt")
+MOST_BYTES = 3_400_000
 MOST_RECORD = 4096   # the room of crates/run_stored_calls for a record
 WORD = 2 ** 32 - 1
 LONG = 2 ** 64 - 1
@@ -107,6 +109,21 @@ def any_cover(rng):
     return rng.choice(ANY_COVERS + [rng.randrange(INFINITY)])
 
 
+def depths_for(rows, size):
+    """The depths that a leaf of this size may have in a level of so many rows."""
+    return [depth for depth in range(m.MOST_DEPTH + 1) if m.depth_fits(rows, size, depth)]
+
+
+def least_depths(rows, sizes):
+    """The least depths in row order that leaves of these sizes may have in a level of so many rows; where a leaf may have none, that of the
+    leaf before."""
+    out, least = [], 0
+    for size in sizes:
+        least = next((depth for depth in depths_for(rows, size) if depth >= least), least)
+        out.append(least)
+    return out
+
+
 def no_box(d):
     return [0] * m.box_floats(d)
 
@@ -119,18 +136,20 @@ def some_tree(rng, d, n, neighbours):
         leaves = rng.randint(2, 4)
         if domains - leaves < 1 or len(rows) < 2:
             break
-        own = [[] for _ in range(leaves)]
-        for i in rows:
-            rng.choice(own).append(i)
+        own = None
+        while own is None or not all(depths_for(len(rows), len(part)) for part in own):
+            own = [[] for _ in range(leaves)]
+            for i in rows:
+                rng.choice(own).append(i)
         level = []
-        for part in own:
+        for depth, part in sorted((rng.choice(depths_for(len(rows), len(part))), part) for part in own):
             others = [i for i in rows if i not in part and rng.random() < 0.4][:borrowed]
             borrowed -= len(others)
-            level.append((part, others, box(rng, d), any_cover(rng)))
+            level.append((part, others, box(rng, d), any_cover(rng), depth))
         domains -= leaves
         tree.append((rows, level))
         rows = sorted(rng.sample(rows, rng.randint(1, len(rows) - 1)))
-    tree.append((rows, [(rows, [], no_box(d), any_cover(rng))]))
+    tree.append((rows, [(rows, [], no_box(d), any_cover(rng), 0)]))
     return tree
 
 
@@ -183,7 +202,7 @@ def each_cut():
 
 
 def random_trees(rng):
-    for _ in range(400):
+    for _ in range(270):
         d, n, neighbours = rng.randint(1, 3), rng.randint(1, 5), rng.randint(0, 2)
         settings = (d, rng.randint(1, 4), neighbours, rng.randint(2, 4), 1, n)
         points = points_of([rng.randint(-9, 9) for _ in range(n * d)])
@@ -198,10 +217,10 @@ def limits():
     for neighbours in (0, 1, 2):
         settings, points = (1, 1, neighbours, 2, 1, 2), points_of([0, 1])
         for leaves, borrowing, more in ((12, 0, 0), (13, 0, 0), (12, 6, 0), (12, 6, 1), (12, 10, 0)):
-            level = [([0], [], [0, 0], 0), ([1], [], [0, 0], INFINITY)] + [([], [0, 1], [0, 0], 0)] * borrowing
-            level += [([], [0], [0, 0], 0)] * more
-            level += [([], [], [0, 0], 0)] * (leaves - len(level))
-            tree = [([0, 1], level), ([0], [([0], [], [0, 0], 0)])]
+            level = [([0], [], [0, 0], 0, 1), ([1], [], [0, 0], INFINITY, 2)] + [([], [0, 1], [0, 0], 0, 2)] * borrowing
+            level += [([], [0], [0, 0], 0, 3)] * more
+            level += [([], [], [0, 0], 0, m.MOST_DEPTH)] * (leaves - len(level))
+            tree = [([0, 1], level), ([0], [([0], [], [0, 0], 0, 0)])]
             yield Load(settings, points, m.file_bytes(settings, points, tree), None)
             yield Store(settings, points, m.counts(tree), lent(settings, points, tree), 2000)
 
@@ -211,14 +230,15 @@ def one_test_each():
     settings, points = (1, 1, 2, 2, 1, 3), points_of([0, 1, 2])
     b, none = [0, INFINITY], [0, 0]
 
-    def leaf(own, borrowed, box):
-        return own, borrowed, box, ONE
+    def level(rows, box, leaves):
+        depths = least_depths(len(rows), [len(of[0]) for of in leaves])
+        return rows, [(of if len(of) == 3 else of + (box,)) + (ONE, depth) for of, depth in zip(leaves, depths)]
 
     def fine(rows, *leaves):
-        return rows, [leaf(*(of if len(of) == 3 else of + (b,))) for of in leaves]
+        return level(rows, b, leaves)
 
     def last(rows, *leaves):
-        return rows, [leaf(*(of if len(of) == 3 else of + (none,))) for of in (leaves or [(rows, [])])]
+        return level(rows, none, leaves or [(rows, [])])
 
     good = [fine([0, 1, 2], ([0, 2], [1]), ([1], [0, 2])), last([0, 2])]
     trees = [good, [last([0, 1, 2])], [last([0, 1])], [last([1, 2])], [last([])], [last([0, 2, 1])], [last([0, 1, 1])], [last([0, 1, 3])]]
@@ -236,7 +256,7 @@ def one_test_each():
         yield Load(settings, points, m.file_bytes(settings, points, tree), None)
         yield Store(settings, points, m.counts(tree) if len(tree) <= 4 else (5, [0] * 4, [0] * 4), lent(settings, points, tree), 400)
     five = points_of(range(5))
-    deep = [(list(range(k)), [([i for i in range(k) if i % 2 == t], [], [0, 0], 0) for t in (0, 1)]) for k in (5, 4, 3, 2)]
+    deep = [(list(range(k)), [([i for i in range(k) if i % 2 == t], [], [0, 0], 0, 1) for t in (0, 1)]) for k in (5, 4, 3, 2)]
     for levels in (deep[:3] + [last([0])], deep[:3] + [last([0, 1])], deep + [last([0])]):
         yield Load((1, 1, 0, 2, 1, 5), five, m.file_bytes((1, 1, 0, 2, 1, 5), five, levels), None)
 
@@ -283,7 +303,7 @@ def inside():
         if wrong:
             yield Load(settings, points, m.file_bytes(settings, wrong, tree), None)
     nine = points_of(range(9))
-    yield Load(settings, points, m.file_bytes((1, 2, 1, 2, 1, 1), nine, [(list(range(9)), [(list(range(9)), [], [0, 0], 0)])]), None)
+    yield Load(settings, points, m.file_bytes((1, 2, 1, 2, 1, 1), nine, [(list(range(9)), [(list(range(9)), [], [0, 0], 0, 0)])]), None)
     for policy, number in ((0, 1), (0, 2), (2, 2), (255, 0), (0, 0)):
         yield Load(settings, points, m.file_bytes((1, 2, 1, 2, policy, number), points, tree), None)
 
@@ -309,25 +329,62 @@ def differing():
     yield Load(settings, minus, m.file_bytes(settings, minus, m.built(settings, minus)), None)
 
 
-def form_before():
-    """Files that were accepted before domain records ended with a cover."""
-    with open(FORM_BEFORE, encoding="ascii") as file:
+def form_before(name):
+    """Files that were accepted before domain records ended as they do now."""
+    with open(os.path.join(TESTS, name), encoding="ascii") as file:
         for line in file:
             if not line.startswith("#"):
                 settings, points, data = line.split()
                 yield Load(tuple(map(int, settings.split(","))), [int(bits, 16) for bits in points.split(",")], bytes.fromhex(data), None)
 
 
+def with_leaf(tree, level, leaf, other_leaf):
+    """The tree with another leaf in one place."""
+    rows, leaves = tree[level]
+    return tree[:level] + [(rows, leaves[:leaf] + [other_leaf] + leaves[leaf + 1:])] + tree[level + 1:]
+
+
 def with_cover(tree, level, leaf, cover):
     """The tree with another cover in one leaf."""
-    rows, leaves = tree[level]
-    leaves = leaves[:leaf] + [leaves[leaf][:3] + (cover,)] + leaves[leaf + 1:]
-    return tree[:level] + [(rows, leaves)] + tree[level + 1:]
+    own, borrowed, bounds, _, depth = tree[level][1][leaf]
+    return with_leaf(tree, level, leaf, (own, borrowed, bounds, cover, depth))
+
+
+def with_depth(tree, level, leaf, depth):
+    """The tree with another depth in one leaf."""
+    return with_leaf(tree, level, leaf, tree[level][1][leaf][:4] + (depth,))
+
+
+def with_domains(case, change):
+    """The file with its first domain record changed, with its last one, which is the coarse one's, and with all of them."""
+    settings, points, tree = case
+    front, records = m.front_bytes(settings, points), m.tree_records(tree)
+    domains = [at for at, record in enumerate(records) if record.startswith(b"TD")]
+    for places in domains[:1], domains[-1:], domains:
+        yield front + b"".join(change(record) if at in places else record for at, record in enumerate(records))
+
+
+# How far a record's cover and its depth are from its end.
+COVER, DEPTH = 12, 4
+
+
+def cover_records(d):
+    """Domain records with a cover that is left out, with two, and with a box in front of it."""
+    return (lambda record: record[:-COVER] + record[-DEPTH:], lambda record: record[:-COVER] + record[-COVER:-DEPTH] + record[-COVER:],
+            lambda record: record[:-COVER] + bytes(8 * m.box_floats(d)) + record[-COVER:])
+
+
+def depth_records():
+    """Domain records with a depth that is left out, that has 1, 3 or 8 bytes, that stands twice, before the cover or before the rows, or with
+    its highest byte first."""
+    return (lambda record: record[:-DEPTH], lambda record: record[:1 - DEPTH], lambda record: record[:-1], lambda record: record + bytes(4),
+            lambda record: record + record[-DEPTH:], lambda record: record[:-COVER] + record[-DEPTH:] + record[-COVER:-DEPTH],
+            lambda record: record[:10] + record[-DEPTH:] + record[10:-DEPTH], lambda record: record[:-DEPTH] + record[:-DEPTH - 1:-1])
 
 
 def covers():
     """Every kind of cover in the first and the last domain of a level, the coarse one too, from a file and from lists; covers left out, and one
-    too many; a coarse box in the file; and each list one entry short, and the boxes' list without entries for the covers."""
+    too many; a coarse box in the file; and each list one entry short, and those of the domain rows without entries for depths or covers."""
     for settings, points, tree in small():
         for level, (_, leaves) in enumerate(tree):
             for leaf, cover in itertools.product({0, len(leaves) - 1}, ANY_COVERS + NAN_COVERS):
@@ -335,15 +392,89 @@ def covers():
                 data = m.file_bytes(settings, points, other_tree)
                 yield Load(settings, points, data, None)
                 yield Store(settings, points, m.counts(other_tree), lent(settings, points, other_tree), len(data))
-        front, records = m.front_bytes(settings, points), m.tree_records(tree)
-        for at, record in enumerate(records):
-            if record.startswith(b"TD"):
-                for changed_record in (record[:-8], record[:-1], record + record[-8:], record[:-8] + b"\0" * 8 * m.row_floats(settings[0])):
-                    yield Load(settings, points, front + b"".join(records[:at] + [changed_record] + records[at + 1:]), None)
-        data = front + b"".join(records)
-        for name, by in [(name, 1) for name in m.LISTS] + [("boxes", 6 * (len(points) // settings[0]) + 1)]:
+        for change in cover_records(settings[0]):
+            for data in with_domains((settings, points, tree), change):
+                yield Load(settings, points, data, None)
+        data, rows = m.file_bytes(settings, points, tree), 6 * (len(points) // settings[0]) + 1
+        for name, by in [(name, 1) for name in m.LISTS] + [("domains", rows), ("boxes", rows)]:
             yield Load(settings, points, data, name, by)
             yield Store(settings, points, m.counts(tree), lent(settings, points, tree, name, by), len(data))
+
+
+def two_levels(sizes, depths, coarse=0):
+    """A level with leaves of these sizes and depths, and a coarse level with its first row, at this depth."""
+    rows, leaves, at = list(range(sum(sizes))), [], 0
+    for size, depth in zip(sizes, depths):
+        leaves.append((rows[at:at + size], [], [0, ONE], ONE, depth))
+        at += size
+    return [(rows, leaves), ([0], [([0], [], [0, 0], 0, coarse)])]
+
+
+def both(settings, points, tree):
+    """The tree from a file and, in lists, to one. A depth that a file has no room for is given to the writer alone."""
+    size = 0
+    if all(depth <= WORD for _, leaves in tree for _, _, _, _, depth in leaves):
+        data = m.file_bytes(settings, points, tree)
+        size = len(data)
+        yield Load(settings, points, data, None)
+    yield Store(settings, points, m.counts(tree), lent(settings, points, tree), size or 400)
+
+
+def depths():
+    """Depths of small trees that are one off; depths that are too great, or right in their low bits alone; each size and depth of two leaves;
+    the edges of each of the tests; and depths left out, of another length, and in another place of the file."""
+    for settings, points, tree in small():
+        for level, (_, leaves) in enumerate(tree):
+            for leaf, (_, _, _, _, depth) in enumerate(leaves):
+                for value in {depth + 1, abs(depth - 1)}:
+                    yield from both(settings, points, with_depth(tree, level, leaf, value))
+        for change in depth_records():
+            for data in with_domains((settings, points, tree), change):
+                yield Load(settings, points, data, None)
+    settings, points, tree = example()
+    for level, leaf, depth in ((0, 0, 2), (0, 3, 2), (1, 0, 0)):
+        for value in (22, 32 + depth, 64 + depth, 256 + depth, 2 ** 16 + depth, 2 ** 31, WORD, 2 ** 32 + depth, 2 ** 63, LONG):
+            yield from both(settings, points, with_depth(tree, level, leaf, value))
+    for rows in (4, 5):
+        settings, points = (1, 1, 0, rows, 1, 1), points_of(range(rows))
+        for size, first, second in itertools.product(range(rows + 1), range(4), range(4)):
+            tree = two_levels([size, rows - size], [first, second])
+            yield Load(settings, points, m.file_bytes(settings, points, tree), None)
+    for sizes, given in DEPTHS_AT_EDGES:
+        settings, points = (1, 1, 0, sum(sizes), 1, 1), points_of(range(sum(sizes)))
+        yield from both(settings, points, two_levels(sizes, given))
+    # the coarse level alone: a single row is as many as half of it may be, and a quarter
+    for rows, depth in itertools.product((1, 2, 3), (0, 1, 2, 21, 22, WORD)):
+        settings, points = (1, 1, 0, 2, 1, rows), points_of(range(rows))
+        yield from both(settings, points, [(list(range(rows)), [(list(range(rows)), [], [0, 0], 0, depth)])])
+    # depths fall from one level to the next, and a level's own rows are halved
+    settings, points = (1, 1, 0, 4, 1, 1), points_of(range(4))
+    for upper, lower in itertools.product(([2, 2, 2, 2], [1, 2, 2, 2], [2, 2, 2, 3]), ([1, 1], [0, 1], [1, 0], [2, 2], [1, 2], [2, 1], [3, 3])):
+        tree = two_levels([1, 1, 1, 1], upper)[:1] + two_levels([1, 1], lower)
+        yield from both(settings, points, tree)
+    # 20 comes before 18 and 19
+    settings, points, tree = example()
+    for value in (1, 2, 3):
+        data = m.file_bytes(settings, points, with_depth(tree, 0, 0, value))
+        yield Load(settings[:5] + (3,), points, data, None)
+        yield Load(settings, points[::-1], data, None)
+
+
+# Sizes and depths of leaves: rows divided evenly, with one row more and with two; the same rows in an order in which depths fall; the
+# greatest depth, and one more; and one leaf with all rows, behind which the others are empty.
+DEPTHS_AT_EDGES = [
+    ((2, 2), (1, 1)), ((3, 1), (1, 2)), ((3, 1), (1, 1)), ((4, 0), (1, 2)), ((1, 3), (1, 1)), ((1, 1, 2), (2, 2, 2)), ((2, 1, 1), (1, 2, 2)),
+    ((1, 1, 2), (2, 2, 1)), ((1, 2, 1), (2, 1, 2)), ((2, 2, 0), (2, 2, 3)), ((2, 2, 0), (2, 2, 2)), ((2, 2, 2, 2), (2, 2, 2, 2)),
+    ((3, 3, 1, 1), (2, 2, 3, 3)), ((3, 3, 2, 0), (2, 2, 2, 3)), ((3, 3, 2, 0), (2, 2, 2, 4)), ((4, 4), (2, 2)), ((4, 4), (1, 1)), ((5, 3), (1, 2)),
+    ((5, 3), (1, 1)), ((3, 5), (2, 1)), ((4, 2, 2), (1, 2, 2)), ((2, 2, 4), (2, 2, 1)), ((3, 4), (1, 1)), ((3, 2, 2), (1, 2, 2)),
+    ((3, 2, 1, 1), (1, 2, 2, 2)), ((3, 2, 1, 1), (1, 2, 3, 3)), ((3, 1, 1, 2), (1, 3, 3, 2)), ((0, 1, 1, 1), (3, 3, 3, 3)),
+    ((0, 1, 1, 1), (2, 2, 2, 2)),
+    ((1, 1, 1), (21, 21, 21)), ((1, 1, 1), (22, 22, 22)), ((1, 1, 1), (20, 21, 22)), ((1, 1, 1), (19, 20, 21)), ((1, 1, 0), (1, 1, 21)),
+    ((1, 1, 0), (1, 1, 22)), ((1, 1, 0), (1, 1, 64)), ((1, 1, 0), (1, 1, WORD)), ((1, 1, 0), (1, 1, LONG)), ((1, 0, 1), (1, 21, 21)),
+    ((1, 0, 1), (1, 21, 20)), ((2, 0), (0, 2)), ((2, 0), (0, 1)), ((2, 0), (0, 21)), ((2, 0), (0, 22)), ((0, 2), (0, 0)), ((0, 2), (2, 0)),
+    ((4, 0), (0, 3)), ((4, 0), (0, 2)), ((4, 0, 0, 0), (0, 3, 4, 21)), ((4, 0, 0, 0), (0, 3, 21, 4)), ((5, 0), (0, 3)), ((5, 0), (0, 2)),
+    ((5, 0), (0, 0)),
+]
 
 
 # ---- stores
@@ -400,7 +531,7 @@ def stores(rng):
 def calls():
     rng = random.Random(20)
     for part in (whole(), each_byte(rng), each_cut(), random_trees(rng), limits(), one_test_each(), present(), inside(), differing(), stores(rng),
-                 covers(), form_before()):
+                 covers(), depths(), *map(form_before, FORMS_BEFORE)):
         yield from part
 
 

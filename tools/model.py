@@ -1,4 +1,4 @@
-"""Document 01 with requests 2, 4 and 5 of document 02 as plain Python, for making stored answers and for checking tables by hand.
+"""Document 01 with requests 2, 4, 5 and 6 of document 02 as plain Python, for making stored answers and for checking tables by hand.
 
 It follows the papers rule by rule and shares nothing with the Rattle code. Python's floats are IEEE 754 binary64 and its
 `math.sqrt` is correctly rounded, so every rounded step is the papers'.
@@ -153,19 +153,20 @@ def halves(cs, d, rows):
     return axis, coordinate(cs, d, order[half], axis), sorted(order[:half]), sorted(order[half:])
 
 
-def cut(cs, d, rows, box):
+def cut(cs, d, rows, box, depth):
     axis, plane, left_rows, right_rows = halves(cs, d, rows)
     left, right = (list(box[0]), list(box[1])), (list(box[0]), list(box[1]))
     left[1][axis] = plane
     right[0][axis] = plane
-    return (left_rows, left), (right_rows, right)
+    return (left_rows, left, depth + 1), (right_rows, right, depth + 1)
 
 
 def leaves_of(cs, d, leaf, active):
-    queue, leaves = [(list(active), bounds(cs, d, active))], []
+    """The leaves of a level: their rows, their boxes, and how often each was cut from the whole level, which is its depth."""
+    queue, leaves = [(list(active), bounds(cs, d, active), 0)], []
     while queue:
-        rows, box = queue.pop(0)
-        halves = cut(cs, d, rows, box)
+        rows, box, depth = queue.pop(0)
+        halves = cut(cs, d, rows, box, depth)
         (queue if len(rows) >= 2 * leaf else leaves).extend(halves)
     return leaves
 
@@ -177,7 +178,7 @@ def nearest(cs, d, neighbours, active, i):
 
 
 def borrowed_of(cs, d, neighbours, active, leaves):
-    owner = {i: t for t, (rows, _) in enumerate(leaves) for i in rows}
+    owner = {i: t for t, (rows, _, _) in enumerate(leaves) for i in rows}
     borrowed = [set() for _ in leaves]
     for i in active:
         for j in nearest(cs, d, neighbours, active, i):
@@ -225,7 +226,7 @@ def check(cs, d, leaf, neighbours, f, policy, number):
 
 
 def build(cs, d, leaf, neighbours, f, policy, number):
-    """The levels: (active rows, leaves); a leaf is (own rows, borrowed rows, box or None, cover)."""
+    """The levels: (active rows, leaves); a leaf is (own rows, borrowed rows, box or None, cover, depth)."""
     check(cs, d, leaf, neighbours, f, policy, number)
     n = len(cs) // d
     c = threshold(policy, number, n)
@@ -236,10 +237,11 @@ def build(cs, d, leaf, neighbours, f, policy, number):
         borrowed = borrowed_of(cs, d, neighbours, active, leaves)
         size = level_size(len(active), c, max(1, k - built))
         built += 1
-        sent = [sent_by(cs, d, rows, q) for (rows, _), q in zip(leaves, quotas([len(rows) for rows, _ in leaves], size))]
-        levels.append((active, [(rows, b, box, leaf_cover(cs, d, rows, up)) for (rows, box), b, up in zip(leaves, borrowed, sent)]))
+        sent = [sent_by(cs, d, rows, q) for (rows, _, _), q in zip(leaves, quotas([len(rows) for rows, _, _ in leaves], size))]
+        levels.append((active, [(rows, b, box, leaf_cover(cs, d, rows, up), depth)
+                                for (rows, box, depth), b, up in zip(leaves, borrowed, sent)]))
         active = sorted(i for up in sent for i in up)
-    levels.append((active, [(active, [], None, 0.0)]))
+    levels.append((active, [(active, [], None, 0.0, 0)]))
     return levels
 
 
@@ -319,9 +321,9 @@ def printout(data):
     out = ["levels %d" % len(levels)]
     for t, (active, leaves) in enumerate(levels):
         out.append("level %d points %s" % (t, rows_text(active)))
-        for i, (own, borrowed, box, far) in enumerate(leaves):
-            out.append("domain %d internal %s overlap %s box %s cover %s" % (
-                i, rows_text(own), rows_text(borrowed), box_text(box), bits_text(far)))
+        for i, (own, borrowed, box, far, depth) in enumerate(leaves):
+            out.append("domain %d internal %s overlap %s box %s cover %s depth %d" % (
+                i, rows_text(own), rows_text(borrowed), box_text(box), bits_text(far), depth))
     return "\n".join(out) + "\n"
 
 

@@ -1,8 +1,9 @@
-"""Requests 1 and 5 of document 02 as plain Python: the file of a tree, its tests, the loader and the writer.
+"""Requests 1, 5 and 6 of document 02 as plain Python: the file of a tree, its tests, the loader and the writer.
 
 It follows the paper's words and shares nothing with the Rattle code. Floats are their bits throughout. Settings are six numbers:
 dimension, leaf threshold, neighbours, factor, policy (0 Auto, 1 Fixed), threshold (0 under Auto). A tree is a list of levels; a level is
-its rows and its leaves; a leaf is own rows, borrowed rows, the bits of its bounds (lower ones, then upper ones), and those of its cover.
+its rows and its leaves; a leaf is own rows, borrowed rows, the bits of its bounds (lower ones, then upper ones), those of its cover, and
+its depth.
 """
 import struct
 
@@ -10,7 +11,9 @@ import model
 
 MOST_LEVELS = 4
 LISTS = ("level_points", "internals", "domains", "boxes", "borrowed")
-ROW_NUMBERS = 4
+# What a domain row has in `domains`: where its own rows begin and how many they are, the same of the borrowed ones, and its depth.
+ROW_NUMBERS = 5
+MOST_DEPTH = 21
 
 
 def box_floats(d):
@@ -62,10 +65,10 @@ def tree_records(tree):
     for t, (rows, leaves) in enumerate(tree):
         coarse = t == len(tree) - 1
         records.append(b"TL" + numbers([len(rows), len(leaves)]) + numbers(rows))
-        for own, borrowed, box, cover in leaves:
+        for own, borrowed, box, cover, depth in leaves:
             floats = [cover] if coarse else box + [cover]
             records.append(b"TD" + numbers([len(own), len(borrowed)]) + numbers(own) + numbers(borrowed)
-                           + struct.pack("<%dQ" % len(floats), *floats))
+                           + struct.pack("<%dQ" % len(floats), *floats) + numbers([depth]))
     return records
 
 
@@ -122,7 +125,8 @@ def read_file(data):
             own, borrowed = r.numbers(2)
             own, borrowed = r.numbers(own), r.numbers(borrowed)
             box = [0] * box_floats(d) if coarse else r.floats(box_floats(d))
-            leaves.append((own, borrowed, box, r.floats(1)[0]))
+            cover = r.floats(1)[0]
+            leaves.append((own, borrowed, box, cover, r.numbers(1)[0]))
         tree.append((rows, leaves))
     if r.at != len(data):
         raise Malformed
@@ -140,6 +144,20 @@ def stated(d, n, neighbours):
             "borrowed": 6 * n * (neighbours + 1)}
 
 
+def depth_fits(rows, size, depth):
+    """Whether a leaf of this size may have this depth in a level of so many rows: not above the greatest, and the size is the rows divided by
+    two to the depth, rounded down, or one more."""
+    return depth <= MOST_DEPTH and size in (rows // 2 ** depth, rows // 2 ** depth + 1)
+
+
+def depths_fit(rows, leaves, last):
+    """Whether a level of so many rows has the depths of a level: in row order they never fall, and each fits. The coarse domain's is 0."""
+    depths = [depth for _, _, _, _, depth in leaves]
+    if last:
+        return depths == [0]
+    return all(a <= b for a, b in zip(depths, depths[1:])) and all(depth_fits(rows, len(leaf[0]), leaf[4]) for leaf in leaves)
+
+
 def sound(settings, n, tree):
     d, neighbours = settings[0], settings[2]
     if not 1 <= len(tree) <= MOST_LEVELS or tree[0][0] != list(range(n)):
@@ -150,15 +168,15 @@ def sound(settings, n, tree):
             return False
         if t and not (0 < len(rows) < len(tree[t - 1][0]) and set(rows) <= set(tree[t - 1][0])):
             return False
-        if sorted(i for own, _, _, _ in leaves for i in own) != rows:
+        if sorted(i for own, _, _, _, _ in leaves for i in own) != rows or not depths_fit(len(rows), leaves, last):
             return False
-        for own, borrowed, box, cover in leaves:
+        for own, borrowed, box, cover, _ in leaves:
             if not ascends(own) or not ascends(borrowed) or not set(borrowed) <= set(rows) - set(own):
                 return False
             if len(box) != box_floats(d) or (any(box) if last else any(map(is_nan, box))) or is_nan(cover):
                 return False
     domains = sum(len(leaves) for _, leaves in tree)
-    borrowed = sum(len(b) for _, leaves in tree for _, b, _, _ in leaves)
+    borrowed = sum(len(b) for _, leaves in tree for _, b, _, _, _ in leaves)
     return domains <= 6 * n + 1 and borrowed <= 6 * n * (neighbours + 1)
 
 
@@ -186,8 +204,8 @@ def packed(tree):
     lists = {name: [] for name in LISTS}
     for rows, leaves in tree:
         lists["level_points"] += rows
-        for own, borrowed, box, cover in leaves:
-            lists["domains"] += [len(lists["internals"]), len(own), len(lists["borrowed"]), len(borrowed)]
+        for own, borrowed, box, cover, depth in leaves:
+            lists["domains"] += [len(lists["internals"]), len(own), len(lists["borrowed"]), len(borrowed), depth]
             lists["internals"] += own
             lists["borrowed"] += borrowed
             lists["boxes"] += box + [cover]
@@ -221,12 +239,12 @@ def held(d, count, lists):
             j, many = at["rows"], row_floats(d)
             if ROW_NUMBERS * (j + 1) > len(lists["domains"]) or many * (j + 1) > len(lists["boxes"]):
                 raise Malformed
-            a, w, b, v = lists["domains"][ROW_NUMBERS * j:ROW_NUMBERS * (j + 1)]
+            a, w, b, v, depth = lists["domains"][ROW_NUMBERS * j:ROW_NUMBERS * (j + 1)]
             floats = lists["boxes"][many * j:many * (j + 1)]
-            leaves.append((stretch("internals", a, w), stretch("borrowed", b, v), floats[:box_floats(d)], floats[box_floats(d)]))
+            leaves.append((stretch("internals", a, w), stretch("borrowed", b, v), floats[:box_floats(d)], floats[box_floats(d)], depth))
             at["rows"] += 1
         tree.append((points, leaves))
-    if any(any(box) for _, _, box, _ in tree[-1][1]):
+    if any(any(box) for _, _, box, _, _ in tree[-1][1]):
         raise Malformed
     return tree
 
@@ -273,5 +291,5 @@ def built(settings, points):
     """The tree that the build makes, as this module has it."""
     d, leaf, neighbours, factor, policy, number = settings
     levels = model.build(floats_of(points), d, leaf, neighbours, factor, policy, number)
-    return [(list(rows), [(list(own), list(borrowed), [0] * box_floats(d) if box is None else bits_of(box[0] + box[1]), bits_of([cover])[0])
-                          for own, borrowed, box, cover in leaves]) for rows, leaves in levels]
+    return [(list(rows), [(list(own), list(borrowed), [0] * box_floats(d) if box is None else bits_of(box[0] + box[1]), bits_of([cover])[0], depth)
+                          for own, borrowed, box, cover, depth in leaves]) for rows, leaves in levels]

@@ -51,7 +51,7 @@ def counted(number, one, many):
 
 
 def owner_lines(number, level, name, coarse, most):
-    """Line B of a level: wells per leaf, and each well that has no leaf or more than one."""
+    """Line B of a level: wells per leaf, each well that has no leaf or more than one, what is borrowed, and the leaves per depth."""
     active, own = rows_of(level.points), [rows_of(leaf.own) for leaf in level.leaves]
     wrong = misplaced(active, own, name)
     where = "the one domain of the coarse level" if coarse else f"{counted(len(own), 'leaf', 'leaves')}, wells a leaf: " \
@@ -61,7 +61,13 @@ def owner_lines(number, level, name, coarse, most):
     if not coarse:
         lent = [len(leaf.borrowed) for leaf in level.leaves]
         out.append(f"      borrowed: {sum(lent):,} in all, a leaf: {span(lent)}")
+        out.append("      " + depth_line([leaf.depth for leaf in level.leaves]))
     return out
+
+
+def depth_line(depths):
+    """How many leaves of a level were cut how often."""
+    return "leaves per depth: " + ", ".join(f"{leaves:,} at depth {depth}" for depth, leaves in sorted(Counter(depths).items()))
 
 
 def misplaced(active, own, name):

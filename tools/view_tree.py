@@ -6,9 +6,9 @@ With the TABLE that the job was made from, wells carry its names, otherwise thei
 boxes with their numbers, and, filled, the wells that are sent up to the next level; --links adds a dashed line from each leaf's middle
 to each well that it borrows. Three axes are shown as three projections. Above 150 wells a well is a dot without a name.
 
-The summary has the wall sheet's lines: A the settings and what they come to, B who owns each well, C what each leaf sends up. Line C has
-the greatest cover of each level, by which the factor is set: how far the worst well that stays is from the nearest one of its leaf that
-goes up.
+The summary has the wall sheet's lines: A the settings and what they come to, B who owns each well, C what each leaf sends up. Line B has
+the leaves per depth, which is how often a leaf was cut from its level. Line C has the greatest cover of each level, by which the factor is
+set: how far the worst well that stays is from the nearest one of its leaf that goes up.
 exit status: 0 made, 1 refused (a printout that is not whole, that does not belong to the job, or that is a refusal), 2 wrong use.
 """
 import argparse

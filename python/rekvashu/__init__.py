@@ -4,7 +4,7 @@
     tree = rekvashu.build([[0.0, 1.0], [2.0, 3.0], [4.0, 1.5]], leaf=1, neighbours=1, factor=2, coarse=1)
     for level in tree.levels:
         for leaf in level.leaves:
-            print(leaf.own, leaf.borrowed, leaf.box, leaf.cover)
+            print(leaf.own, leaf.borrowed, leaf.box, leaf.cover, leaf.depth)
 
 `rekvashu.build(.., engine="depth-first")` builds the same tree and keeps its cuts: `level.cuts` has them from the root downwards.
 

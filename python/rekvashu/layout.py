@@ -10,8 +10,8 @@ TREE_LISTS = LISTS[:5]
 RECORD_LISTS = ("cuts", "planes")
 
 # A domain row: its numbers, and the floats that belong to it.
-ROW_NUMBERS = 4
-COLUMN_OWN_START, COLUMN_OWN_COUNT, COLUMN_BORROWED_START, COLUMN_BORROWED_COUNT = range(4)
+ROW_NUMBERS = 5
+COLUMN_OWN_START, COLUMN_OWN_COUNT, COLUMN_BORROWED_START, COLUMN_BORROWED_COUNT, COLUMN_DEPTH = range(5)
 
 
 def box_floats(dimension):
@@ -71,9 +71,9 @@ def sample_room(rows):
 
 def file_bytes(dimension, rows, slot, borrowed):
     """The bytes of the file of a tree over so many points, by its slot and the rows borrowed in all: the head; the points; a mark and two
-    counts for each level and domain; each level row and, as an internal row, once more; the borrowed rows; and the floats of each domain
-    row but for the coarse box."""
+    counts for each level and domain; each level row and, as an internal row, once more; the borrowed rows; a depth for each domain; and the
+    floats of each domain row but for the coarse box."""
     levels, listed = slot[SLOT_LEVELS], sum(slot[SLOT_ROWS:SLOT_DOMAINS])
     domains = sum(slot[SLOT_DOMAINS:BUILD_SLOT])
     floats = row_floats(dimension) * domains - box_floats(dimension)
-    return 24 + rows * (2 + 8 * dimension) + 10 * (levels + domains) + 4 * (2 * listed + borrowed) + 8 * floats
+    return 24 + rows * (2 + 8 * dimension) + 10 * (levels + domains) + 4 * (2 * listed + borrowed + domains) + 8 * floats

@@ -126,7 +126,7 @@ class Leaves(Sequence):
 
 
 class Leaf:
-    """A leaf: its own rows and the rows that it borrows, both ascending, its box and its cover."""
+    """A leaf: its own rows and the rows that it borrows, both ascending, its box, its cover and its depth."""
 
     __slots__ = ("_packed", "number", "_domain", "_coarse")
 
@@ -156,6 +156,13 @@ class Leaf:
         """How far the worst of the leaf's own rows that it does not send up is from the nearest one that it sends. Infinite for a leaf that
         has rows and sends none; 0.0 for an empty leaf and for the coarse domain. A loaded tree has the covers of its file."""
         return float(self._packed.boxes[self._floats() + layout.row_cover(self._packed.dimension)])
+
+    @property
+    def depth(self):
+        """How often the leaf's level was cut to make it, at most 21. From one leaf of a level to the next it never falls, and a leaf at depth e
+        in a level of a rows has a / 2^e of them, rounded down, or one more. 0 for the coarse domain. A loaded tree has the depths of its
+        file."""
+        return self._packed.numbers(self._domain, layout.COLUMN_DEPTH, layout.COLUMN_DEPTH)[0]
 
     def _floats(self):
         """Where the floats of the leaf's domain row start."""

@@ -19,14 +19,14 @@ def bits(numbers):
 
 
 def seen(tree):
-    """A tree as plain lists, with the bits of each bound and cover."""
+    """A tree as plain lists, with the bits of each bound and cover, and the depths."""
     return [(plain(level.points), [(plain(leaf.own), plain(leaf.borrowed), leaf.box and bits(plain(leaf.box[0]) + plain(leaf.box[1])),
-                                    bits([leaf.cover])) for leaf in level.leaves]) for level in tree.levels]
+                                    bits([leaf.cover]), leaf.depth) for leaf in level.leaves]) for level in tree.levels]
 
 
 def expected(cs, d, leaf, neighbours, factor, policy, number):
     levels = model.build(cs, d, leaf, neighbours, factor, policy, number)
-    return [(points, [(own, borrowed, box and bits(box[0] + box[1]), bits([cover])) for own, borrowed, box, cover in leaves])
+    return [(points, [(own, borrowed, box and bits(box[0] + box[1]), bits([cover]), depth) for own, borrowed, box, cover, depth in leaves])
             for points, leaves in levels]
 
 
@@ -47,6 +47,8 @@ class Build(unittest.TestCase):
         self.assertIsNone(tree.levels[1].leaves[0].box)
         self.assertEqual([[leaf.cover for leaf in level.leaves] for level in tree.levels], [[0.0, 0.0, math.inf, math.inf], [0.0]])
         self.assertEqual({type(leaf.cover) for level in tree.levels for leaf in level.leaves}, {float})
+        self.assertEqual([[leaf.depth for leaf in level.leaves] for level in tree.levels], [[2, 2, 2, 2], [0]])
+        self.assertEqual({type(leaf.depth) for level in tree.levels for leaf in level.leaves}, {int})
         self.assertEqual([level.is_coarse for level in tree.levels], [False, True])
 
     @both
@@ -67,6 +69,15 @@ class Build(unittest.TestCase):
         # empty leaves, leaves that send their row, and leaves that send none
         leaves = rekvashu.build([0, 1, 2, 10], 1, 1, 2, 2).levels[0].leaves
         self.assertEqual([leaf.cover for leaf in leaves], [0.0, 0.0, 0.0, 0.0, 0.0, math.inf, 0.0, math.inf])
+
+    @both
+    def test_depths(self):
+        # one depth; less than twice the threshold; two depths; each level anew; and the coarse level alone
+        for n, leaf, factor, coarse, due in ((4, 2, 2, 2, [[2] * 4, [0]]), (2, 9, 2, 1, [[1, 1], [0]]), (7, 2, 7, 1, [[2, 2, 3, 3, 3, 3], [0]]),
+                                             (8, 1, 2, 1, [[4] * 16, [3] * 8, [2] * 4, [0]]), (5, 1, 2, 5, [[0]])):
+            for engine in ("queue", "depth-first"):
+                tree = rekvashu.build(list(range(n)), leaf, 1, factor, coarse, engine=engine)
+                self.assertEqual([[leaf.depth for leaf in level.leaves] for level in tree.levels], due, n)
 
     @both
     def test_random_trees(self):
@@ -156,7 +167,7 @@ class Others(unittest.TestCase):
         self.assertEqual(bits([rekvashu.square_root(-0.0)]), bits([-0.0]))
 
     def test_sizes(self):
-        self.assertEqual(rekvashu.build_sizes(10, 2, 3), {"level_points": 40, "internals": 40, "domains": 244, "boxes": 305,
+        self.assertEqual(rekvashu.build_sizes(10, 2, 3), {"level_points": 40, "internals": 40, "domains": 305, "boxes": 305,
                                                          "borrowed": 240, "floats": 320, "wholes": 640})
 
 

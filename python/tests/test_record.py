@@ -61,6 +61,9 @@ class Record(unittest.TestCase):
             rows = table([cs[i:i + d] for i in range(0, n * d, d)])
             tree = rekvashu.build(rows, leaf, neighbours, factor, coarse, engine="depth-first")
             self.assertEqual(seen(tree), seen(rekvashu.build(rows, leaf, neighbours, factor, coarse)))
+            for level in tree.levels[:-1]:
+                self.assertEqual({node.leaf: node.depth for node in level.cuts if node.leaf is not None},
+                                 {leaf.number: leaf.depth for leaf in level.leaves})
             levels = model.build(cs, d, leaf, neighbours, factor, 1, coarse)
             self.assertEqual([lent(level.cuts) for level in tree.levels], expected(cs, d, leaf, levels))
 

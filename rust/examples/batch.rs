@@ -48,7 +48,7 @@ fn print_tree(job: &Job, out: &mut String) {
                     let _ = write!(out, " {:016x}", x.to_bits());
                 }),
             }
-            let _ = writeln!(out, " cover {:016x}", leaf.cover().to_bits());
+            let _ = writeln!(out, " cover {:016x} depth {}", leaf.cover().to_bits(), leaf.depth());
         }
     }
 }

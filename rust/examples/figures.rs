@@ -38,12 +38,12 @@ fn line(what: &str, (ours, theirs): (f64, f64)) {
 }
 
 /// What one cut writes of its room, for a rows and m leaves: whole numbers of the ordering (one a row), of the packed leaves (one a
-/// row) and of the queue (two for each of the m - 1 domains that wait), and floats of the queue (their boxes). It writes no others.
+/// row) and of the queue (three for each of the m - 1 domains that wait), and floats of the queue (their boxes). It writes no others.
 fn cut_room(coords: &[f64], d: usize, leaf: usize, rows: &[usize]) {
     let a = rows.len();
     let mut lent = Lent::for_cut(a, d);
     let m = lent.cut(stage_leaves, coords, d, leaf, rows);
-    let (wholes, floats) = (2 * a + 2 * (m - 1), box_floats(d) * (m - 1));
+    let (wholes, floats) = (2 * a + 3 * (m - 1), box_floats(d) * (m - 1));
     let [ordering, packed, queue] = [0..a, a..2 * a, 2 * a..wholes].map(|range| touched_wholes(&lent.wholes[range]));
     let boxes = touched_floats(&lent.floats[..floats]);
     println!("  room touched by the cut: ordering {ordering}, packed leaves {packed}, queue {queue} whole numbers and {boxes} floats");

@@ -42,9 +42,11 @@ fn level(step: usize, width: usize) -> plain::Level {
                     if inside { own.push(row(x, y)) } else { borrowed.push(row(x, y)) }
                 }
             }
-            let lower = vec![left as f64, top as f64];
+            let (lower, upper) = (vec![left as f64, top as f64], vec![right as f64, bottom as f64]);
+            // so often halved the level has as many wells as the leaf
+            let depth = (many * many / own.len()).ilog2() as usize;
             // the covers are not those of a sample, which the loader does not ask
-            leaves.push(plain::Leaf { own, borrowed, lower, upper: vec![right as f64, bottom as f64], cover: width as f64 });
+            leaves.push(plain::Leaf { own, borrowed, lower, upper, cover: width as f64, depth });
         }
     }
     plain::Level { rows, leaves }
@@ -52,7 +54,8 @@ fn level(step: usize, width: usize) -> plain::Level {
 
 fn coarse(step: usize) -> plain::Level {
     let rows = level(step, SIDE).rows;
-    plain::Level { leaves: vec![plain::Leaf { own: rows.clone(), borrowed: vec![], lower: vec![], upper: vec![], cover: 0.0 }], rows }
+    let leaf = plain::Leaf { own: rows.clone(), borrowed: vec![], lower: vec![], upper: vec![], cover: 0.0, depth: 0 };
+    plain::Level { leaves: vec![leaf], rows }
 }
 
 /// The packed lists as a build hands them out: at full length.

@@ -24,7 +24,7 @@ const fn whole(digits: &str) -> usize {
 /// The version of the linked library: major * 10,000 + minor * 100 + patch.
 ///
 /// ```
-/// assert!(rekvashu::version() >= 500);
+/// assert!(rekvashu::version() >= 600);
 /// ```
 pub fn version() -> usize {
     sys::version()
@@ -46,7 +46,7 @@ fn refused(number: usize, place: usize) -> Error {
 ///
 /// ```
 /// let sizes = rekvashu::build_sizes(1000, 2, 16)?;
-/// assert_eq!((sizes.level_points, sizes.borrowed, sizes.bytes() / 1000), (4000, 102_000, 2912));
+/// assert_eq!((sizes.level_points, sizes.borrowed, sizes.bytes() / 1000), (4000, 102_000, 2960));
 /// # Ok::<(), rekvashu::Refusal>(())
 /// ```
 pub fn build_sizes(n: usize, dimension: usize, neighbours: u32) -> Result<BuildSizes, Refusal> {

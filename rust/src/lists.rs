@@ -10,7 +10,7 @@ pub struct BuildSizes {
     pub level_points: usize,
     /// The leaves' own (internal) rows.
     pub internals: usize,
-    /// The numbers of the domain rows.
+    /// The numbers of the domain rows: two stretches and a depth each.
     pub domains: usize,
     /// The floats of the domain rows: a box and a cover each.
     pub boxes: usize,

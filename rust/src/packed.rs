@@ -5,7 +5,8 @@ pub const OWN_START: usize = 0;
 pub const OWN_COUNT: usize = 1;
 pub const BORROWED_START: usize = 2;
 pub const BORROWED_COUNT: usize = 3;
-pub const ROW_NUMBERS: usize = 4;
+pub const DEPTH: usize = 4;
+pub const ROW_NUMBERS: usize = 5;
 
 /// The box itself: lower bounds by axis, then upper ones.
 pub const fn box_floats(dimension: usize) -> usize {
@@ -25,7 +26,7 @@ pub const fn row_floats(dimension: usize) -> usize {
 /// The cut record: a node of at least this is a leaf, and one below it a cut on that axis.
 pub const RECORD_LEAF: usize = 3;
 
-/// No leaf of a record is deeper than this many cuts.
+/// No leaf is deeper than this many cuts.
 pub const RECORD_DEEPEST: usize = 21;
 
 /// The nodes of a fine level's record, by the level's domains. The coarse level has none.
@@ -76,11 +77,11 @@ pub const QUOTA_WRITTEN: usize = 0;
 pub const QUOTA_SLOT: usize = 2;
 
 /// The bytes of a tree's file: the head; the points; a mark and two counts for each level and domain; each level row and, as an internal
-/// row, once more; the borrowed rows; and the floats of each domain row but for the coarse box.
+/// row, once more; the borrowed rows; a depth for each domain; and the floats of each domain row but for the coarse box.
 pub fn file_bytes(dimension: usize, points: usize, slot: &[usize; BUILD_SLOT], borrowed: usize) -> usize {
     let rows: usize = slot[SLOT_ROWS..SLOT_DOMAINS].iter().sum();
     let domains: usize = slot[SLOT_DOMAINS..].iter().sum();
-    24 + points * (2 + 8 * dimension) + 10 * (slot[SLOT_LEVELS] + domains) + 4 * (2 * rows + borrowed)
+    24 + points * (2 + 8 * dimension) + 10 * (slot[SLOT_LEVELS] + domains) + 4 * (2 * rows + borrowed + domains)
         + 8 * (row_floats(dimension) * domains - box_floats(dimension))
 }
 
@@ -115,6 +116,7 @@ mod tests {
             ("COLUMN_OWN_COUNT", OWN_COUNT),
             ("COLUMN_BORROWED_START", BORROWED_START),
             ("COLUMN_BORROWED_COUNT", BORROWED_COUNT),
+            ("COLUMN_DEPTH", DEPTH),
             ("ROW_NUMBERS", ROW_NUMBERS),
             ("RECORD_LEAF", RECORD_LEAF),
             ("RECORD_DEEPEST", RECORD_DEEPEST),

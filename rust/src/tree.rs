@@ -20,6 +20,8 @@ use std::collections::TryReserveError;
 /// assert_eq!((leaf.own(), leaf.borrowed(), leaf.bounds()), (&[1][..], &[0, 2][..], Some((&[1.0][..], &[3.0][..]))));
 /// // leaves 0 and 1 send their well up, and the others none
 /// assert_eq!(fine.leaves().map(|leaf| leaf.cover()).collect::<Vec<_>>(), [0.0, 0.0, f64::INFINITY, f64::INFINITY]);
+/// // the level was cut, and each of its halves once more
+/// assert!(fine.leaves().all(|leaf| leaf.depth() == 2));
 /// let coarse = tree.levels().last().unwrap();
 /// assert!(coarse.is_coarse() && coarse.leaf(0).unwrap().bounds().is_none());
 /// # Ok::<(), rekvashu::Error>(())
@@ -254,5 +256,12 @@ impl<'a> Leaf<'a> {
     /// that has rows and sends none, 0 for an empty leaf and for the coarse domain. A loaded tree has the covers of its file.
     pub fn cover(&self) -> f64 {
         self.floats()[row_cover(self.tree.dimension)]
+    }
+
+    /// Its depth: how often its level was cut to make it, at most 21. From one leaf of a level to the next it never falls, and a leaf at
+    /// depth e in a level of a rows has a / 2^e of them, rounded down, or one more. 0 for the coarse domain. A loaded tree has the depths of
+    /// its file.
+    pub fn depth(&self) -> usize {
+        self.numbers()[DEPTH]
     }
 }

@@ -29,6 +29,7 @@ fn same_tree(tree: &Tree, levels: &[plain::Level]) -> bool {
                             None => ours.is_coarse(),
                         }
                         && a.cover().to_bits() == b.cover.to_bits()
+                        && a.depth() == b.depth
                 })
         })
 }
@@ -93,12 +94,15 @@ fn most_same(coords: &[f64], d: usize, same: fn(&[f64], &[f64]) -> bool) -> usiz
 #[test]
 fn random_jobs() {
     let mut random = Random(0x5eed_0001);
-    let (mut with_duplicates, mut crowded, mut covers) = (0, 0, [0; 4]);
+    let (mut with_duplicates, mut crowded, mut covers, mut depths) = (0, 0, [0; 4], [0; 2]);
     for number in 0..20_000 {
         let (coords, d, p) = random_job(&mut random, number % 2 == 0);
         let levels = check(&coords, d, p);
         for leaf in levels.iter().rev().skip(1).flat_map(|level| &level.leaves) {
             covers[kind_of_cover(leaf)] += 1;
+        }
+        for level in levels.iter().rev().skip(1) {
+            depths[usize::from(level.leaves[0].depth < level.leaves.last().unwrap().depth)] += 1;
         }
         if levels.len() > 1 {
             with_duplicates += usize::from(most_same(&coords, d, |a, b| a == b) > 1);
@@ -109,6 +113,8 @@ fn random_jobs() {
     assert!(with_duplicates > 10_000 && crowded > 5_000, "{with_duplicates}, {crowded}");
     println!("fine leaves: {} empty, {} with the cover 0, {} with another, {} with an infinite one", covers[0], covers[1], covers[2], covers[3]);
     assert!(covers.iter().all(|many| *many > 10_000), "{covers:?}");
+    println!("fine levels: {} with one depth, {} with two", depths[0], depths[1]);
+    assert!(depths.iter().all(|many| *many > 1_000), "{depths:?}");
 }
 
 #[test]

@@ -282,6 +282,11 @@ fn nodes_by_level() {
                 Node::Leaf { depth, number } => (depth, 0, 0, Some(number)),
             });
             assert!(ours.eq(plains), "{job:?}");
+            for node in level.nodes() {
+                if let NodeKind::Leaf(number) = node.kind {
+                    assert_eq!(level.leaf(number).unwrap().depth(), node.depth, "{job:?}");
+                }
+            }
             nodes += record.len();
         }
         assert!(queue.levels().all(|level| level.nodes().next().is_none()));

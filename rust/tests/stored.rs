@@ -41,7 +41,8 @@ fn levels(tree: &Tree) -> Vec<plain::Level> {
                 .map(|leaf| {
                     let (lower, upper) = leaf.bounds().unwrap_or((&[], &[]));
                     let (own, borrowed) = (leaf.own().to_vec(), leaf.borrowed().to_vec());
-                    plain::Leaf { own, borrowed, lower: lower.to_vec(), upper: upper.to_vec(), cover: leaf.cover() }
+                    let (lower, upper) = (lower.to_vec(), upper.to_vec());
+                    plain::Leaf { own, borrowed, lower, upper, cover: leaf.cover(), depth: leaf.depth() }
                 })
                 .collect(),
         })
@@ -80,7 +81,7 @@ fn three() -> Vec<(usize, Vec<f64>, DDMParams)> {
     vec![
         (1, vec![0.0, 1.0, 3.0, 7.0], params(2, 1, 2, SizePolicy::Fixed(2))),
         (2, (0..16).map(|i| ((7 * i * i) % 23) as f64).collect(), params(1, 2, 3, SizePolicy::Fixed(2))),
-        (3, (0..18).map(|i| ((5 * i * i) % 31) as f64 - 9.0).collect(), params(2, 3, 2, SizePolicy::Auto)),
+        (3, (0..18).map(|i| ((i * i * 5) % 31) as f64 - 9.0).collect(), params(2, 3, 2, SizePolicy::Auto)),
     ]
 }
 
@@ -89,7 +90,7 @@ fn each_byte_of_three_files_counts() {
     for (d, points, p) in three() {
         let file = build(&points, d, p).unwrap().to_bytes(&points, p).unwrap();
         if d == 1 {
-            assert_eq!(file.len(), 310);
+            assert_eq!(file.len(), 330);
         }
         for at in 0..file.len() {
             assert_eq!(number(&points, d, p, &file[..at]), 20, "cut at {at}");
@@ -132,12 +133,13 @@ fn an_accepted_file_is_what_the_writer_makes_of_it() {
     assert!(accepted > 1_000 && refused > 10_000, "{accepted} accepted, {refused} refused");
 }
 
-/// The cover of the coarse domain ends a file: it is kept as it is, unless it is a NaN or left out.
+/// The cover of the coarse domain stands before the depth that ends a file: it is kept as it is, unless it is a NaN or left out.
 #[test]
 fn the_coarse_cover_is_any_value_but_a_nan() {
     for (d, points, p) in three() {
         let file = build(&points, d, p).unwrap().to_bytes(&points, p).unwrap();
-        let with = |bits: u64| [&file[..file.len() - 8], &bits.to_le_bytes()].concat();
+        let (rest, end) = (file.len() - 12, file.len() - 4);
+        let with = |bits: u64| [&file[..rest], &bits.to_le_bytes(), &file[end..]].concat();
         assert_eq!(with(0), file);
         for cover in [-0.0, 1.0, 5e-324, f64::INFINITY, f64::NEG_INFINITY] {
             let other = with(cover.to_bits());
@@ -148,8 +150,49 @@ fn the_coarse_cover_is_any_value_but_a_nan() {
         for nan in [0x7ff0_0000_0000_0001, 0x7ff8_0000_0000_0000, 0xfff0_0000_0000_0001, u64::MAX] {
             assert_eq!(number(&points, d, p, &with(nan)), 20);
         }
-        assert_eq!(number(&points, d, p, &file[..file.len() - 8]), 20);
+        assert_eq!(number(&points, d, p, &[&file[..rest], &file[end..]].concat()), 20);
     }
+}
+
+/// The depth of the coarse domain ends a file, and is 0.
+#[test]
+fn the_coarse_depth_is_zero() {
+    for (d, points, p) in three() {
+        let file = build(&points, d, p).unwrap().to_bytes(&points, p).unwrap();
+        let with = |depth: u32| [&file[..file.len() - 4], &depth.to_le_bytes()].concat();
+        assert_eq!(with(0), file);
+        for depth in [1, 2, 21, 22, 32, 64, 256, 1 << 31, u32::MAX] {
+            assert_eq!(number(&points, d, p, &with(depth)), 20);
+        }
+        // left out, or too long
+        assert_eq!(number(&points, d, p, &file[..file.len() - 4]), 20);
+        assert_eq!(number(&points, d, p, &[&file[..], &[0; 4]].concat()), 20);
+    }
+}
+
+/// Depths of leaves over five wells: a tree is loaded where they never fall, are not above 21, and fit the leaves' sizes.
+#[test]
+fn depths_of_leaves_fit_their_sizes() {
+    let (points, p) = (vec![0.0, 1.0, 2.0, 3.0, 4.0], params(1, 0, 5, SizePolicy::Fixed(1)));
+    let leaf = |own: Vec<usize>, depth| plain::Leaf { own, borrowed: vec![], lower: vec![0.0], upper: vec![4.0], cover: 0.0, depth };
+    let mut seen = [0; 2];
+    for (size, first, second) in (0..6).flat_map(|size| (0..24).flat_map(move |first| (0..24).map(move |second| (size, first, second)))) {
+        let leaves = vec![leaf((0..size).collect(), first), leaf((size..5).collect(), second)];
+        let coarse = plain::Level { rows: vec![0], leaves: vec![plain::Leaf { lower: vec![], upper: vec![], ..leaf(vec![0], 0) }] };
+        let tree = [plain::Level { rows: (0..5).collect(), leaves }, coarse];
+        let file = stored::file(&points, 1, &plainly(p), &tree);
+        let fits = |own: usize, depth: u32| depth <= 21 && (own == 5 / 2usize.pow(depth) || own == 5 / 2usize.pow(depth) + 1);
+        let expected = if first <= second && fits(size, first as u32) && fits(5 - size, second as u32) { 0 } else { 20 };
+        assert_eq!(stored::load(&points, 1, &plainly(p), &file).err().unwrap_or(0), expected);
+        assert_eq!(number(&points, 1, p, &file), expected, "{size} at depth {first}, and the others at {second}");
+        if expected == 0 {
+            let tree = load(&points, 1, p, &file).unwrap();
+            assert_eq!(tree.level(0).unwrap().leaves().map(|leaf| leaf.depth()).collect::<Vec<_>>(), [first, second]);
+            assert_eq!(tree.to_bytes(&points, p).unwrap(), file);
+        }
+        seen[usize::from(expected == 0)] += 1;
+    }
+    assert!(seen.iter().all(|many| *many > 20), "{seen:?}");
 }
 
 #[test]

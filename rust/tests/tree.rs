@@ -99,6 +99,42 @@ fn covers_of_leaves() {
 }
 
 #[test]
+fn depths_of_leaves() {
+    let depths = |n: usize, leaf, factor, threshold| -> Vec<Vec<usize>> {
+        let points: Vec<f64> = (0..n).map(|i| i as f64).collect();
+        let coarse_threshold = SizePolicy::Fixed(threshold);
+        let params = DDMParams { leaf_threshold: leaf, overlap_knn: 1, coarse_reduction_factor: factor, coarse_threshold };
+        let tree = build(&points, 1, params).unwrap();
+        assert_eq!(tree, build_depth_first(&points, 1, params).unwrap());
+        assert_eq!(tree, load(&points, 1, params, &tree.to_bytes(&points, params).unwrap()).unwrap());
+        tree.levels().map(|level| level.leaves().map(|leaf| leaf.depth()).collect()).collect()
+    };
+    assert_eq!(depths(4, 2, 2, 2), [vec![2; 4], vec![0]]);
+    // less than twice the threshold, and as much
+    assert_eq!(depths(2, 9, 2, 1), [vec![1; 2], vec![0]]);
+    assert_eq!(depths(2, 1, 2, 1), [vec![2; 4], vec![0]]);
+    // halves of 3 and 4 wells, of which the second are cut once more
+    assert_eq!(depths(7, 2, 7, 1), [vec![2, 2, 3, 3, 3, 3], vec![0]]);
+    // each level begins anew
+    assert_eq!(depths(8, 1, 2, 1), [vec![4; 16], vec![3; 8], vec![2; 4], vec![0]]);
+    assert_eq!(depths(5, 1, 2, 5), [vec![0]]);
+}
+
+/// Depths never fall from one leaf of a level to the next, and say how many of its rows a leaf has.
+#[test]
+fn depths_say_how_many_rows_a_leaf_has() {
+    let tree = tree();
+    for level in tree.levels() {
+        let depths: Vec<usize> = level.leaves().map(|leaf| leaf.depth()).collect();
+        assert!(depths.windows(2).all(|pair| pair[0] <= pair[1]) && (depths == [0]) == level.is_coarse());
+        for leaf in level.leaves() {
+            let rows = level.rows().len() >> leaf.depth();
+            assert!([rows, rows + 1].contains(&leaf.own().len()));
+        }
+    }
+}
+
+#[test]
 fn covers_of_samples() {
     let cover = |points: &[f64], d, wanted| sample(points, d, wanted, 0).unwrap().cover.to_bits();
     let line = [0.0, 3.0, 4.0, 9.0];

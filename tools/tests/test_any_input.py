@@ -8,7 +8,8 @@ import make_job
 import view_tree
 
 BITS = [b",", b",,", b";", b"\n", b"\r", b"\"", b"#", b"\0", b"nan", b"1e999", b"-", b"\xff", b"\xc3\xa9", b"leaf,", b"coarse,0\n", b"well",
-        b"x", b"9" * 30, b" ", b"\t", b"levels ", b"refused 3 at 1\n", b"domain ", b" cover ", b"ST", b"PT", b"\xe2\x80\xa8", b"W01", b"7ff0000000000000"]
+        b"x", b"9" * 30, b" ", b"\t", b"levels ", b"refused 3 at 1\n", b"domain ", b" cover ", b" depth ", b"ST", b"PT",
+        b"\xe2\x80\xa8", b"W01", b"7ff0000000000000"]
 
 
 def changed(r, data):

@@ -38,6 +38,7 @@ class Made(support.InFolder):
         for file in sorted(os.listdir(sample("field_5000"))):
             self.assertEqual(self.read("out", file), support.sample(os.path.join("field_5000", file)))
         self.assertIn(b"5,000 wells in 128 leaves", out)
+        self.assertIn(b"      leaves per depth: 128 at depth 7\n", out)
         self.assertIn(b"      greatest cover 1465.64, in leaf 64: no well is farther than that from one that its leaf sends up\n", out)
 
     def test_any_table_with_a_head(self):

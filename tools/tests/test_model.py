@@ -12,12 +12,12 @@ import model
 
 FOUR = """levels 2
 level 0 points 0 1 2 3
-domain 0 internal 0 overlap 1 box 0000000000000000 3ff0000000000000 cover 0000000000000000
-domain 1 internal 1 overlap 0 2 box 3ff0000000000000 4008000000000000 cover 0000000000000000
-domain 2 internal 2 overlap 1 3 box 4008000000000000 401c000000000000 cover 7ff0000000000000
-domain 3 internal 3 overlap 2 box 401c000000000000 401c000000000000 cover 7ff0000000000000
+domain 0 internal 0 overlap 1 box 0000000000000000 3ff0000000000000 cover 0000000000000000 depth 2
+domain 1 internal 1 overlap 0 2 box 3ff0000000000000 4008000000000000 cover 0000000000000000 depth 2
+domain 2 internal 2 overlap 1 3 box 4008000000000000 401c000000000000 cover 7ff0000000000000 depth 2
+domain 3 internal 3 overlap 2 box 401c000000000000 401c000000000000 cover 7ff0000000000000 depth 2
 level 1 points 0 1
-domain 0 internal 0 1 overlap - box - cover 0000000000000000
+domain 0 internal 0 1 overlap - box - cover 0000000000000000 depth 0
 """
 
 
@@ -25,12 +25,12 @@ class Model(unittest.TestCase):
     def test_example(self):
         self.assertEqual(model.printout(support.sample("four_wells.job")), FOUR)
 
-    def test_the_comparison_with_the_rust_leaves_covers_out(self):
+    def test_the_comparison_with_the_rust_leaves_covers_and_depths_out(self):
         with mock.patch.object(compare_oracle, "answer", lambda command, jobs: f"=== 0\n{FOUR}=== 1\nrefused 6 at 0\n"):
             tree, refusal = compare_oracle.trees([], [])
         self.assertEqual(tree.split("\n")[2], "domain 0 internal 0 overlap 1 box 0000000000000000 3ff0000000000000")
         self.assertEqual(tree.split("\n")[7], "domain 0 internal 0 1 overlap - box -")
-        self.assertEqual((tree.count("\n"), tree.count("cover"), refusal), (8, 0, "refused 6 at 0\n"))
+        self.assertEqual((tree.count("\n"), tree.count("cover"), tree.count("depth"), refusal), (8, 0, 0, "refused 6 at 0\n"))
 
     def test_levels(self):
         self.assertEqual([model.threshold(0, 0, n) for n in (1, 16384, 16385, 131072, 131073)], [512, 512, 513, 4096, 4096])
@@ -61,7 +61,7 @@ def taken(cs, neighbours, i):
 def borrowed(cs, neighbours):
     """What the leaf of each row borrows: points on a line, leaf 1, factor 2, one fine level."""
     (_, leaves), _ = model.build([float(x) for x in cs], 1, 1, neighbours, 2, 1, len(cs) - 1)
-    return {own[0]: rows for own, rows, _, _ in leaves if own}
+    return {own[0]: rows for own, rows, _, _, _ in leaves if own}
 
 
 class Neighbours(unittest.TestCase):
@@ -88,7 +88,7 @@ class Neighbours(unittest.TestCase):
 
 def covers(cs, leaf, coarse):
     """The covers of each level's leaves: points on a line, one neighbour, factor 2."""
-    return [[far for _, _, _, far in leaves] for _, leaves in model.build([float(x) for x in cs], 1, leaf, 1, 2, 1, coarse)]
+    return [[far for _, _, _, far, _ in leaves] for _, leaves in model.build([float(x) for x in cs], 1, leaf, 1, 2, 1, coarse)]
 
 
 class Covers(unittest.TestCase):
@@ -124,6 +124,45 @@ class Covers(unittest.TestCase):
             wanted = r.randint(1, n - 1)
             rows = model.sample(cs, d, range(n), wanted + 1, 0)
             self.assertEqual(model.cover(cs, d, range(n), rows[:-1]), min(math.sqrt(model.rows_sq(cs, d, rows[-1], i)) for i in rows[:-1]))
+
+
+def depths(n, leaf, coarse, factor=2):
+    """The depths of each level's leaves: n points on a line, no neighbours."""
+    return [[depth for _, _, _, _, depth in leaves] for _, leaves in model.build([float(i) for i in range(n)], 1, leaf, 0, factor, 1, coarse)]
+
+
+class Depths(unittest.TestCase):
+    def test_of_leaves(self):
+        self.assertEqual(depths(4, 2, 2), [[2] * 4, [0]])
+        # a level with less than twice the threshold is cut once, and one with as much is cut twice
+        self.assertEqual(depths(2, 9, 1), [[1, 1], [0]])
+        self.assertEqual(depths(2, 1, 1), [[2] * 4, [0]])
+        # two depths: the halves of 7 rows are 3, which are cut once more, and 4, which are cut twice more
+        self.assertEqual(depths(7, 2, 1, 7), [[2, 2, 3, 3, 3, 3], [0]])
+        self.assertEqual(depths(3, 1, 1, 3), [[2, 2, 3, 3, 3, 3], [0]])
+        # each level begins anew, and the coarse one is not cut
+        self.assertEqual(depths(8, 1, 1), [[4] * 16, [3] * 8, [2] * 4, [0]])
+        self.assertEqual(depths(5, 1, 5), [[0]])
+
+    def test_what_a_depth_says(self):
+        """In row order depths never fall and differ by at most 1, and give each leaf's size; the record of the cuts has the same ones."""
+        for n in range(2, 70):
+            cs = [float((7 * i * i + 3 * i) % 23) for i in range(2 * n)]
+            for leaf in (1, 2, 3, 5):
+                leaves = model.leaves_of(cs, 2, leaf, range(n))
+                found = [depth for _, _, depth in leaves]
+                self.assertEqual(found, sorted(found))
+                self.assertLessEqual(found[-1] - found[0], 1)
+                self.assertTrue(all(len(rows) - n // 2 ** depth in (0, 1) for rows, _, depth in leaves))
+                self.assertEqual(sum(2.0 ** -depth for depth in found), 1.0)
+                self.assertEqual(found, sorted(depth for depth, axis, _ in model.nodes(cs, 2, leaf, range(n)) if axis is None))
+
+    def test_the_deepest(self):
+        """Depths go by sizes alone: a domain of so many rows is cut, and its halves once more where it has twice the threshold."""
+        def deepest(size, leaf):
+            return 1 + (deepest((size + 1) // 2, leaf) if size >= 2 * leaf else 0)
+        self.assertEqual([deepest(n, leaf) for n, leaf in ((4, 2), (7, 2), (3, 1), (8, 1))], [2, 3, 3, 4])
+        self.assertEqual([deepest(n, 1) for n in (model.MOST_POINTS // 2, model.MOST_POINTS - 1, model.MOST_POINTS)], [20, 21, 21])
 
 
 def bits(numbers):
@@ -163,7 +202,7 @@ class Record(unittest.TestCase):
             cs = [float((7 * i * i + 3 * i) % 23) for i in range(2 * n)]
             for leaf in (1, 2, 3):
                 record = model.record(cs, 2, leaf, range(n))
-                domains = [rows for rows, _ in model.leaves_of(cs, 2, leaf, range(n))]
+                domains = [rows for rows, _, _ in model.leaves_of(cs, 2, leaf, range(n))]
                 numbers = [whole - model.RECORD_LEAF for whole, _ in record if whole >= model.RECORD_LEAF]
                 self.assertEqual([domains[k] for k in numbers], leaves_from_the_left(cs, 2, leaf, list(range(n))))
                 self.assertEqual(len(record), 2 * len(domains) - 1)

@@ -33,7 +33,7 @@ class Viewing(support.InFolder):
 class Whole(Viewing):
     def test_every_front_of_a_printout(self):
         whole, job = support.sample("four_wells.txt"), support.sample("four_wells.job")
-        self.assertEqual(len(whole), 480)
+        self.assertEqual(len(whole), 520)
         for length in range(len(whole)):
             self.assertIn("not whole", self.refused(job, whole[:length]))
         self.assertEqual(self.view(job, whole)[0], 0)
@@ -83,7 +83,7 @@ class Together(Viewing):
             other = job_stream.pack(job._replace(coordinates=[0.0, 1.0, 3.0, value]))
             self.assertIn("refusal 10", self.refused(other, support.sample("four_wells.txt")))
             self.assertIn("refusal 10", self.refused(other, b"levels 1\nlevel 0 points 0 1 2 3\n"
-                                                       b"domain 0 internal 0 1 2 3 overlap - box - cover 0000000000000000\n"))
+                                                       b"domain 0 internal 0 1 2 3 overlap - box - cover 0000000000000000 depth 0\n"))
 
     def test_settings(self):
         job = job_stream.unpack(support.sample("field_32.job"))
@@ -167,14 +167,52 @@ class Lines(Viewing):
         job, text = support.sample("four_wells.job"), support.sample("four_wells.txt")
         self.assertIn("line 4: this domain has no cover", self.refused(job, text.replace(b"4008000000000000 cover 0000000000000000", b"4008000000000000")))
         self.assertIn("line 3: this domain has no cover", self.refused(job, re.sub(rb" cover \w+", b"", text)))
+        self.assertIn("line 3: this domain has no cover", self.refused(job, re.sub(rb" cover \w+ depth \d+", b"", text)))
         self.assertIn("line 5: the cover is not a number", self.refused(job, text.replace(b"cover 7ff0000000000000", b"cover fff0000000000001", 1)))
+
+    def test_leaves_per_depth(self):
+        lines = self.lines("field_32")
+        for level, leaves in (("   level 0: 32 wells", "16 at depth 4"), ("   level 1: 12 wells", "4 at depth 2")):
+            at = [number for number, line in enumerate(lines) if line.startswith(level)][0]
+            self.assertEqual(lines[at + 2], "      leaves per depth: " + leaves)
+        self.assertEqual("\n".join(lines).count("leaves per depth"), 2)
+        self.assertEqual(summary.depth_line([2, 2, 3, 3, 3, 3]), "leaves per depth: 2 at depth 2, 4 at depth 3")
+        self.assertEqual(summary.depth_line([9, 10] + [10] * 1999), "leaves per depth: 1 at depth 9, 2,000 at depth 10")
+
+    def test_a_printout_without_depths(self):
+        job, text = support.sample("four_wells.job"), support.sample("four_wells.txt")
+        self.assertIn("line 3: this domain has no depth: the printout is not whole, or a version before 0.6.0 printed it",
+                      self.refused(job, re.sub(rb" depth \d+", b"", text)))
+        self.assertIn("line 8: this domain has no depth", self.refused(job, text.replace(b" depth 0", b"")))
+        for other in (b" depth -", b" depth ", b" depth", b" depth 2 ", b" depth 2 2", b" depth 0x2", b" depth " + b"9" * 21):
+            self.assertIn("line 3: this is not the line", self.refused(job, text.replace(b" depth 2", other, 1)))
+        swapped = re.sub(rb"( cover \w+)( depth \d+)", rb"\2\1", text)
+        self.assertIn("line 3: this is not the line", self.refused(job, swapped))
+
+    def test_depths_that_are_not_those_of_a_level(self):
+        job, text = support.sample("four_wells.job"), support.sample("four_wells.txt")
+        at = text.index(b" depth 2\nlevel")
+        for old, new, words in ((b" depth 0", b" depth 1", "in level 1 the coarse domain has depth 1, and not 0"),
+                                (b"depth 2\ndomain 3", b"depth 3\ndomain 3",
+                                 "in level 0 leaf 3 has depth 2, and the leaf before it 3: depths never fall"),
+                                (b"depth 2\nlevel", b"depth 22\nlevel", "in level 0 leaf 3 has depth 22, and no leaf is deeper than 21"),
+                                (b"depth 2\nlevel", b"depth 99999999999999999999\nlevel", "no leaf is deeper than 21"),
+                                (b"depth 2\ndomain 1", b"depth 1\ndomain 1", "in level 0 leaf 0 has 1 of 4 wells, which does not fit its depth 1"),
+                                (b"depth 2\ndomain 1", b"depth 0\ndomain 1", "leaf 0 has 1 of 4 wells, which does not fit its depth 0")):
+            self.assertEqual(text.count(old), 1)
+            err = self.refused(job, text.replace(old, new))
+            self.assertIn(words, err)
+            self.assertIn("the printout is not whole, or was changed", err)
+        # a leaf of one row may lie deeper, as far as 21
+        for depth in (b"3", b"21"):
+            self.assertEqual(self.view(job, text[:at] + b" depth " + depth + text[at + 8:])[0], 0)
 
     def test_rows_on_request(self):
         self.assertIn("      leaf 12: 24, 30", self.lines("field_32", "--rows"))
 
     def test_wells_without_a_leaf_or_with_two_are_named(self):
-        leaves = [Leaf([0, 1], [], ([0.0], [1.0]), 1.0), Leaf([1, 2, 4], [], ([1.0], [2.0]), float("inf"))]
-        levels = [Level([0, 1, 2, 3], leaves), Level([0], [Leaf([0], [], None, 0.0)])]
+        leaves = [Leaf([0, 1], [], ([0.0], [1.0]), 1.0, 1), Leaf([1, 2, 4], [], ([1.0], [2.0]), float("inf"), 1)]
+        levels = [Level([0, 1, 2, 3], leaves), Level([0], [Leaf([0], [], None, 0.0, 0)])]
         text = summary.summary({"leaf": 2, "neighbours": 1, "factor": 4, "coarse": 1}, 1, levels, "ABCDE".__getitem__)
         self.assertIn("NOT each well has exactly one leaf", text)
         for line in ("in no leaf: D", "in leaves 0 and 1: B", "in leaf 1, but not active: E"):
@@ -183,7 +221,7 @@ class Lines(Viewing):
         self.assertIn("wells a leaf: least 2, most 3 (2 in 1 leaf, 3 in 1 leaf)", text)
 
     def test_long_lists_are_cut_on_the_screen_only(self):
-        levels = [Level(list(range(60)), [Leaf([i], [], ([0.0], [1.0]), 0.0) for i in range(60)]), Level([0], [Leaf([0], [], None, 0.0)])]
+        levels = [Level(list(range(60)), [Leaf([i], [], ([0.0], [1.0]), 0.0, 6) for i in range(60)]), Level([0], [Leaf([0], [], None, 0.0, 0)])]
         settings = {"leaf": 1, "neighbours": 1, "factor": 60, "coarse": 1}
         self.assertEqual(summary.summary(settings, 1, levels, str).count("\n      leaf "), 59)
         short = summary.summary(settings, 1, levels, str, most=20)

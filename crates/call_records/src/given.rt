@@ -14,7 +14,7 @@ pub const LEVEL_POINTS: usize = 36;
 
 pub const INTERNALS: usize = 36;
 
-pub const DOMAINS: usize = 220;
+pub const DOMAINS: usize = 275;
 
 pub const BOXES: usize = 217;
 

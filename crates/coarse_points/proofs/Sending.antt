@@ -71,7 +71,7 @@ module _ (d : ℕ) (cs : List Float) (I D : List ℕ) (first : ℕ) (shares : Li
 
 -- ---- own rows as the rows of domains
 abbrev wrap : List ℕ → Domain
-wrap l = record { rows = l; box = [] }
+wrap l = record { rows = l; box = []; depth = 0 }
 
 wrapped : (own : List (List ℕ)) → map (λ q. q .rows) (map wrap own) ≡ own
 wrapped own = map-map (λ (q : Domain). q .rows) wrap own ∙ map-id own

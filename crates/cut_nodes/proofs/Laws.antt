@@ -37,16 +37,16 @@ entries-long : (xs : List Entry) → length (joined (map entryNumbers xs)) ≡ e
 entries-long xs = joined-map-even entryNumbers entryWidth (λ x. refl) xs
 
 -- ---- a leaf
-pub leaf-written : (d base : ℕ) (q : Domain) (e place first next after : ℕ) (W W₁ : List ℕ) (F F₁ : List Float) (C C₁ : List ℕ) (P P₁ : List Float)
+pub leaf-written : (d base : ℕ) (q : Domain) (place first next after : ℕ) (W W₁ : List ℕ) (F F₁ : List Float) (C C₁ : List ℕ) (P P₁ : List Float)
     → base ≤ length W → place < length C → place < length P
-    → W₁ ≡ put W (base + entryWidth * first) (e ∷ length (q .rows) ∷ place ∷ []) → F₁ ≡ put F (boxWidth d * first) (q .box) → C₁ ≡ set C place 3 → P₁ ≡ set P place plusZero
-    → next ≡ place + 1 → after ≡ first + 1 → Written d base (uncut q) e place first next after W W₁ F F₁ C C₁ P P₁
+    → W₁ ≡ put W (base + entryWidth * first) (q .depth ∷ length (q .rows) ∷ place ∷ []) → F₁ ≡ put F (boxWidth d * first) (q .box) → C₁ ≡ set C place 3 → P₁ ≡ set P place plusZero
+    → next ≡ place + 1 → after ≡ first + 1 → Written d base (uncut q) place first next after W W₁ F F₁ C C₁ P P₁
 unfolding entriesUnder nodesFrom
-leaf-written d base q e place first next after W W₁ F F₁ C C₁ P P₁ hW hC hP eW eF eC eP en ea =
+leaf-written d base q place first next after W W₁ F F₁ C C₁ P P₁ hW hC hP eW eF eC eP en ea =
     record {
       table =
-          ap (drop base) eW ∙ table-put W base (entryWidth * first) (e ∷ length (q .rows) ∷ place ∷ []) hW
-          ∙ ap (put (drop base W) (entryWidth * first)) (sym (joined-one (e ∷ length (q .rows) ∷ place ∷ [])));
+          ap (drop base) eW ∙ table-put W base (entryWidth * first) (q .depth ∷ length (q .rows) ∷ place ∷ []) hW
+          ∙ ap (put (drop base W) (entryWidth * first)) (sym (joined-one (q .depth ∷ length (q .rows) ∷ place ∷ [])));
       boxes = eF ∙ ap (put F (boxWidth d * first)) (sym (boxes-under-leaf q));
       cuts = eC ∙ set-put C place 3 hC;
       planes = eP ∙ set-put P place plusZero hP;
@@ -55,34 +55,34 @@ leaf-written d base q e place first next after W W₁ F F₁ C C₁ P P₁ hW hC
     }
 
 -- the dimension by another name
-pub written-on : {d₁ d₂ base : ℕ} {t : Cuts} {e place first next after : ℕ} {W W₁ : List ℕ} {F F₁ : List Float} {C C₁ : List ℕ} {P P₁ : List Float}
-    → d₁ ≡ d₂ → Written d₁ base t e place first next after W W₁ F F₁ C C₁ P P₁ → Written d₂ base t e place first next after W W₁ F F₁ C C₁ P P₁
-written-on {base} {t} {e} {place} {first} {next} {after} {W} {W₁} {F} {F₁} {C} {C₁} {P} {P₁} h x =
-    subst (λ (d : ℕ). Written d base t e place first next after W W₁ F F₁ C C₁ P P₁) h x
+pub written-on : {d₁ d₂ base : ℕ} {t : Cuts} {place first next after : ℕ} {W W₁ : List ℕ} {F F₁ : List Float} {C C₁ : List ℕ} {P P₁ : List Float}
+    → d₁ ≡ d₂ → Written d₁ base t place first next after W W₁ F F₁ C C₁ P P₁ → Written d₂ base t place first next after W W₁ F F₁ C C₁ P P₁
+written-on {base} {t} {place} {first} {next} {after} {W} {W₁} {F} {F₁} {C} {C₁} {P} {P₁} h x =
+    subst (λ (d : ℕ). Written d base t place first next after W W₁ F F₁ C C₁ P P₁) h x
 
 -- the dimension and the cuts by other names
-pub written-of : {d₁ d₂ base : ℕ} {t₁ t₂ : Cuts} {e place first next after : ℕ} {W W₁ : List ℕ} {F F₁ : List Float} {C C₁ : List ℕ} {P P₁ : List Float}
-    → d₁ ≡ d₂ → t₁ ≡ t₂ → Written d₁ base t₁ e place first next after W W₁ F F₁ C C₁ P P₁ → Written d₂ base t₂ e place first next after W W₁ F F₁ C C₁ P P₁
-written-of {d₂} {base} {t₁} {e} {place} {first} {next} {after} {W} {W₁} {F} {F₁} {C} {C₁} {P} {P₁} h k x =
-    subst (λ (t : Cuts). Written d₂ base t e place first next after W W₁ F F₁ C C₁ P P₁) k (written-on h x)
+pub written-of : {d₁ d₂ base : ℕ} {t₁ t₂ : Cuts} {place first next after : ℕ} {W W₁ : List ℕ} {F F₁ : List Float} {C C₁ : List ℕ} {P P₁ : List Float}
+    → d₁ ≡ d₂ → t₁ ≡ t₂ → Written d₁ base t₁ place first next after W W₁ F F₁ C C₁ P P₁ → Written d₂ base t₂ place first next after W W₁ F F₁ C C₁ P P₁
+written-of {d₂} {base} {t₁} {place} {first} {next} {after} {W} {W₁} {F} {F₁} {C} {C₁} {P} {P₁} h k x =
+    subst (λ (t : Cuts). Written d₂ base t place first next after W W₁ F F₁ C C₁ P P₁) k (written-on h x)
 
-pub two-of : {d₁ d₂ base : ℕ} {l₁ l₂ r₁ r₂ : Cuts} {e place first next after : ℕ} {W W₁ : List ℕ} {F F₁ : List Float} {C C₁ : List ℕ} {P P₁ : List Float}
-    → d₁ ≡ d₂ → l₁ ≡ l₂ → r₁ ≡ r₂ → WrittenTwo d₁ base l₁ r₁ e place first next after W W₁ F F₁ C C₁ P P₁ → WrittenTwo d₂ base l₂ r₂ e place first next after W W₁ F F₁ C C₁ P P₁
-two-of {d₁} {d₂} {base} {l₁} {l₂} {r₁} {r₂} {e} {place} {first} {next} {after} {W} {W₁} {F} {F₁} {C} {C₁} {P} {P₁} h k m x =
-    subst (λ (d : ℕ). WrittenTwo d base l₂ r₂ e place first next after W W₁ F F₁ C C₁ P P₁) h
-    (subst (λ (l : Cuts). WrittenTwo d₁ base l r₂ e place first next after W W₁ F F₁ C C₁ P P₁) k
-    (subst (λ (r : Cuts). WrittenTwo d₁ base l₁ r e place first next after W W₁ F F₁ C C₁ P P₁) m x))
+pub two-of : {d₁ d₂ base : ℕ} {l₁ l₂ r₁ r₂ : Cuts} {place first next after : ℕ} {W W₁ : List ℕ} {F F₁ : List Float} {C C₁ : List ℕ} {P P₁ : List Float}
+    → d₁ ≡ d₂ → l₁ ≡ l₂ → r₁ ≡ r₂ → WrittenTwo d₁ base l₁ r₁ place first next after W W₁ F F₁ C C₁ P P₁ → WrittenTwo d₂ base l₂ r₂ place first next after W W₁ F F₁ C C₁ P P₁
+two-of {d₁} {d₂} {base} {l₁} {l₂} {r₁} {r₂} {place} {first} {next} {after} {W} {W₁} {F} {F₁} {C} {C₁} {P} {P₁} h k m x =
+    subst (λ (d : ℕ). WrittenTwo d base l₂ r₂ place first next after W W₁ F F₁ C C₁ P P₁) h
+    (subst (λ (l : Cuts). WrittenTwo d₁ base l r₂ place first next after W W₁ F F₁ C C₁ P P₁) k
+    (subst (λ (r : Cuts). WrittenTwo d₁ base l₁ r place first next after W W₁ F F₁ C C₁ P P₁) m x))
 
 -- ---- two domains, one after the other
-module _ {d base : ℕ} {l r : Cuts} {e place first n₁ k₁ n₂ k₂ : ℕ} {W W₁ W₂ : List ℕ} {F F₁ F₂ : List Float} {C C₁ C₂ : List ℕ} {P P₁ P₂ : List Float} where
+module _ {d base : ℕ} {l r : Cuts} {place first n₁ k₁ n₂ k₂ : ℕ} {W W₁ W₂ : List ℕ} {F F₁ F₂ : List Float} {C C₁ C₂ : List ℕ} {P P₁ P₂ : List Float} where
   pub written-two : base + entryWidth * first ≤ length W → boxWidth d * first ≤ length F → place ≤ length C → place ≤ length P → length (boxesUnder l) ≡ boxWidth d * leafCount l
-      → Written d base l e place first n₁ k₁ W W₁ F F₁ C C₁ P P₁ → Written d base r e n₁ k₁ n₂ k₂ W₁ W₂ F₁ F₂ C₁ C₂ P₁ P₂
-      → WrittenTwo d base l r e place first n₂ k₂ W W₂ F F₂ C C₂ P P₂
+      → Written d base l place first n₁ k₁ W W₁ F F₁ C C₁ P P₁ → Written d base r n₁ k₁ n₂ k₂ W₁ W₂ F₁ F₂ C₁ C₂ P₁ P₂
+      → WrittenTwo d base l r place first n₂ k₂ W W₂ F F₂ C C₂ P P₂
   written-two hW hF hC hP wide a b =
       let n = a .place-next in
       let k = a .leaves-next in
-      let xl = entriesUnder e place l in
-      let xr = entriesUnder e (place + nodeCount l) r in
+      let xl = entriesUnder place l in
+      let xr = entriesUnder (place + nodeCount l) r in
       let yl = nodesFrom unnumbered first l in
       let yr = nodesFrom unnumbered (first + leafCount l) r in
       record {
@@ -90,7 +90,7 @@ module _ {d base : ℕ} {l r : Cuts} {e place first n₁ k₁ n₂ k₂ : ℕ} {
             b .table
             ∙ rw (n, k, a .table)
             (put-next-at (drop base W) (entryWidth * first) (joined (map entryNumbers xl)) (joined (map entryNumbers xr)) (entryWidth * (first + leafCount l))
-            (omega (arith, hW, length-drop base W)) (omega (arith, entries-long xl, entries-count e place l))
+            (omega (arith, hW, length-drop base W)) (omega (arith, entries-long xl, entries-count place l))
             ∙ ap (put (drop base W) (entryWidth * first)) (sym (joined-map-append entryNumbers xl xr)));
         boxes =
             b .boxes
@@ -111,14 +111,14 @@ module _ {d base : ℕ} {l r : Cuts} {e place first n₁ k₁ n₂ k₂ : ℕ} {
       }
 
 -- ---- a cut, and then its halves
-module _ {d base : ℕ} {l r : Cuts} {e place first next after : ℕ} {W W₁ W₂ : List ℕ} {F F₂ : List Float} {C C₁ C₂ : List ℕ} {P P₁ P₂ : List Float} where
+module _ {d base : ℕ} {l r : Cuts} {place first next after : ℕ} {W W₁ W₂ : List ℕ} {F F₂ : List Float} {C C₁ C₂ : List ℕ} {P P₁ P₂ : List Float} where
   pub written-cut : (a : ℕ) (p : Float) → place < length C → place < length P → drop base W₁ ≡ drop base W → C₁ ≡ set C place a → P₁ ≡ set P place p
-      → WrittenTwo d base l r (suc e) (suc place) first next after W₁ W₂ F F₂ C₁ C₂ P₁ P₂ → Written d base (cutAt a p l r) e place first next after W W₂ F F₂ C C₂ P P₂
+      → WrittenTwo d base l r (suc place) first next after W₁ W₂ F F₂ C₁ C₂ P₁ P₂ → Written d base (cutAt a p l r) place first next after W W₂ F F₂ C C₂ P P₂
   unfolding entriesUnder nodesFrom leafCount
   written-cut a p hC hP eW eC eP two =
       let ys = nodesFrom unnumbered first l ++ nodesFrom unnumbered (first + leafCount l) r in
       record {
-        table = two .table ∙ ap (λ (z : List ℕ). put z (entryWidth * first) (joined (map entryNumbers (entriesUnder (suc e) (suc place) l ++ entriesUnder (suc e) (suc place + nodeCount l) r)))) eW;
+        table = two .table ∙ ap (λ (z : List ℕ). put z (entryWidth * first) (joined (map entryNumbers (entriesUnder (suc place) l ++ entriesUnder (suc place + nodeCount l) r)))) eW;
         boxes = two .boxes ∙ ap (put F (boxWidth d * first)) (sym (boxes-under-cut a p l r));
         cuts =
             two .cuts ∙ ap (λ (z : List ℕ). put z (suc place) (map wholeOf ys)) (eC ∙ set-put C place a hC)

@@ -37,7 +37,7 @@ fn put_leaf(
     requires { ⌜ (whole .dimensions ≤ 3) × (base + entryWidth * (from .leaves + 1) ≤ length (now wholes)) × (boxWidth (whole .dimensions) * (from .leaves + 1) ≤ length (now floats))
         × (from .place < length (now cuts)) × (from .place < length (now planes)) ⌝ }
     ensures next { λ r. ⌜ (r .place ≡ from .place + 1) × (r .leaves ≡ from .leaves + 1) ⌝ }
-    ensures written { λ r. ⌜ ((rows : List ℕ) → length rows ≡ count → Written (whole .dimensions) base (uncut (domainOf rows whole)) depth (from .place) (from .leaves) (r .place) (r .leaves)
+    ensures written { λ r. ⌜ ((rows : List ℕ) → length rows ≡ count → Written (whole .dimensions) base (uncut (domainOf rows whole depth)) (from .place) (from .leaves) (r .place) (r .leaves)
         (now (wholes .entry)) (now (wholes .exit)) (now (floats .entry)) (now (floats .exit)) (now (cuts .entry)) (now (cuts .exit)) (now (planes .entry)) (now (planes .exit))) ⌝ }
 {
     let place = from.place;
@@ -94,7 +94,7 @@ pub fn put_leaves(
 ) -> Next
     requires { ⌜ (left .dimensions ≤ 3) × (right .dimensions ≡ left .dimensions) × (length (floatsOf left) ≡ boxWidth (left .dimensions)) × (base + entryWidth * (from .leaves + 2) ≤ length (now wholes)) × (boxWidth (left .dimensions) * (from .leaves + 2) ≤ length (now floats))
         × (from .place + 2 ≤ length (now cuts)) × (from .place + 2 ≤ length (now planes)) ⌝ }
-    ensures { λ r. ⌜ ((l m : List ℕ) → length l ≡ count / 2 → length m ≡ count - count / 2 → WrittenTwo (left .dimensions) base (uncut (domainOf l left)) (uncut (domainOf m right)) depth (from .place) (from .leaves) (r .place) (r .leaves)
+    ensures { λ r. ⌜ ((l m : List ℕ) → length l ≡ count / 2 → length m ≡ count - count / 2 → WrittenTwo (left .dimensions) base (uncut (domainOf l left depth)) (uncut (domainOf m right depth)) (from .place) (from .leaves) (r .place) (r .leaves)
         (now (wholes .entry)) (now (wholes .exit)) (now (floats .entry)) (now (floats .exit)) (now (cuts .entry)) (now (cuts .exit)) (now (planes .entry)) (now (planes .exit))) ⌝ }
 {
     let half = count / 2;

@@ -1,4 +1,4 @@
--- The outcome of a build: demand 3 follows from its answer and its lists. Assumes nothing.
+-- The outcome of a build: demand 3 and the depths follow from its answer and its lists. Assumes nothing.
 use mathlib.Core.Path.{_≡_, ap}
 use mathlib.Core.List.{List}
 use Prim.Native.Nat.{ℕ}
@@ -6,7 +6,7 @@ use lib.Ieee.{Float}
 use Rattle.definition.specs.Tree.{Settings, levels}
 use Rattle.definition.specs.Packed.{Counts, countsOf}
 use Rattle.definition.specs.Outcome.{Answer, TreeLists, answered, treeListsAfter, RoomAfter, zeroCounts, buildCall, buildAnswer, buildLists}
-use Rattle.demand3.proofs.Demand.{demand-3-of}
+use Rattle.demand3.proofs.Demand.{demand-3-of, tree-depths-of}
 use Rattle.ddm.specs.Build.{Built}
 
 pub built : (s : Settings) (cs : List Float) (old : TreeLists) (floats : List Float) (wholes : List ℕ) {floats′ : List Float} {wholes′ : List ℕ} {new : TreeLists} {answer : Answer Counts}
@@ -22,5 +22,8 @@ built s cs old floats wholes a l f w =
       wholes-free = w;
       demand3 =
           demand-3-of s cs old floats wholes _ _ _ _ _ _ a (ap (λ (t : TreeLists). t .level-points) l) (ap (λ (t : TreeLists). t .internals) l) (ap (λ (t : TreeLists). t .domains) l)
+          (ap (λ (t : TreeLists). t .boxes) l) (ap (λ (t : TreeLists). t .borrowed) l);
+      depths =
+          tree-depths-of s cs old floats wholes _ _ _ _ _ _ a (ap (λ (t : TreeLists). t .level-points) l) (ap (λ (t : TreeLists). t .internals) l) (ap (λ (t : TreeLists). t .domains) l)
           (ap (λ (t : TreeLists). t .boxes) l) (ap (λ (t : TreeLists). t .borrowed) l);
     }

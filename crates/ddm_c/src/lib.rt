@@ -13,7 +13,7 @@ ghost use Rattle.slots.specs.Told.{Told, QuotasTold, SampleTold, BuildTold, Dep
 // The version as one number: major * 10000 + minor * 100 + patch.
 #[no_mangle]
 pub extern "C" fn ddm_version() -> usize
-    ensures { λ r. ⌜ r ≡ versionNumber 0 5 0 ⌝ }
+    ensures { λ r. ⌜ r ≡ versionNumber 0 6 0 ⌝ }
 {
     slots::version()
 }

@@ -1,7 +1,8 @@
 -- Rows that a level can be built over; the cut's halves; and the queue: its leaves hold each active row once, and no other. Assumes nothing.
 -- Holds: Good, good-part, finite-known, rowsOf, domainSizes, rows-times, cutsFor, axis-below, length-cutKeys, cut-times,
---   left-good, right-good, left-ascends, right-ascends, queue-all, leaves-all, leaves-ascend, cut-sortable, left-length,
---   right-length, Full, full-wait, cuts-wait, cuts-done, queue-sum, queue-enough, leaves-times, leaves-sum
+--   left-good, right-good, left-depth, right-depth, left-ascends, right-ascends, queue-all, leaves-all, leaves-ascend,
+--   cut-sortable, left-length, right-length, Full, full-wait, cuts-wait, cuts-done, queue-sum, queue-enough, leaves-times,
+--   leaves-sum
 use mathlib.Core.Path.{_≡_, refl, sym, ap, _∙_}
 use mathlib.Core.Logic.{⊎-elim}
 use mathlib.Core.Bool.{true, false}
@@ -79,6 +80,15 @@ module _ (d : ℕ) (cs : List Float) where
 
   pub right-good : (q : Domain) → Good d cs (q .rows) → Good d cs (rightOf d cs q .rows)
   right-good q g = good-part d cs (q .rows) (rightOf d cs q .rows) g (λ r. omega (arith, cut-times q r))
+
+  -- both are one deeper
+  pub left-depth : (q : Domain) → leftOf d cs q .depth ≡ suc (q .depth)
+  unfolding leftOf
+  left-depth q = refl
+
+  pub right-depth : (q : Domain) → rightOf d cs q .depth ≡ suc (q .depth)
+  unfolding rightOf
+  right-depth q = refl
 
   -- both ascend if the domain does
   pub left-ascends : (q : Domain) → Ascends (q .rows) → Ascends (leftOf d cs q .rows)

@@ -27,7 +27,7 @@ pub record Dealt (sizes : List ℕ) (seats : ℕ) (ws : List ℕ) : Type 0 where
 
 -- what stands past the domains
 abbrev pub noDomain : Domain
-noDomain = record { rows = []; box = [] }
+noDomain = record { rows = []; box = []; depth = 0 }
 
 pub rows-cons : (q : Domain) (qs : List Domain) (r : ℕ) → times r (rowsOf (q ∷ qs)) ≡ times r (q .rows) + times r (rowsOf qs)
 rows-cons q qs r = ap (times r) (joined-cons (q .rows) (map (λ q. q .rows) qs)) ∙ times-append r (q .rows) (rowsOf qs)

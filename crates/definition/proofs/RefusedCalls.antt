@@ -57,7 +57,7 @@ lent level-points internals domains boxes borrowed =
 abbrev ShortBuild : Settings → List Float → ℕ → Type 0
 ShortBuild s cs number = BuildRefused s cs (lent 1 1 1 1 1) [] [] number 0
 
--- Builds over two points of the plane with two neighbours. Stated are 8 level points, 8 internals, 52 numbers of domain rows, 65
+-- Builds over two points of the plane with two neighbours. Stated are 8 level points, 8 internals, 65 numbers of domain rows, 65
 -- floats of domain rows, 36 borrowed rows, 64 floats and 112 whole numbers of room.
 abbrev two : Settings
 two = settings 2 1 2 2 (fixed 1)
@@ -73,7 +73,7 @@ abbrev Short : TreeLists → ℕ → ℕ → Type 0
 Short lists floats wholes = BuildRefused two twoSpoiled lists (line (replicate floats 9)) (replicate wholes 9) 11 0
 
 abbrev Spoiled : List Float → ℕ → Type 0
-Spoiled cs place = BuildRefused two cs (lent 8 8 52 65 36) (line (replicate 64 9)) (replicate 112 9) 10 place
+Spoiled cs place = BuildRefused two cs (lent 8 8 65 65 36) (line (replicate 64 9)) (replicate 112 9) 10 place
 
 -- the lengths of the seven lists of a build
 abbrev lengths : ℕ → ℕ → ℕ → ℕ → ℕ → ℕ → ℕ → BuildSizes
@@ -101,9 +101,9 @@ abbrev TwoSampled : List Float → ℕ → ℕ → ℕ → ℕ → ℕ → Type 
 TwoSampled cs out floats wholes number place =
     SampleRefused 2 cs 2 1 (replicate out 9) (line (replicate floats 9)) (replicate wholes 9) number place
 
--- a domain row: own rows 1 to 3 of the internals, borrowed rows 2 and 3 of the borrowed ones
+-- a domain row: own rows 1 to 3 of the internals, borrowed rows 2 and 3 of the borrowed ones, and a depth that no leaf has
 abbrev asked : DomainRow
-asked = record { ownStart = 1; ownCount = 3; borrowedStart = 2; borrowedCount = 2 }
+asked = record { ownStart = 1; ownCount = 3; borrowedStart = 2; borrowedCount = 2; depth = 22 }
 
 pub record RefusedCalls : Type 0 where
   -- the build: 1 to 9, 11, 10
@@ -131,20 +131,20 @@ pub record RefusedCalls : Type 0 where
   reach4097 : (cs : List Float) → length cs ≡ 4097 → ShortBuild (settings 1 1 64 2 auto) cs 9
   reach4096 : (cs : List Float) → length cs ≡ 4096 → ShortBuild (settings 1 1 64 2 auto) cs 11
   -- each list just too short, and a coordinate that is not a number
-  short-level-points : Short (lent 7 8 52 65 36) 64 112
-  short-internals : Short (lent 8 7 52 65 36) 64 112
-  short-domains : Short (lent 8 8 51 65 36) 64 112
-  short-boxes : Short (lent 8 8 52 64 36) 64 112
-  short-borrowed : Short (lent 8 8 52 65 35) 64 112
-  short-floats : Short (lent 8 8 52 65 36) 63 112
-  short-wholes : Short (lent 8 8 52 65 36) 64 111
+  short-level-points : Short (lent 7 8 65 65 36) 64 112
+  short-internals : Short (lent 8 7 65 65 36) 64 112
+  short-domains : Short (lent 8 8 64 65 36) 64 112
+  short-boxes : Short (lent 8 8 65 64 36) 64 112
+  short-borrowed : Short (lent 8 8 65 65 35) 64 112
+  short-floats : Short (lent 8 8 65 65 36) 63 112
+  short-wholes : Short (lent 8 8 65 65 36) 64 111
   -- the place is the first bad coordinate's position, not its row
   spoiled-last : Spoiled twoSpoiled 3
   spoiled-first : Spoiled (line (0 ∷ []) ++ inf false ∷ nan ∷ inf true ∷ []) 1
   spoiled-minus : Spoiled (inf true ∷ line (0 ∷ 0 ∷ 0 ∷ [])) 0
   -- nothing is short and nothing spoiled
   lentAsStated :
-      buildAnswer two twoPoints (lent 8 8 52 65 36) (line (replicate 64 9)) (replicate 112 9)
+      buildAnswer two twoPoints (lent 8 8 65 65 36) (line (replicate 64 9)) (replicate 112 9)
       ≡ reports (record { levels = 2; rows = 2 ∷ 1 ∷ 0 ∷ 0 ∷ []; domains = 4 ∷ 1 ∷ 0 ∷ 0 ∷ [] })
   -- the lengths asked alone: 1, 5, 6, 8
   lengths-dimension0 : LengthsRefused 0 0 65 1
@@ -155,9 +155,9 @@ pub record RefusedCalls : Type 0 where
   lengths-neighbours65-points1048577 : LengthsRefused 3 1048577 65 5
   lengths-points0 : LengthsRefused 3 0 64 6
   lengths-points1048577 : LengthsRefused 1 1048577 64 8
-  lengths-points1 : sizesAnswer 1 1 0 ≡ reports (lengths 4 4 28 21 6 32 40)
-  lengths-points2 : sizesAnswer 2 2 2 ≡ reports (lengths 8 8 52 65 36 64 112)
-  lengths-points1048576 : sizesAnswer 3 1048576 64 ≡ reports (lengths 4194304 4194304 25165828 44040199 408944640 33554432 578813952)
+  lengths-points1 : sizesAnswer 1 1 0 ≡ reports (lengths 4 4 35 21 6 32 40)
+  lengths-points2 : sizesAnswer 2 2 2 ≡ reports (lengths 8 8 65 65 36 64 112)
+  lengths-points1048576 : sizesAnswer 3 1048576 64 ≡ reports (lengths 4194304 4194304 31457285 44040199 408944640 33554432 578813952)
   -- sampling: 1, 6, 7, 8, 13, 11, 10
   sample-dimension0 : ShortSample 0 [] 0 0 1
   sample-dimension4 : ShortSample 4 [] 0 0 1

@@ -10,14 +10,15 @@ use Rattle.definition.specs.Number.{plusZero}
 use Rattle.definition.specs.Points.{coordinate, extents, extent}
 use Rattle.definition.specs.Keys.{Key, keyed, firstRows, otherRows, keyAt}
 
--- a domain: its own rows, ascending, and its box (lower bounds by axis, then upper bounds)
+-- a domain: its own rows, ascending, its box (lower bounds by axis, then upper bounds), and its depth, which says how often it was cut
 pub record Domain : Type 0 where
   pub rows : List ℕ
   pub box : List Float
+  pub depth : ℕ
 
--- the root: all active rows with their extents
+-- the root: all active rows with their extents, at depth 0
 unfoldable pub rootDomain : ℕ → List Float → List ℕ → Domain
-rootDomain d cs active = record { rows = active; box = extents d cs active }
+rootDomain d cs active = record { rows = active; box = extents d cs active; depth = 0 }
 
 -- ---- cut
 
@@ -39,20 +40,22 @@ planeOf (p ∷ ps) = p .value
 unfoldable pub plane : ℕ → List Float → List ℕ → Float
 plane d cs rows = planeOf (keyAt (length rows / 2) (cutKeys d cs rows))
 
--- left: the first half of the rows, rounded down; the parent's box with the plane as upper bound on the axis
+-- left: the first half of the rows, rounded down; the parent's box with the plane as upper bound on the axis; one deeper than the parent
 unfoldable pub leftOf : ℕ → List Float → Domain → Domain
 leftOf d cs q =
     record {
       rows = firstRows (length (q .rows) / 2) (cutKeys d cs (q .rows));
       box = set (q .box) (d + longestAxis d cs (q .rows)) (plane d cs (q .rows));
+      depth = suc (q .depth);
     }
 
--- right: the other rows; the parent's box with the plane as lower bound on the axis
+-- right: the other rows; the parent's box with the plane as lower bound on the axis; one deeper than the parent
 unfoldable pub rightOf : ℕ → List Float → Domain → Domain
 rightOf d cs q =
     record {
       rows = otherRows (length (q .rows) / 2) (cutKeys d cs (q .rows));
       box = set (q .box) (longestAxis d cs (q .rows)) (plane d cs (q .rows));
+      depth = suc (q .depth);
     }
 
 -- ---- queue

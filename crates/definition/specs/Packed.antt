@@ -9,23 +9,24 @@ use Rattle.definition.specs.Tree.{Leaf, Level, mostFine}
 
 -- ---- a domain row
 
--- where the leaf's internal rows start and how many they are, then the same of its borrowed rows
+-- where the leaf's internal rows start and how many they are, then the same of its borrowed rows; and the leaf's depth
 pub record DomainRow : Type 0 where
   pub ownStart : ℕ
   pub ownCount : ℕ
   pub borrowedStart : ℕ
   pub borrowedCount : ℕ
+  pub depth : ℕ
 
 -- the strides of a domain row: its whole numbers, and its floats, which are the bounds of its box and then its cover
 abbrev pub rowNumbers : ℕ
-rowNumbers = 4
+rowNumbers = 5
 
 abbrev pub rowFloats : ℕ → ℕ
 rowFloats d = boxWidth d + 1
 
 -- the whole numbers of a domain row, in their order
 abbrev pub numbersOf : DomainRow → List ℕ
-numbersOf r = r .ownStart ∷ r .ownCount ∷ r .borrowedStart ∷ r .borrowedCount ∷ []
+numbersOf r = r .ownStart ∷ r .ownCount ∷ r .borrowedStart ∷ r .borrowedCount ∷ r .depth ∷ []
 
 -- the domain row of a leaf whose stretches start at a and b
 abbrev pub rowOf : ℕ → ℕ → Leaf → DomainRow
@@ -35,6 +36,7 @@ rowOf a b f =
       ownCount = length (f .own);
       borrowedStart = b;
       borrowedCount = length (f .borrowed);
+      depth = f .depth;
     }
 
 -- the floats of a leaf's domain row, in their order

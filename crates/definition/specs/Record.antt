@@ -37,18 +37,14 @@ levelCuts d cs leaf active = cutsOf d cs leaf (length active) (rootDomain d cs a
 
 -- ---- leaves
 
--- a leaf and its depth, the root's being 0
-pub record Deep (D : Type 0) : Type 0 where
-  pub domain : D
-  pub depth : ℕ
+-- the leaves from left to right
+unfoldable pub leavesUnder : Cuts → List Domain
+leavesUnder (uncut q) = q ∷ []
+leavesUnder (cutAt a p l r) = leavesUnder l ++ leavesUnder r
 
--- the leaves from left to right, of a domain at depth e
-unfoldable pub leavesUnder : ℕ → Cuts → List (Deep Domain)
-leavesUnder e (uncut q) = record { domain = q; depth = e } ∷ []
-leavesUnder e (cutAt a p l r) = leavesUnder (suc e) l ++ leavesUnder (suc e) r
-
-abbrev pub depthsOf : {D : Type 0} → List (Deep D) → List ℕ
-depthsOf fs = map (λ f. f .depth) fs
+-- how deep they are, the root's depth being 0
+abbrev pub depthsOf : List Domain → List ℕ
+depthsOf qs = map (λ q. q .depth) qs
 
 -- Leaves are numbered by depth, and then from left to right: the number of the k-th leaf from the left, from 0, is how many leaves
 -- are less deep, and how many to its left are as deep.
@@ -76,13 +72,13 @@ floatOf (leafNode k) = plusZero
 -- each cut before its halves; `number` gives the number of the k-th leaf from the left, and k leaves stand to the left
 unfoldable pub nodesFrom : (ℕ → ℕ) → ℕ → Cuts → List Node
 nodesFrom number k (uncut q) = leafNode (number k) ∷ []
-nodesFrom number k (cutAt a p l r) = cutNode a p ∷ nodesFrom number k l ++ nodesFrom number (k + length (leavesUnder 0 l)) r
+nodesFrom number k (cutAt a p l r) = cutNode a p ∷ nodesFrom number k l ++ nodesFrom number (k + length (leavesUnder l)) r
 
 -- the record of a level
 unfoldable pub recordOf : ℕ → List Float → ℕ → List ℕ → List Node
 recordOf d cs leaf active =
     let t = levelCuts d cs leaf active in
-    nodesFrom (leafNumber (depthsOf (leavesUnder 0 t))) 0 t
+    nodesFrom (leafNumber (depthsOf (leavesUnder t))) 0 t
 
 -- ---- the records of a tree
 

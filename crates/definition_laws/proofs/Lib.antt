@@ -2,6 +2,7 @@
 pub mod Finite
 pub mod Covers
 pub mod Shape
+pub mod Depths
 pub mod Overlaps
 pub mod OwnFirst
 pub mod Accepted

@@ -1,10 +1,11 @@
--- The shape of a level: the sizes of its leaves depend only on the number of active rows and the leaf threshold. So do the number of
--- leaves and the cuts that are made. Assumes nothing.
--- Holds: shape-wait, shape-done, shape-most, queue-shape, leaves-shape, leaves-most, leaves-enough, leaves-boxes
-use mathlib.Core.Path.{_≡_, refl, sym, ap, _∙_}
+-- The shape of a level: the sizes and depths of its leaves depend only on the number of active rows and the leaf threshold. So do the
+-- number of leaves and the cuts that are made. Assumes nothing.
+-- Holds: shape-wait, shape-done, shape-all, shape-most, sizedOf, queue-shape, leaves-shape, leaves-most, leaves-enough,
+--   leaves-boxes
+use mathlib.Core.Path.{_≡_, refl, sym, ap, ap₂, _∙_}
 use mathlib.Core.Logic.{⊎-elim}
 use mathlib.Core.List.{List, [], _∷_, _++_, map, map-append}
-use Prim.Native.Nat.{ℕ, zero, suc, _+_, _-_, _*_, _/_, _≤_, _<_}
+use Prim.Native.Nat.{ℕ, zero, suc, _+_, _-_, _*_, _≤_, _<_}
 use native.Mathlib.Omega.{arith}
 use borrow.Author.Tests.{le-leb, lt-leb}
 use lib.ListN.{length, length-append, length-map, length-set}
@@ -14,97 +15,105 @@ use Rattle.lists.specs.Ascends.{All}
 use Rattle.lists.proofs.Tests.{le-or-lt}
 use Rattle.lists.proofs.All.{all-append}
 use Rattle.lists.proofs.From.{length-from}
-use Rattle.lists.proofs.Sums.{total-nil, total-cons, total-append, sum-nil, sum-cons, sum-two}
+use Rattle.lists.proofs.Sums.{sum-nil, sum-cons, sum-two}
 use Rattle.definition.specs.Points.{boxWidth, extents}
 use Rattle.definition.specs.Cut.{Domain, rootDomain, longestAxis, plane, leftOf, rightOf, queueLeaves, leavesOf}
-use Rattle.definition_laws.specs.Shape.{shapeQueue, shape}
+use Rattle.definition_laws.specs.Shape.{Sized, leftSized, rightSized, shapeQueue, shape}
 use Rattle.definition.proofs.Steps.{queue-wait, queue-done}
-use Rattle.definition.proofs.Cuts.{Good, domainSizes, left-good, right-good, left-length, right-length, leaves-all, queue-enough}
+use Rattle.definition.proofs.Cuts.{Good, left-good, right-good, left-length, right-length, left-depth, right-depth, leaves-all, queue-enough}
 
--- ---- the queue of sizes
+-- ---- the queue of sizes and depths
 module _ (leaf : ℕ) where
-  pub shape-wait : (fuel z : ℕ) (zs : List ℕ) → 2 * leaf ≤ z → shapeQueue leaf (suc fuel) (z ∷ zs) ≡ shapeQueue leaf fuel (zs ++ z / 2 ∷ (z - z / 2) ∷ [])
+  pub shape-wait : (fuel : ℕ) (z : Sized) (zs : List Sized) → 2 * leaf ≤ z .size → shapeQueue leaf (suc fuel) (z ∷ zs) ≡ shapeQueue leaf fuel (zs ++ leftSized z ∷ rightSized z ∷ [])
   unfolding shapeQueue
-  shape-wait fuel z zs h = rw (le-leb (2 * leaf) z h)
+  shape-wait fuel z zs h = rw (le-leb (2 * leaf) (z .size) h)
 
-  pub shape-done : (fuel z : ℕ) (zs : List ℕ) → z < 2 * leaf → shapeQueue leaf (suc fuel) (z ∷ zs) ≡ z / 2 ∷ (z - z / 2) ∷ shapeQueue leaf fuel zs
+  pub shape-done : (fuel : ℕ) (z : Sized) (zs : List Sized) → z .size < 2 * leaf → shapeQueue leaf (suc fuel) (z ∷ zs) ≡ leftSized z ∷ rightSized z ∷ shapeQueue leaf fuel zs
   unfolding shapeQueue
-  shape-done fuel z zs h = rw (lt-leb (2 * leaf) z h)
+  shape-done fuel z zs h = rw (lt-leb (2 * leaf) (z .size) h)
+
+  -- what the halves of a large one that waits have if it has it, and the leaves of a small one
+  pub shape-all : (P Q : Sized → Type 0) → ((z : Sized) → P z → 2 * leaf ≤ z .size → P (leftSized z) × P (rightSized z))
+      → ((z : Sized) → P z → Q (leftSized z) × Q (rightSized z)) → (fuel : ℕ) (zs : List Sized) → All P zs → All Q (shapeQueue leaf fuel zs)
+  unfolding All shapeQueue
+  shape-all P Q wait done zero zs h = tt
+  shape-all P Q wait done (suc fuel) [] h = tt
+  shape-all P Q wait done (suc fuel) (z ∷ zs) h =
+      ⊎-elim
+      (λ (big : 2 * leaf ≤ z .size).
+      let w = wait z (h .0) big in
+      rw (shape-wait fuel z zs big)
+      (shape-all P Q wait done fuel (zs ++ leftSized z ∷ rightSized z ∷ []) (all-append P zs (leftSized z ∷ rightSized z ∷ []) (h .1) (w .0, (w .1, tt)))))
+      (λ (small : z .size < 2 * leaf).
+      let w = done z (h .0) in
+      rw (shape-done fuel z zs small) (w .0, (w .1, shape-all P Q wait done fuel zs (h .1))))
+      (le-or-lt (2 * leaf) (z .size))
 
   -- ---- sizes that are not 0
-  abbrev Some : List ℕ → Type 0
-  Some zs = All (λ z. 1 ≤ z) zs
-
-  -- the cuts that are still to be made, at most
-  abbrev cuts : List ℕ → ℕ
-  cuts zs = total (map (λ z. 2 * z - 1) zs)
-
-  total-two : (zs : List ℕ) (x y : ℕ) → total (zs ++ x ∷ y ∷ []) ≡ total zs + (x + y)
-  total-two zs x y = omega (arith, total-append zs (x ∷ y ∷ []), total-cons x (y ∷ []), total-cons y [], total-nil)
-
   module _ (lp : 1 ≤ leaf) where
-    some-wait : (z : ℕ) (zs : List ℕ) → 2 * leaf ≤ z → Some (z ∷ zs) → Some (zs ++ z / 2 ∷ (z - z / 2) ∷ [])
+    some-wait : (z : Sized) (zs : List Sized) → 2 * leaf ≤ z .size → All (λ z. 1 ≤ z .size) (z ∷ zs) → All (λ z. 1 ≤ z .size) (zs ++ leftSized z ∷ rightSized z ∷ [])
     unfolding All
-    some-wait z zs big u = all-append (λ z. 1 ≤ z) zs (z / 2 ∷ (z - z / 2) ∷ []) (u .1) (omega arith, (omega arith, tt))
+    some-wait z zs big u = all-append (λ z. 1 ≤ z .size) zs (leftSized z ∷ rightSized z ∷ []) (u .1) (omega arith, (omega arith, tt))
 
-    cuts-done : (z : ℕ) (zs : List ℕ) → Some (z ∷ zs) → cuts zs < cuts (z ∷ zs)
-    unfolding All
-    cuts-done z zs u = omega (arith, u .0, sum-cons (λ z. 2 * z - 1) z zs)
-
-    cuts-wait : (z : ℕ) (zs : List ℕ) → 2 * leaf ≤ z → cuts (zs ++ z / 2 ∷ (z - z / 2) ∷ []) < cuts (z ∷ zs)
-    cuts-wait z zs big = omega (arith, sum-two (λ z. 2 * z - 1) zs (z / 2) (z - z / 2), sum-cons (λ z. 2 * z - 1) z zs)
-
-    -- a queue of sizes has at most twice as many leaves as rows
-    pub shape-most : (fuel : ℕ) (zs : List ℕ) → All (λ z. 1 ≤ z) zs → length (shapeQueue leaf fuel zs) ≤ 2 * total zs
+    -- a queue has at most twice as many leaves as rows
+    pub shape-most : (fuel : ℕ) (zs : List Sized) → All (λ z. 1 ≤ z .size) zs → length (shapeQueue leaf fuel zs) ≤ 2 * total (map (λ z. z .size) zs)
     unfolding All shapeQueue
     shape-most zero zs u = omega arith
     shape-most (suc fuel) [] u = omega arith
     shape-most (suc fuel) (z ∷ zs) u =
+        let size : Sized → ℕ = λ z. z .size in
         ⊎-elim
-        (λ (big : 2 * leaf ≤ z). rw (shape-wait fuel z zs big)
-        (omega (arith, shape-most fuel (zs ++ z / 2 ∷ (z - z / 2) ∷ []) (some-wait z zs big u), total-two zs (z / 2) (z - z / 2), total-cons z zs)))
-        (λ (small : z < 2 * leaf). rw (shape-done fuel z zs small) (omega (arith, shape-most fuel zs (u .1), total-cons z zs, u .0)))
-        (le-or-lt (2 * leaf) z)
+        (λ (big : 2 * leaf ≤ z .size). rw (shape-wait fuel z zs big)
+        (omega (arith, shape-most fuel (zs ++ leftSized z ∷ rightSized z ∷ []) (some-wait z zs big u), sum-two size zs (leftSized z) (rightSized z), sum-cons size z zs)))
+        (λ (small : z .size < 2 * leaf). rw (shape-done fuel z zs small) (omega (arith, shape-most fuel zs (u .1), sum-cons size z zs, u .0)))
+        (le-or-lt (2 * leaf) (z .size))
 
 -- ---- the domains
+abbrev pub sizedOf : Domain → Sized
+sizedOf q = record { size = length (q .rows); depth = q .depth }
+
 module _ (d : ℕ) (cs : List Float) (pos : 0 < d) (leaf : ℕ) where
-  pub queue-shape : (fuel : ℕ) (qs : List Domain) → All (λ q. Good d cs (q .rows)) qs → domainSizes (queueLeaves d cs leaf fuel qs) ≡ shapeQueue leaf fuel (domainSizes qs)
+  -- the halves of a domain have the sizes and depths of its halves
+  left-sized : (q : Domain) → Good d cs (q .rows) → sizedOf (leftOf d cs q) ≡ leftSized (sizedOf q)
+  left-sized q g = rw (left-length d cs pos q g, left-depth d cs q)
+
+  right-sized : (q : Domain) → Good d cs (q .rows) → sizedOf (rightOf d cs q) ≡ rightSized (sizedOf q)
+  right-sized q g = rw (right-length d cs pos q g, right-depth d cs q)
+
+  pub queue-shape : (fuel : ℕ) (qs : List Domain) → All (λ q. Good d cs (q .rows)) qs → map sizedOf (queueLeaves d cs leaf fuel qs) ≡ shapeQueue leaf fuel (map sizedOf qs)
   unfolding All queueLeaves shapeQueue
   queue-shape zero qs h = refl
   queue-shape (suc fuel) [] h = refl
   queue-shape (suc fuel) (q ∷ qs) h =
       let l = leftOf d cs q in
       let r = rightOf d cs q in
-      let z = length (q .rows) in
-      let a = left-length d cs pos q (h .0) in
-      let b = right-length d cs pos q (h .0) in
+      let z = sizedOf q in
+      let a = left-sized q (h .0) in
+      let b = right-sized q (h .0) in
       ⊎-elim
-      (λ (big : 2 * leaf ≤ length (q .rows)). rw (queue-wait d cs leaf fuel q qs big, shape-wait leaf fuel z (domainSizes qs) big)
+      (λ (big : 2 * leaf ≤ length (q .rows)). rw (queue-wait d cs leaf fuel q qs big, shape-wait leaf fuel z (map sizedOf qs) big)
       (queue-shape fuel (qs ++ l ∷ r ∷ [])
       (all-append (λ q. Good d cs (q .rows)) qs (l ∷ r ∷ []) (h .1) (left-good d cs q (h .0), (right-good d cs q (h .0), tt)))
-      ∙ ap (shapeQueue leaf fuel) (map-append (λ (q : Domain). length (q .rows)) qs (l ∷ r ∷ []) ∙ rw (a, b))))
-      (λ (small : length (q .rows) < 2 * leaf). rw (queue-done d cs leaf fuel q qs small, shape-done leaf fuel z (domainSizes qs) small, a, b, queue-shape fuel qs (h .1)))
+      ∙ ap (shapeQueue leaf fuel) (map-append sizedOf qs (l ∷ r ∷ []) ∙ ap₂ (λ (x y : Sized). map sizedOf qs ++ x ∷ y ∷ []) a b)))
+      (λ (small : length (q .rows) < 2 * leaf). rw (queue-done d cs leaf fuel q qs small, shape-done leaf fuel z (map sizedOf qs) small)
+      (ap₂ (λ (x y : Sized). x ∷ y ∷ map sizedOf (queueLeaves d cs leaf fuel qs)) a b ∙ ap (λ (l : List Sized). leftSized z ∷ rightSized z ∷ l) (queue-shape fuel qs (h .1))))
       (le-or-lt (2 * leaf) (length (q .rows)))
 
   -- THE SHAPE LAW
-  pub leaves-shape : (active : List ℕ) → Good d cs active → domainSizes (leavesOf d cs leaf active) ≡ shape leaf (length active)
+  pub leaves-shape : (active : List ℕ) → Good d cs active → map sizedOf (leavesOf d cs leaf active) ≡ shape leaf (length active)
   unfolding leavesOf shape rootDomain All
   leaves-shape active g = queue-shape (2 * length active) (rootDomain d cs active ∷ []) (g, tt)
 
   module _ (lp : 1 ≤ leaf) (active : List ℕ) (g : Good d cs active) (some : 1 ≤ length active) where
-    one : All (λ z. 1 ≤ z) (length active ∷ [])
-    unfolding All
-    one = (some, tt)
-
-    enough : total (map (λ z. 2 * z - 1) (length active ∷ [])) ≤ 2 * length active
-    enough = omega (arith, sum-cons (λ z. 2 * z - 1) (length active) [], sum-nil (λ (z : ℕ). 2 * z - 1))
-
     count-is : length (leavesOf d cs leaf active) ≡ length (shape leaf (length active))
-    count-is = sym (length-map (leavesOf d cs leaf active) (λ q. length (q .rows))) ∙ ap length (leaves-shape active g)
+    count-is = sym (length-map (leavesOf d cs leaf active) sizedOf) ∙ ap length (leaves-shape active g)
 
     pub leaves-most : length (leavesOf d cs leaf active) ≤ 2 * length active
-    unfolding shape
-    leaves-most = omega (arith, count-is, shape-most leaf lp (2 * length active) (length active ∷ []) one, total-cons (length active) [], total-nil)
+    unfolding shape All
+    leaves-most =
+        let root : Sized = record { size = length active; depth = 0 } in
+        let size : Sized → ℕ = λ z. z .size in
+        omega (arith, count-is, shape-most leaf lp (2 * length active) (root ∷ []) (some, tt), sum-cons size root [], sum-nil size)
 
     -- the fuel is enough: with more of it the leaves are the same, so no waiting domain is dropped
     pub leaves-enough : (more : ℕ) → 2 * length active - 1 ≤ more → queueLeaves d cs leaf more (rootDomain d cs active ∷ []) ≡ leavesOf d cs leaf active

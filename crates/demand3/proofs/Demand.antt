@@ -1,5 +1,5 @@
--- DEMAND 3: what an accepted build hands back has it. Assumes nothing.
--- Holds: all-levels, demand-3, demand-3-of, demand-3-seen
+-- DEMAND 3: what an accepted build hands back has it, and its leaves' depths are as the sizes say. Assumes nothing.
+-- Holds: all-levels, all-depths, demand-3, tree-depths, demand-3-of, tree-depths-of, demand-3-seen
 use mathlib.Core.Path.{_≡_, sym, ap, ap₂, _∙_, subst}
 use mathlib.Core.Logic.{⊎-elim}
 use mathlib.Core.List.{List, []}
@@ -15,10 +15,10 @@ use Rattle.lists.proofs.From.{length-from}
 use Rattle.definition.specs.Number.{plusZero}
 use Rattle.definition.specs.Cut.{Domain, leavesOf}
 use Rattle.definition.specs.Sampling.{leafCover}
-use Rattle.definition.specs.Tree.{Settings, Leaf, Level, coarseLevel, fineLeaf, mostFine, levelsOver, pointCount, levels}
+use Rattle.definition.specs.Tree.{Settings, Leaf, Level, coarseLeaf, coarseLevel, fineLeaf, mostFine, levelsOver, pointCount, levels}
 use Rattle.definition.specs.Points.{boxWidth}
 use Rattle.definition.specs.Packed.{Counts, leavesIn, packedLevelPoints, packedInternals, packedDomains, packedBoxes, packedBorrowed}
-use Rattle.definition.specs.Refusals.{accepted}
+use Rattle.definition.specs.Refusals.{accepted, mostPoints}
 use Rattle.definition.specs.Outcome.{Answer, TreeLists, lentSizes, written, listAfter, valueOf, treeListsAfter, buildCall, buildAnswer, buildLists}
 use Rattle.definition.proofs.Cuts.{Good}
 use Rattle.definition_laws.proofs.Accepted.{build-accepted}
@@ -31,9 +31,11 @@ use Rattle.demand3.specs.Handed.{Handed, handed, levelCount, rowsOn, lea
 use Rattle.demand3.specs.Demand3.{coarseAt, reductionCount, CoarseLevel, Demand3Over, Demand3, handedBack}
 use Rattle.packed.proofs.Counts.{noLevel}
 use Rattle.packed.proofs.Unpacked.{noLeaf}
-use Rattle.demand3.proofs.Unpack.{PackedIn, handed-levels, handed-rows, handed-leaves, handed-listed, handed-own, handed-borrowed, handed-box, handed-cover, handed-counted, handed-beyond}
+use Rattle.demand3.proofs.Unpack.{PackedIn, handed-levels, handed-rows, handed-leaves, handed-listed, handed-own, handed-borrowed, handed-box, handed-cover, handed-depth, handed-counted, handed-beyond}
 use Rattle.demand3.proofs.Levels.{Levelled, levelled, IsFine, first-active, some-levels, fine-at, coarse-at}
+use Rattle.demand3.specs.Depths.{TreeDepths}
 use Rattle.demand3.proofs.Answered.{answered-zero}
+use Rattle.demand3.proofs.Depths.{depths-handed, levels-hold}
 use Rattle.demand3.proofs.Fine.{IsLevel, fine-level}
 
 -- where n rows outnumber c, a reduction is made
@@ -113,6 +115,7 @@ module _ (s : Settings) (cs : List Float) (first : List ℕ) (pos : 0 < s .dimen
       own = λ i z. handed-own (s .dimension) ls h packs l i (omega (arith, leaves-at l)) ∙ ap (λ (f : Leaf). f .own) (leaf-is i z);
       borrowed = λ i z. handed-borrowed (s .dimension) ls h packs l i (omega (arith, leaves-at l)) ∙ ap (λ (f : Leaf). f .borrowed) (leaf-is i z);
       box = λ i z. handed-box (s .dimension) ls h packs l i (omega (arith, leaves-at l)) ∙ ap (λ (f : Leaf). f .box) (leaf-is i z);
+      depth = λ i z. handed-depth (s .dimension) ls h packs l i (omega (arith, leaves-at l)) ∙ ap (λ (f : Leaf). f .depth) (leaf-is i z);
       cover = λ i z. handed-cover (s .dimension) ls h packs l i (omega (arith, leaves-at l)) ∙ ap (λ (f : Leaf). f .cover) (leaf-is i z)
           ∙ ap (λ (j : ℕ). leafCover (s .dimension) cs (getD qs i noDomain .rows) (getD (sentWith s cs (sizeFrom c k j (listed h l)) (listed h l)) i [])) (zero-add l);
       next = listed-at (suc l) ∙ fine .sent ∙ ap₂ (λ (j : ℕ) (x : List ℕ). nextOf s cs c k j x) (zero-add l) (sym (listed-at l));
@@ -129,7 +132,7 @@ module _ (s : Settings) (cs : List Float) (first : List ℕ) (pos : 0 < s .dimen
       let last = coarse-at s cs c k the-levels l (omega (arith, count-some, handed-levels (s .dimension) ls h packs)) in
       let one : leavesOn h l ≡ 1 = leaves-at l ∙ ap (λ (x : Level). length (x .leaves)) (last .0) in
       let z : 0 < length (levelAt l .leaves) = omega (arith, leaves-at l) in
-      let leaf : getD (levelAt l .leaves) 0 noLeaf ≡ record { own = levelAt l .points; borrowed = []; box = replicate (boxWidth (s .dimension)) plusZero; cover = plusZero } =
+      let leaf : getD (levelAt l .leaves) 0 noLeaf ≡ coarseLeaf (s .dimension) (levelAt l .points) =
       ap (λ (x : Level). getD (x .leaves) 0 noLeaf) (last .0) in
       record {
         few = omega (arith, ap length (listed-at l), last .1);
@@ -166,6 +169,15 @@ module _ (s : Settings) (cs : List Float) (first : List ℕ) (pos : 0 < s .dimen
     counted = handed-counted (s .dimension) ls h packs;
     none-beyond = handed-beyond (s .dimension) ls h packs;
   }
+
+  -- ---- the depths
+  pub all-depths : length first ≤ mostPoints → TreeDepths h
+  unfolding coarseLevel levelsOver
+  all-depths few =
+      let l = length ls - 1 in
+      let last = coarse-at s cs c k the-levels l (omega (arith, some-levels s cs c k the-levels)) in
+      depths-handed (s .dimension) ls h packs (levels-hold s cs pos lp c k mostFine 0 first good few)
+      (rw (ap (λ (x : Level). length (x .leaves)) (last .0)) (omega arith)) (ap (λ (x : Level). getD (x .leaves) 0 noLeaf .depth) (last .0))
 
 -- ---- an accepted call
 
@@ -207,6 +219,24 @@ demand-3 s cs old floats wholes e =
     (handed-packs s cs old floats wholes e (packed-fit s cs first (p .axes) (p .leaf-some) (a .good) .few)
     (packed-fit s cs first (p .axes) (p .leaf-some) (a .good) .bounds))
 
+-- and the depths
+pub tree-depths : (s : Settings) (cs : List Float) (old : TreeLists) (floats : List Float) (wholes : List ℕ) → buildCall s cs old floats wholes ≡ accepted
+    → TreeDepths (handedBack s cs old floats wholes)
+unfolding levels
+tree-depths s cs old floats wholes e =
+    let a = build-accepted s cs (lentSizes old floats wholes) e in
+    let p = a .passes-all in
+    let m = pointCount (s .dimension) cs in
+    let first = from 0 m in
+    let is : m ≡ length first = sym (length-from 0 m) in
+    all-depths s cs first (p .axes) (p .leaf-some)
+    (subst (λ (i : ℕ). 1 ≤ coarseAt s i) is (p .coarse-some))
+    (subst (λ (i : ℕ). i ≤ coarseAt s i * s .factor ^ 3) is (p .reaches))
+    (a .good) (handedBack s cs old floats wholes)
+    (handed-packs s cs old floats wholes e (packed-fit s cs first (p .axes) (p .leaf-some) (a .good) .few)
+    (packed-fit s cs first (p .axes) (p .leaf-some) (a .good) .bounds))
+    (omega (arith, is, p .rows-few))
+
 -- The same of an answer and five lists of which a contract says that they are the definition's.
 module _ (s : Settings) (cs : List Float) (old : TreeLists) (floats : List Float) (wholes : List ℕ) (answer : Answer Counts)
     (level-points internals domains : List ℕ) (boxes : List Float) (borrowed : List ℕ)
@@ -222,6 +252,9 @@ module _ (s : Settings) (cs : List Float) (old : TreeLists) (floats : List Float
   -- an accepted call
   pub demand-3-of : buildCall s cs old floats wholes ≡ accepted → Demand3 s cs (handed answer lists)
   demand-3-of e = rw (answer-is, points-are, internals-are, domains-are, boxes-are, borrowed-are) (demand-3 s cs old floats wholes e)
+
+  pub tree-depths-of : buildCall s cs old floats wholes ≡ accepted → TreeDepths (handed answer lists)
+  tree-depths-of e = rw (answer-is, points-are, internals-are, domains-are, boxes-are, borrowed-are) (tree-depths s cs old floats wholes e)
 
   -- a call that answers with the number 0: it was accepted
   pub demand-3-seen : answer .number ≡ 0 → Demand3 s cs (handed answer lists)

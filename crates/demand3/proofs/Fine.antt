@@ -20,7 +20,7 @@ use Rattle.definition.proofs.Cuts.{Good, domainSizes}
 use Rattle.definition.proofs.Steps.{nextOf}
 use Rattle.definition.proofs.Next.{noDomain}
 use Rattle.definition.proofs.OneLevel.{OneLevel, one-level}
-use Rattle.demand3.specs.Handed.{Handed, leavesOn, listed, ownOf, borrowedOf, boxOf, coverIn, ownLists, leafSizes, leafBoxes}
+use Rattle.demand3.specs.Handed.{Handed, leavesOn, listed, ownOf, borrowedOf, boxOf, coverIn, depthOf, ownLists, leafSizes, leafBoxes, leafDepths}
 use Rattle.demand3.specs.Demand3.{coarseAt, reductionCount, shareOf, WholePart, OneMore, sentOf, sentUp, active, size, filled, FineLevel}
 use Rattle.demand3.proofs.Shares.{shared}
 
@@ -46,6 +46,7 @@ module _ (s : Settings) (cs : List Float) (n : ℕ) (pos : 0 < s .dimension) (lp
     pub own : (i : ℕ) → i < leavesOn h l → ownOf h l i ≡ getD qs i noDomain .rows
     pub borrowed : (i : ℕ) → i < leavesOn h l → borrowedOf h l i ≡ borrowedBy (s .dimension) cs (s .neighbours) (listed h l) (getD qs i noDomain .rows)
     pub box : (i : ℕ) → i < leavesOn h l → boxOf (s .dimension) h l i ≡ getD qs i noDomain .box
+    pub depth : (i : ℕ) → i < leavesOn h l → depthOf h l i ≡ getD qs i noDomain .depth
     pub cover : (i : ℕ) → i < leavesOn h l
         → coverIn (s .dimension) h l i ≡ leafCover (s .dimension) cs (getD qs i noDomain .rows) (getD (sentLists (s .dimension) cs qs (size s cs n h l)) i [])
     pub next : listed h (suc l) ≡ nextOf s cs (coarseAt s n) (reductionCount s n) l (listed h l)
@@ -73,6 +74,12 @@ module _ (s : Settings) (cs : List Float) (n : ℕ) (pos : 0 < s .dimension) (lp
     boxes =
         ap (λ (m : ℕ). map (boxOf d h l) (from 0 m)) (holds .leaf-count)
         ∙ map-from-at (boxOf d h l) (λ q. q .box) noDomain qs 0 (λ i k. ap (boxOf d h l) (zero-add i) ∙ holds .box i (omega (arith, holds .leaf-count)))
+
+    depths : leafDepths h l ≡ map (λ q. q .depth) qs
+    unfolding leafDepths
+    depths =
+        ap (λ (m : ℕ). map (depthOf h l) (from 0 m)) (holds .leaf-count)
+        ∙ map-from-at (depthOf h l) (λ q. q .depth) noDomain qs 0 (λ i k. ap (depthOf h l) (zero-add i) ∙ holds .depth i (omega (arith, holds .leaf-count)))
 
     sizes : leafSizes h l ≡ domainSizes qs
     unfolding leafSizes
@@ -174,6 +181,7 @@ module _ (s : Settings) (cs : List Float) (n : ℕ) (pos : 0 < s .dimension) (lp
       sent-shows = shows;
       leaves-are = owns;
       boxes-are = boxes;
+      depths-are = depths;
       borrowed-are = λ i k. holds .borrowed i k ∙ ap (borrowedBy d cs (s .neighbours) rows) (sym (holds .own i k));
       covers-are = cover-is;
     }

@@ -1,6 +1,6 @@
 -- The tree in what a build hands back: the reading's laws in the demand's words. Assumes nothing.
 -- Holds: leafLists, PackedIn, handed-levels, handed-rows, handed-leaves, handed-listed, handed-own-count, handed-borrowed-count,
---   handed-own, handed-borrowed, handed-box, handed-cover, handed-counted, handed-beyond
+--   handed-own, handed-borrowed, handed-box, handed-cover, handed-depth, handed-counted, handed-beyond
 use mathlib.Core.Path.{_≡_, sym, ap, _∙_}
 use Prim.Native.Nat.{ℕ, _≤_, _<_}
 use native.Mathlib.Omega.{arith}
@@ -12,7 +12,7 @@ use Rattle.packed.specs.Reading.{Packed, packed}
 use Rattle.packed.proofs.Counts.{noLevel}
 use Rattle.packed.proofs.Unpacked as tree
 use Rattle.packed.proofs.Unpacked.{Packs, noLeaf}
-use Rattle.demand3.specs.Handed.{Handed, levelCount, rowsOn, leavesOn, listed, rowNumber, domainRow, ownOf, borrowedOf, boxOf, coverIn}
+use Rattle.demand3.specs.Handed.{Handed, levelCount, rowsOn, leavesOn, listed, rowNumber, domainRow, ownOf, borrowedOf, boxOf, coverIn, depthOf}
 use Rattle.demand3.specs.Demand3.{Counted}
 
 -- the lists that hold the leaves, on d axes
@@ -69,6 +69,10 @@ module _ (d : ℕ) (ls : List Level) (h : Handed) (k : PackedIn d ls h) where
     pub handed-cover : coverIn d h l i ≡ getD (getD ls l noLevel .leaves) i noLeaf .cover
     unfolding coverIn
     handed-cover = tree.cover-is ls (leafLists d h) (h .lists .level-points) (h .counts) k (rowNumber h l i) there ∙ ap (λ (f : Leaf). f .cover) is
+
+    pub handed-depth : depthOf h l i ≡ getD (getD ls l noLevel .leaves) i noLeaf .depth
+    unfolding depthOf
+    handed-depth = tree.depth-is ls (leafLists d h) (h .lists .level-points) (h .counts) k (rowNumber h l i) there ∙ ap (λ (f : Leaf). f .depth) is
 
   -- ---- counts
   pub handed-counted : (l : ℕ) → Counted h l

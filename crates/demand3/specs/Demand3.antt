@@ -19,7 +19,7 @@ use Rattle.definition.specs.Overlaps.{borrowedBy}
 use Rattle.definition.specs.Sampling.{sentBy, leafCover}
 use Rattle.definition.specs.Tree.{Settings, reductionsLeft, mostFine, pointCount}
 use Rattle.definition.specs.Outcome.{TreeLists, buildAnswer, buildLists}
-use Rattle.demand3.specs.Handed.{Handed, handed, levelCount, rowsOn, leavesOn, HasNext, listed, domainRow, ownOf, borrowedOf, boxOf, coverIn, ownLists, leafSizes, leafBoxes}
+use Rattle.demand3.specs.Handed.{Handed, handed, levelCount, rowsOn, leavesOn, HasNext, listed, domainRow, ownOf, borrowedOf, boxOf, coverIn, ownLists, leafSizes, leafBoxes, leafDepths}
 
 -- ---- the rules that speak of the lists alone
 
@@ -132,9 +132,10 @@ module _ (s : Settings) (cs : List Float) (n : ℕ) (h : Handed) (l : ℕ) where
     pub empty-sends-none : (i : ℕ) → i < leavesOn h l → length (ownOf h l i) ≡ 0 → sentOf i ≡ []
     -- what a leaf sends up shows in the lists alone: it is what the next level lists of the leaf's own rows
     pub sent-shows : (i : ℕ) → i < leavesOn h l → (r : ℕ) → 0 < times r (ownOf h l i) → times r (sentOf i) ≡ times r (listed h (suc l))
-    -- the leaves (own rows and boxes) and the rows borrowed are those of document 01; S and the rows sent up are, by `size` and `sentOf`
+    -- the leaves (own rows, boxes and depths) and the rows borrowed are those of document 01; S and the rows sent up are, by `size` and `sentOf`
     pub leaves-are : ownLists h l ≡ map (λ q. q .rows) (leavesOf (s .dimension) cs (s .leaf) (listed h l))
     pub boxes-are : leafBoxes (s .dimension) h l ≡ map (λ q. q .box) (leavesOf (s .dimension) cs (s .leaf) (listed h l))
+    pub depths-are : leafDepths h l ≡ map (λ q. q .depth) (leavesOf (s .dimension) cs (s .leaf) (listed h l))
     pub borrowed-are : (i : ℕ) → i < leavesOn h l → borrowedOf h l i ≡ borrowedBy (s .dimension) cs (s .neighbours) (listed h l) (ownOf h l i)
     -- a leaf's cover is that of the rows that it sends up, over its own rows
     pub covers-are : (i : ℕ) → i < leavesOn h l → coverIn (s .dimension) h l i ≡ leafCover (s .dimension) cs (ownOf h l i) (sentOf i)

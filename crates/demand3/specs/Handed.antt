@@ -7,7 +7,7 @@ use lib.Ieee.{Float}
 use Rattle.lists.specs.Lists.{from}
 use Rattle.definition.specs.Packed.{Counts, DomainRow}
 use Rattle.definition.specs.Outcome.{Answer, TreeLists}
-use Rattle.packed.specs.Reading.{rowAt, ownAt, borrowedAt, boxAt, coverAt, upTo, pointsAt}
+use Rattle.packed.specs.Reading.{rowAt, ownAt, borrowedAt, boxAt, coverAt, depthAt, upTo, pointsAt}
 
 -- the five lists after the call, and the counts that it reports
 pub record Handed : Type 0 where
@@ -44,7 +44,7 @@ listed h l = pointsAt (h .lists .level-points) (h .counts .rows) l
 unfoldable pub rowNumber : Handed → ℕ → ℕ → ℕ
 rowNumber h l i = upTo (h .counts .domains) l + i
 
--- that row, the leaf's own (internal) rows, the rows that it borrows, and its box and its cover on d axes
+-- that row, the leaf's own (internal) rows, the rows that it borrows, its box and its cover on d axes, and its depth
 unfoldable pub domainRow : Handed → ℕ → ℕ → DomainRow
 domainRow h l i = rowAt (h .lists .domains) (rowNumber h l i)
 
@@ -60,7 +60,10 @@ boxOf d h l i = boxAt d (h .lists .boxes) (rowNumber h l i)
 unfoldable pub coverIn : ℕ → Handed → ℕ → ℕ → Float
 coverIn d h l i = coverAt d (h .lists .boxes) (rowNumber h l i)
 
--- ---- all leaves of level l, in their order: the own rows of each, how many these are, and the boxes
+unfoldable pub depthOf : Handed → ℕ → ℕ → ℕ
+depthOf h l i = depthAt (h .lists .domains) (rowNumber h l i)
+
+-- ---- all leaves of level l, in their order: the own rows of each, how many these are, the boxes, and the depths
 unfoldable pub ownLists : Handed → ℕ → List (List ℕ)
 ownLists h l = map (ownOf h l) (from 0 (leavesOn h l))
 
@@ -69,3 +72,6 @@ leafSizes h l = map length (ownLists h l)
 
 unfoldable pub leafBoxes : ℕ → Handed → ℕ → List (List Float)
 leafBoxes d h l = map (boxOf d h l) (from 0 (leavesOn h l))
+
+unfoldable pub leafDepths : Handed → ℕ → List ℕ
+leafDepths h l = map (depthOf h l) (from 0 (leavesOn h l))

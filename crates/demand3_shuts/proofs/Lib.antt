@@ -2,3 +2,4 @@
 pub mod RightLists
 pub mod Shuts
 pub mod LoadedShuts
+pub mod DepthShuts

@@ -72,7 +72,7 @@ pub not-loaded-last-other : LoadedTree 1 4 (internals-but (0 ∷ 1 ∷ 2 ∷ 3 �
 unfolding all-open
 not-loaded-last-other h = let e : _≡_ {A = ℕ} 2 1 = ap (λ (x : List ℕ). getD x 1 9) (h .last-single .holds-all) in omega arith
 
-pub not-loaded-last-borrowing : LoadedTree 1 4 (domains-but (0 ∷ 1 ∷ 0 ∷ 1 ∷ 1 ∷ 1 ∷ 1 ∷ 2 ∷ 2 ∷ 1 ∷ 3 ∷ 2 ∷ 3 ∷ 1 ∷ 5 ∷ 1 ∷ 4 ∷ 2 ∷ 5 ∷ 1 ∷ [])) → ⊥
+pub not-loaded-last-borrowing : LoadedTree 1 4 (domains-but (0 ∷ 1 ∷ 0 ∷ 1 ∷ 2 ∷ 1 ∷ 1 ∷ 1 ∷ 2 ∷ 2 ∷ 2 ∷ 1 ∷ 3 ∷ 2 ∷ 2 ∷ 3 ∷ 1 ∷ 5 ∷ 1 ∷ 2 ∷ 4 ∷ 2 ∷ 5 ∷ 1 ∷ 0 ∷ [])) → ⊥
 unfolding all-open
 not-loaded-last-borrowing h = let e : _≡_ {A = ℕ} 1 0 = ap length (h .last-single .borrows-none) in omega arith
 

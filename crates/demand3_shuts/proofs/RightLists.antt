@@ -1,7 +1,7 @@
 -- The lists of document 01's example (points 0, 1, 3, 7 on a line; leaf 2, one neighbour, factor 2, Fixed 2), which have demand 3, and
 -- the same with one of them changed. Assumes nothing.
--- Holds: all-open, four, set, inLists, counts, level-points, internals, domains, coarseFloats, boxesWith, boxes, borrowed, two,
---   right, right-has-it, level-points-but, internals-but, domains-but, boxes-but, borrowed-but
+-- Holds: all-open, four, set, inLists, counts, level-points, internals, domainsWith, domains, coarseFloats, boxesWith, boxes,
+--   borrowed, two, right, right-has-it, right-depths, level-points-but, internals-but, domains-but, boxes-but, borrowed-but
 use Prim.Native.Nat.{ℕ}
 use mathlib.Core.Path.{_≡_, refl, subst}
 use mathlib.Core.List.{List, [], _∷_, _++_}
@@ -11,13 +11,14 @@ use Rattle.definition.specs.Number.{plusZero, plusInfinity}
 use Rattle.definition.specs.Packed.{Counts}
 use Rattle.definition.specs.Tree.{Settings}
 use Rattle.definition.proofs.WorkedSamples.{opened, line, onLine, nines, floatRoom, wholeRoom}
-use Rattle.demand3.specs.Handed.{Handed, listed, rowNumber, domainRow, ownOf, borrowedOf, boxOf, coverIn, ownLists, leafSizes, leafBoxes}
+use Rattle.demand3.specs.Handed.{Handed, listed, rowNumber, domainRow, ownOf, borrowedOf, boxOf, coverIn, depthOf, ownLists, leafSizes, leafBoxes, leafDepths}
 use Rattle.demand3.specs.Demand3.{shareOf, sentOf, sentUp, Demand3, handedBack}
-use Rattle.demand3.proofs.Demand.{demand-3}
+use Rattle.demand3.specs.Depths.{TreeDepths}
+use Rattle.demand3.proofs.Demand.{demand-3, tree-depths}
 
 -- To unfold this is to unfold every definition that its line names.
 unfoldable pub all-open : ℕ
-unfolding opened listed rowNumber domainRow ownOf borrowedOf boxOf coverIn ownLists leafSizes leafBoxes shareOf sentOf sentUp
+unfolding opened listed rowNumber domainRow ownOf borrowedOf boxOf coverIn depthOf ownLists leafSizes leafBoxes leafDepths shareOf sentOf sentUp
 all-open = 0
 
 abbrev pub four : List Float
@@ -33,7 +34,7 @@ inLists level-points internals domains boxes borrowed counts =
       lists = record {
         level-points = level-points ++ replicate 10 9;
         internals = internals ++ replicate 10 9;
-        domains = domains ++ replicate 80 9;
+        domains = domains ++ replicate 100 9;
         boxes = boxes ++ line (replicate 60 9);
         borrowed = borrowed ++ replicate 42 9;
       };
@@ -50,8 +51,13 @@ level-points = 0 ∷ 1 ∷ 2 ∷ 3 ∷ 0 ∷ 1 ∷ []
 abbrev pub internals : List ℕ
 internals = 0 ∷ 1 ∷ 2 ∷ 3 ∷ 0 ∷ 1 ∷ []
 
+-- the domain rows with these depths, those of the four leaves and that of the coarse domain
+abbrev pub domainsWith : ℕ → ℕ → ℕ → ℕ → ℕ → List ℕ
+domainsWith a b c d coarse =
+    0 ∷ 1 ∷ 0 ∷ 1 ∷ a ∷ 1 ∷ 1 ∷ 1 ∷ 2 ∷ b ∷ 2 ∷ 1 ∷ 3 ∷ 2 ∷ c ∷ 3 ∷ 1 ∷ 5 ∷ 1 ∷ d ∷ 4 ∷ 2 ∷ 6 ∷ 0 ∷ coarse ∷ []
+
 abbrev pub domains : List ℕ
-domains = 0 ∷ 1 ∷ 0 ∷ 1 ∷ 1 ∷ 1 ∷ 1 ∷ 2 ∷ 2 ∷ 1 ∷ 3 ∷ 2 ∷ 3 ∷ 1 ∷ 5 ∷ 1 ∷ 4 ∷ 2 ∷ 6 ∷ 0 ∷ []
+domains = domainsWith 2 2 2 2 0
 
 -- the floats of the coarse domain row
 abbrev pub coarseFloats : List Float
@@ -83,6 +89,11 @@ is-right = refl
 pub right-has-it : Demand3 set four right
 unfolding all-open
 right-has-it = subst (Demand3 set four) is-right (demand-3 set four (nines 4) (floatRoom 4) (wholeRoom 4) refl)
+
+-- and its record of depths
+pub right-depths : TreeDepths right
+unfolding all-open
+right-depths = subst TreeDepths is-right (tree-depths set four (nines 4) (floatRoom 4) (wholeRoom 4) refl)
 
 -- ---- wrong in one thing
 abbrev pub level-points-but : List ℕ → Counts → Handed

@@ -5,9 +5,9 @@
 -- Holds: not-empty, not-unwritten, not-many, not-after-coarse, not-coarse, not-ended, not-repeated, not-dropped, not-unsent,
 --   not-elsewhere, not-one-more, not-all-again, not-counted, not-own-counted, not-borrowed-counted, not-leaves-beyond,
 --   not-beyond, not-shared, not-left-out, not-foreign, not-renumbered, not-two-coarse, not-coarse-borrowing, not-coarse-boxed,
---   not-below, not-own, not-twice, not-far, not-measured, six-has-it, not-out-of-order, nested-has-it, not-lowest-first,
---   not-covered-by-none, not-uncovered, not-coarse-covered, not-squared, not-uneven, not-sent-by-none, not-shared-out,
---   not-one-too-few, not-two-more, not-more-than-whole, shares
+--   not-below, not-own, not-twice, not-far, not-measured, not-deeper, six-has-it, not-out-of-order, nested-has-it,
+--   not-lowest-first, not-covered-by-none, not-uncovered, not-coarse-covered, not-squared, not-uneven, not-sent-by-none,
+--   not-shared-out, not-one-too-few, not-two-more, not-more-than-whole, shares
 use Prim.Native.Nat.{ℕ, _+_, _-_, _*_, _≤_, _<_}
 use mathlib.Core.Path.{_≡_, refl, ap, subst}
 use mathlib.Core.List.{List, [], _∷_, _++_}
@@ -21,7 +21,7 @@ use Rattle.definition.proofs.WorkedSamples.{line, onLine, nines, floatRoom, who
 use Rattle.demand3.specs.Handed.{Handed}
 use Rattle.demand3.specs.Demand3.{shareOf, WholePart, OneMore, Demand3, handedBack}
 use Rattle.demand3.proofs.Demand.{demand-3}
-use Rattle.demand3_shuts.proofs.RightLists.{all-open, four, set, inLists, counts, level-points, two, level-points-but, internals-but, domains-but, coarseFloats, boxesWith, boxes-but, borrowed-but}
+use Rattle.demand3_shuts.proofs.RightLists.{all-open, four, set, inLists, counts, level-points, two, level-points-but, internals-but, domainsWith, domains-but, coarseFloats, boxesWith, boxes-but, borrowed-but}
 
 -- nothing written and nothing counted; nothing written, though the counts are right
 pub not-empty : Demand3 set four (inLists [] [] [] [] [] (counts 0 (replicate 4 0) (replicate 4 0))) → ⊥
@@ -80,11 +80,11 @@ unfolding all-open
 not-counted h = let e : _≡_ {A = ℕ} 12 30 = h .counted 1 .of-level in omega arith
 
 -- a leaf's own rows, or the rows that it borrows, are said to go past their list
-pub not-own-counted : Demand3 set four (domains-but (0 ∷ 1 ∷ 0 ∷ 1 ∷ 1 ∷ 1 ∷ 1 ∷ 2 ∷ 2 ∷ 1 ∷ 3 ∷ 2 ∷ 3 ∷ 1 ∷ 5 ∷ 1 ∷ 4 ∷ 30 ∷ 6 ∷ 0 ∷ [])) → ⊥
+pub not-own-counted : Demand3 set four (domains-but (0 ∷ 1 ∷ 0 ∷ 1 ∷ 2 ∷ 1 ∷ 1 ∷ 1 ∷ 2 ∷ 2 ∷ 2 ∷ 1 ∷ 3 ∷ 2 ∷ 2 ∷ 3 ∷ 1 ∷ 5 ∷ 1 ∷ 2 ∷ 4 ∷ 30 ∷ 6 ∷ 0 ∷ 0 ∷ [])) → ⊥
 unfolding all-open
 not-own-counted h = let e : _≡_ {A = ℕ} 12 30 = h .counted 1 .of-own 0 (omega arith) in omega arith
 
-pub not-borrowed-counted : Demand3 set four (domains-but (0 ∷ 1 ∷ 0 ∷ 1 ∷ 1 ∷ 1 ∷ 1 ∷ 2 ∷ 2 ∷ 1 ∷ 3 ∷ 2 ∷ 3 ∷ 1 ∷ 5 ∷ 90 ∷ 4 ∷ 2 ∷ 6 ∷ 0 ∷ [])) → ⊥
+pub not-borrowed-counted : Demand3 set four (domains-but (0 ∷ 1 ∷ 0 ∷ 1 ∷ 2 ∷ 1 ∷ 1 ∷ 1 ∷ 2 ∷ 2 ∷ 2 ∷ 1 ∷ 3 ∷ 2 ∷ 2 ∷ 3 ∷ 1 ∷ 5 ∷ 90 ∷ 2 ∷ 4 ∷ 2 ∷ 6 ∷ 0 ∷ 0 ∷ [])) → ⊥
 unfolding all-open
 not-borrowed-counted h = let e : _≡_ {A = ℕ} 43 90 = h .counted 0 .of-borrowed 3 (omega arith) in omega arith
 
@@ -119,7 +119,7 @@ pub not-two-coarse : Demand3 set four (level-points-but level-points (counts 2 (
 unfolding all-open
 not-two-coarse h = let e : _≡_ {A = ℕ} 2 1 = h .last-coarse .single .one-domain in omega arith
 
-pub not-coarse-borrowing : Demand3 set four (domains-but (0 ∷ 1 ∷ 0 ∷ 1 ∷ 1 ∷ 1 ∷ 1 ∷ 2 ∷ 2 ∷ 1 ∷ 3 ∷ 2 ∷ 3 ∷ 1 ∷ 5 ∷ 1 ∷ 4 ∷ 2 ∷ 5 ∷ 1 ∷ [])) → ⊥
+pub not-coarse-borrowing : Demand3 set four (domains-but (0 ∷ 1 ∷ 0 ∷ 1 ∷ 2 ∷ 1 ∷ 1 ∷ 1 ∷ 2 ∷ 2 ∷ 2 ∷ 1 ∷ 3 ∷ 2 ∷ 2 ∷ 3 ∷ 1 ∷ 5 ∷ 1 ∷ 2 ∷ 4 ∷ 2 ∷ 5 ∷ 1 ∷ 0 ∷ [])) → ⊥
 unfolding all-open
 not-coarse-borrowing h = let e : _≡_ {A = ℕ} 1 0 = ap length (h .last-coarse .single .borrows-none) in omega arith
 
@@ -152,6 +152,11 @@ not-measured h =
     let e : _≡_ {A = ℕ} 0 0x3ff0000000000000 = ap (λ (x : List (List Float)). toBits binary64 (getD (getD x 0 []) 1 nan)) (h .each-fine 0 (omega arith) .boxes-are) in
     omega arith
 
+-- the root's depth is taken as 1, and so every leaf is one too deep: the sizes would fit these depths, but the cut's depths are others
+pub not-deeper : Demand3 set four (domains-but (domainsWith 3 3 3 3 0)) → ⊥
+unfolding all-open
+not-deeper h = let e : _≡_ {A = ℕ} 3 2 = ap (λ (x : List ℕ). getD x 0 9) (h .each-fine 0 (omega arith) .depths-are) in omega arith
+
 -- ---- two fine levels: the points 0 to 5, with leaf 4
 
 abbrev six : List Float
@@ -165,7 +170,7 @@ in-six rows =
         level-points = rows ++ replicate 12 9;
         internals = rows ++ replicate 12 9;
         domains =
-            0 ∷ 3 ∷ 0 ∷ 1 ∷ 3 ∷ 3 ∷ 1 ∷ 1 ∷ 6 ∷ 2 ∷ 2 ∷ 0 ∷ 8 ∷ 2 ∷ 2 ∷ 0 ∷ 10 ∷ 2 ∷ 2 ∷ 0 ∷ replicate 128 9;
+            0 ∷ 3 ∷ 0 ∷ 1 ∷ 1 ∷ 3 ∷ 3 ∷ 1 ∷ 1 ∷ 1 ∷ 6 ∷ 2 ∷ 2 ∷ 0 ∷ 1 ∷ 8 ∷ 2 ∷ 2 ∷ 0 ∷ 1 ∷ 10 ∷ 2 ∷ 2 ∷ 0 ∷ 0 ∷ replicate 160 9;
         boxes = line (0 ∷ 3 ∷ 1 ∷ 3 ∷ 5 ∷ 1 ∷ 0 ∷ 3 ∷ 1 ∷ 3 ∷ 4 ∷ 1 ∷ 0 ∷ 0 ∷ 0 ∷ replicate 96 9);
         borrowed = 3 ∷ 2 ∷ replicate 70 9;
       };
@@ -202,8 +207,8 @@ in-nested of-1 of-2 =
         level-points = 0 ∷ 1 ∷ 2 ∷ 0 ∷ 1 ∷ replicate 7 9;
         internals = 0 ∷ 1 ∷ 2 ∷ 0 ∷ 1 ∷ replicate 7 9;
         domains =
-            0 ∷ 0 ∷ 0 ∷ 0 ∷ 0 ∷ 1 ∷ 0 ∷ 2 ∷ 1 ∷ 0 ∷ 2 ∷ 0 ∷ 1 ∷ 1 ∷ 2 ∷ v ∷ 2 ∷ 0 ∷ (2 + v) ∷ 0 ∷ 2 ∷ 1 ∷ (2 + v) ∷ w ∷ 3 ∷ 2 ∷ (2 + v + w) ∷ 0
-            ∷ replicate 48 9;
+            0 ∷ 0 ∷ 0 ∷ 0 ∷ 2 ∷ 0 ∷ 1 ∷ 0 ∷ 2 ∷ 2 ∷ 1 ∷ 0 ∷ 2 ∷ 0 ∷ 3 ∷ 1 ∷ 1 ∷ 2 ∷ v ∷ 3 ∷ 2 ∷ 0 ∷ (2 + v) ∷ 0 ∷ 3 ∷ 2 ∷ 1 ∷ (2 + v) ∷ w ∷ 3 ∷ 3 ∷ 2 ∷ (2 + v + w) ∷ 0 ∷ 0
+            ∷ replicate 60 9;
         boxes = line (joined (replicate 5 (5 ∷ 5 ∷ 0 ∷ [])) ++ 5 ∷ 5 ∷ []) ++ plusInfinity ∷ line (0 ∷ 0 ∷ 0 ∷ replicate 36 9);
         borrowed = 1 ∷ 2 ∷ of-1 ++ of-2 ++ replicate (34 - v - w) 9;
       };
@@ -253,7 +258,7 @@ pairWith x y left right =
       lists = record {
         level-points = 0 ∷ 1 ∷ 2 ∷ 3 ∷ x ∷ y ∷ replicate 10 9;
         internals = 0 ∷ 1 ∷ 2 ∷ 3 ∷ x ∷ y ∷ replicate 10 9;
-        domains = 0 ∷ 2 ∷ 0 ∷ 1 ∷ 2 ∷ 2 ∷ 1 ∷ 1 ∷ 4 ∷ 2 ∷ 2 ∷ 0 ∷ replicate 88 9;
+        domains = 0 ∷ 2 ∷ 0 ∷ 1 ∷ 1 ∷ 2 ∷ 2 ∷ 1 ∷ 1 ∷ 1 ∷ 4 ∷ 2 ∷ 2 ∷ 0 ∷ 0 ∷ replicate 110 9;
         boxes = line (0 ∷ 3 ∷ left ∷ 3 ∷ 7 ∷ right ∷ 0 ∷ 0 ∷ 0 ∷ replicate 66 9);
         borrowed = 2 ∷ 1 ∷ replicate 46 9;
       };
@@ -292,7 +297,7 @@ trio own v w =
       lists = record {
         level-points = 0 ∷ 1 ∷ 2 ∷ 3 ∷ 0 ∷ 1 ∷ 2 ∷ replicate 9 9;
         internals = own ++ 0 ∷ 1 ∷ 2 ∷ replicate 9 9;
-        domains = 0 ∷ v ∷ 0 ∷ 1 ∷ 2 ∷ w ∷ 1 ∷ 1 ∷ 4 ∷ 3 ∷ 2 ∷ 0 ∷ replicate 88 9;
+        domains = 0 ∷ v ∷ 0 ∷ 1 ∷ 1 ∷ 2 ∷ w ∷ 1 ∷ 1 ∷ 1 ∷ 4 ∷ 3 ∷ 2 ∷ 0 ∷ 0 ∷ replicate 110 9;
         boxes = line (0 ∷ 3 ∷ 0 ∷ 3 ∷ 7 ∷ 4 ∷ 0 ∷ 0 ∷ 0 ∷ replicate 66 9);
         borrowed = 2 ∷ 1 ∷ replicate 46 9;
       };

@@ -8,13 +8,13 @@ ghost use Rattle.definition.specs.Points.{boxWidth};
 ghost use Rattle.definition.specs.Packed.{rowNumbers};
 ghost use Rattle.definition.specs.Cut.{leavesOf};
 ghost use Rattle.definition.specs.Record.{recordOf, wholeOf, floatOf};
-ghost use Rattle.queue.specs.Rows.{withOwn};
+ghost use Rattle.queue.specs.Rows.{domainOwn, withOwn};
 ghost use Rattle.rows.specs.Rows.{GoodRows};
 use cut_nodes::Next;
 
 // Cuts the rows into the leaves of a level, which stand in their place in the end, packed by number. The domain rows from the `first` on
-// get start and count of each, where the rows stand from `at` on in their list; `boxes` gets their boxes from the `first` on, and both
-// lists of the record its nodes from `place` on. The answer is the number of leaves. Of the room, `wholes` holds one number a row, first
+// get start and count of each, where the rows stand from `at` on in their list, and its depth; `boxes` gets their boxes from the `first`
+// on, and both lists of the record its nodes from `place` on. The answer is the number of leaves. Of the room, `wholes` holds one number a row, first
 // for the ordering and then for the packing, and behind them the table of the leaves, three each; `floats` their boxes from left to right.
 fn cut_leaves(
     points: &[f64],
@@ -38,7 +38,7 @@ fn cut_leaves(
     ensures number { λ r. ⌜ r ≡ length (leavesOf dimensions (now (points .entry)) leaf (now (rows .entry))) ⌝ }
     ensures nodes { λ r. ⌜ length (recordOf dimensions (now (points .entry)) leaf (now (rows .entry))) + 1 ≡ 2 * r ⌝ }
     ensures rows { λ _. ⌜ now (rows .exit) ≡ joined (map (λ q. q .rows) (leavesOf dimensions (now (points .entry)) leaf (now (rows .entry)))) ⌝ }
-    ensures domains { λ _. ⌜ now (domains .exit) ≡ withOwn at (map (λ q. q .rows) (leavesOf dimensions (now (points .entry)) leaf (now (rows .entry)))) first (now (domains .entry)) ⌝ }
+    ensures domains { λ _. ⌜ now (domains .exit) ≡ withOwn at (map domainOwn (leavesOf dimensions (now (points .entry)) leaf (now (rows .entry)))) first (now (domains .entry)) ⌝ }
     ensures boxes { λ _. ⌜ now (boxes .exit) ≡ put (now (boxes .entry)) (boxWidth dimensions * first) (joined (map (λ q. q .box) (leavesOf dimensions (now (points .entry)) leaf (now (rows .entry))))) ⌝ }
     ensures cuts { λ _. ⌜ now (cuts .exit) ≡ put (now (cuts .entry)) place (map wholeOf (recordOf dimensions (now (points .entry)) leaf (now (rows .entry)))) ⌝ }
     ensures planes { λ _. ⌜ now (planes .exit) ≡ put (now (planes .entry)) place (map floatOf (recordOf dimensions (now (points .entry)) leaf (now (rows .entry)))) ⌝ }
@@ -78,8 +78,8 @@ fn cut_leaves(
     m
 }
 
-// The leaves of the active rows, as `leaves::leaves` has them: their rows go to `internals` from `at` on, packed; start and count of each to
-// the domain rows from the `first` on, and their boxes to `boxes` from the `first` on. The record of the cuts goes to both its lists from
+// The leaves of the active rows, as `leaves::leaves` has them: their rows go to `internals` from `at` on, packed; start, count and depth of
+// each to the domain rows from the `first` on, and their boxes to `boxes` from the `first` on. The record of the cuts goes to both its lists from
 // `place` on. The answer is the number of leaves.
 pub fn leaves(
     points: &[f64],
@@ -104,7 +104,7 @@ pub fn leaves(
     ensures number { λ r. ⌜ r ≡ length (leavesOf dimensions (now (points .entry)) leaf (now (active .entry))) ⌝ }
     ensures nodes { λ r. ⌜ length (recordOf dimensions (now (points .entry)) leaf (now (active .entry))) + 1 ≡ 2 * r ⌝ }
     ensures internals { λ _. ⌜ now (internals .exit) ≡ put (now (internals .entry)) at (joined (map (λ q. q .rows) (leavesOf dimensions (now (points .entry)) leaf (now (active .entry))))) ⌝ }
-    ensures domains { λ _. ⌜ now (domains .exit) ≡ withOwn at (map (λ q. q .rows) (leavesOf dimensions (now (points .entry)) leaf (now (active .entry)))) first (now (domains .entry)) ⌝ }
+    ensures domains { λ _. ⌜ now (domains .exit) ≡ withOwn at (map domainOwn (leavesOf dimensions (now (points .entry)) leaf (now (active .entry)))) first (now (domains .entry)) ⌝ }
     ensures boxes { λ _. ⌜ now (boxes .exit) ≡ put (now (boxes .entry)) (boxWidth dimensions * first) (joined (map (λ q. q .box) (leavesOf dimensions (now (points .entry)) leaf (now (active .entry))))) ⌝ }
     ensures cuts { λ _. ⌜ now (cuts .exit) ≡ put (now (cuts .entry)) place (map wholeOf (recordOf dimensions (now (points .entry)) leaf (now (active .entry)))) ⌝ }
     ensures planes { λ _. ⌜ now (planes .exit) ≡ put (now (planes .entry)) place (map floatOf (recordOf dimensions (now (points .entry)) leaf (now (active .entry)))) ⌝ }

@@ -1,5 +1,5 @@
 -- One domain record tested: one law for each way out. Assumes nothing.
--- Holds: no-record, too-many, bad-rows, bad-box, domain-good, own-enough, domain-room
+-- Holds: no-record, too-many, bad-depth, bad-rows, bad-box, domain-good, own-enough, domain-room
 use mathlib.Core.Path.{_≡_, sym, ap, _∙_}
 use mathlib.Core.Bool.{Bool, true, false, not, _&&_, and-false, and-assoc}
 use Prim.Native.Nat.{ℕ, _+_, _*_, _≤_, _<_}
@@ -15,22 +15,22 @@ use Rattle.definition.specs.Number.{plusZero}
 use Rattle.definition.specs.Points.{boxWidth}
 use Rattle.definition.specs.Tree.{Leaf}
 use Rattle.definition.specs.Packed.{leafFloats}
-use Rattle.formats.specs.Bytes.{numberSize, numbersAt, floatSize, floatAt, floatsAt, whole}
+use Rattle.formats.specs.Bytes.{numberSize, numberAt, numbersAt, floatSize, floatAt, floatsAt, whole}
 use Rattle.stored.specs.File.{domainMark}
 use Rattle.stored.specs.Sound.{soundBox, noBox}
-use Rattle.stored.specs.Stored.{countsSize, firstCount, secondCount, borrowedPlace, boundsPlace, leafIn, leafSize}
-use Rattle.tree_tests.specs.InTurn.{without, inOrder, boxed, leafPasses}
+use Rattle.stored.specs.Stored.{countsSize, firstCount, secondCount, borrowedPlace, boundsPlace, depthPlace, leafIn, leafSize}
+use Rattle.tree_tests.specs.InTurn.{without, inOrder, boxed, depthPasses, fitted, leafPasses}
 use Rattle.tree_tests.proofs.AllRows.{same-self}
 use Rattle.file_rows.proofs.InBytes.{length-rows}
 use Rattle.file_reader.specs.declared.Fetched.{Fetched}
 use Rattle.file_reader.specs.Fetch.{recordFloats, IsFetched}
-use Rattle.file_reader.proofs.Fetches.{parts-within}
-use Rattle.file_reader.proofs.LastFloats.{leaf-size, fine-floats}
+use Rattle.file_reader.proofs.Fetches.{number-here, parts-within}
+use Rattle.file_reader.proofs.LastFloats.{depth-place, leaf-size, fine-floats}
 use Rattle.file_domains.specs.declared.Passed.{Passed}
 use Rattle.file_domains.specs.Domains.{RowsPassed, DomainPassed, DomainHere, notPassed}
 use Rattle.bytes_in.proofs.Fields.{length-floats-at, numbers-here, floats-here}
 
--- ---- the tests of a leaf: the count of its own rows, its rows, its box
+-- ---- the tests of a leaf: the count of its own rows, its rows, its box and depth
 leaf-tests : (box : Leaf → Bool) (q p : ℕ → Bool) (k : ℕ) (f : Leaf)
     → leafPasses box q p k f ≡ leb (length (f .own)) k && (inOrder 0 p (f .own) && inOrder 0 (without (f .own) q) (f .borrowed)) && box f
 unfolding leafPasses
@@ -60,18 +60,21 @@ module _ (file : List ℕ) (at d : ℕ) (coarse : Bool) (floats : ℕ) (f : Fetc
   abbrev stands : Bool
   stands = whole domainMark (leafSize d coarse here) here
 
-  size-is : boundsPlace here + floatSize * floats ≡ leafSize d coarse here
-  size-is = ap (λ (n : ℕ). boundsPlace here + floatSize * n) e ∙ sym (leaf-size d coarse here)
+  size-is : boundsPlace here + floatSize * floats + numberSize ≡ leafSize d coarse here
+  size-is = ap (λ (n : ℕ). boundsPlace here + floatSize * n + numberSize) e ∙ sym (leaf-size d coarse here)
 
   stands-is : f .whole ≡ stands
   stands-is = fetched .stands ∙ ap (λ (k : ℕ). whole domainMark k here) size-is
 
-  module _ (remaining : ℕ) (p q : ℕ → Bool) (left listed : List ℕ) (r : Passed) where
+  module _ (a least remaining : ℕ) (p q : ℕ → Bool) (left listed : List ℕ) (r : Passed) where
     abbrev Is : Type 0
-    Is = DomainPassed file at d coarse remaining p q left listed r
+    Is = DomainPassed file at d coarse a least remaining p q left listed r
+
+    abbrev fit : Leaf → Bool
+    fit = fitted d coarse a least
 
     abbrev passes : Bool
-    passes = leafPasses (boxed d coarse) q p remaining leaf
+    passes = leafPasses fit q p remaining leaf
 
     refused : r ≡ notPassed → stands && passes ≡ false → Is
     refused n g =
@@ -98,7 +101,13 @@ module _ (file : List ℕ) (at d : ℕ) (coarse : Bool) (floats : ℕ) (f : Fetc
       pub too-many : remaining < f .own → r ≡ notPassed → Is
       too-many h n =
           let g : leb (length (leaf .own)) remaining ≡ false = lt-leb (length (leaf .own)) remaining (omega (arith, own-length)) in
-          failed (leaf-tests (boxed d coarse) q p remaining leaf ∙ rw g) n
+          failed (leaf-tests fit q p remaining leaf ∙ rw g) n
+
+      depth-here : numberAt (f .«depth_at») file ≡ leaf .depth
+      unfolding leafIn
+      depth-here =
+          let place : f .«depth_at» ≡ at + depthPlace d coarse here = omega (arith, fetched .parts w .depth-at, e, depth-place d coarse here) in
+          ap (λ (k : ℕ). numberAt k file) place ∙ number-here at file (depthPlace d coarse here)
 
       own-here : numbersAt (f .own) (f .«own_at») file ≡ leaf .own
       unfolding leafIn
@@ -108,59 +117,70 @@ module _ (file : List ℕ) (at d : ℕ) (coarse : Bool) (floats : ℕ) (f : Fetc
       unfolding leafIn
       borrowed-here = rw (fetched .parts w .borrowed, fetched .parts w .borrowed-at) (numbers-here at file (secondCount here) (borrowedPlace here))
 
-      module _ (enough : f .own ≤ remaining) (rp : Bool) (told : RowsPassed (numbersAt (f .own) (f .«own_at») file) (numbersAt (f .borrowed) (f .«borrowed_at») file) p q left listed rp) where
-        rows : RowsPassed (leaf .own) (leaf .borrowed) p q left listed rp
-        rows = rw (own-here, borrowed-here) at told
+      module _ (enough : f .own ≤ remaining) (depth : ℕ) (read : depth ≡ numberAt (f .«depth_at») file) (dp : Bool) (tested : dp ≡ depthPasses coarse a least (f .own) depth) where
+        depth-is : dp ≡ depthPasses coarse a least (length (leaf .own)) (leaf .depth)
+        depth-is = rw (own-length, ← depth-here, ← read) tested
 
-        enough-is : leb (length (leaf .own)) remaining ≡ true
-        enough-is = le-leb (length (leaf .own)) remaining (omega (arith, own-length))
+        -- its depth does not pass
+        pub bad-depth : dp ≡ false → r ≡ notPassed → Is
+        bad-depth b n =
+            let z : fit leaf ≡ false = rw (← depth-is, b) (and-false (boxed d coarse leaf)) in
+            failed (leaf-tests fit q p remaining leaf ∙ rw z (and-false (leb (length (leaf .own)) remaining && (inOrder 0 p (leaf .own) && inOrder 0 (without (leaf .own) q) (leaf .borrowed))))) n
 
-        leaf-is : passes ≡ rp && boxed d coarse leaf
-        leaf-is = leaf-tests (boxed d coarse) q p remaining leaf ∙ rw (enough-is, ← rows .tests)
+        module _ (good-depth : dp ≡ true) (rp : Bool) (told : RowsPassed (numbersAt (f .own) (f .«own_at») file) (numbersAt (f .borrowed) (f .«borrowed_at») file) p q left listed rp) where
+          rows : RowsPassed (leaf .own) (leaf .borrowed) p q left listed rp
+          rows = rw (own-here, borrowed-here) at told
 
-        -- its rows do not pass
-        pub bad-rows : rp ≡ false → r ≡ notPassed → Is
-        bad-rows b n = failed (leaf-is ∙ rw b) n
+          enough-is : leb (length (leaf .own)) remaining ≡ true
+          enough-is = le-leb (length (leaf .own)) remaining (omega (arith, own-length))
 
-        module _ (good-rows : rp ≡ true) (bp : Bool) (asked : bp ≡ not (anyOf isNan (floatsAt floats (f .«bounds_at») file))) where
-          box-is : bp ≡ boxed d coarse leaf
-          box-is =
-              asked
-              ∙ ap (λ (xs : List Float). not (anyOf isNan xs))
-              (rw (e, fetched .parts w .bounds-at) (floats-here at file (recordFloats d coarse) (boundsPlace here)))
-              ∙ sym (box-tests d coarse here)
+          leaf-is : passes ≡ rp && fit leaf
+          leaf-is = leaf-tests fit q p remaining leaf ∙ rw (enough-is, ← rows .tests)
 
-          -- its box or its cover does not
-          pub bad-box : bp ≡ false → r ≡ notPassed → Is
-          bad-box b n = failed (leaf-is ∙ rw (← box-is, b) (and-false rp)) n
+          -- its rows do not pass
+          pub bad-rows : rp ≡ false → r ≡ notPassed → Is
+          bad-rows b n = failed (leaf-is ∙ rw b) n
 
-          -- it passes
-          pub domain-good : bp ≡ true → r ≡ record { good = true; next = f .next; own = f .own; borrowed = f .borrowed } → Is
-          domain-good b g =
-              let k = parts-within file at (floatSize * floats) f fetched w in
-              record {
-                tests = ap (λ (x : Passed). x .good) g ∙ sym (and-of (sym stands-is ∙ w) (leaf-is ∙ and-of good-rows (sym box-is ∙ b)));
-                passed = λ _.
-                    record {
-                      next = ap (λ (x : Passed). x .next) g ∙ omega (arith, fetched .parts w .next, size-is);
-                      within = omega (arith, ap (λ (x : Passed). x .next) g);
-                      own = ap (λ (x : Passed). x .own) g ∙ sym own-length;
-                      borrowed = ap (λ (x : Passed). x .borrowed) g ∙ sym borrowed-length;
-                      left-set = rows .left-set good-rows;
-                      listed-set = rows .listed-set good-rows;
-                    };
-                none = λ t. clash (ap (λ (x : Passed). x .good) g) t;
-              }
+          module _ (good-rows : rp ≡ true) (bp : Bool) (asked : bp ≡ not (anyOf isNan (floatsAt floats (f .«bounds_at») file))) where
+            box-is : bp ≡ boxed d coarse leaf
+            box-is =
+                asked
+                ∙ ap (λ (xs : List Float). not (anyOf isNan xs))
+                (rw (e, fetched .parts w .bounds-at) (floats-here at file (recordFloats d coarse) (boundsPlace here)))
+                ∙ sym (box-tests d coarse here)
+
+            -- its box or its cover does not
+            pub bad-box : bp ≡ false → r ≡ notPassed → Is
+            bad-box b n = failed (leaf-is ∙ rw (← box-is, b) (and-false rp)) n
+
+            -- it passes
+            pub domain-good : bp ≡ true → r ≡ record { good = true; next = f .next; own = f .own; borrowed = f .borrowed; depth = depth } → Is
+            domain-good b g =
+                let k = parts-within file at (floatSize * floats) f fetched w in
+                record {
+                  tests = ap (λ (x : Passed). x .good) g ∙ sym (and-of (sym stands-is ∙ w) (leaf-is ∙ and-of good-rows (and-of (sym box-is ∙ b) (sym depth-is ∙ good-depth))));
+                  passed = λ _.
+                      record {
+                        next = ap (λ (x : Passed). x .next) g ∙ omega (arith, fetched .parts w .next, size-is);
+                        within = omega (arith, ap (λ (x : Passed). x .next) g);
+                        own = ap (λ (x : Passed). x .own) g ∙ sym own-length;
+                        borrowed = ap (λ (x : Passed). x .borrowed) g ∙ sym borrowed-length;
+                        depth = ap (λ (x : Passed). x .depth) g ∙ read ∙ depth-here;
+                        left-set = rows .left-set good-rows;
+                        listed-set = rows .listed-set good-rows;
+                      };
+                  none = λ t. clash (ap (λ (x : Passed). x .good) g) t;
+                }
 
 -- ---- a domain that passes: its own rows are left, and it takes the bytes of its counts and of its rows
-pub own-enough : (file : List ℕ) (at d : ℕ) (coarse : Bool) (remaining : ℕ) (p q : ℕ → Bool) (left listed : List ℕ) (r : Passed)
-    → DomainPassed file at d coarse remaining p q left listed r → r .good ≡ true → r .own ≤ remaining
-own-enough file at d coarse remaining p q left listed r s g =
+pub own-enough : (file : List ℕ) (at d : ℕ) (coarse : Bool) (a least remaining : ℕ) (p q : ℕ → Bool) (left listed : List ℕ) (r : Passed)
+    → DomainPassed file at d coarse a least remaining p q left listed r → r .good ≡ true → r .own ≤ remaining
+own-enough file at d coarse a least remaining p q left listed r s g =
     let here = drop at file in
     let f = leafIn d coarse here in
     let rows = inOrder 0 p (f .own) && inOrder 0 (without (f .own) q) (f .borrowed) in
-    let t = and-snd (whole domainMark (leafSize d coarse here) here) (leafPasses (boxed d coarse) q p remaining f) (sym (s .tests) ∙ g) in
-    let k = three-pass (leb (length (f .own)) remaining) rows (boxed d coarse f) (sym (leaf-tests (boxed d coarse) q p remaining f) ∙ t) .0 in
+    let t = and-snd (whole domainMark (leafSize d coarse here) here) (leafPasses (fitted d coarse a least) q p remaining f) (sym (s .tests) ∙ g) in
+    let k = three-pass (leb (length (f .own)) remaining) rows (fitted d coarse a least f) (sym (leaf-tests (fitted d coarse a least) q p remaining f) ∙ t) .0 in
     omega (arith, leb-true (length (f .own)) remaining k, s .passed g .own)
 
 pub domain-room : (file : List ℕ) (at d : ℕ) (coarse : Bool) (p q : ℕ → Bool) (left listed : List ℕ) (r : Passed)

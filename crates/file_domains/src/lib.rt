@@ -8,12 +8,14 @@ ghost use Rattle.formats.specs.Bytes.{numberSize, numbersAt};
 ghost use Rattle.marks.specs.Bits.{Marked};
 ghost use Rattle.file_domains.specs.Domains.{Inside, RowsPassed, DomainPassed, DomainsPassed, notPassed};
 
-// Whether the records pass; where they do, where what comes after them starts, and how many internal and borrowed rows they have.
+// Whether the records pass; where they do, where what comes after them starts, how many internal and borrowed rows they have, and the depth
+// of the last one.
 pub struct Passed {
     pub good: bool,
     pub next: usize,
     pub own: usize,
     pub borrowed: usize,
+    pub depth: usize,
 }
 
 fn not_passed() -> Passed
@@ -24,6 +26,7 @@ fn not_passed() -> Passed
         next: 0,
         own: 0,
         borrowed: 0,
+        depth: 0,
     }
 }
 
@@ -53,19 +56,22 @@ fn rows_pass(
     true
 }
 
-// Whether the domain record at a place stands there whole and passes; `remaining` rows are left. Takes its own rows out of those left.
+// Whether the domain record at a place stands there whole and passes; the level has `rows` rows, `remaining` of them are left, and the domain
+// before is at depth `least`. Takes its own rows out of those left.
 pub fn check_domain(
     bytes: &[u8],
     at: usize,
     dimensions: usize,
     coarse: bool,
+    rows: usize,
+    least: usize,
     remaining: usize,
     left: &mut [usize],
     listed: &mut [usize],
 ) -> Passed
     requires { ⌜ (dimensions ≤ 3) × (at ≤ length (now bytes)) × Inside (now left) (now listed) ⌝ }
     ensures { λ r. ⌜ ((p q : ℕ → Bool) → Marked (now (left .entry)) p → Marked (now (listed .entry)) q
-        → DomainPassed (now (bytes .entry)) at dimensions coarse remaining p q (now (left .exit)) (now (listed .exit)) r) ⌝ }
+        → DomainPassed (now (bytes .entry)) at dimensions coarse rows least remaining p q (now (left .exit)) (now (listed .exit)) r) ⌝ }
 {
     let floats = file_reader::record_floats(dimensions, coarse);
     let f = file_reader::fetch_domain(bytes, at, bytes_in::FLOAT * floats);
@@ -73,6 +79,10 @@ pub fn check_domain(
         return not_passed();
     }
     if remaining < f.own {
+        return not_passed();
+    }
+    let depth = bytes_in::number_at(bytes, f.depth_at);
+    if !leaf_depths::depth_passes(coarse, rows, least, f.own, depth) {
         return not_passed();
     }
     if !rows_pass(
@@ -94,6 +104,7 @@ pub fn check_domain(
         next: f.next,
         own: f.own,
         borrowed: f.borrowed,
+        depth: depth,
     }
 }
 
@@ -115,15 +126,27 @@ pub fn check_domains(
     let mut next = at;
     let mut remaining = rows;
     let mut borrowed = 0;
+    let mut least = 0;
     let mut i = 0;
     while i < m {
-        let f = check_domain(bytes, next, dimensions, coarse, remaining, left, listed);
+        let f = check_domain(
+            bytes,
+            next,
+            dimensions,
+            coarse,
+            rows,
+            least,
+            remaining,
+            left,
+            listed,
+        );
         if !f.good {
             return not_passed();
         }
         next = f.next;
         remaining -= f.own;
         borrowed += f.borrowed;
+        least = f.depth;
         i += 1;
     }
     if remaining != 0 {
@@ -134,5 +157,6 @@ pub fn check_domains(
         next: next,
         own: rows,
         borrowed: borrowed,
+        depth: least,
     }
 }

@@ -14,9 +14,8 @@ use Rattle.lists.proofs.Joined.{joined-cons, joined-map-append}
 use Rattle.definition.specs.Tree.{Leaf, Level}
 use Rattle.definition.specs.Packed.{mostLevels, leavesIn, packedBorrowed}
 use Rattle.formats.specs.Bytes.{numberSize}
-use Rattle.stored.specs.Sound.{soundBox, noBox}
 use Rattle.stored.specs.Stored.{countsSize, oneDomain, levelIn, afterLevel, levelsAt}
-use Rattle.tree_tests.specs.InTurn.{among, boxed, levelPasses, fewer, levelsPass}
+use Rattle.tree_tests.specs.InTurn.{among, levelPasses, fewer, levelsPass}
 use Rattle.tree_tests.specs.Whole.{levelWhole, levelsWhole}
 use Rattle.tree_tests.proofs.Levels.{levels-pass-same}
 use Rattle.tree_tests.proofs.Lengths.{length-leaves-in}
@@ -57,17 +56,17 @@ module _ (d : ℕ) (counts above : ℕ → Bool) (w : Bool) (l : Level) (after :
 
   split : (o : Bool) → eqb (length (l .leaves)) 1 ≡ o → (f : ℕ)
       → (w && cond o (eqb (length after) 0) (levelsWhole d f after)) && levelsPass d counts above (l ∷ cond o [] (levelsAt d f after))
-      ≡ (w && levelPasses (boxed d o) counts above l) && cond o (eqb (length after) 0) (behind f)
+      ≡ (w && levelPasses d o counts above l) && cond o (eqb (length after) 0) (behind f)
   unfolding levelsPass levelsWhole levelsAt
-  split true e f = ap (λ (b : Bool). (w && eqb (length after) 0) && (b && levelPasses (noBox d) counts above l)) e ∙ last-apart w (eqb (length after) 0) (levelPasses (noBox d) counts above l)
-  split false e zero = ap (λ (b : Bool). b && levelsPass d counts above (l ∷ [])) (and-false w) ∙ sym (and-false (w && levelPasses (soundBox d) counts above l))
+  split true e f = ap (λ (b : Bool). (w && eqb (length after) 0) && (b && levelPasses d true counts above l)) e ∙ last-apart w (eqb (length after) 0) (levelPasses d true counts above l)
+  split false e zero = ap (λ (b : Bool). b && levelsPass d counts above (l ∷ [])) (and-false w) ∙ sym (and-false (w && levelPasses d false counts above l))
   split false e (suc f) =
-      ap (λ (b : Bool). (w && levelsWhole d (suc f) after) && (not b && levelPasses (soundBox d) counts above l && levelsPass d (fewer (length (l .points))) (among (l .points)) (levelsAt d (suc f) after))) e
-      ∙ and-apart w (levelsWhole d (suc f) after) (levelPasses (soundBox d) counts above l) (levelsPass d (fewer (length (l .points))) (among (l .points)) (levelsAt d (suc f) after))
+      ap (λ (b : Bool). (w && levelsWhole d (suc f) after) && (not b && levelPasses d false counts above l && levelsPass d (fewer (length (l .points))) (among (l .points)) (levelsAt d (suc f) after))) e
+      ∙ and-apart w (levelsWhole d (suc f) after) (levelPasses d false counts above l) (levelsPass d (fewer (length (l .points))) (among (l .points)) (levelsAt d (suc f) after))
 
 first-and-rest : (d : ℕ) (counts above : ℕ → Bool) (f : ℕ) (bs : List ℕ)
     → answer d counts above (suc f) bs
-    ≡ (levelWhole d bs && levelPasses (boxed d (oneDomain bs)) counts above (levelIn d bs))
+    ≡ (levelWhole d bs && levelPasses d (oneDomain bs) counts above (levelIn d bs))
     && cond (oneDomain bs) (eqb (length (afterLevel d bs)) 0) (answer d (fewer (length (levelIn d bs .points))) (among (levelIn d bs .points)) f (afterLevel d bs))
 unfolding levelsWhole levelsAt
 first-and-rest d counts above f bs =

@@ -14,7 +14,7 @@ use Rattle.definition.specs.Tree.{Level}
 use Rattle.formats.specs.Bytes.{numbersAt, whole}
 use Rattle.stored.specs.File.{levelMark}
 use Rattle.stored.specs.Stored.{countsSize, firstCount, secondCount, oneDomain, domainsPlace, levelIn, afterLevel}
-use Rattle.tree_tests.specs.InTurn.{among, inOrder, boxed, leavesPass, levelPasses}
+use Rattle.tree_tests.specs.InTurn.{among, inOrder, fitted, leavesPass, levelPasses}
 use Rattle.tree_tests.specs.Whole.{leavesWhole, levelWhole}
 use Rattle.tree_tests.proofs.Lengths.{length-leaves-in}
 use Rattle.file_rows.proofs.InBytes.{length-rows}
@@ -41,7 +41,7 @@ module _ (file : List ℕ) (at d : ℕ) (h : LevelHead) (is : IsHead (drop at fi
   domainsWhole = leavesWhole d (oneDomain here) (secondCount here) (drop (domainsPlace here) here)
 
   abbrev domainsPass : Bool
-  domainsPass = leavesPass (boxed d (oneDomain here)) (among (level .points)) (among (level .points)) (length (level .points)) (level .leaves)
+  domainsPass = leavesPass (fitted d (oneDomain here) (length (level .points))) (among (level .points)) (among (level .points)) (length (level .points)) 0 (level .leaves)
 
   points-length : h .whole ≡ true → length (level .points) ≡ h .rows
   unfolding levelIn
@@ -63,7 +63,7 @@ module _ (file : List ℕ) (at d : ℕ) (h : LevelHead) (is : IsHead (drop at fi
     Is = LevelPassedIs file at d least below p listed r
 
     abbrev passes : Bool
-    passes = levelPasses (boxed d (oneDomain here)) (between least below) p level
+    passes = levelPasses d (oneDomain here) (between least below) p level
 
     tests-are : levelWhole d here && passes ≡ (stands && domainsWhole) && (between least below (length (level .points)) && inOrder 0 p (level .points) && domainsPass)
     unfolding levelWhole levelPasses

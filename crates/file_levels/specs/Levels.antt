@@ -9,7 +9,7 @@ use Rattle.definition.specs.Packed.{mostLevels, leavesIn, packedBorrowed}
 use Rattle.formats.specs.Bytes.{numberSize, whole}
 use Rattle.stored.specs.File.{levelMark}
 use Rattle.stored.specs.Stored.{countsSize, firstCount, secondCount, oneDomain, domainsPlace, levelIn, afterLevel, levelsAt}
-use Rattle.tree_tests.specs.InTurn.{among, boxed, levelPasses, levelsPass}
+use Rattle.tree_tests.specs.InTurn.{among, levelPasses, levelsPass}
 use Rattle.tree_tests.specs.Whole.{levelWhole, levelsWhole}
 use Rattle.marks.specs.Bits.{Marked}
 use Rattle.file_domains.specs.Domains.{borrowedRows}
@@ -58,7 +58,7 @@ pub record LevelHere (file : List ℕ) (at d : ℕ) (listed : List ℕ) (r : Lev
 -- Whether it stands whole and passes against the rows of the level above, p.
 pub record LevelPassedIs (file : List ℕ) (at d least below : ℕ) (p : ℕ → Bool) (listed : List ℕ) (r : LevelPassed) : Type 0 where
   pub tests : r .good
-      ≡ levelWhole d (drop at file) && levelPasses (boxed d (oneDomain (drop at file))) (between least below) p (levelIn d (drop at file))
+      ≡ levelWhole d (drop at file) && levelPasses d (oneDomain (drop at file)) (between least below) p (levelIn d (drop at file))
   pub passed : r .good ≡ true → LevelHere file at d listed r
   pub none : r .good ≡ false → r ≡ levelNotPassed
 

@@ -36,23 +36,23 @@ module _ (bs : List ℕ) (at tail : ℕ) (r : Fetched) (e : r ≡ noDomain) wher
   not-whole : r .whole ≡ false
   not-whole = ap (λ (f : Fetched). f .whole) e
 
-  is-nothing : whole domainMark (boundsPlace bs + tail) bs ≡ false → IsFetched bs at tail r
+  is-nothing : whole domainMark (boundsPlace bs + tail + numberSize) bs ≡ false → IsFetched bs at tail r
   is-nothing f = record { stands = not-whole ∙ sym f; parts = λ t. clash t not-whole; none = λ _. e }
 
   pub not-marked : whole domainMark countsSize bs ≡ false → IsFetched bs at tail r
-  not-marked f = is-nothing (fails (leb (boundsPlace bs + tail) (length bs) && markedBy domainMark bs) (λ t.
-      let long = leb-true (boundsPlace bs + tail) (length bs) (and-fst (leb (boundsPlace bs + tail) (length bs)) (markedBy domainMark bs) t) in
+  not-marked f = is-nothing (fails (leb (boundsPlace bs + tail + numberSize) (length bs) && markedBy domainMark bs) (λ t.
+      let long = leb-true (boundsPlace bs + tail + numberSize) (length bs) (and-fst (leb (boundsPlace bs + tail + numberSize) (length bs)) (markedBy domainMark bs) t) in
       let counts-fit : leb countsSize (length bs) ≡ true = le-leb countsSize (length bs) (omega arith) in
-      clash (and-of counts-fit (and-snd (leb (boundsPlace bs + tail) (length bs)) (markedBy domainMark bs) t)) f))
+      clash (and-of counts-fit (and-snd (leb (boundsPlace bs + tail + numberSize) (length bs)) (markedBy domainMark bs) t)) f))
 
-  pub too-short : length bs < boundsPlace bs + tail → IsFetched bs at tail r
-  too-short h = is-nothing (rw (lt-leb (boundsPlace bs + tail) (length bs) h))
+  pub too-short : length bs < boundsPlace bs + tail + numberSize → IsFetched bs at tail r
+  too-short h = is-nothing (rw (lt-leb (boundsPlace bs + tail + numberSize) (length bs) h))
 
 -- ---- a whole record
-pub is-whole : (bs : List ℕ) (at tail : ℕ) (r : Fetched) → whole domainMark countsSize bs ≡ true → boundsPlace bs + tail ≤ length bs → r .whole ≡ true → Parts bs at tail r → IsFetched bs at tail r
+pub is-whole : (bs : List ℕ) (at tail : ℕ) (r : Fetched) → whole domainMark countsSize bs ≡ true → boundsPlace bs + tail + numberSize ≤ length bs → r .whole ≡ true → Parts bs at tail r → IsFetched bs at tail r
 is-whole bs at tail r e h w p =
     record {
-      stands = w ∙ sym (and-of (le-leb (boundsPlace bs + tail) (length bs) h) (and-snd (leb countsSize (length bs)) (markedBy domainMark bs) e));
+      stands = w ∙ sym (and-of (le-leb (boundsPlace bs + tail + numberSize) (length bs) h) (and-snd (leb countsSize (length bs)) (markedBy domainMark bs) e));
       parts = λ _. p;
       none = λ f. clash w f;
     }
@@ -60,9 +60,9 @@ is-whole bs at tail r e h w p =
 -- its parts lie one after the other within the file
 pub parts-within : (file : List ℕ) (at tail : ℕ) (r : Fetched) → IsFetched (drop at file) at tail r → r .whole ≡ true
     → (r .«own_at» + numberSize * r .own ≡ r .«borrowed_at») × (r .«borrowed_at» + numberSize * r .borrowed ≡ r .«bounds_at»)
-    × (r .«bounds_at» + tail ≡ r .next) × (r .next ≤ length file)
+    × (r .«bounds_at» + tail ≡ r .«depth_at») × (r .«depth_at» + numberSize ≡ r .next) × (r .next ≤ length file)
 parts-within file at tail r f w =
     let bs = drop at file in
     let p = f .parts w in
-    let long = leb-true (boundsPlace bs + tail) (length bs) (and-fst (leb (boundsPlace bs + tail) (length bs)) (markedBy domainMark bs) (sym (f .stands) ∙ w)) in
-    (omega arith, omega arith, omega arith, omega (arith, length-drop at file))
+    let long = leb-true (boundsPlace bs + tail + numberSize) (length bs) (and-fst (leb (boundsPlace bs + tail + numberSize) (length bs)) (markedBy domainMark bs) (sym (f .stands) ∙ w)) in
+    (omega arith, omega arith, omega arith, omega arith, omega (arith, length-drop at file))

@@ -1,6 +1,7 @@
--- The floats that end a domain's record: how many, the bytes up to their end, and the leaf's box and cover in them. Assumes nothing.
--- Holds: record-few, leaf-size, fine-floats, coarse-floats
-use mathlib.Core.Path.{_≡_, refl, sym}
+-- The floats of a domain's record: how many, where its depth stands behind them, the bytes up to its end, and the leaf's box and cover in
+-- them. Assumes nothing.
+-- Holds: record-few, depth-place, leaf-size, fine-floats, coarse-floats
+use mathlib.Core.Path.{_≡_, refl, sym, ap}
 use mathlib.Core.Bool.{Bool, true, false}
 use mathlib.Core.List.{List, _++_}
 use Prim.Native.Nat.{ℕ, _+_, _*_, _≤_}
@@ -11,8 +12,8 @@ use Rattle.lists.proofs.From.{map-below-suc}
 use Rattle.definition.specs.Number.{plusZero}
 use Rattle.definition.specs.Points.{boxWidth}
 use Rattle.definition.specs.Packed.{rowFloats, leafFloats}
-use Rattle.formats.specs.Bytes.{floatSize, floatAt, floatsAt}
-use Rattle.stored.specs.Stored.{boundsPlace, leafIn, leafSize}
+use Rattle.formats.specs.Bytes.{numberSize, floatSize, floatAt, floatsAt}
+use Rattle.stored.specs.Stored.{boundsPlace, depthPlace, leafIn, leafSize}
 use Rattle.file_reader.specs.Fetch.{recordFloats}
 
 -- no more than a domain row has
@@ -20,10 +21,13 @@ pub record-few : (d : ℕ) (coarse : Bool) → recordFloats d coarse ≤ rowFloa
 record-few d true = omega arith
 record-few d false = omega arith
 
-pub leaf-size : (d : ℕ) (coarse : Bool) (bs : List ℕ) → leafSize d coarse bs ≡ boundsPlace bs + floatSize * recordFloats d coarse
+pub depth-place : (d : ℕ) (coarse : Bool) (bs : List ℕ) → depthPlace d coarse bs ≡ boundsPlace bs + floatSize * recordFloats d coarse
+depth-place d true bs = omega arith
+depth-place d false bs = omega arith
+
+pub leaf-size : (d : ℕ) (coarse : Bool) (bs : List ℕ) → leafSize d coarse bs ≡ boundsPlace bs + floatSize * recordFloats d coarse + numberSize
 unfolding leafSize
-leaf-size d true bs = omega arith
-leaf-size d false bs = omega arith
+leaf-size d coarse bs = ap (λ (k : ℕ). k + numberSize) (depth-place d coarse bs)
 
 module _ (d : ℕ) (bs : List ℕ) where
   -- a fine domain's are its row's

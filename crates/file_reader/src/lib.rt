@@ -1,5 +1,5 @@
-// The records of a stored tree, read where they stand in the caller's bytes: a domain's counts, and where its rows, its floats and the
-// next record begin.
+// The records of a stored tree, read where they stand in the caller's bytes: a domain's counts, and where its rows, its floats, its depth
+// and the next record begin.
 ghost use mathlib.Core.Path.{_≡_};
 ghost use Prim.Native.Nat.{_≤_};
 ghost use lib.ListN.{drop};
@@ -29,6 +29,7 @@ pub struct Fetched {
     pub own_at: usize,
     pub borrowed_at: usize,
     pub bounds_at: usize,
+    pub depth_at: usize,
     pub next: usize,
 }
 
@@ -42,11 +43,12 @@ fn nothing() -> Fetched
         own_at: 0,
         borrowed_at: 0,
         bounds_at: 0,
+        depth_at: 0,
         next: 0,
     }
 }
 
-// How many floats end a domain's record: the bounds of its box, and its cover; the coarse domain has no box.
+// How many floats a domain's record has: the bounds of its box, and its cover; the coarse domain has no box.
 pub fn record_floats(dimensions: usize, coarse: bool) -> usize
     requires { ⌜ dimensions ≤ 3 ⌝ }
     ensures { λ r. ⌜ r ≡ recordFloats dimensions coarse ⌝ }
@@ -67,7 +69,7 @@ fn counts_stand(bytes: &[u8], at: usize) -> bool
     bytes_in::record_at(bytes, at, COUNTS, 0x54, 0x44)
 }
 
-// The domain record at a position; its floats have `tail` bytes.
+// The domain record at a position; its floats have `tail` bytes, and its depth ends it.
 fn domain_at(bytes: &[u8], at: usize, tail: usize) -> Fetched
     ensures { λ r. ⌜ IsFetched (drop at (now (bytes .entry))) at tail r ⌝ }
 {
@@ -78,10 +80,10 @@ fn domain_at(bytes: &[u8], at: usize, tail: usize) -> Fetched
     let borrowed = bytes_in::number_at(bytes, at + BORROWED);
     let place = COUNTS + bytes_in::NUMBER * (own + borrowed);
     let left = bytes.len() - at;
-    if left < place {
+    if left < place + bytes_in::NUMBER {
         return nothing();
     }
-    if left - place < tail {
+    if left - place - bytes_in::NUMBER < tail {
         return nothing();
     }
     Fetched {
@@ -91,7 +93,8 @@ fn domain_at(bytes: &[u8], at: usize, tail: usize) -> Fetched
         own_at: at + COUNTS,
         borrowed_at: at + COUNTS + bytes_in::NUMBER * own,
         bounds_at: at + place,
-        next: at + place + tail,
+        depth_at: at + place + tail,
+        next: at + place + tail + bytes_in::NUMBER,
     }
 }
 

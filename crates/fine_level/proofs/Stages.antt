@@ -1,8 +1,8 @@
 -- How the stages of a level fit together: what one has written, the next one reads; and what all have written is the definition's
 -- level. Assumes nothing.
--- Holds: levelRows, level-own, level-borrowed, level-number, level-next, number-most, own-whole, own-shared, leaves-read,
---   leaves-named, overlaps-ready, overlaps-read, overlaps-named, overlaps-rows, packed-read, packed-named, packed-sends,
---   boxes-room, codes-room
+-- Holds: levelRows, level-own, level-placed, level-borrowed, level-number, level-next, number-most, own-whole, own-shared,
+--   leaves-read, leaves-named, overlaps-ready, overlaps-read, overlaps-named, overlaps-rows, packed-read, packed-named,
+--   packed-sends, boxes-room, codes-room
 use mathlib.Core.Path.{_≡_, refl, sym, _∙_}
 use mathlib.Core.Logic.{⊎-elim}
 use mathlib.Core.Bool.{Bool}
@@ -30,7 +30,7 @@ use Rattle.definition.specs.Points.{boxWidth}
 use Rattle.definition.specs.Packed.{rowNumbers, stretches}
 use Rattle.definition.proofs.Cuts.{Good, leaves-times}
 use Rattle.definition_laws.proofs.Shape.{leaves-most}
-use Rattle.queue.specs.Rows.{withOwn}
+use Rattle.queue.specs.Rows.{Own, domainOwn, withOwn}
 use Rattle.leaves.proofs.Domains.{leaves-fill}
 use Rattle.rows.proofs.Good.{good-good}
 use Rattle.packed.specs.Reading.{ownAt, readOwn, ownIn}
@@ -38,7 +38,7 @@ use Rattle.overlap_owners.specs.Own.{SharedOut, Leaves}
 use Rattle.overlaps.specs.Borrowed.{borrowedLists, withBorrowed, Stage}
 use Rattle.coarse_points.specs.Sent.{sentRows, SendsUp}
 use Rattle.fine_level.specs.Fine.{dividedAt, nextAt, Given}
-use Rattle.fine_level.proofs.Columns.{own-length, own-names, own-read, keeps-start, keeps-count, both-columns}
+use Rattle.fine_level.proofs.Columns.{own-length, own-names, own-read, keeps-start, keeps-count, ownFrom, both-columns}
 use Rattle.overlaps.proofs.Columns.{columns-length}
 
 -- ---- the definition's level before any row is sent up, by its parts
@@ -55,6 +55,10 @@ module _ (d : ℕ) (cs : List Float) (leaf neighbours : ℕ) (active : List ℕ)
 
   pub level-own : map (λ (f : Leaf). f .own) (dividedAt d cs leaf neighbours active) ≡ levelRows (leavesOf d cs leaf active)
   level-own = map-map (λ (f : Leaf). f .own) toLeaf qs
+
+  -- own rows and depths
+  pub level-placed : map ownFrom (dividedAt d cs leaf neighbours active) ≡ map domainOwn (leavesOf d cs leaf active)
+  level-placed = map-map ownFrom toLeaf qs
 
   pub level-borrowed : map (λ (f : Leaf). f .borrowed) (dividedAt d cs leaf neighbours active) ≡ borrowedLists d cs neighbours active (levelRows (leavesOf d cs leaf active))
   unfolding borrowedLists
@@ -74,6 +78,16 @@ module _ (d : ℕ) (cs : List Float) (leaf neighbours : ℕ) (active : List ℕ)
 module _ (d : ℕ) (cs : List Float) (leaf neighbours : ℕ) (active : List ℕ) (g : Given d cs leaf neighbours active) where
   abbrev own : List (List ℕ)
   own = levelRows (leavesOf d cs leaf active)
+
+  -- the same with their depths
+  abbrev placed : List Own
+  placed = map domainOwn (leavesOf d cs leaf active)
+
+  placed-rows : map (λ l. l .rows) placed ≡ own
+  placed-rows = map-map (λ (l : Own). l .rows) domainOwn (leavesOf d cs leaf active)
+
+  placed-number : length placed ≡ length (leavesOf d cs leaf active)
+  placed-number = length-map (leavesOf d cs leaf active) domainOwn
 
   good : Good d cs active
   good = good-good active (g .good)
@@ -102,9 +116,9 @@ module _ (d : ℕ) (cs : List Float) (leaf neighbours : ℕ) (active : List ℕ)
 
   -- ---- after the leaves: I₁ and D₁
   module _ (I D : List ℕ) (at k : ℕ) (fI : at + length active ≤ length I) (fD : rowNumbers * (k + 2 * length active) ≤ length D)
-      (I₁ D₁ : List ℕ) (eI : I₁ ≡ put I at (joined (levelRows (leavesOf d cs leaf active)))) (eD : D₁ ≡ withOwn at (levelRows (leavesOf d cs leaf active)) k D) where
-    fit : rowNumbers * (k + length own) ≤ length D
-    fit = omega (arith, number-most, own-number)
+      (I₁ D₁ : List ℕ) (eI : I₁ ≡ put I at (joined (levelRows (leavesOf d cs leaf active)))) (eD : D₁ ≡ withOwn at (map domainOwn (leavesOf d cs leaf active)) k D) where
+    fit : rowNumbers * (k + length placed) ≤ length D
+    fit = omega (arith, number-most, placed-number)
 
     inside : at + length (joined own) ≤ length I₁
     inside = rw eI (omega (arith, length-put I at (joined own) (omega (arith, own-whole)), own-whole))
@@ -113,13 +127,13 @@ module _ (d : ℕ) (cs : List Float) (leaf neighbours : ℕ) (active : List ℕ)
     packed = rw eI (part-put-same I at (joined own) (length (joined own)) (omega arith) refl)
 
     pub leaves-read : readOwn I₁ D₁ k (length (leavesOf d cs leaf active)) ≡ levelRows (leavesOf d cs leaf active)
-    leaves-read = rw (eD, ← own-number) (own-read I₁ at own k D fit inside packed)
+    leaves-read = rw (eD, ← placed-number) (own-read I₁ at placed k D fit (rw placed-rows inside) (rw placed-rows packed) ∙ placed-rows)
 
     pub leaves-named : Leaves active I₁ D₁ k (length (leavesOf d cs leaf active))
     leaves-named = record {
       ascends = g .good .ascends;
-      rows = rw eD (omega (arith, own-length at own k D fit, number-most));
-      inside = λ l h. rw eD (own-names I₁ at own k D fit inside packed l (omega (arith, own-number)) .1);
+      rows = rw eD (omega (arith, own-length at placed k D fit, number-most));
+      inside = λ l h. rw eD (own-names I₁ at placed k D fit (rw placed-rows inside) (rw placed-rows packed) l (omega (arith, placed-number)) .1);
       shared = rw leaves-read own-shared;
     }
 
@@ -162,7 +176,7 @@ module _ (d : ℕ) (cs : List Float) (leaf neighbours : ℕ) (active : List ℕ)
 
       pub overlaps-rows : D₂ ≡ put D (rowNumbers * k) (stretches at bat (dividedAt d cs leaf neighbours active))
       overlaps-rows =
-          eD₂ ∙ rw (eD, ← level-borrowed d cs leaf neighbours active, ← level-own d cs leaf neighbours active)
+          eD₂ ∙ rw (eD, ← level-borrowed d cs leaf neighbours active, ← level-placed d cs leaf neighbours active)
           (both-columns at bat k (dividedAt d cs leaf neighbours active) D (omega (arith, level-number d cs leaf neighbours active, number-most)))
 
   -- ---- what the definition's level has packed is read back
@@ -171,16 +185,16 @@ module _ (d : ℕ) (cs : List Float) (leaf neighbours : ℕ) (active : List ℕ)
     own-due : I₁ ≡ put I at (joined own)
     own-due = rw (← level-own d cs leaf neighbours active) eI
 
-    rows-due : D₂ ≡ withBorrowed bat (borrowedLists d cs neighbours active own) k (withOwn at own k D)
+    rows-due : D₂ ≡ withBorrowed bat (borrowedLists d cs neighbours active own) k (withOwn at placed k D)
     rows-due =
         eD ∙ sym (both-columns at bat k (dividedAt d cs leaf neighbours active) D (omega (arith, level-number d cs leaf neighbours active, number-most)))
-        ∙ rw (level-borrowed d cs leaf neighbours active, level-own d cs leaf neighbours active)
+        ∙ rw (level-borrowed d cs leaf neighbours active, level-placed d cs leaf neighbours active)
 
     pub packed-read : readOwn I₁ D₂ k (length (leavesOf d cs leaf active)) ≡ levelRows (leavesOf d cs leaf active)
-    packed-read = overlaps-read I D at k fI fD I₁ (withOwn at own k D) own-due refl bat D₂ rows-due
+    packed-read = overlaps-read I D at k fI fD I₁ (withOwn at placed k D) own-due refl bat D₂ rows-due
 
     pub packed-named : Leaves active I₁ D₂ k (length (leavesOf d cs leaf active))
-    packed-named = overlaps-named I D at k fI fD I₁ (withOwn at own k D) own-due refl bat D₂ rows-due
+    packed-named = overlaps-named I D at k fI fD I₁ (withOwn at placed k D) own-due refl bat D₂ rows-due
 
     pub packed-sends : SendsUp d cs active I₁ D₂ k (length (leavesOf d cs leaf active))
     packed-sends =

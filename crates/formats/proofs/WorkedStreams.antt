@@ -91,15 +91,15 @@ pub record Printouts : Type 0 where
   -- the four-point job, byte for byte
   printed :
       printout fourPoints
-      ≡ ascii "levels 2\nlevel 0 points 0 1 2 3\ndomain 0 internal 0 overlap 1 box 0000000000000000 3ff0000000000000 cover 0000000000000000\ndomain 1 internal 1 overlap 0 2 box 3ff0000000000000 4008000000000000 cover 0000000000000000\ndomain 2 internal 2 overlap 1 3 box 4008000000000000 401c000000000000 cover 7ff0000000000000\ndomain 3 internal 3 overlap 2 box 401c000000000000 401c000000000000 cover 7ff0000000000000\nlevel 1 points 0 1\ndomain 0 internal 0 1 overlap - box - cover 0000000000000000\n"
+      ≡ ascii "levels 2\nlevel 0 points 0 1 2 3\ndomain 0 internal 0 overlap 1 box 0000000000000000 3ff0000000000000 cover 0000000000000000 depth 2\ndomain 1 internal 1 overlap 0 2 box 3ff0000000000000 4008000000000000 cover 0000000000000000 depth 2\ndomain 2 internal 2 overlap 1 3 box 4008000000000000 401c000000000000 cover 7ff0000000000000 depth 2\ndomain 3 internal 3 overlap 2 box 401c000000000000 401c000000000000 cover 7ff0000000000000 depth 2\nlevel 1 points 0 1\ndomain 0 internal 0 1 overlap - box - cover 0000000000000000 depth 0\n"
   -- a leaf with no rows: a dash for each list, its box, and +0 for its cover
   emptyLeaf :
       printout ((0x53 ∷ 0x54 ∷ 1 ∷ []) ++ bytesOf 4 1 ++ bytesOf 4 1 ++ bytesOf 4 2 ++ 1 ∷ [] ++ bytesOf 4 1 ++ point (line (0 ∷ [])) ++ point (line (1 ∷ [])))
-      ≡ ascii "levels 2\nlevel 0 points 0 1\ndomain 0 internal - overlap - box 0000000000000000 0000000000000000 cover 0000000000000000\ndomain 1 internal 0 overlap 1 box 0000000000000000 3ff0000000000000 cover 0000000000000000\ndomain 2 internal - overlap - box 3ff0000000000000 3ff0000000000000 cover 0000000000000000\ndomain 3 internal 1 overlap 0 box 3ff0000000000000 3ff0000000000000 cover 7ff0000000000000\nlevel 1 points 0\ndomain 0 internal 0 overlap - box - cover 0000000000000000\n"
+      ≡ ascii "levels 2\nlevel 0 points 0 1\ndomain 0 internal - overlap - box 0000000000000000 0000000000000000 cover 0000000000000000 depth 2\ndomain 1 internal 0 overlap 1 box 0000000000000000 3ff0000000000000 cover 0000000000000000 depth 2\ndomain 2 internal - overlap - box 3ff0000000000000 3ff0000000000000 cover 0000000000000000 depth 2\ndomain 3 internal 1 overlap 0 box 3ff0000000000000 3ff0000000000000 cover 7ff0000000000000 depth 2\nlevel 1 points 0\ndomain 0 internal 0 overlap - box - cover 0000000000000000 depth 0\n"
   -- rows of two digits, in a tree of one level
   twoDigits :
       printout (settings 1 1 0 0 ++ joined (map (λ x. point (x ∷ [])) (line (from 0 11))))
-      ≡ ascii "levels 1\nlevel 0 points 0 1 2 3 4 5 6 7 8 9 10\ndomain 0 internal 0 1 2 3 4 5 6 7 8 9 10 overlap - box - cover 0000000000000000\n"
+      ≡ ascii "levels 1\nlevel 0 points 0 1 2 3 4 5 6 7 8 9 10\ndomain 0 internal 0 1 2 3 4 5 6 7 8 9 10 overlap - box - cover 0000000000000000 depth 0\n"
   -- the stream's refusals, and the build's own
   refused16 : printout (settings 1 17 1 2 ++ zeroPoints 32 ++ 0x50 ∷ []) ≡ ascii "refused 16 at 340\n"
   refused17 : printout (settings 1 17 1 2) ≡ ascii "refused 17 at 0\n"

@@ -55,7 +55,7 @@ floatsText b = joined (map (λ x. 32 ∷ hexOnto 16 (toBits binary64 x) []) b)
 unfoldable pub domainLine : ℕ → Leaf → List ℕ → List ℕ
 domainLine i f box =
     ascii "domain " ++ decimal i ++ ascii " internal" ++ rowsText (f .own) ++ ascii " overlap" ++ rowsText (f .borrowed)
-    ++ ascii " box" ++ box ++ ascii " cover" ++ floatsText (f .cover ∷ []) ++ ascii "\n"
+    ++ ascii " box" ++ box ++ ascii " cover" ++ floatsText (f .cover ∷ []) ++ ascii " depth " ++ decimal (f .depth) ++ ascii "\n"
 
 -- the leaves of a fine level, numbered from i on
 unfoldable pub fineLines : ℕ → List Leaf → List ℕ

@@ -12,7 +12,7 @@ use Rattle.lists.proofs.All.{all-imp}
 use Rattle.lists.proofs.Joined.{length-joined}
 use Rattle.definition.specs.Cut.{Domain, rootDomain, leftOf, rightOf, queueLeaves, leavesOf}
 use Rattle.definition.proofs.Steps.{queue-empty, queue-wait, queue-done}
-use Rattle.definition.proofs.Cuts.{Good, cutsFor, left-length, right-length, queue-enough, full-wait, cuts-wait, cuts-done, leaves-sum}
+use Rattle.definition.proofs.Cuts.{Good, cutsFor, left-length, right-length, left-depth, right-depth, queue-enough, full-wait, cuts-wait, cuts-done, leaves-sum}
 use Rattle.definition_laws.proofs.Shape.{leaves-enough}
 use Rattle.queue.proofs.Kind.{Kind, MayWait}
 use Rattle.rows.specs.Rows.{GoodRows}
@@ -62,11 +62,14 @@ module _ (d : ℕ) (cs : List Float) (pos : 0 < d) (leaf : ℕ) (lp : 1 ≤ leaf
   kind =
       record {
         rowsOf = λ q. q .rows;
+        depthOf = λ q. q .depth;
         left = leftOf d cs;
         right = rightOf d cs;
         Good = λ q. GoodRows d cs (q .rows);
         left-size = λ q g. left-length d cs pos q (good-good (q .rows) g);
         right-size = λ q g. right-length d cs pos q (good-good (q .rows) g);
+        left-depth = left-depth d cs;
+        right-depth = right-depth d cs;
         left-good = good-left;
         right-good = good-right;
         leaves = leavesFrom d cs leaf;

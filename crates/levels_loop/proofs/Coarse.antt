@@ -27,7 +27,7 @@ module _ (d : ℕ) (active : List ℕ) where
   unfolding packedBoxes leavesIn coarseLevel joined
   coarse-boxes = append-nil (replicate (boxWidth d) plusZero ++ plusZero ∷ []) ∙ replicate-append-replicate (boxWidth d) 1 plusZero
 
-  pub coarse-rows : (a b : ℕ) → stretches a b (leavesIn (coarseLevel d active ∷ [])) ≡ a ∷ length active ∷ b ∷ 0 ∷ []
+  pub coarse-rows : (a b : ℕ) → stretches a b (leavesIn (coarseLevel d active ∷ [])) ≡ a ∷ length active ∷ b ∷ 0 ∷ 0 ∷ []
   unfolding stretches leavesIn coarseLevel joined
   coarse-rows a b = refl
 

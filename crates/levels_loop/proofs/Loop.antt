@@ -107,7 +107,7 @@ module _ {d : ℕ} {cs : List Float} {leaf q n : ℕ} {P I D : List ℕ} {B : Li
     rows-few = omega (arith, v .given .good .few, many)
 
     -- ---- after the last: the coarse level
-    module _ (no : (ltb built mostFine && ltb c a) ≡ false) {I₂ D₂ : List ℕ} {B₂ : List Float} (eI : I₂ ≡ put I₁ at (part P₁ at a)) (eD : D₂ ≡ put D₁ (rowNumbers * first) (at ∷ a ∷ bat ∷ 0 ∷ []))
+    module _ (no : (ltb built mostFine && ltb c a) ≡ false) {I₂ D₂ : List ℕ} {B₂ : List Float} (eI : I₂ ≡ put I₁ at (part P₁ at a)) (eD : D₂ ≡ put D₁ (rowNumbers * first) (at ∷ a ∷ bat ∷ 0 ∷ 0 ∷ []))
         (eB : B₂ ≡ put B₁ (rowFloats d * first) (replicate (rowFloats d) plusZero)) where
       abbrev all : List Level
       all = levelsAfter d cs leaf q c k 0 (part P 0 n)

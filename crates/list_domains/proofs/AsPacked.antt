@@ -1,8 +1,8 @@
 -- Domain rows that are those of packing: the first one and those behind it, the own and the borrowed rows that they name, and where the
 -- borrowed rows end. Assumes nothing.
--- Holds: AsPacked, rows-split, FirstAsPacked, first-as-packed, packed-first, own-joined, borrowed-joined, borrowed-end,
---   stretches-append, leaves-length, leaves-append, packed-append, packed-front, packed-behind, end-append
-use mathlib.Core.Path.{_≡_, sym, ap, ap₂, _∙_}
+-- Holds: AsPacked, rows-split, FirstAsPacked, depth-read, first-as-packed, packed-first, own-joined, borrowed-joined,
+--   borrowed-end, stretches-append, leaves-length, leaves-append, packed-append, packed-front, packed-behind, end-append
+use mathlib.Core.Path.{_≡_, refl, sym, ap, ap₂, _∙_}
 use mathlib.Core.List.{List, _∷_, _++_, map, map-append, map-map}
 use Prim.Native.Nat.{ℕ, zero, suc, _+_, _*_, _≤_, _<_}
 use native.Mathlib.Nat.{add-zero, zero-add, mul-add, suc-add, add-suc}
@@ -17,7 +17,7 @@ use Rattle.definition.specs.Tree.{Leaf}
 use Rattle.definition.specs.Packed.{rowNumbers, numbersOf, stretches}
 use Rattle.definition_laws.proofs.Fit.{length-stretches}
 use Rattle.packed.proofs.Packing as packing
-use Rattle.packed.specs.Reading.{Packed, ownStart, ownCount, borrowedStart, borrowedCount, rowAt, readLeaf, readLeaves}
+use Rattle.packed.specs.Reading.{Packed, ownStart, ownCount, borrowedStart, borrowedCount, depthAt, rowAt, readLeaf, readLeaves}
 use Rattle.tree_tests.proofs.Lengths.{ownTotal, borrowedTotal}
 use Rattle.list_domains.specs.InLists.{borrowedEnd}
 
@@ -33,13 +33,15 @@ module _ (domains : List ℕ) (j m : ℕ) (h : rowNumbers * (j + suc m) ≤ leng
   row-first : part domains (rowNumbers * j) rowNumbers ≡ numbersOf (rowAt domains j)
   row-first =
       let at = rowNumbers * j in
-      next at 3 (at + 1) (omega arith) (omega arith)
+      next at 4 (at + 1) (omega arith) (omega arith)
       ∙ ap (λ (l : List ℕ). getD domains at 0 ∷ l)
-      (next (at + 1) 2 (at + 2) (omega arith) (omega arith)
+      (next (at + 1) 3 (at + 2) (omega arith) (omega arith)
       ∙ ap (λ (l : List ℕ). getD domains (at + 1) 0 ∷ l)
-      (next (at + 2) 1 (at + 3) (omega arith) (omega arith)
+      (next (at + 2) 2 (at + 3) (omega arith) (omega arith)
       ∙ ap (λ (l : List ℕ). getD domains (at + 2) 0 ∷ l)
-      (next (at + 3) 0 (at + 4) (omega arith) (omega arith) ∙ ap (λ (l : List ℕ). getD domains (at + 3) 0 ∷ l) (part-nil domains (at + 4)))))
+      (next (at + 3) 1 (at + 4) (omega arith) (omega arith)
+      ∙ ap (λ (l : List ℕ). getD domains (at + 3) 0 ∷ l)
+      (next (at + 4) 0 (at + 5) (omega arith) (omega arith) ∙ ap (λ (l : List ℕ). getD domains (at + 4) 0 ∷ l) (part-nil domains (at + 5))))))
 
   pub rows-split : part domains (rowNumbers * j) (rowNumbers * suc m) ≡ numbersOf (rowAt domains j) ++ part domains (rowNumbers * suc j) (rowNumbers * m)
   rows-split =
@@ -56,6 +58,11 @@ pub record FirstAsPacked (p : Packed) (j m a b : ℕ) : Type 0 where
   pub behind : AsPacked p (suc j) m (a + ownCount (p .domains) j) (b + borrowedCount (p .domains) j)
 
 module _ (p : Packed) where
+  -- the depth of a leaf is that of its row
+  pub depth-read : (j : ℕ) → readLeaf p j .depth ≡ depthAt (p .domains) j
+  unfolding readLeaf
+  depth-read j = refl
+
   module _ (j m a b : ℕ) (fit : rowNumbers * (j + suc m) ≤ length (p .domains)) where
     pub first-as-packed : AsPacked p j (suc m) a b → FirstAsPacked p j m a b
     unfolding readLeaves from stretches
@@ -73,9 +80,11 @@ module _ (p : Packed) where
         let fs = readLeaves p (suc j) m in
         let own = ownCount (p .domains) j in
         let more = borrowedCount (p .domains) j in
-        ap₂ (λ (x y : ℕ). a ∷ x ∷ b ∷ y ∷ stretches (a + x) (b + y) fs) (sym (h .own-count)) (sym (h .borrowed-count))
-        ∙ ap (λ (l : List ℕ). a ∷ own ∷ b ∷ more ∷ l) (h .behind)
-        ∙ ap₂ (λ (x y : ℕ). x ∷ own ∷ y ∷ more ∷ part (p .domains) (rowNumbers * suc j) (rowNumbers * m)) (sym (h .own-start)) (sym (h .borrowed-start))
+        let depth = depthAt (p .domains) j in
+        ap (λ (x : ℕ). a ∷ length (readLeaf p j .own) ∷ b ∷ length (readLeaf p j .borrowed) ∷ x ∷ stretches (a + length (readLeaf p j .own)) (b + length (readLeaf p j .borrowed)) fs) (depth-read j)
+        ∙ ap₂ (λ (x y : ℕ). a ∷ x ∷ b ∷ y ∷ depth ∷ stretches (a + x) (b + y) fs) (sym (h .own-count)) (sym (h .borrowed-count))
+        ∙ ap (λ (l : List ℕ). a ∷ own ∷ b ∷ more ∷ depth ∷ l) (h .behind)
+        ∙ ap₂ (λ (x y : ℕ). x ∷ own ∷ y ∷ more ∷ depth ∷ part (p .domains) (rowNumbers * suc j) (rowNumbers * m)) (sym (h .own-start)) (sym (h .borrowed-start))
         ∙ sym (rows-split (p .domains) j m fit)
 
   -- ---- what they name: stretches one after the other

@@ -11,7 +11,7 @@ use lib.Dec.{eqb}
 use lib.ListN.{length}
 use Rattle.lists.proofs.Tests.{clash}
 use Rattle.definition.specs.Packed.{rowFloats}
-use Rattle.packed.specs.Reading.{Packed, ownCount, borrowedCount, readLeaf}
+use Rattle.packed.specs.Reading.{Packed, ownCount, borrowedCount, depthAt, readLeaf}
 use Rattle.tree_tests.specs.InTurn.{without}
 use Rattle.tree_tests.proofs.Sets.{without-in}
 use Rattle.marks.specs.Bits.{bitAt, Marked}
@@ -23,20 +23,21 @@ use Rattle.list_domains.proofs.Sets.{bit-in}
 use Rattle.list_domains.proofs.Held.{RowHeld, row-held}
 
 -- ---- the row number j and those behind it
-module _ (coarse : Bool) (l : Packed) (most : ℕ) (listed left : ℕ → Bool) (j a b k m : ℕ) where
-  one-passes : domainPasses coarse l most listed left j a b k ≡ true
-      → domainsPass coarse l most listed left j a b k (suc m)
-      ≡ domainsPass coarse l most listed (without (readLeaf l j .own) left) (suc j) (a + ownCount (l .domains) j) (b + borrowedCount (l .domains) j) (k - ownCount (l .domains) j) m
+module _ (coarse : Bool) (l : Packed) (most rows : ℕ) (listed left : ℕ → Bool) (j a b k least m : ℕ) where
+  one-passes : domainPasses coarse l most rows listed left j a b k least ≡ true
+      → domainsPass coarse l most rows listed left j a b k least (suc m)
+      ≡ domainsPass coarse l most rows listed (without (readLeaf l j .own) left) (suc j) (a + ownCount (l .domains) j) (b + borrowedCount (l .domains) j) (k - ownCount (l .domains) j)
+      (depthAt (l .domains) j) m
   unfolding domainsPass
   one-passes h = rw h
 
-  one-fails : domainPasses coarse l most listed left j a b k ≡ false → domainsPass coarse l most listed left j a b k (suc m) ≡ false
+  one-fails : domainPasses coarse l most rows listed left j a b k least ≡ false → domainsPass coarse l most rows listed left j a b k least (suc m) ≡ false
   unfolding domainsPass
   one-fails h = rw h
 
-none-left : (coarse : Bool) (l : Packed) (most : ℕ) (listed left : ℕ → Bool) (j a b k : ℕ) → domainsPass coarse l most listed left j a b k 0 ≡ eqb k 0
+none-left : (coarse : Bool) (l : Packed) (most rows : ℕ) (listed left : ℕ → Bool) (j a b k least : ℕ) → domainsPass coarse l most rows listed left j a b k least 0 ≡ eqb k 0
 unfolding domainsPass
-none-left coarse l most listed left j a b k = refl
+none-left coarse l most rows listed left j a b k least = refl
 
 one-ends : (domains : List ℕ) (j b m : ℕ) → borrowedEnd domains j b (suc m) ≡ borrowedEnd domains (suc j) (b + borrowedCount domains j) m
 unfolding borrowedEnd
@@ -47,23 +48,23 @@ unfolding borrowedEnd
 none-ends domains j b = refl
 
 -- ---- between two domain rows, with what is left of `left` and what the rest comes to
-pub record Rest (coarse : Bool) (l : Packed) (most j a b k m : ℕ) (left listed : List ℕ) (answer : Bool) (q : ℕ → Bool) : Type 0 where
+pub record Rest (coarse : Bool) (l : Packed) (most rows j a b k least m : ℕ) (left listed : List ℕ) (answer : Bool) (q : ℕ → Bool) : Type 0 where
   pub set : ℕ → Bool
   pub marked : Marked left set
   pub as-was : Marked listed q
-  pub same : answer ≡ domainsPass coarse l most q set j a b k m
+  pub same : answer ≡ domainsPass coarse l most rows q set j a b k least m
 
-pub record Between (coarse : Bool) (l : Packed) (most j a b k m : ℕ) (left₀ listed₀ left listed : List ℕ) (i a′ b′ k′ : ℕ) : Type 0 where
+pub record Between (coarse : Bool) (l : Packed) (most j a b k m : ℕ) (left₀ listed₀ left listed : List ℕ) (i a′ b′ k′ least′ : ℕ) : Type 0 where
   pub bound : i ≤ m
   pub ready : Ready l most (j + i) (m - i) a′ b′ k′ left listed
   pub left-length : length left ≡ length left₀
   pub listed-length : length listed ≡ length listed₀
   pub rest : (p q : ℕ → Bool) → Marked left₀ p → Marked listed₀ q
-      → Rest coarse l most (j + i) a′ b′ k′ (m - i) left listed (domainsPass coarse l most q p j a b k m) q
+      → Rest coarse l most k (j + i) a′ b′ k′ least′ (m - i) left listed (domainsPass coarse l most k q p j a b k 0 m) q
   pub end : borrowedEnd (l .domains) j b m ≡ borrowedEnd (l .domains) (j + i) b′ (m - i)
 
 module _ {coarse : Bool} {l : Packed} {most j a b k m : ℕ} {left₀ listed₀ : List ℕ} where
-  pub between-start : Ready l most j m a b k left₀ listed₀ → Between coarse l most j a b k m left₀ listed₀ left₀ listed₀ 0 a b k
+  pub between-start : Ready l most j m a b k left₀ listed₀ → Between coarse l most j a b k m left₀ listed₀ left₀ listed₀ 0 a b k 0
   between-start h =
       record {
         bound = omega arith;
@@ -74,13 +75,13 @@ module _ {coarse : Bool} {l : Packed} {most j a b k m : ℕ} {left₀ listed₀ 
         end = rw (add-zero j, sub-zero m);
       }
 
-  module _ {left listed : List ℕ} {i a′ b′ k′ : ℕ} (h : Between coarse l most j a b k m left₀ listed₀ left listed i a′ b′ k′) where
+  module _ {left listed : List ℕ} {i a′ b′ k′ least′ : ℕ} (h : Between coarse l most j a b k m left₀ listed₀ left listed i a′ b′ k′ least′) where
     -- ---- all rows passed
     pub between-end : m ≤ i → (r : ℕ) → r ≡ b′ → DomainsPassed coarse l most j a b k m left₀ listed₀ listed (record { good = eqb k′ 0; «borrowed_at» = r })
     between-end g r e =
         let z : m - i ≡ 0 = omega arith in
         record {
-          passed = λ p q n o. let t = h .rest p q n o in sym (t .same ∙ rw z (none-left coarse l most q (t .set) (j + i) a′ b′ k′));
+          passed = λ p q n o. let t = h .rest p q n o in sym (t .same ∙ rw z (none-left coarse l most k q (t .set) (j + i) a′ b′ k′ least′));
           end = λ _. e ∙ sym (h .end ∙ rw z (none-ends (l .domains) (j + i) b′));
           listed-as-was = λ q o _. h .rest (held left₀) q (bits-marked left₀) o .as-was;
         }
@@ -104,21 +105,21 @@ module _ {coarse : Bool} {l : Packed} {most j a b k m : ℕ} {left₀ listed₀ 
             inside = h .ready .inside;
           }
 
-      module _ (left′ listed′ : List ℕ) {r : Passed} (d : DomainPassed coarse l most (j + i) a′ b′ k′ left listed left′ listed′ r) where
+      module _ (left′ listed′ : List ℕ) {r : Passed} (d : DomainPassed coarse l most k (j + i) a′ b′ k′ least′ left listed left′ listed′ r) where
         -- it fails
         pub between-out : (x : ℕ) → r .good ≡ false → DomainsPassed coarse l most j a b k m left₀ listed₀ listed′ (record { good = false; «borrowed_at» = x })
         between-out x f =
             record {
               passed = λ p q n o. let t = h .rest p q n o in
-                  sym (t .same ∙ rw count (one-fails coarse l most q (t .set) (j + i) a′ b′ k′ (m - (i + 1)) (sym (d .passed (t .set) q (t .marked) (t .as-was)) ∙ f)));
+                  sym (t .same ∙ rw count (one-fails coarse l most k q (t .set) (j + i) a′ b′ k′ least′ (m - (i + 1)) (sym (d .passed (t .set) q (t .marked) (t .as-was)) ∙ f)));
               end = λ e. clash e refl;
               listed-as-was = λ q o e. clash e refl;
             }
 
         -- it passes
         module _ (good : r .good ≡ true) where
-          row : RowHeld coarse l most (held listed) (held left) (j + i) a′ b′ k′
-          row = row-held coarse l most (held listed) (held left) (j + i) a′ b′ k′ (sym (d .passed (held left) (held listed) (bits-marked left) (bits-marked listed)) ∙ good)
+          row : RowHeld coarse l most k (held listed) (held left) (j + i) a′ b′ k′ least′
+          row = row-held coarse l most k (held listed) (held left) (j + i) a′ b′ k′ least′ (sym (d .passed (held left) (held listed) (bits-marked left) (bits-marked listed)) ∙ good)
 
           pub own-most : r .own ≤ k′
           own-most = omega (arith, d .own good, row .own-few)
@@ -135,7 +136,7 @@ module _ {coarse : Bool} {l : Packed} {most j a b k m : ℕ} {left₀ listed₀ 
               marked-bit (d .listed-as-was (held listed) (bits-marked listed) good) x (eq-eqb (bitAt listed x) 1 (h .ready .inside x (eqb-true (bitAt left x) 1 a)))
 
           pub between-next : length left′ ≡ length left → length listed′ ≡ length listed
-              → Between coarse l most j a b k m left₀ listed₀ left′ listed′ (i + 1) (a′ + r .own) (b′ + r .borrowed) (k′ - r .own)
+              → Between coarse l most j a b k m left₀ listed₀ left′ listed′ (i + 1) (a′ + r .own) (b′ + r .borrowed) (k′ - r .own) (r .depth)
           between-next e f =
               record {
                 bound = omega arith;
@@ -157,8 +158,8 @@ module _ {coarse : Bool} {l : Packed} {most j a b k m : ℕ} {left₀ listed₀ 
                       set = without (readLeaf l (j + i) .own) (t .set);
                       marked = d .left-out (t .set) (t .marked) good;
                       as-was = d .listed-as-was q (t .as-was) good;
-                      same = t .same ∙ rw (count, next, d .own good, d .borrowed good)
-                          (one-passes coarse l most q (t .set) (j + i) a′ b′ k′ (m - (i + 1)) (sym (d .passed (t .set) q (t .marked) (t .as-was)) ∙ good));
+                      same = t .same ∙ rw (count, next, d .own good, d .borrowed good, d .depth good)
+                          (one-passes coarse l most k q (t .set) (j + i) a′ b′ k′ least′ (m - (i + 1)) (sym (d .passed (t .set) q (t .marked) (t .as-was)) ∙ good));
                     };
                 end = h .end ∙ rw (count, next, d .borrowed good) (one-ends (l .domains) (j + i) b′ (m - (i + 1)));
               }

@@ -31,4 +31,4 @@ module _ (r : definition.DomainRow) (most a b k : ℕ) where
 
 -- the row that is read is the row of the list
 pub row-read : (r : DomainRow) (domains : List ℕ) (j : ℕ) → IsRow r domains j → plainRow r ≡ rowAt domains j
-row-read r domains j h = rw (h .own-start, h .own-count, h .borrowed-start, h .borrowed-count)
+row-read r domains j h = rw (h .own-start, h .own-count, h .borrowed-start, h .borrowed-count, h .depth)

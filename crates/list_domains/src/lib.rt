@@ -11,20 +11,32 @@ ghost use Rattle.stored.specs.Sound.{allOf};
 ghost use Rattle.marks.specs.Bits.{bitAt};
 ghost use Rattle.list_domains.specs.Boxes.{boundFits, floatsFit};
 ghost use Rattle.list_domains.specs.InLists.{stretchesFit};
-ghost use Rattle.list_domains.specs.Passed.{Ready, RowsPassed, DomainPassed, DomainsPassed};
+ghost use Rattle.list_domains.specs.Passed.{Ready, RowsPassed, DomainPassed, DomainsPassed, notPassed};
 use packed::DomainRow;
 
-// Whether a domain row and its leaf pass, and how many own and borrowed rows it has.
+// Whether a domain row and its leaf pass, how many own and borrowed rows it has, and its depth.
 pub struct Passed {
     pub good: bool,
     pub own: usize,
     pub borrowed: usize,
+    pub depth: usize,
 }
 
 // Whether all domain rows of a level pass, and where their borrowed rows end.
 pub struct AllPassed {
     pub good: bool,
     pub borrowed_at: usize,
+}
+
+fn not_passed() -> Passed
+    ensures { λ r. ⌜ r ≡ notPassed ⌝ }
+{
+    Passed {
+        good: false,
+        own: 0,
+        borrowed: 0,
+        depth: 0,
+    }
 }
 
 // Whether one bound of a box may stand there. The coarse domain has no box, and +0 in its place.
@@ -111,8 +123,9 @@ fn rows_pass(
     good
 }
 
-// Whether the domain row number j and its leaf pass. Its stretches are to start at `own_at` and `borrowed_at`, its own rows to be among the
-// `remaining` ones that are left, and its borrowed rows to end by `borrowed_most`.
+// Whether the domain row number j and its leaf pass, in a level of so many rows, where the leaf before is at depth `least`. Its stretches are
+// to start at `own_at` and `borrowed_at`, its own rows to be among the `remaining` ones that are left, and its borrowed rows to end by
+// `borrowed_most`.
 pub fn check_domain(
     internals: &[usize],
     domains: &[usize],
@@ -123,6 +136,8 @@ pub fn check_domain(
     coarse: bool,
     own_at: usize,
     borrowed_at: usize,
+    rows: usize,
+    least: usize,
     remaining: usize,
     borrowed_most: usize,
     left: &mut [usize],
@@ -131,26 +146,22 @@ pub fn check_domain(
     requires { ⌜ Ready (packed (now internals) (now domains) (now boxes) (now borrowed) dimensions) «borrowed_most» j 1 «own_at» «borrowed_at» remaining
         (now left) (now listed) ⌝ }
     ensures { λ r. ⌜ DomainPassed coarse
-        (packed (now (internals .entry)) (now (domains .entry)) (now (boxes .entry)) (now (borrowed .entry)) dimensions) «borrowed_most» j «own_at»
-        «borrowed_at» remaining (now (left .entry)) (now (listed .entry)) (now (left .exit)) (now (listed .exit)) r ⌝ }
+        (packed (now (internals .entry)) (now (domains .entry)) (now (boxes .entry)) (now (borrowed .entry)) dimensions) «borrowed_most» rows j «own_at»
+        «borrowed_at» remaining least (now (left .entry)) (now (listed .entry)) (now (left .exit)) (now (listed .exit)) r ⌝ }
 {
     let row = packed::read_row(domains, j);
     let own = row.internal_count;
     let count = row.borrowed_count;
+    let depth = row.depth;
     if !stretches_fit(row, borrowed_most, own_at, borrowed_at, remaining) {
-        return Passed {
-            good: false,
-            own: 0,
-            borrowed: 0,
-        };
+        return not_passed();
+    }
+    if !leaf_depths::depth_passes(coarse, rows, least, own, depth) {
+        return not_passed();
     }
     let box_at = packed::floats_before(dimensions, j);
     if !floats_fit(boxes, box_at, boxes::box_width(dimensions), coarse) {
-        return Passed {
-            good: false,
-            own: 0,
-            borrowed: 0,
-        };
+        return not_passed();
     }
     let good = rows_pass(
         internals,
@@ -166,6 +177,7 @@ pub fn check_domain(
         good: good,
         own: own,
         borrowed: count,
+        depth: depth,
     }
 }
 
@@ -195,6 +207,7 @@ pub fn check_domains(
     let mut own = own_at;
     let mut end = borrowed_at;
     let mut remaining = rows;
+    let mut least = 0;
     let mut i = 0;
     while i < count {
         let one = check_domain(
@@ -207,6 +220,8 @@ pub fn check_domains(
             coarse,
             own,
             end,
+            rows,
+            least,
             remaining,
             borrowed_most,
             left,
@@ -221,6 +236,7 @@ pub fn check_domains(
         own += one.own;
         end += one.borrowed;
         remaining -= one.own;
+        least = one.depth;
         i += 1;
     }
     AllPassed {

@@ -18,8 +18,7 @@ use Rattle.lists.proofs.Sums.{total-more, sum-append}
 use Rattle.definition.specs.Tree.{Leaf, Level}
 use Rattle.definition.specs.Packed.{Counts, rowNumbers, mostRows, leavesIn}
 use Rattle.packed.specs.Reading.{Packed, readLeaves, upTo, pointsAt, readLevel}
-use Rattle.stored.specs.Sound.{soundBox, noBox}
-use Rattle.tree_tests.specs.InTurn.{among, fewer, boxed, levelPasses, levelsPass}
+use Rattle.tree_tests.specs.InTurn.{among, fewer, levelPasses, levelsPass}
 use Rattle.tree_tests.proofs.Lengths.{ownTotal, borrowedTotal}
 use Rattle.list_domains.specs.InLists.{borrowedEnd}
 use Rattle.list_domains.proofs.AsPacked.{AsPacked, leaves-append, leaves-length, packed-append, packed-front, packed-behind, borrowed-end}
@@ -73,12 +72,12 @@ module _ (p : Packed) (level-points : List ℕ) (c : Counts) where
     abbrev here : Level
     here = levelThere p level-points (upTo (c .domains) l) (upTo (c .rows) l) (getD (c .rows) l 0) (getD (c .domains) l 0)
 
-    coarse-passes : levelsPass (p .dimension) counts above (levelsHeld l 1) ≡ eqb (length (here .leaves)) 1 && levelPasses (noBox (p .dimension)) counts above here
+    coarse-passes : levelsPass (p .dimension) counts above (levelsHeld l 1) ≡ eqb (length (here .leaves)) 1 && levelPasses (p .dimension) true counts above here
     unfolding levelsPass from readLevel
     coarse-passes = refl
 
     fine-passes : (k : ℕ) → levelsPass (p .dimension) counts above (levelsHeld l (suc (suc k)))
-        ≡ not (eqb (length (here .leaves)) 1) && levelPasses (soundBox (p .dimension)) counts above here
+        ≡ not (eqb (length (here .leaves)) 1) && levelPasses (p .dimension) false counts above here
         && levelsPass (p .dimension) (fewer (length (here .points))) (among (here .points)) (levelsHeld (suc l) (suc k))
     unfolding levelsPass from readLevel
     fine-passes k = refl
@@ -189,7 +188,7 @@ module _ (p : Packed) (level-points : List ℕ) (c : Counts) (n most : ℕ) (len
 
   -- a level that is not the last one has a box of its own for each leaf
   fine-level : (counts above : ℕ → Bool) (l k : ℕ)
-      → levelPasses (boxed (p .dimension) (eqb (suc k) 0)) counts above (here p level-points c counts above l) ≡ levelPasses (soundBox (p .dimension)) counts above (here p level-points c counts above l)
+      → levelPasses (p .dimension) (eqb (suc k) 0) counts above (here p level-points c counts above l) ≡ levelPasses (p .dimension) false counts above (here p level-points c counts above l)
   fine-level counts above l k = rw (eqb·suc-zero k)
 
   pub levels-held : (k l many : ℕ) (above : ℕ → Bool) (b : ℕ) → upTo (c .rows) l + suc k * n ≤ length level-points → upTo (c .rows) l + suc k * n ≤ length (p .internals)
@@ -254,7 +253,7 @@ module _ (p : Packed) (level-points : List ℕ) (c : Counts) (n most : ℕ) (len
       let lv = here p level-points c (countFits l n many) above l in
       let e = counts-one (c .domains) l in
       let x = eqb (length (lv .leaves)) 1 in
-      let y = levelPasses (noBox (p .dimension)) (countFits l n many) above lv in
+      let y = levelPasses (p .dimension) true (countFits l n many) above lv in
       let q = sym (coarse-passes p level-points c (countFits l n many) above l) ∙ h .pass in
       let fit = fits-here l many above b 0 (omega (arith, h .few)) (omega (arith, e, h .few)) in
       let g : Level-held l many above b 0 = record { pass = and-snd x y q; size = h .sizes l (omega arith) (omega arith); packed = rw e at (h .as-packed); within = rw e at (h .within) } in
@@ -274,7 +273,7 @@ module _ (p : Packed) (level-points : List ℕ) (c : Counts) (n most : ℕ) (len
       let lv = here p level-points c (countFits l n many) above l in
       let e = counts-more (c .domains) l (suc k) in
       let x = not (eqb (length (lv .leaves)) 1) in
-      let y = levelPasses (soundBox (p .dimension)) (countFits l n many) above lv in
+      let y = levelPasses (p .dimension) false (countFits l n many) above lv in
       let z = levelsPass (p .dimension) (fewer (length (lv .points))) (among (lv .points)) (levelsHeld p level-points c (suc l) (suc k)) in
       let q = three-pass x y z (sym (fine-passes p level-points c (countFits l n many) above l k) ∙ h .pass) in
       let keep : j + m ≤ mostRows n = omega (arith, e, h .few) in

@@ -11,7 +11,7 @@ use Rattle.lists.proofs.Put.{length-part}
 use Rattle.definition.specs.Tree.{Level}
 use Rattle.definition.specs.Packed.{rowNumbers}
 use Rattle.packed.specs.Reading.{Packed, readLeaves}
-use Rattle.tree_tests.specs.InTurn.{among, inOrder, boxed, leavesPass, levelPasses}
+use Rattle.tree_tests.specs.InTurn.{among, inOrder, fitted, leavesPass, levelPasses}
 use Rattle.tree_tests.proofs.Lengths.{ownTotal, borrowedTotal}
 use Rattle.list_domains.specs.InLists.{domainsPass}
 use Rattle.list_domains.proofs.AsPacked.{AsPacked}
@@ -23,7 +23,7 @@ abbrev pub levelThere : Packed → List ℕ → ℕ → ℕ → ℕ → ℕ → 
 levelThere p level-points j a rows m = record { points = part level-points a rows; leaves = readLeaves p j m }
 
 pub record LevelHeld (coarse : Bool) (p : Packed) (level-points : List ℕ) (most : ℕ) (counts above : ℕ → Bool) (j a b rows m : ℕ) : Type 0 where
-  pub pass : levelPasses (boxed (p .dimension) coarse) counts above (levelThere p level-points j a rows m) ≡ true
+  pub pass : levelPasses (p .dimension) coarse counts above (levelThere p level-points j a rows m) ≡ true
   pub size : length (part level-points a rows) ≡ rows
   pub packed : AsPacked p j m a b
   pub within : b + borrowedTotal (readLeaves p j m) ≤ most
@@ -40,19 +40,19 @@ module _ (coarse : Bool) (p : Packed) (level-points : List ℕ) (most : ℕ) (co
       → heldLevelPasses coarse p level-points most above j a b rows m ≡ true → LevelHeld coarse p level-points most counts above j a b rows m
   unfolding heldLevelPasses levelPasses
   level-held there room low c h =
-      let y = domainsPass coarse p most (among points) (among points) j a b rows m in
+      let y = domainsPass coarse p most rows (among points) (among points) j a b rows 0 m in
       let e : length points ≡ rows = length-part level-points a rows there in
-      let g = domains-held coarse p most (among points) lent m (among points) j a b rows fit room low (and-snd inside y h) in
+      let g = domains-held coarse p most rows (among points) lent m (among points) j a b rows 0 fit room low (and-snd inside y h) in
       record {
         pass = rw e (and-of (and-of c (and-fst inside y h)) (g .pass));
         size = e;
-        packed = g .rows;
+        packed = g .as-packed;
         within = g .within;
       }
 
   module _ (h : LevelHeld coarse p level-points most counts above j a b rows m) where
     abbrev leaves : Bool
-    leaves = leavesPass (boxed (p .dimension) coarse) (among points) (among points) (length points) (readLeaves p j m)
+    leaves = leavesPass (fitted (p .dimension) coarse (length points)) (among points) (among points) (length points) 0 (readLeaves p j m)
 
     tests : (counts (length points) ≡ true) × (inside ≡ true) × (leaves ≡ true)
     unfolding levelPasses
@@ -65,8 +65,8 @@ module _ (coarse : Bool) (p : Packed) (level-points : List ℕ) (most : ℕ) (co
     unfolding heldLevelPasses
     held-level =
         let g = rw (h .size) at (tests .2) in
-        and-of (tests .1) (held-domains coarse p most (among points) lent m (among points) j a b rows fit (record { pass = g; rows = h .packed; within = h .within }))
+        and-of (tests .1) (held-domains coarse p most rows (among points) lent m (among points) j a b rows 0 fit (record { pass = g; as-packed = h .packed; within = h .within }))
 
     -- each row of the level is internal once
     pub level-own : ownTotal (readLeaves p j m) ≡ rows
-    level-own = own-all (boxed (p .dimension) coarse) (among points) (among points) (length points) (readLeaves p j m) (tests .2) ∙ h .size
+    level-own = own-all (fitted (p .dimension) coarse (length points)) (among points) (among points) (length points) 0 (readLeaves p j m) (tests .2) ∙ h .size

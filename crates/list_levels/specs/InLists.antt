@@ -37,7 +37,7 @@ countsStand c = ltb 0 (c .levels) && leb (c .levels) mostLevels && noneBeyond (c
 unfoldable pub heldLevelPasses : Bool → Packed → List ℕ → ℕ → (ℕ → Bool) → ℕ → ℕ → ℕ → ℕ → ℕ → Bool
 heldLevelPasses coarse p level-points most above j a b rows m =
     let points = part level-points a rows in
-    inOrder 0 above points && domainsPass coarse p most (among points) (among points) j a b rows m
+    inOrder 0 above points && domainsPass coarse p most rows (among points) (among points) j a b rows 0 m
 
 -- ---- k levels from the level number l on; the level above has so many rows
 unfoldable pub heldLevelsPass : Packed → List ℕ → Counts → ℕ → ℕ → ℕ → ℕ → (ℕ → Bool) → ℕ → ℕ → Bool

@@ -10,6 +10,7 @@ pub mod Members
 pub mod From
 pub mod Times
 pub mod Ascends
+pub mod NeverFalls
 pub mod Rank
 pub mod Sums
 pub mod Joined

@@ -19,7 +19,7 @@ use Rattle.demand3.specs.LoadedTree.{LoadedTree}
 use Rattle.stored.specs.Stored.{levelsPlace, treeIn, taken, wellFormed}
 use Rattle.stored.specs.Outcome.{ownTests, sameSettings, samePoints, loadVerdict, loadAnswer, loadLists}
 use Rattle.stored_laws.proofs.Loaded.{fileTests}
-use Rattle.stored_rules.proofs.FileRules.{load-rules}
+use Rattle.stored_rules.proofs.FileRules.{load-rules, load-depths}
 use Rattle.tree_answer.specs.Answers.{listsOf}
 use Rattle.load_lists.specs.Places.{treeFrom}
 use Rattle.load.specs.Loading.{Loaded}
@@ -46,6 +46,7 @@ module _ (s : Settings) (cs : List Float) (bs : List ℕ) (old : TreeLists) wher
         boxes = rw e;
         borrowed = rw e;
         rules = λ t. clash (ap taken t) (ap taken e);
+        depths = λ t. clash (ap taken t) (ap taken e);
       }
 
   pub own-refused : (r : Refusal) → verdict (ownTests s cs old) ≡ refused r → loadVerdict s cs bs old ≡ refused r
@@ -114,4 +115,5 @@ module _ (s : Settings) (cs : List Float) (bs : List ℕ) (old : TreeLists) wher
                   boxes = boxes;
                   borrowed = borrowed;
                   rules = λ t. rw (answers, level-points, internals, domains, boxes, borrowed) has-rules;
+                  depths = λ t. rw (answers, level-points, internals, domains, boxes, borrowed) (load-depths s cs bs old t);
                 }

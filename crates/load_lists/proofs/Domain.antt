@@ -17,13 +17,13 @@ use Rattle.definition.specs.Tree.{Leaf}
 use Rattle.definition.specs.Packed.{rowFloats, leafFloats, stretches}
 use Rattle.packed.specs.Reading.{Packed, packed}
 use Rattle.packed.specs.Rows.{putRow}
-use Rattle.formats.specs.Bytes.{numberSize, numbersAt, floatSize, floatsAt, whole}
+use Rattle.formats.specs.Bytes.{numberSize, numberAt, numbersAt, floatSize, floatsAt, whole}
 use Rattle.stored.specs.File.{domainMark}
-use Rattle.stored.specs.Stored.{boundsPlace, leafIn, leafSize}
+use Rattle.stored.specs.Stored.{boundsPlace, depthPlace, leafIn, leafSize}
 use Rattle.file_reader.specs.declared.Fetched.{Fetched}
 use Rattle.file_reader.specs.Fetch.{recordFloats, IsFetched}
-use Rattle.file_reader.proofs.Fetches.{parts-within}
-use Rattle.file_reader.proofs.LastFloats.{leaf-size, fine-floats, coarse-floats}
+use Rattle.file_reader.proofs.Fetches.{number-here, parts-within}
+use Rattle.file_reader.proofs.LastFloats.{depth-place, leaf-size, fine-floats, coarse-floats}
 use Rattle.load_lists.specs.Places.{ahead, domainAt, floatsRead, Room, Written}
 use Rattle.load_lists.specs.declared.Cursor.{Cursor}
 use Rattle.bytes_in.proofs.Fields.{length-numbers-at, numbers-here, floats-here}
@@ -33,12 +33,14 @@ pub record Found (d : ℕ) (coarse : Bool) (file : List ℕ) (c : Cursor) (r : F
   pub own : numbersAt (r .own) (r .«own_at») file ≡ domainAt d coarse c file .own
   pub borrowed : numbersAt (r .borrowed) (r .«borrowed_at») file ≡ domainAt d coarse c file .borrowed
   pub floats : floatsRead d coarse (r .«bounds_at») file ≡ leafFloats (domainAt d coarse c file)
+  pub depth : numberAt (r .«depth_at») file ≡ domainAt d coarse c file .depth
   pub own-many : r .own ≡ length (domainAt d coarse c file .own)
   pub borrowed-many : r .borrowed ≡ length (domainAt d coarse c file .borrowed)
   pub next : r .next ≡ c .at + leafSize d coarse (ahead c file)
   pub own-within : r .«own_at» + numberSize * r .own ≤ length file
   pub borrowed-within : r .«borrowed_at» + numberSize * r .borrowed ≤ length file
   pub floats-within : r .«bounds_at» + floatSize * recordFloats d coarse ≤ length file
+  pub depth-within : r .«depth_at» + numberSize ≤ length file
 
 -- the floats of a record, at a place of the file
 floats-are : (d : ℕ) (coarse : Bool) (bs : List ℕ) → floatsRead d coarse (boundsPlace bs) bs ≡ leafFloats (leafIn d coarse bs)
@@ -55,20 +57,23 @@ pub found : (d : ℕ) (coarse : Bool) (file : List ℕ) (c : Cursor) (floats : �
 unfolding leafIn
 found d coarse file c floats r e f w =
     let bs = ahead c file in
-    let size : boundsPlace bs + floatSize * floats ≡ leafSize d coarse bs = rw e (sym (leaf-size d coarse bs)) in
+    let size : boundsPlace bs + floatSize * floats + numberSize ≡ leafSize d coarse bs = rw e (sym (leaf-size d coarse bs)) in
     let stands : r .whole ≡ true = f .stands ∙ rw size w in
     let p = f .parts stands in
+    let place : r .«depth_at» ≡ c .at + depthPlace d coarse bs = omega (arith, p .depth-at, e, depth-place d coarse bs) in
     let inside = parts-within file (c .at) (floatSize * floats) r f stands in
     record {
       own = rw (p .own, p .own-at) (numbers-here (c .at) file _ _);
       borrowed = rw (p .borrowed, p .borrowed-at) (numbers-here (c .at) file _ _);
       floats = rw (p .bounds-at) (floats-there d coarse file (c .at) (boundsPlace bs)) ∙ floats-are d coarse bs;
+      depth = ap (λ (k : ℕ). numberAt k file) place ∙ number-here (c .at) file (depthPlace d coarse bs);
       own-many = p .own ∙ sym (length-numbers-at _ _ bs);
       borrowed-many = p .borrowed ∙ sym (length-numbers-at _ _ bs);
       next = p .next ∙ omega (arith, size);
       own-within = omega arith;
       borrowed-within = omega arith;
       floats-within = rw (← e) (omega arith);
+      depth-within = omega arith;
     }
 
 -- ---- its floats, by what is read of them: all of a fine domain's row; behind zeros the coarse one's cover
@@ -98,19 +103,19 @@ module _ {d : ℕ} {coarse : Bool} {file : List ℕ} {c : Cursor} {r : Fetched} 
     pub floats-fit : rowFloats (p .dimension) * c .row + rowFloats (p .dimension) ≤ length (p .boxes)
     floats-fit = omega (arith, m .boxes, mul-add (rowFloats (p .dimension)) (c .row) 1)
 
-  pub domain-written : (I D : List ℕ) (B : List Float) (L I₁ D₁ : List ℕ) (B₁ : List Float) (L₁ : List ℕ) (k : ℕ) → k ≡ rowFloats d * c .row
+  pub domain-written : (I D : List ℕ) (B : List Float) (L I₁ D₁ : List ℕ) (B₁ : List Float) (L₁ : List ℕ) (e k : ℕ) → e ≡ numberAt (r .«depth_at») file → k ≡ rowFloats d * c .row
       → I₁ ≡ put I (c .own) (numbersAt (r .own) (r .«own_at») file) → L₁ ≡ put L (c .borrowed) (numbersAt (r .borrowed) (r .«borrowed_at») file)
-      → D₁ ≡ putRow D (c .row) (record { ownStart = c .own; ownCount = r .own; borrowedStart = c .borrowed; borrowedCount = r .borrowed })
+      → D₁ ≡ putRow D (c .row) (record { ownStart = c .own; ownCount = r .own; borrowedStart = c .borrowed; borrowedCount = r .borrowed; depth = e })
       → B₁ ≡ put B k (floatsRead d coarse (r .«bounds_at») file)
       → Written (domainAt d coarse c file ∷ []) c (record { at = r .next; points = c .points; own = c .own + r .own; borrowed = c .borrowed + r .borrowed; row = c .row + 1 })
       (packed I D B L d) (packed I₁ D₁ B₁ L₁ d)
   unfolding stretches
-  domain-written I D B L I₁ D₁ B₁ L₁ k ek eI eL eD eB = record {
+  domain-written I D B L I₁ D₁ B₁ L₁ e k ee ek eI eL eD eB = record {
     own-end = rw (joined-one (this .own), h .own-many);
     row-end = refl;
     borrowed-end = rw (joined-one (this .borrowed), h .borrowed-many);
     internals = rw (joined-one (this .own), ← h .own) eI;
-    domains = rw (← h .own-many, ← h .borrowed-many) eD;
+    domains = rw (← h .own-many, ← h .borrowed-many, ← h .depth, ← ee) eD;
     boxes = rw (joined-one (leafFloats this), ← h .floats, ← ek) eB;
     borrowed = rw (joined-one (this .borrowed), ← h .borrowed) eL;
   }

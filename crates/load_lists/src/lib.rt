@@ -83,6 +83,7 @@ fn put_domain(
 {
     let floats = file_reader::record_floats(dimensions, coarse);
     let found = file_reader::fetch_domain(bytes, c.at, bytes_in::FLOAT * floats);
+    let depth = bytes_in::number_at(bytes, found.depth_at);
     bytes_in::read_numbers(bytes, found.own_at, found.own, internals, c.own);
     bytes_in::read_numbers(
         bytes,
@@ -96,6 +97,7 @@ fn put_domain(
         internal_count: found.own,
         borrowed_start: c.borrowed,
         borrowed_count: found.borrowed,
+        depth: depth,
     };
     packed::put_row(domains, c.row, row);
     let box_at = packed::floats_before(dimensions, c.row);

@@ -1,7 +1,7 @@
 -- A packed tree is read back: the rows of each level, each leaf by its domain row, and so the whole tree; and a reader who goes by the
 -- domain rows stays inside the lists. Assumes nothing.
--- Holds: noLeaf, Packs, levels-are, rows-on, leaves-on, listed-is, own-count-is, borrowed-count-is, own-is, borrowed-is, box-is,
---   cover-is, leaf-is, tree-row-fits, leaf-in, leaf-at, tree-back, tree-stands
+-- Holds: noLeaf, Packs, levels-are, rows-on, leaves-on, listed-is, own-count-is, borrowed-count-is, depth-is, own-is,
+--   borrowed-is, box-is, cover-is, leaf-is, tree-row-fits, leaf-in, leaf-at, tree-back, tree-stands
 use mathlib.Core.Path.{_≡_, refl, sym, ap, ap₂, _∙_}
 use mathlib.Core.Logic.{⊎-elim}
 use mathlib.Core.List.{List, [], _∷_, _++_, map, map-map, map-id, append-assoc}
@@ -24,12 +24,12 @@ use Rattle.definition.specs.Points.{boxWidth}
 use Rattle.definition.specs.Tree.{Leaf, Level, mostFine}
 use Rattle.definition.specs.Packed.{Counts, rowNumbers, rowFloats, rowOf, numbersOf, leafFloats, leavesIn, packedLevelPoints, packedInternals, packedBorrowed, packedDomains, packedBoxes, stretches, perLevel, countsOf}
 use Rattle.definition_laws.proofs.Fit.{length-leaves, length-points, length-domains, floats-length}
-use Rattle.packed.specs.Reading.{Packed, ownStart, ownCount, borrowedStart, borrowedCount, ownAt, borrowedAt, boxAt, coverAt, readLeaf, readLeaves, upTo, pointsAt, readLevel, readLevels, RowFits, Stands}
+use Rattle.packed.specs.Reading.{Packed, ownStart, ownCount, borrowedStart, borrowedCount, depthAt, ownAt, borrowedAt, boxAt, coverAt, readLeaf, readLeaves, upTo, pointsAt, readLevel, readLevels, RowFits, Stands}
 use Rattle.packed.proofs.Counts.{noLevel, counts-length, counts-before, level-count}
 
 -- what stands past a level's leaves
 abbrev pub noLeaf : Leaf
-noLeaf = record { own = []; borrowed = []; box = []; cover = plusZero }
+noLeaf = record { own = []; borrowed = []; box = []; cover = plusZero; depth = 0 }
 
 -- ---- the numbers of the domain rows
 
@@ -153,6 +153,9 @@ module _ (ls : List Level) (p : Packed) (level-points : List ℕ) (c : Counts) (
     pub borrowed-count-is : borrowedCount (p .domains) j ≡ length (getD (leavesIn ls) j noLeaf .borrowed)
     borrowed-count-is = number-is 3 (omega arith)
 
+    pub depth-is : depthAt (p .domains) j ≡ getD (leavesIn ls) j noLeaf .depth
+    depth-is = number-is 4 (omega arith)
+
     -- the stretch of the leaf in a list that holds what `f` gives of each leaf
     module _ {A : Type 0} (f : Leaf → List A) (start many : ℕ) (a : start ≡ total (map length (map f (take j all)))) (n : many ≡ length (f leaf)) where
       named : getD (map f all) j [] ≡ f leaf
@@ -227,7 +230,7 @@ module _ (ls : List Level) (p : Packed) (level-points : List ℕ) (c : Counts) (
 
     pub leaf-is : readLeaf p j ≡ getD (leavesIn ls) j noLeaf
     unfolding readLeaf
-    leaf-is = rw (own-is, borrowed-is, box-is, cover-is)
+    leaf-is = rw (own-is, borrowed-is, box-is, cover-is, depth-is)
 
     pub tree-row-fits : p .dimension ≤ 3 → RowFits p j
     unfolding packedInternals packedBorrowed packedBoxes

@@ -13,7 +13,7 @@ use Rattle.definition.specs.Packed.{DomainRow, rowNumbers, rowFloats, leafFloat
 
 -- ---- the domain row number j of a list of domain rows
 
--- where the leaf's own rows start and how many they are, then the same of the rows that it borrows
+-- where the leaf's own rows start and how many they are, then the same of the rows that it borrows; and the leaf's depth
 abbrev pub ownStart : List ℕ → ℕ → ℕ
 ownStart domains j = getD domains (rowNumbers * j) 0
 
@@ -26,6 +26,9 @@ borrowedStart domains j = getD domains (rowNumbers * j + 2) 0
 abbrev pub borrowedCount : List ℕ → ℕ → ℕ
 borrowedCount domains j = getD domains (rowNumbers * j + 3) 0
 
+abbrev pub depthAt : List ℕ → ℕ → ℕ
+depthAt domains j = getD domains (rowNumbers * j + 4) 0
+
 abbrev pub rowAt : List ℕ → ℕ → DomainRow
 rowAt domains j =
     record {
@@ -33,6 +36,7 @@ rowAt domains j =
       ownCount = ownCount domains j;
       borrowedStart = borrowedStart domains j;
       borrowedCount = borrowedCount domains j;
+      depth = depthAt domains j;
     }
 
 -- ---- what it names: the leaf's own rows, the rows that it borrows, and its floats on d axes, which are its box and its cover
@@ -75,6 +79,7 @@ readLeaf p j =
       borrowed = borrowedAt (p .borrowed) (p .domains) j;
       box = boxAt (p .dimension) (p .boxes) j;
       cover = coverAt (p .dimension) (p .boxes) j;
+      depth = depthAt (p .domains) j;
     }
 
 -- m leaves from the domain row number j on

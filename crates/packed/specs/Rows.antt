@@ -5,7 +5,7 @@ use mathlib.Core.Path.{_≡_}
 use Rattle.lists.specs.Lists.{put}
 use Rattle.definition.specs.Packed as definition
 use Rattle.definition.specs.Packed.{rowNumbers, numbersOf}
-use Rattle.packed.specs.Reading.{ownStart, ownCount, borrowedStart, borrowedCount}
+use Rattle.packed.specs.Reading.{ownStart, ownCount, borrowedStart, borrowedCount, depthAt}
 use Rattle.packed.specs.declared.DomainRow.{DomainRow}
 
 -- a row by value, as the definition has it
@@ -16,6 +16,7 @@ plainRow r =
       ownCount = r .«internal_count»;
       borrowedStart = r .«borrowed_start»;
       borrowedCount = r .«borrowed_count»;
+      depth = r .depth;
     }
 
 -- it is the row number k of the list
@@ -24,14 +25,18 @@ pub record IsRow (r : DomainRow) (domains : List ℕ) (k : ℕ) : Type 0 where
   pub own-count : r .«internal_count» ≡ ownCount domains k
   pub borrowed-start : r .«borrowed_start» ≡ borrowedStart domains k
   pub borrowed-count : r .«borrowed_count» ≡ borrowedCount domains k
+  pub depth : r .depth ≡ depthAt domains k
 
 -- the row number k, whole
 abbrev pub putRow : List ℕ → ℕ → definition.DomainRow → List ℕ
 putRow domains k r = put domains (rowNumbers * k) (numbersOf r)
 
--- start and count of its leaf's own rows
-abbrev pub putOwn : List ℕ → ℕ → ℕ → ℕ → List ℕ
-putOwn domains k start count = put domains (rowNumbers * k) (start ∷ count ∷ [])
+-- the row of a leaf at this depth that borrows nothing yet: start and count of its own rows
+abbrev pub ownRow : ℕ → ℕ → ℕ → definition.DomainRow
+ownRow start count depth = record { ownStart = start; ownCount = count; borrowedStart = 0; borrowedCount = 0; depth = depth }
+
+abbrev pub putOwn : List ℕ → ℕ → ℕ → ℕ → ℕ → List ℕ
+putOwn domains k start count depth = putRow domains k (ownRow start count depth)
 
 -- start and count of the rows that its leaf borrows
 abbrev pub putBorrowed : List ℕ → ℕ → ℕ → ℕ → List ℕ

@@ -6,7 +6,7 @@ ghost use Rattle.definition.specs.Packed.{rowNumbers, rowFloats};
 ghost use Rattle.packed.specs.Rows.{plainRow, IsRow, putRow, putOwn, putBorrowed};
 
 // How many whole numbers a domain row has.
-pub const ROW_NUMBERS: usize = 4;
+pub const ROW_NUMBERS: usize = 5;
 
 // Which of them says what. Where the own rows start is the first.
 const OWN_COUNT: usize = 1;
@@ -15,18 +15,21 @@ const BORROWED_START: usize = 2;
 
 const BORROWED_COUNT: usize = 3;
 
+const DEPTH: usize = 4;
+
 // The floats behind the box: the cover.
 pub const COVER: usize = 1;
 
 // How many floats a domain row has on three axes, for lists of a fixed length.
 pub const MOST_ROW_FLOATS: usize = boxes::WIDEST_BOX + COVER;
 
-// A domain row: where the leaf's stretch of each list starts, and how many rows it has there.
+// A domain row: where the leaf's stretch of each list starts, and how many rows it has there; and the leaf's depth.
 pub struct DomainRow {
     pub internal_start: usize,
     pub internal_count: usize,
     pub borrowed_start: usize,
     pub borrowed_count: usize,
+    pub depth: usize,
 }
 
 // How many floats a domain row has: those of its box, and its cover.
@@ -56,15 +59,8 @@ pub fn read_row(domains: &[usize], k: usize) -> DomainRow
         internal_count: domains[at + OWN_COUNT],
         borrowed_start: domains[at + BORROWED_START],
         borrowed_count: domains[at + BORROWED_COUNT],
+        depth: domains[at + DEPTH],
     }
-}
-
-// Writes start and count of the own rows to the domain row number k.
-pub fn put_own(domains: &mut [usize], k: usize, start: usize, count: usize)
-    requires { ⌜ rowNumbers * (k + 1) ≤ length (now domains) ⌝ }
-    ensures { λ _. ⌜ now (domains .exit) ≡ putOwn (now (domains .entry)) k start count ⌝ }
-{
-    stretches::put_pair(domains, ROW_NUMBERS * k, start, count);
 }
 
 // Writes start and count of the borrowed rows to the domain row number k.
@@ -80,6 +76,26 @@ pub fn put_row(domains: &mut [usize], k: usize, row: DomainRow)
     requires { ⌜ rowNumbers * (k + 1) ≤ length (now domains) ⌝ }
     ensures { λ _. ⌜ now (domains .exit) ≡ putRow (now (domains .entry)) k (plainRow row) ⌝ }
 {
-    put_own(domains, k, row.internal_start, row.internal_count);
+    let at = ROW_NUMBERS * k;
+    stretches::put_pair(domains, at, row.internal_start, row.internal_count);
     put_borrowed(domains, k, row.borrowed_start, row.borrowed_count);
+    domains[at + DEPTH] = row.depth;
+}
+
+// Writes the domain row number k of a leaf that borrows nothing yet: start and count of its own rows, and its depth.
+pub fn put_own(domains: &mut [usize], k: usize, start: usize, count: usize, depth: usize)
+    requires { ⌜ rowNumbers * (k + 1) ≤ length (now domains) ⌝ }
+    ensures { λ _. ⌜ now (domains .exit) ≡ putOwn (now (domains .entry)) k start count depth ⌝ }
+{
+    put_row(
+        domains,
+        k,
+        DomainRow {
+            internal_start: start,
+            internal_count: count,
+            borrowed_start: 0,
+            borrowed_count: 0,
+            depth: depth,
+        },
+    );
 }

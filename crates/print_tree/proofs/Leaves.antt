@@ -35,7 +35,7 @@ module _ (fine : Bool) (i : ℕ) (p : Packed) (j : ℕ) (r : DomainRow) (e : IsR
       let box = take (x + w - x) (drop x (p .boxes)) in
       leafLine fine i p j
       ≡ domainLine i
-      (leafOf (take (o + r .«internal_count» - o) (drop o (p .internals))) (take (b + r .«borrowed_count» - b) (drop b (p .borrowed))) box (getD (p .boxes) (x + w) nan))
+      (leafOf (take (o + r .«internal_count» - o) (drop o (p .internals))) (take (b + r .«borrowed_count» - b) (drop b (p .borrowed))) box (getD (p .boxes) (x + w) nan) (r .depth))
       (boxPart fine box)
   unfolding leafLine readLeaf
   leaf-line =
@@ -44,6 +44,7 @@ module _ (fine : Bool) (i : ℕ) (p : Packed) (j : ℕ) (r : DomainRow) (e : IsR
         e .own-count,
         e .borrowed-start,
         e .borrowed-count,
+        e .depth,
         ex,
         ew,
         ← part-lent (p .internals) (ownStart (p .domains) j) (ownCount (p .domains) j),

@@ -19,6 +19,7 @@ domainTexts i f box =
     ∷ ascii " box"
     ∷ box
     ∷ (ascii " cover" ++ floatsText (f .cover ∷ []))
+    ∷ (ascii " depth " ++ decimal (f .depth))
     ∷ ascii "\n"
     ∷ []
 

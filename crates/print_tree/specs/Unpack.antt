@@ -7,8 +7,8 @@ use Rattle.definition.specs.Tree.{Leaf}
 use Rattle.packed.specs.Reading.{Packed, readLeaf, readLeaves}
 use Rattle.formats.specs.Printout.{ascii, floatsText, levelLine, domainLine, fineLines}
 
-abbrev pub leafOf : List ℕ → List ℕ → List Float → Float → Leaf
-leafOf own borrowed box cover = record { own = own; borrowed = borrowed; box = box; cover = cover }
+abbrev pub leafOf : List ℕ → List ℕ → List Float → Float → ℕ → Leaf
+leafOf own borrowed box cover depth = record { own = own; borrowed = borrowed; box = box; cover = cover; depth = depth }
 
 -- the text of a box; a dash for the coarse domain's
 unfoldable pub boxPart : Bool → List Float → List ℕ

@@ -25,18 +25,20 @@ fn write_domain(
     fine: bool,
     bounds: &[f64],
     cover: f64,
+    depth: usize,
     out: &mut [u8],
     at: usize,
 ) -> usize
-    requires { ⌜ RoomFor (now out) at (domainLine i (leafOf (now own) (now borrowed) (now bounds) cover) (boxPart fine (now bounds))) ⌝ }
-    ensures { λ r. ⌜ Wrote (now (out .entry)) at (domainLine i (leafOf (now (own .entry)) (now (borrowed .entry)) (now (bounds .entry)) cover) (boxPart fine (now (bounds .entry)))) r (now (out .exit)) ⌝ }
+    requires { ⌜ RoomFor (now out) at (domainLine i (leafOf (now own) (now borrowed) (now bounds) cover depth) (boxPart fine (now bounds))) ⌝ }
+    ensures { λ r. ⌜ Wrote (now (out .entry)) at (domainLine i (leafOf (now (own .entry)) (now (borrowed .entry)) (now (bounds .entry)) cover depth) (boxPart fine (now (bounds .entry)))) r (now (out .exit)) ⌝ }
 {
     let named = print_texts::write_numbered(b"domain ", i, out, at);
     let owned = print_texts::write_listed(b" internal", own, out, named);
     let lent = print_texts::write_listed(b" overlap", borrowed, out, owned);
     let boxed = print_texts::write_text(b" box", out, lent);
     let bounded = write_box(fine, bounds, out, boxed);
-    let done = print_texts::write_valued(b" cover", cover, out, bounded);
+    let covered = print_texts::write_valued(b" cover", cover, out, bounded);
+    let done = print_texts::write_numbered(b" depth ", depth, out, covered);
     print_texts::write_byte(10, out, done)
 }
 
@@ -82,6 +84,7 @@ fn write_leaf(
         fine,
         &boxes[x..xe],
         cover,
+        row.depth,
         out,
         at,
     )

@@ -1,21 +1,22 @@
 -- The state of the loop over the queue, for any kind of domain: what waits is in order, what is still to be written fits, and
 -- what is written, with the leaves of what waits, is what is due. The loop's two turns keep it. Assumes nothing.
--- Holds: sizes, queueCuts, Waits, Holds, State, length-two, now-inside, now-full, now-rows, now-leaves, now-same, now-good,
---   now-left, now-right, now-wait, now-done, state-wait, state-done, state-first, state-end, cuts-length
+-- Holds: sizes, queueCuts, Waits, Holds, State, length-two, now-inside, now-full, now-rows, now-leaves, now-same, now-depth,
+--   now-shallow, now-good, now-left, now-right, now-wait, now-done, state-wait, state-done, state-first, state-end, cuts-length
 use mathlib.Core.Path.{_≡_, refl, sym, ap, _∙_}
-use Prim.Native.Nat.{ℕ, _+_, _-_, _*_, _/_, _≤_, _<_}
+use Prim.Native.Nat.{ℕ, suc, _+_, _-_, _*_, _/_, _≤_, _<_}
 use native.Mathlib.Nat.{add-assoc, add-zero}
 use native.Mathlib.Omega.{arith}
 use mathlib.Core.List.{List, [], _∷_, _++_, map, append-assoc}
 use lib.ListN.{length, length-append}
 use Rattle.lists.specs.Lists.{put, part, joined, total}
 use Rattle.lists.specs.Ascends.{All}
-use Rattle.lists.proofs.All.{all-append}
+use Rattle.lists.proofs.All.{all-append, all-imp}
 use Rattle.lists.proofs.Put.{length-put, length-part, put-next-at, put-nil, part-whole}
 use Rattle.lists.proofs.Sums.{sum-append}
-use Rattle.definition.specs.Packed.{rowNumbers}
-use Rattle.queue.specs.Rows.{twoOwn, withOwn}
-use Rattle.queue.proofs.Kind.{Kind, MayWait, sizeOf, halvesOf, leafRows}
+use Rattle.definition.specs.Packed.{rowNumbers, numbersOf}
+use Rattle.packed.specs.Rows.{ownRow, putOwn}
+use Rattle.queue.specs.Rows.{Own, twoOwn, withOwn}
+use Rattle.queue.proofs.Kind.{Kind, MayWait, sizeOf, halvesOf, leafRows, kindOwn, leafOwn}
 use Rattle.queue.proofs.Stretches.{Stretch, rowsAt, halvesAt, StretchIn, Clear, Apart, apart-halves}
 use Rattle.queue.proofs.Stretches.{after-length, after-both, after-left, after-right, after-other}
 
@@ -32,29 +33,30 @@ pub record Waits (n : ℕ) (qs : List Stretch) : Type 0 where
   pub full : All (λ q. 1 ≤ q .count) qs
   pub apart : Apart qs
 
--- the stretches hold the rows of the domains ds, which are good
+-- the stretches hold the rows of the domains ds, which are good, and are as deep
 unfoldable pub Holds : {D : Type 0} {leaf : ℕ} → Kind D leaf → List ℕ → List Stretch → List D → Type 0
 Holds K rows [] [] = Unit
 Holds K rows [] (d ∷ ds) = ⊥
 Holds K rows (q ∷ qs) [] = ⊥
-Holds K rows (q ∷ qs) (d ∷ ds) = ((rowsAt rows q ≡ K .rowsOf d) × K .Good d) × Holds K rows qs ds
+Holds K rows (q ∷ qs) (d ∷ ds) = ((rowsAt rows q ≡ K .rowsOf d) × K .Good d × (q .depth ≡ K .depthOf d)) × Holds K rows qs ds
 
 -- Where the loop is: `rows` are the rows, `I` and `O` the leaves' rows and the domain rows, written up to `at` and to the k-th row,
 -- and `head` stretches were taken from the queue. The domain rows name the leaves' rows `base` entries further on, where they are to stand
--- in the end. The final lists and number are what is due.
+-- in the end. No stretch is deeper than cuts were made. The final lists and number are what is due.
 pub record State {D : Type 0} {leaf : ℕ} (K : Kind D leaf) (base n endI endK : ℕ) (finalI finalO : List ℕ) (finalK : ℕ)
     (rows I O : List ℕ) (qs : List Stretch) (ds : List D) (head at k : ℕ) : Type 0 where
   pub pos : 1 ≤ leaf
   pub all : length rows ≡ n
   pub waits : Waits n qs
   pub holds : Holds K rows qs ds
+  pub shallow : All (λ q. q .depth ≤ head) qs
   pub room-left : head + queueCuts qs < 2 * n
   pub rows-left : at + sizes qs ≤ endI
   pub leaves-left : k + 2 * sizes qs ≤ endK
   pub fit-I : endI ≤ length I
   pub fit-O : rowNumbers * endK ≤ length O
   pub out-I : put I at (joined (leafRows K ds)) ≡ finalI
-  pub out-O : withOwn (base + at) (leafRows K ds) k O ≡ finalO
+  pub out-O : withOwn (base + at) (leafOwn K ds) k O ≡ finalO
   pub out-K : k + length (K .leaves ds) ≡ finalK
 
 -- ---- small laws of the parts
@@ -73,18 +75,21 @@ unfolding All Apart
 waits-rest n q qs w = record { inside = w .inside .1; full = w .full .1; apart = w .apart .1 }
 
 -- the domain rows of two leaves, and of those behind them
-two-leaves : (at n k : ℕ) (O l r : List ℕ) (ls : List (List ℕ)) → length l ≡ n / 2 → length r ≡ n - n / 2
-    → withOwn at (l ∷ r ∷ ls) k O ≡ withOwn (at + n) ls (k + 2) (twoOwn O k at n)
+two-leaves : (at n k e : ℕ) (O : List ℕ) (l r : Own) (ls : List Own) → length (l .rows) ≡ n / 2 → length (r .rows) ≡ n - n / 2 → l .depth ≡ e → r .depth ≡ e
+    → withOwn at (l ∷ r ∷ ls) k O ≡ withOwn (at + n) ls (k + 2) (twoOwn O k at n e)
 unfolding withOwn
-two-leaves at n k O l r ls e f =
+two-leaves at n k e O l r ls a b c d =
     let g : at + n / 2 + (n - n / 2) ≡ at + n = omega arith in
     let h : k + 1 + 1 ≡ k + 2 = omega arith in
-    rw (e, f, g, h)
+    rw (a, b, c, d, g, h)
 
-pub length-two : (O : List ℕ) (k at n : ℕ) → rowNumbers * (k + 2) ≤ length O → length (twoOwn O k at n) ≡ length O
-length-two O k at n h =
-    let m = length-put O (rowNumbers * k) (at ∷ (n / 2) ∷ []) (omega arith) in
-    length-put (put O (rowNumbers * k) (at ∷ (n / 2) ∷ [])) (rowNumbers * (k + 1)) ((at + n / 2) ∷ (n - n / 2) ∷ []) (omega arith) ∙ m
+length-own : (O : List ℕ) (k at n e : ℕ) → rowNumbers * (k + 1) ≤ length O → length (putOwn O k at n e) ≡ length O
+length-own O k at n e h = length-put O (rowNumbers * k) (numbersOf (ownRow at n e)) (omega arith)
+
+pub length-two : (O : List ℕ) (k at n e : ℕ) → rowNumbers * (k + 2) ≤ length O → length (twoOwn O k at n e) ≡ length O
+length-two O k at n e h =
+    let m = length-own O k at (n / 2) e (omega arith) in
+    length-own (putOwn O k at (n / 2) e) (k + 1) (at + n / 2) (n - n / 2) e (omega arith) ∙ m
 
 two-joined : (l r : List ℕ) (ls : List (List ℕ)) → joined (l ∷ r ∷ ls) ≡ l ++ r ++ joined ls
 unfolding joined
@@ -117,7 +122,7 @@ module _ {D : Type 0} {leaf : ℕ} (K : Kind D leaf) where
   holds-after rows q l r i el er [] (d ∷ ds) a h = absurd h
   holds-after rows q l r i el er (p ∷ qs) [] a h = absurd h
   holds-after rows q l r i el er (p ∷ qs) (d ∷ ds) a h =
-      ((after-other rows q l r i el er p (a .0) ∙ h .0 .0, h .0 .1), holds-after rows q l r i el er qs ds (a .1) (h .1))
+      ((after-other rows q l r i el er p (a .0) ∙ h .0 .0, h .0 .1, h .0 .2), holds-after rows q l r i el er qs ds (a .1) (h .1))
 
 -- ---- the two turns
 module _ {D : Type 0} {leaf : ℕ} {K : Kind D leaf} {base n endI endK : ℕ} {finalI finalO : List ℕ} {finalK : ℕ} {rows I O : List ℕ}
@@ -163,6 +168,15 @@ module _ {D : Type 0} {leaf : ℕ} {K : Kind D leaf} {base n endI endK : ℕ} {f
   unfolding Holds
   now-same = st .holds .0 .0
 
+  -- its depth, which is no more than the cuts that were made
+  pub now-depth : q .depth ≡ K .depthOf d
+  unfolding Holds
+  now-depth = st .holds .0 .2
+
+  pub now-shallow : q .depth ≤ head
+  unfolding All
+  now-shallow = st .shallow .0
+
   now-size : sizeOf K d ≡ c
   now-size = sym (ap length now-same) ∙ length-part rows s c inside
 
@@ -187,6 +201,17 @@ module _ {D : Type 0} {leaf : ℕ} {K : Kind D leaf} {base n endI endK : ℕ} {f
   unfolding Holds Apart
   rest-holds = holds-after K rows q l r inside now-left now-right qs ds (st .waits .apart .0) (st .holds .1)
 
+  -- the halves are one deeper, and the others not deeper than before
+  deeper-left : suc (q .depth) ≡ K .depthOf (K .left d)
+  deeper-left = ap suc now-depth ∙ sym (K .left-depth d)
+
+  deeper-right : suc (q .depth) ≡ K .depthOf (K .right d)
+  deeper-right = ap suc now-depth ∙ sym (K .right-depth d)
+
+  rest-shallow : All (λ q. q .depth ≤ head + 1) qs
+  unfolding All
+  rest-shallow = all-imp (λ q. q .depth ≤ head) (λ q. q .depth ≤ head + 1) qs (λ q h. omega arith) (st .shallow .1)
+
   -- the leaves of what waits
   pub now-wait : 2 * leaf ≤ c → K .leaves (d ∷ ds) ≡ K .leaves (ds ++ halvesOf K d)
   now-wait h = K .leaves-wait d ds full-here (rw now-size h)
@@ -196,7 +221,7 @@ module _ {D : Type 0} {leaf : ℕ} {K : Kind D leaf} {base n endI endK : ℕ} {f
 
   -- the first domain's halves wait
   pub state-wait : 2 * leaf ≤ c → State K base n endI endK finalI finalO finalK cutRows I O (qs ++ halvesAt q) (ds ++ halvesOf K d) (head + 1) at k
-  unfolding total Holds
+  unfolding total Holds All
   state-wait h =
       let e = now-wait h in
       let a = sum-append (λ (p : Stretch). p .count) qs (halvesAt q) in
@@ -207,9 +232,10 @@ module _ {D : Type 0} {leaf : ℕ} {K : Kind D leaf} {base n endI endK : ℕ} {f
         waits = waits-halves n q qs (omega (arith, st .pos)) (st .waits);
         holds =
             holds-append K cutRows qs (halvesAt q) ds (halvesOf K d) rest-holds (
-              (after-left rows q l r inside now-left now-right, K .left-good d now-good),
-              ((after-right rows q l r inside now-left now-right, K .right-good d now-good), tt),
+              (after-left rows q l r inside now-left now-right, K .left-good d now-good, deeper-left),
+              ((after-right rows q l r inside now-left now-right, K .right-good d now-good, deeper-right), tt),
             );
+        shallow = all-append (λ q. q .depth ≤ head + 1) qs (halvesAt q) rest-shallow (omega (arith, now-shallow), (omega (arith, now-shallow), tt));
         room-left = omega (arith, st .room-left, st .pos);
         rows-left = omega (arith, st .rows-left);
         leaves-left = omega (arith, st .leaves-left);
@@ -222,12 +248,15 @@ module _ {D : Type 0} {leaf : ℕ} {K : Kind D leaf} {base n endI endK : ℕ} {f
 
   -- they are the next two leaves
   pub state-done : c < 2 * leaf
-      → State K base n endI endK finalI finalO finalK cutRows (put I at (part cutRows s c)) (twoOwn O k (base + at) c) qs ds (head + 1) (at + c) (k + 2)
+      → State K base n endI endK finalI finalO finalK cutRows (put I at (part cutRows s c)) (twoOwn O k (base + at) c (suc (q .depth))) qs ds (head + 1) (at + c) (k + 2)
   unfolding total
   state-done h =
       let e = now-done h in
       let ls = leafRows K ds in
       let m : leafRows K (d ∷ ds) ≡ l ∷ r ∷ ls = ap (map (K .rowsOf)) e in
+      let os = leafOwn K ds in
+      let o : leafOwn K (d ∷ ds) ≡ kindOwn K (K .left d) ∷ kindOwn K (K .right d) ∷ os = ap (map (kindOwn K)) e in
+      let dep = suc (q .depth) in
       let el = now-left in
       let er = now-right in
       let both : rowsAt cutRows q ≡ l ++ r = after-both rows q l r inside now-left now-right in
@@ -238,40 +267,43 @@ module _ {D : Type 0} {leaf : ℕ} {K : Kind D leaf} {base n endI endK : ℕ} {f
         all = length-after;
         waits = waits-rest n q qs (st .waits);
         holds = rest-holds;
+        shallow = rest-shallow;
         room-left = omega (arith, st .room-left);
         rows-left = omega (arith, st .rows-left);
         leaves-left = omega (arith, st .leaves-left);
         fit-I = rw both (rw (length-put I at (l ++ r) (omega (arith, st .fit-I, now-rows))) (st .fit-I));
-        fit-O = rw (length-two O k (base + at) c (omega (arith, st .fit-O, now-leaves, f))) (st .fit-O);
+        fit-O = rw (length-two O k (base + at) c dep (omega (arith, st .fit-O, now-leaves, f))) (st .fit-O);
         out-I =
             rw both (put-next-at I at (l ++ r) (joined ls) (at + c) (omega (arith, st .fit-I, now-rows)) (omega arith)
             ∙ ap (put I at) (sym (two-joined l r ls)) ∙ ap (λ (x : List (List ℕ)). put I at (joined x)) (sym m) ∙ st .out-I);
         out-O =
-            ap (λ (x : ℕ). withOwn x ls (k + 2) (twoOwn O k (base + at) c)) (sym (add-assoc base at c)) ∙ sym (two-leaves (base + at) c k O l r ls el er)
-            ∙ ap (λ (x : List (List ℕ)). withOwn (base + at) x k O) (sym m) ∙ st .out-O;
+            ap (λ (x : ℕ). withOwn x os (k + 2) (twoOwn O k (base + at) c dep)) (sym (add-assoc base at c))
+            ∙ sym (two-leaves (base + at) c k dep O (kindOwn K (K .left d)) (kindOwn K (K .right d)) os el er (sym deeper-left) (sym deeper-right))
+            ∙ ap (λ (x : List Own). withOwn (base + at) x k O) (sym o) ∙ st .out-O;
         out-K = let g = ap length e in omega (arith, st .out-K);
       }
 
 -- ---- where the loop begins, with one domain, and where it ends
-pub state-first : {D : Type 0} {leaf : ℕ} (K : Kind D leaf) (d : D) (rows I O : List ℕ) (base k : ℕ) → 1 ≤ leaf → rows ≡ K .rowsOf d → K .Good d → 1 ≤ length rows
+pub state-first : {D : Type 0} {leaf : ℕ} (K : Kind D leaf) (d : D) (rows I O : List ℕ) (base k : ℕ) → 1 ≤ leaf → rows ≡ K .rowsOf d → K .Good d → 0 ≡ K .depthOf d → 1 ≤ length rows
     → length rows ≤ length I → rowNumbers * (k + 2 * length rows) ≤ length O
     → State K base (length rows) (length rows) (k + 2 * length rows)
-    (put I 0 (joined (leafRows K (d ∷ [])))) (withOwn base (leafRows K (d ∷ [])) k O) (k + length (K .leaves (d ∷ [])))
-    rows I O (record { start = 0; count = length rows } ∷ []) (d ∷ []) 0 0 k
+    (put I 0 (joined (leafRows K (d ∷ [])))) (withOwn base (leafOwn K (d ∷ [])) k O) (k + length (K .leaves (d ∷ [])))
+    rows I O (record { start = 0; count = length rows; depth = 0 } ∷ []) (d ∷ []) 0 0 k
 unfolding total All Apart Holds
-state-first K d rows I O base k p e g h f o =
+state-first K d rows I O base k p e g z h f o =
     record {
       pos = p;
       all = refl;
       waits = record { inside = (omega arith, tt); full = (h, tt); apart = (tt, tt) };
-      holds = ((part-whole rows (length rows) refl ∙ e, g), tt);
+      holds = ((part-whole rows (length rows) refl ∙ e, g, z), tt);
+      shallow = (omega arith, tt);
       room-left = omega arith;
       rows-left = omega arith;
       leaves-left = omega arith;
       fit-I = f;
       fit-O = o;
       out-I = refl;
-      out-O = ap (λ (x : ℕ). withOwn x (leafRows K (d ∷ [])) k O) (add-zero base);
+      out-O = ap (λ (x : ℕ). withOwn x (leafOwn K (d ∷ [])) k O) (add-zero base);
       out-K = refl;
     }
 

@@ -1,8 +1,8 @@
 -- Domains as stretches of a list of rows: those that wait are apart, so a cut of one leaves the rows of the others alone. The
--- queue in its room, two numbers a stretch. Assumes nothing.
+-- queue in its room, three numbers a stretch. Assumes nothing.
 -- Holds: Stretch, rowsAt, leftAt, rightAt, halvesAt, StretchIn, Clear, Apart, apart-halves, both-length, after-length,
---   after-both, after-left, after-right, after-other, waiting, waiting-next, waiting-join, waiting-length, waiting-none,
---   waiting-first
+--   after-both, after-left, after-right, after-other, stretchAt, waiting, waiting-next, waiting-join, waiting-length,
+--   waiting-none, waiting-first
 use mathlib.Core.Path.{_≡_, refl, sym, ap, _∙_}
 use mathlib.Core.Logic.{_⊎_, inl, inr}
 use Prim.Native.Nat.{ℕ, zero, suc, _+_, _-_, _*_, _/_, _≤_, _<_}
@@ -17,19 +17,21 @@ use Rattle.lists.proofs.All.{all-append, all-imp}
 use Rattle.lists.proofs.Put.{length-put, part-put-same, part-put-after, part-put-before, part-part, part-first, part-second, getD-put-before, getD-put-at}
 use Rattle.queue.specs.Rows.{twoHalves}
 
+-- where the rows of a domain stand, and how deep it is
 pub record Stretch : Type 0 where
   pub start : ℕ
   pub count : ℕ
+  pub depth : ℕ
 
 abbrev pub rowsAt : List ℕ → Stretch → List ℕ
 rowsAt rows q = part rows (q .start) (q .count)
 
--- the halves of a stretch
+-- the halves of a stretch, one deeper
 abbrev pub leftAt : Stretch → Stretch
-leftAt q = record { start = q .start; count = q .count / 2 }
+leftAt q = record { start = q .start; count = q .count / 2; depth = suc (q .depth) }
 
 abbrev pub rightAt : Stretch → Stretch
-rightAt q = record { start = q .start + q .count / 2; count = q .count - q .count / 2 }
+rightAt q = record { start = q .start + q .count / 2; count = q .count - q .count / 2; depth = suc (q .depth) }
 
 abbrev pub halvesAt : Stretch → List Stretch
 halvesAt q = leftAt q ∷ rightAt q ∷ []
@@ -98,9 +100,12 @@ module _ (rows : List ℕ) (q : Stretch) (l r : List ℕ) (inside : StretchIn (l
   after-other p (inr h) = part-put-before rows (q .start) (l ++ r) (p .start) (p .count) (omega arith) h
 
 -- ---- the queue in its room: the n stretches from the h-th on
+abbrev pub stretchAt : List ℕ → ℕ → Stretch
+stretchAt room h = record { start = getD room (3 * h) 0; count = getD room (3 * h + 1) 0; depth = getD room (3 * h + 2) 0 }
+
 unfoldable pub waiting : List ℕ → ℕ → ℕ → List Stretch
 waiting room h zero = []
-waiting room h (suc n) = record { start = getD room (2 * h) 0; count = getD room (2 * h + 1) 0 } ∷ waiting room (suc h) n
+waiting room h (suc n) = stretchAt room h ∷ waiting room (suc h) n
 
 waiting-append : (room : List ℕ) (h n m : ℕ) → waiting room h (n + m) ≡ waiting room h n ++ waiting room (h + n) m
 unfolding waiting
@@ -108,38 +113,47 @@ waiting-append room h zero m = rw (zero-add m, add-zero h)
 waiting-append room h (suc n) m = rw (suc-add n m, waiting-append room (suc h) n m, suc-add h n, add-suc h n)
 
 -- what is written past the queue leaves it alone
-waiting-put : (room : List ℕ) (k : ℕ) (xs : List ℕ) (h n : ℕ) → k ≤ length room → 2 * (h + n) ≤ k → waiting (put room k xs) h n ≡ waiting room h n
+waiting-put : (room : List ℕ) (k : ℕ) (xs : List ℕ) (h n : ℕ) → k ≤ length room → 3 * (h + n) ≤ k → waiting (put room k xs) h n ≡ waiting room h n
 unfolding waiting
 waiting-put room k xs h zero f g = refl
 waiting-put room k xs h (suc n) f g =
-    rw (getD-put-before room k xs (2 * h) 0 f (omega arith), getD-put-before room k xs (2 * h + 1) 0 f (omega arith), waiting-put room k xs (suc h) n f (omega arith))
+    rw (
+      getD-put-before room k xs (3 * h) 0 f (omega arith),
+      getD-put-before room k xs (3 * h + 1) 0 f (omega arith),
+      getD-put-before room k xs (3 * h + 2) 0 f (omega arith),
+      waiting-put room k xs (suc h) n f (omega arith),
+    )
 
 -- the head of the queue
-pub waiting-next : (room : List ℕ) (h t : ℕ) → h < t
-    → waiting room h (t - h) ≡ record { start = getD room (2 * h) 0; count = getD room (2 * h + 1) 0 } ∷ waiting room (h + 1) (t - (h + 1))
+pub waiting-next : (room : List ℕ) (h t : ℕ) → h < t → waiting room h (t - h) ≡ stretchAt room h ∷ waiting room (h + 1) (t - (h + 1))
 unfolding waiting
 waiting-next room h t g =
     let e : t - h ≡ suc (t - (h + 1)) = omega arith in
     rw (e, add-one h)
 
 -- two halves that are written at the end of the queue join it
-waiting-halves : (room : List ℕ) (t s n : ℕ) → 2 * t ≤ length room → waiting (put room (2 * t) (twoHalves s n)) t 2 ≡ halvesAt (record { start = s; count = n })
+waiting-halves : (room : List ℕ) (t s n e : ℕ) → 3 * t ≤ length room
+    → waiting (put room (3 * t) (twoHalves s n (suc e))) t 2 ≡ halvesAt (record { start = s; count = n; depth = e })
 unfolding waiting
-waiting-halves room t s n h =
+waiting-halves room t s n e h =
+    let xs = twoHalves s n (suc e) in
     rw (
-      getD-put-at room (2 * t) (twoHalves s n) (2 * t) 0 0 h (omega arith) (omega arith),
-      getD-put-at room (2 * t) (twoHalves s n) (2 * t + 1) 1 0 h (omega arith) (omega arith),
-      getD-put-at room (2 * t) (twoHalves s n) (2 * suc t) 2 0 h (omega arith) (omega arith),
-      getD-put-at room (2 * t) (twoHalves s n) (2 * suc t + 1) 3 0 h (omega arith) (omega arith),
+      getD-put-at room (3 * t) xs (3 * t) 0 0 h (omega arith) (omega arith),
+      getD-put-at room (3 * t) xs (3 * t + 1) 1 0 h (omega arith) (omega arith),
+      getD-put-at room (3 * t) xs (3 * t + 2) 2 0 h (omega arith) (omega arith),
+      getD-put-at room (3 * t) xs (3 * suc t) 3 0 h (omega arith) (omega arith),
+      getD-put-at room (3 * t) xs (3 * suc t + 1) 4 0 h (omega arith) (omega arith),
+      getD-put-at room (3 * t) xs (3 * suc t + 2) 5 0 h (omega arith) (omega arith),
     )
 
-pub waiting-join : (room : List ℕ) (h t s n : ℕ) → h ≤ t → 2 * t ≤ length room
-    → waiting (put room (2 * t) (twoHalves s n)) h (t + 2 - h) ≡ waiting room h (t - h) ++ halvesAt (record { start = s; count = n })
-waiting-join room h t s n g f =
+pub waiting-join : (room : List ℕ) (h t s n e : ℕ) → h ≤ t → 3 * t ≤ length room
+    → waiting (put room (3 * t) (twoHalves s n (suc e))) h (t + 2 - h) ≡ waiting room h (t - h) ++ halvesAt (record { start = s; count = n; depth = e })
+waiting-join room h t s n e g f =
     let m = t - h in
-    let e : t + 2 - h ≡ m + 2 = omega arith in
+    let xs = twoHalves s n (suc e) in
+    let k : t + 2 - h ≡ m + 2 = omega arith in
     let d : h + m ≡ t = omega arith in
-    rw (e, waiting-append (put room (2 * t) (twoHalves s n)) h m 2, waiting-put room (2 * t) (twoHalves s n) h m f (omega arith), d, waiting-halves room t s n f)
+    rw (k, waiting-append (put room (3 * t) xs) h m 2, waiting-put room (3 * t) xs h m f (omega arith), d, waiting-halves room t s n e f)
 
 pub waiting-length : (room : List ℕ) (h n : ℕ) → length (waiting room h n) ≡ n
 unfolding waiting
@@ -150,8 +164,13 @@ pub waiting-none : (room : List ℕ) (h t : ℕ) → t ≤ h → waiting room h 
 unfolding waiting
 waiting-none room h t g = let e : t - h ≡ 0 = omega arith in rw e
 
--- the first stretch of a queue: all rows
-pub waiting-first : (room : List ℕ) (n : ℕ) → 2 ≤ length room → waiting (put room 0 (0 ∷ n ∷ [])) 0 1 ≡ record { start = 0; count = n } ∷ []
+-- the first stretch of a queue: all rows, at depth 0
+pub waiting-first : (room : List ℕ) (n : ℕ) → 3 ≤ length room → waiting (put room 0 (0 ∷ n ∷ 0 ∷ [])) 0 1 ≡ record { start = 0; count = n; depth = 0 } ∷ []
 unfolding waiting
 waiting-first room n h =
-    rw (getD-put-at room 0 (0 ∷ n ∷ []) 0 0 0 (omega arith) (omega arith) (omega arith), getD-put-at room 0 (0 ∷ n ∷ []) 1 1 0 (omega arith) (omega arith) (omega arith))
+    let xs : List ℕ = 0 ∷ n ∷ 0 ∷ [] in
+    rw (
+      getD-put-at room 0 xs 0 0 0 (omega arith) (omega arith) (omega arith),
+      getD-put-at room 0 xs 1 1 0 (omega arith) (omega arith) (omega arith),
+      getD-put-at room 0 xs 2 2 0 (omega arith) (omega arith) (omega arith),
+    )

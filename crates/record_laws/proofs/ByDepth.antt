@@ -3,8 +3,8 @@
 -- Holds: at-nil, at-append, at-one, at-other, deepLeaves, deep-more, deep-done, queue-by-depth, leaves-under, level-by-depth
 use mathlib.Core.Path.{_≡_, refl, sym, ap, _∙_}
 use mathlib.Core.Logic.{⊎-elim}
-use mathlib.Core.Bool.{Bool, cond}
-use mathlib.Core.List.{List, [], _∷_, _++_, map, map-append, append-nil, append-assoc}
+use mathlib.Core.Bool.{cond}
+use mathlib.Core.List.{List, [], _∷_, _++_, map, append-nil, append-assoc}
 use Prim.Native.Nat.{ℕ, zero, suc, _*_, _≤_, _<_}
 use native.Mathlib.Omega.{arith}
 use borrow.Author.Tests.{le-leb, lt-leb, eq-eqb, ne-eqb}
@@ -19,71 +19,69 @@ use Rattle.lists.proofs.Count.{keep-append}
 use Rattle.lists.proofs.Map.{map-same}
 use Rattle.lists.proofs.From.{from-mem}
 use Rattle.definition.specs.Cut.{Domain, rootDomain, leftOf, rightOf, leavesOf}
-use Rattle.definition.specs.Record.{Deep, cutsOf, levelCuts, leavesUnder}
+use Rattle.definition.specs.Record.{cutsOf, levelCuts, leavesUnder}
 use Rattle.queue.proofs.Kind.{Kind, MayWait, sizeOf}
 use Rattle.rows.specs.Rows.{GoodRows}
 use Rattle.leaves.proofs.Domains.{kind, leaves-are}
 use Rattle.record_laws.proofs.Steps.{step-more, step-done}
-use Rattle.record_laws.specs.ByDepth.{atDepth, byDepth}
+use Rattle.record_laws.specs.ByDepth.{atDepth, byDepth, domainDepth}
 
 -- ---- the leaves at one depth
-module _ {D : Type 0} where
-  abbrev deep : ℕ → D → Deep D
-  deep e d = record { domain = d; depth = e }
-
-  pub at-nil : (e : ℕ) → atDepth {D = D} e [] ≡ []
+module _ {D : Type 0} (depthOf : D → ℕ) where
+  pub at-nil : (e : ℕ) → atDepth depthOf e [] ≡ []
   unfolding atDepth keep
   at-nil e = refl
 
-  pub at-append : (e : ℕ) (xs ys : List (Deep D)) → atDepth e (xs ++ ys) ≡ atDepth e xs ++ atDepth e ys
+  pub at-append : (e : ℕ) (xs ys : List D) → atDepth depthOf e (xs ++ ys) ≡ atDepth depthOf e xs ++ atDepth depthOf e ys
   unfolding atDepth
-  at-append e xs ys =
-      let p : Deep D → Bool = λ f. eqb (f .depth) e in
-      ap (map (λ (f : Deep D). f .domain)) (keep-append p xs ys) ∙ map-append (λ (f : Deep D). f .domain) (keep p xs) (keep p ys)
+  at-append e xs ys = keep-append (λ f. eqb (depthOf f) e) xs ys
 
   -- a leaf at this depth is the first, and one at another is not there
-  pub at-one : (e : ℕ) (f : Deep D) (fs : List (Deep D)) → f .depth ≡ e → atDepth e (f ∷ fs) ≡ f .domain ∷ atDepth e fs
+  pub at-one : (e : ℕ) (f : D) (fs : List D) → depthOf f ≡ e → atDepth depthOf e (f ∷ fs) ≡ f ∷ atDepth depthOf e fs
   unfolding atDepth keep
-  at-one e f fs h = rw (eq-eqb (f .depth) e h)
+  at-one e f fs h = rw (eq-eqb (depthOf f) e h)
 
-  pub at-other : (e : ℕ) (f : Deep D) (fs : List (Deep D)) → (f .depth ≡ e → ⊥) → atDepth e (f ∷ fs) ≡ atDepth e fs
+  pub at-other : (e : ℕ) (f : D) (fs : List D) → (depthOf f ≡ e → ⊥) → atDepth depthOf e (f ∷ fs) ≡ atDepth depthOf e fs
   unfolding atDepth keep
-  at-other e f fs h = rw (ne-eqb (f .depth) e h)
+  at-other e f fs h = rw (ne-eqb (depthOf f) e h)
 
 -- ---- the leaves under a domain
--- from left to right, each with its depth, of a domain at depth e; `fuel` bounds the cuts below each other
-unfoldable pub deepLeaves : {D : Type 0} {leaf : ℕ} → Kind D leaf → ℕ → ℕ → D → List (Deep D)
-deepLeaves K zero e d = []
-deepLeaves {D} {leaf} K (suc fuel) e d =
-    let more = deepLeaves K fuel (suc e) (K .left d) ++ deepLeaves K fuel (suc e) (K .right d) in
-    let done = deep (suc e) (K .left d) ∷ deep (suc e) (K .right d) ∷ [] in
+-- from left to right; `fuel` bounds the cuts below each other
+unfoldable pub deepLeaves : {D : Type 0} {leaf : ℕ} → Kind D leaf → ℕ → D → List D
+deepLeaves K zero d = []
+deepLeaves {D} {leaf} K (suc fuel) d =
+    let more = deepLeaves K fuel (K .left d) ++ deepLeaves K fuel (K .right d) in
+    let done = K .left d ∷ K .right d ∷ [] in
     cond (leb (2 * leaf) (sizeOf K d)) more done
 
 module _ {D : Type 0} {leaf : ℕ} (K : Kind D leaf) where
-  pub deep-more : (fuel e : ℕ) (d : D) → 2 * leaf ≤ sizeOf K d
-      → deepLeaves K (suc fuel) e d ≡ deepLeaves K fuel (suc e) (K .left d) ++ deepLeaves K fuel (suc e) (K .right d)
-  unfolding deepLeaves
-  deep-more fuel e d h = rw (le-leb (2 * leaf) (sizeOf K d) h)
+  abbrev at : ℕ → List D → List D
+  at e fs = atDepth (K .depthOf) e fs
 
-  pub deep-done : (fuel e : ℕ) (d : D) → sizeOf K d < 2 * leaf → deepLeaves K (suc fuel) e d ≡ deep (suc e) (K .left d) ∷ deep (suc e) (K .right d) ∷ []
+  pub deep-more : (fuel : ℕ) (d : D) → 2 * leaf ≤ sizeOf K d → deepLeaves K (suc fuel) d ≡ deepLeaves K fuel (K .left d) ++ deepLeaves K fuel (K .right d)
   unfolding deepLeaves
-  deep-done fuel e d h = rw (lt-leb (2 * leaf) (sizeOf K d) h)
+  deep-more fuel d h = rw (le-leb (2 * leaf) (sizeOf K d) h)
+
+  pub deep-done : (fuel : ℕ) (d : D) → sizeOf K d < 2 * leaf → deepLeaves K (suc fuel) d ≡ K .left d ∷ K .right d ∷ []
+  unfolding deepLeaves
+  deep-done fuel d h = rw (lt-leb (2 * leaf) (sizeOf K d) h)
 
   -- none is as high as the domain
-  deep-below : (fuel e m : ℕ) (d : D) → m ≤ e → atDepth m (deepLeaves K fuel e d) ≡ []
+  deep-below : (fuel m : ℕ) (d : D) → m ≤ K .depthOf d → at m (deepLeaves K fuel d) ≡ []
   unfolding deepLeaves
-  deep-below zero e m d h = at-nil m
-  deep-below (suc fuel) e m d h =
+  deep-below zero m d h = at-nil (K .depthOf) m
+  deep-below (suc fuel) m d h =
+      let dl = K .left-depth d in
+      let dr = K .right-depth d in
       ⊎-elim
       (λ (big : 2 * leaf ≤ sizeOf K d). rw (
-        deep-more fuel e d big,
-        at-append m (deepLeaves K fuel (suc e) (K .left d)) (deepLeaves K fuel (suc e) (K .right d)),
-        deep-below fuel (suc e) m (K .left d) (omega arith),
-        deep-below fuel (suc e) m (K .right d) (omega arith),
+        deep-more fuel d big,
+        at-append (K .depthOf) m (deepLeaves K fuel (K .left d)) (deepLeaves K fuel (K .right d)),
+        deep-below fuel m (K .left d) (omega arith),
+        deep-below fuel m (K .right d) (omega arith),
       ))
-      (λ (small : sizeOf K d < 2 * leaf). rw (deep-done fuel e d small)
-      (at-other m (deep (suc e) (K .left d)) (deep (suc e) (K .right d) ∷ []) (λ q. omega arith)
-      ∙ at-other m (deep (suc e) (K .right d)) [] (λ q. omega arith) ∙ at-nil m))
+      (λ (small : sizeOf K d < 2 * leaf). rw (deep-done fuel d small)
+      (at-other (K .depthOf) m (K .left d) (K .right d ∷ []) (λ q. omega arith) ∙ at-other (K .depthOf) m (K .right d) [] (λ q. omega arith) ∙ at-nil (K .depthOf) m))
       (le-or-lt (2 * leaf) (sizeOf K d))
 
   -- ---- one depth of domains
@@ -113,64 +111,83 @@ module _ {D : Type 0} {leaf : ℕ} (K : Kind D leaf) where
     unfolding cutKids
     cut-done h = rw (lt-leb (2 * leaf) (sizeOf K d) h)
 
+  -- domains that are all at depth e; the halves that wait are all at the next
+  abbrev Level : ℕ → List D → Type 0
+  Level e ds = All (λ (d : D). K .depthOf d ≡ e) ds
+
+  kids-level : (e : ℕ) (ds : List D) → Level e ds → Level (suc e) (cutKids ds)
+  unfolding All cutKids
+  kids-level e [] u = tt
+  kids-level e (d ∷ ds) u =
+      ⊎-elim
+      (λ (big : 2 * leaf ≤ sizeOf K d). rw (cut-more d ds big) (K .left-depth d ∙ ap suc (u .0), (K .right-depth d ∙ ap suc (u .0), kids-level e ds (u .1))))
+      (λ (small : sizeOf K d < 2 * leaf). rw (cut-done d ds small) (kids-level e ds (u .1)))
+      (le-or-lt (2 * leaf) (sizeOf K d))
+
   -- the leaves under domains of one depth, from left to right
-  unfoldable under : ℕ → ℕ → List D → List (Deep D)
-  under fuel e [] = []
-  under fuel e (d ∷ ds) = deepLeaves K fuel e d ++ under fuel e ds
+  unfoldable under : ℕ → List D → List D
+  under fuel [] = []
+  under fuel (d ∷ ds) = deepLeaves K fuel d ++ under fuel ds
 
-  under-nil : (fuel e : ℕ) → under fuel e [] ≡ []
+  under-nil : (fuel : ℕ) → under fuel [] ≡ []
   unfolding under
-  under-nil fuel e = refl
+  under-nil fuel = refl
 
-  under-cons : (fuel e : ℕ) (d : D) (ds : List D) → under fuel e (d ∷ ds) ≡ deepLeaves K fuel e d ++ under fuel e ds
+  under-cons : (fuel : ℕ) (d : D) (ds : List D) → under fuel (d ∷ ds) ≡ deepLeaves K fuel d ++ under fuel ds
   unfolding under
-  under-cons fuel e d ds = refl
+  under-cons fuel d ds = refl
 
   -- at the next depth stand the leaf halves
-  first-depth : (fuel e : ℕ) (ds : List D) → atDepth (suc e) (under (suc fuel) e ds) ≡ leafKids ds
-  unfolding under leafKids
-  first-depth fuel e [] = at-nil (suc e)
-  first-depth fuel e (d ∷ ds) =
-      at-append (suc e) (deepLeaves K (suc fuel) e d) (under (suc fuel) e ds)
+  first-depth : (fuel e : ℕ) (ds : List D) → Level e ds → at (suc e) (under (suc fuel) ds) ≡ leafKids ds
+  unfolding under leafKids All
+  first-depth fuel e [] u = at-nil (K .depthOf) (suc e)
+  first-depth fuel e (d ∷ ds) u =
+      let z = u .0 in
+      let dl = K .left-depth d in
+      let dr = K .right-depth d in
+      at-append (K .depthOf) (suc e) (deepLeaves K (suc fuel) d) (under (suc fuel) ds)
       ∙ ⊎-elim
       (λ (big : 2 * leaf ≤ sizeOf K d). rw (
         leaf-more d ds big,
-        deep-more fuel e d big,
-        at-append (suc e) (deepLeaves K fuel (suc e) (K .left d)) (deepLeaves K fuel (suc e) (K .right d)),
-        deep-below fuel (suc e) (suc e) (K .left d) (omega arith),
-        deep-below fuel (suc e) (suc e) (K .right d) (omega arith),
+        deep-more fuel d big,
+        at-append (K .depthOf) (suc e) (deepLeaves K fuel (K .left d)) (deepLeaves K fuel (K .right d)),
+        deep-below fuel (suc e) (K .left d) (omega arith),
+        deep-below fuel (suc e) (K .right d) (omega arith),
       )
-      (first-depth fuel e ds))
+      (first-depth fuel e ds (u .1)))
       (λ (small : sizeOf K d < 2 * leaf). rw (
         leaf-done d ds small,
-        deep-done fuel e d small,
-        at-one (suc e) (deep (suc e) (K .left d)) (deep (suc e) (K .right d) ∷ []) refl,
-        at-one (suc e) (deep (suc e) (K .right d)) [] refl,
-        at-nil {D = D} (suc e),
-        first-depth fuel e ds,
+        deep-done fuel d small,
+        at-one (K .depthOf) (suc e) (K .left d) (K .right d ∷ []) (omega arith),
+        at-one (K .depthOf) (suc e) (K .right d) [] (omega arith),
+        at-nil (K .depthOf) (suc e),
+        first-depth fuel e ds (u .1),
       ))
       (le-or-lt (2 * leaf) (sizeOf K d))
 
   -- and deeper ones are those under the halves that wait
-  next-depths : (fuel e m : ℕ) (ds : List D) → suc e < m → atDepth m (under (suc fuel) e ds) ≡ atDepth m (under fuel (suc e) (cutKids ds))
-  unfolding under cutKids
-  next-depths fuel e m [] h = refl
-  next-depths fuel e m (d ∷ ds) h =
-      at-append m (deepLeaves K (suc fuel) e d) (under (suc fuel) e ds)
+  next-depths : (fuel e m : ℕ) (ds : List D) → Level e ds → suc e < m → at m (under (suc fuel) ds) ≡ at m (under fuel (cutKids ds))
+  unfolding under cutKids All
+  next-depths fuel e m [] u h = refl
+  next-depths fuel e m (d ∷ ds) u h =
+      let z = u .0 in
+      let dl = K .left-depth d in
+      let dr = K .right-depth d in
+      at-append (K .depthOf) m (deepLeaves K (suc fuel) d) (under (suc fuel) ds)
       ∙ ⊎-elim
       (λ (big : 2 * leaf ≤ sizeOf K d).
-      let a = deepLeaves K fuel (suc e) (K .left d) in
-      let b = deepLeaves K fuel (suc e) (K .right d) in
-      rw (cut-more d ds big, deep-more fuel e d big, next-depths fuel e m ds h)
-      (sym (at-append m (a ++ b) (under fuel (suc e) (cutKids ds))) ∙ ap (atDepth m) (append-assoc a b (under fuel (suc e) (cutKids ds)))))
+      let a = deepLeaves K fuel (K .left d) in
+      let b = deepLeaves K fuel (K .right d) in
+      rw (cut-more d ds big, deep-more fuel d big, next-depths fuel e m ds (u .1) h)
+      (sym (at-append (K .depthOf) m (a ++ b) (under fuel (cutKids ds))) ∙ ap (at m) (append-assoc a b (under fuel (cutKids ds)))))
       (λ (small : sizeOf K d < 2 * leaf). rw (
         cut-done d ds small,
-        deep-done fuel e d small,
-        at-other m (deep (suc e) (K .left d)) (deep (suc e) (K .right d) ∷ []) (λ q. omega arith),
-        at-other m (deep (suc e) (K .right d)) [] (λ q. omega arith),
-        at-nil {D = D} m,
+        deep-done fuel d small,
+        at-other (K .depthOf) m (K .left d) (K .right d ∷ []) (λ q. omega arith),
+        at-other (K .depthOf) m (K .right d) [] (λ q. omega arith),
+        at-nil (K .depthOf) m,
       )
-      (next-depths fuel e m ds h))
+      (next-depths fuel e m ds (u .1) h))
       (le-or-lt (2 * leaf) (sizeOf K d))
 
   -- ---- the queue
@@ -229,62 +246,62 @@ module _ {D : Type 0} {leaf : ℕ} (K : Kind D leaf) where
         (λ (small : sizeOf K d < 2 * leaf). rw (cut-done d ds small) (small-kids fuel ds (u .1)))
         (le-or-lt (2 * leaf) (sizeOf K d))
 
-    none-deep : (a n : ℕ) → joined (map (λ m. atDepth {D = D} m []) (from a n)) ≡ []
+    none-deep : (a n : ℕ) → joined (map (λ m. at m []) (from a n)) ≡ []
     unfolding joined from
     none-deep a zero = refl
-    none-deep a (suc n) = rw (at-nil {D = D} a) (none-deep (suc a) n)
+    none-deep a (suc n) = rw (at-nil (K .depthOf) a) (none-deep (suc a) n)
 
-    depths : (fuel e n : ℕ) (ds : List D) → Small fuel ds → fuel ≤ n → K .leaves ds ≡ joined (map (λ m. atDepth m (under fuel e ds)) (from (suc e) n))
+    depths : (fuel e n : ℕ) (ds : List D) → Small fuel ds → Level e ds → fuel ≤ n → K .leaves ds ≡ joined (map (λ m. at m (under fuel ds)) (from (suc e) n))
     unfolding All from joined
-    depths zero e n [] u h = K .leaves-none ∙ sym (none-deep (suc e) n) ∙ ap (λ (s : List (Deep D)). joined (map (λ m. atDepth m s) (from (suc e) n))) (sym (under-nil zero e))
-    depths zero e n (d ∷ ds) u h = absurd (omega (arith, u .0 .1, u .0 .0 .0))
-    depths (suc fuel) e zero ds u h = absurd (omega arith)
-    depths (suc fuel) e (suc n) ds u h =
+    depths zero e n [] u v h = K .leaves-none ∙ sym (none-deep (suc e) n) ∙ ap (λ (s : List D). joined (map (λ m. at m s) (from (suc e) n))) (sym (under-nil zero))
+    depths zero e n (d ∷ ds) u v h = absurd (omega (arith, u .0 .1, u .0 .0 .0))
+    depths (suc fuel) e zero ds u v h = absurd (omega arith)
+    depths (suc fuel) e (suc n) ds u v h =
         one-depth ds (small-may (suc fuel) ds u)
-        ∙ rw (depths fuel (suc e) n (cutKids ds) (small-kids fuel ds u) (omega arith), first-depth fuel e ds)
+        ∙ rw (depths fuel (suc e) n (cutKids ds) (small-kids fuel ds u) (kids-level e ds v) (omega arith), first-depth fuel e ds v)
         (ap (λ (s : List (List D)). leafKids ds ++ joined s)
-        (map-same (λ m. atDepth m (under fuel (suc e) (cutKids ds))) (λ m. atDepth m (under (suc fuel) e ds)) (from (suc (suc e)) n)
-        (λ m q. sym (next-depths fuel e m ds (omega (arith, from-mem (suc (suc e)) n q .0))))))
+        (map-same (λ m. at m (under fuel (cutKids ds))) (λ m. at m (under (suc fuel) ds)) (from (suc (suc e)) n)
+        (λ m q. sym (next-depths fuel e m ds v (omega (arith, from-mem (suc (suc e)) n q .0))))))
 
-    -- THE LAW: the queue's leaves under a domain, by depth and then from left to right
-    pub queue-by-depth : (d : D) → K .Good d → 1 ≤ sizeOf K d → (fuel most : ℕ) → sizeOf K d ≤ fuel → fuel ≤ most
-        → K .leaves (d ∷ []) ≡ byDepth most (deepLeaves K fuel 0 d)
+    -- THE LAW: the queue's leaves under a domain at depth 0, by depth and then from left to right
+    pub queue-by-depth : (d : D) → K .Good d → 1 ≤ sizeOf K d → K .depthOf d ≡ 0 → (fuel most : ℕ) → sizeOf K d ≤ fuel → fuel ≤ most
+        → K .leaves (d ∷ []) ≡ byDepth (K .depthOf) most (deepLeaves K fuel d)
     unfolding byDepth from joined All
-    queue-by-depth d g s fuel most h m =
-        depths fuel 0 most (d ∷ []) (((s, g), h), tt) m
-        ∙ ap (λ (l : List (Deep D)). joined (map (λ m. atDepth m l) (from 1 most)))
-        (under-cons fuel 0 d [] ∙ ap (λ (l : List (Deep D)). deepLeaves K fuel 0 d ++ l) (under-nil fuel 0) ∙ append-nil (deepLeaves K fuel 0 d))
-        ∙ ap (λ (l : List D). l ++ joined (map (λ m. atDepth m (deepLeaves K fuel 0 d)) (from 1 most))) (sym (deep-below fuel 0 0 d (omega arith)))
+    queue-by-depth d g s z fuel most h m =
+        depths fuel 0 most (d ∷ []) (((s, g), h), tt) (z, tt) m
+        ∙ ap (λ (l : List D). joined (map (λ m. at m l) (from 1 most)))
+        (under-cons fuel d [] ∙ ap (λ (l : List D). deepLeaves K fuel d ++ l) (under-nil fuel) ∙ append-nil (deepLeaves K fuel d))
+        ∙ ap (λ (l : List D). l ++ joined (map (λ m. at m (deepLeaves K fuel d)) (from 1 most))) (sym (deep-below fuel 0 d (omega arith)))
 
 -- ---- the definition's domains
 module _ (d : ℕ) (cs : List Float) (pos : 0 < d) (leaf : ℕ) (lp : 1 ≤ leaf) where
   -- the leaves under a domain are those of its cuts
-  pub leaves-under : (fuel e : ℕ) (q : Domain) → GoodRows d cs (q .rows) → 1 ≤ length (q .rows) → length (q .rows) ≤ fuel
-      → deepLeaves (kind d cs pos leaf lp) fuel e q ≡ leavesUnder e (cutsOf d cs leaf fuel q)
+  pub leaves-under : (fuel : ℕ) (q : Domain) → GoodRows d cs (q .rows) → 1 ≤ length (q .rows) → length (q .rows) ≤ fuel
+      → deepLeaves (kind d cs pos leaf lp) fuel q ≡ leavesUnder (cutsOf d cs leaf fuel q)
   unfolding leavesUnder
-  leaves-under zero e q g s h = absurd (omega arith)
-  leaves-under (suc fuel) e q g s h =
+  leaves-under zero q g s h = absurd (omega arith)
+  leaves-under (suc fuel) q g s h =
       let K = kind d cs pos leaf lp in
       let a = K .left-size q g in
       let b = K .right-size q g in
       ⊎-elim
       (λ (big : 2 * leaf ≤ length (q .rows)). rw (
-        deep-more K fuel e q big,
+        deep-more K fuel q big,
         step-more d cs leaf fuel q big,
-        leaves-under fuel (suc e) (leftOf d cs q) (K .left-good q g) (omega arith) (omega arith),
-        leaves-under fuel (suc e) (rightOf d cs q) (K .right-good q g) (omega arith) (omega arith),
+        leaves-under fuel (leftOf d cs q) (K .left-good q g) (omega arith) (omega arith),
+        leaves-under fuel (rightOf d cs q) (K .right-good q g) (omega arith) (omega arith),
       ))
-      (λ (small : length (q .rows) < 2 * leaf). rw (deep-done K fuel e q small, step-done d cs leaf fuel q small))
+      (λ (small : length (q .rows) < 2 * leaf). rw (deep-done K fuel q small, step-done d cs leaf fuel q small))
       (le-or-lt (2 * leaf) (length (q .rows)))
 
   -- a level's leaves are the leaves of its cuts by depth, and then from left to right
   pub level-by-depth : (active : List ℕ) → GoodRows d cs active → 1 ≤ length active → (most : ℕ) → length active ≤ most
-      → leavesOf d cs leaf active ≡ byDepth most (leavesUnder 0 (levelCuts d cs leaf active))
+      → leavesOf d cs leaf active ≡ byDepth domainDepth most (leavesUnder (levelCuts d cs leaf active))
   unfolding levelCuts rootDomain
   level-by-depth active g s most h =
       let K = kind d cs pos leaf lp in
       let root = rootDomain d cs active in
       let n = length active in
       leaves-are d cs pos leaf lp active g s
-      ∙ queue-by-depth K lp root g s n most (omega arith) h
-      ∙ ap (byDepth most) (leaves-under n 0 root g s (omega arith))
+      ∙ queue-by-depth K lp root g s refl n most (omega arith) h
+      ∙ ap (byDepth domainDepth most) (leaves-under n root g s (omega arith))

@@ -22,7 +22,7 @@ use Rattle.definition.specs.Cut.{leavesOf}
 use Rattle.definition.specs.Tree.{Settings, Level, coarseLevel, fineLevel, nextActive, mostFine, levelsFrom, levelsOver, pointCount, levels}
 use Rattle.definition.specs.Packed.{BuildSizes}
 use Rattle.definition.specs.Refusals.{accepted, buildVerdict}
-use Rattle.definition.specs.Record.{Deep, levelCuts, recordOf, wholeOf, floatOf, fineLevels, nodesIn, packedCuts, packedPlanes, mostNodes}
+use Rattle.definition.specs.Record.{levelCuts, recordOf, wholeOf, floatOf, fineLevels, nodesIn, packedCuts, packedPlanes, mostNodes}
 use Rattle.definition.proofs.Steps.{fineOf, sizeFrom, nextOf, sentFrom, levels-last, levels-end, levels-more}
 use Rattle.definition.proofs.FineLeaves.{fine-many}
 use Rattle.definition.proofs.Levels.{next-short}
@@ -32,7 +32,7 @@ use Rattle.definition_laws.proofs.Fit.{packed-fit}
 use Rattle.rows.specs.Rows.{GoodRows}
 use Rattle.rows.proofs.Good.{good-good, good-keep}
 use Rattle.rows.proofs.AllRows.{all-rows-good}
-use Rattle.record_laws.specs.ByDepth.{atDepth}
+use Rattle.record_laws.specs.ByDepth.{atDepth, domainDepth}
 use Rattle.record_laws.specs.Table.{nodeCount, leafCount}
 use Rattle.record_laws.proofs.ByDepth.{at-nil, at-one, at-other}
 use Rattle.record_laws.proofs.Depths.{TwoDepths, leastDepth, levelLeaves, two-depths, by-two}
@@ -41,14 +41,14 @@ use Rattle.record_laws.proofs.Entries.{leaf-count-at, node-count-at, no
 -- ---- a level
 
 -- the leaves at two depths are all leaves
-pub two-count : {D : Type 0} (e : ℕ) (fs : List (Deep D)) → TwoDepths e fs → length (atDepth e fs) + length (atDepth (suc e) fs) ≡ length fs
+pub two-count : {D : Type 0} (depthOf : D → ℕ) (e : ℕ) (fs : List D) → TwoDepths depthOf e fs → length (atDepth depthOf e fs) + length (atDepth depthOf (suc e) fs) ≡ length fs
 unfolding All
-two-count {D} e [] h = rw (at-nil {D = D} e, at-nil {D = D} (suc e))
-two-count e (f ∷ fs) h =
-    let i = two-count e fs (h .1) in
+two-count depthOf e [] h = rw (at-nil depthOf e, at-nil depthOf (suc e))
+two-count depthOf e (f ∷ fs) h =
+    let i = two-count depthOf e fs (h .1) in
     ⊎-elim
-    (λ (q : f .depth ≡ e). rw (at-one e f fs q, at-other (suc e) f fs (λ z. omega arith)) (omega arith))
-    (λ (q : f .depth ≡ suc e). rw (at-one (suc e) f fs q, at-other e f fs (λ z. omega arith)) (omega arith))
+    (λ (q : depthOf f ≡ e). rw (at-one depthOf e f fs q, at-other depthOf (suc e) f fs (λ z. omega arith)) (omega arith))
+    (λ (q : depthOf f ≡ suc e). rw (at-one depthOf (suc e) f fs q, at-other depthOf e f fs (λ z. omega arith)) (omega arith))
     (h .0)
 
 -- the record has the nodes of the cuts
@@ -61,9 +61,9 @@ module _ (d : ℕ) (cs : List Float) (pos : 0 < d) (leaf : ℕ) (lp : 1 ≤ leaf
   pub level-count : length (leavesOf d cs leaf active) ≡ leafCount (levelCuts d cs leaf active)
   level-count =
       let fs = levelLeaves d cs leaf active in
-      let e = leastDepth fs in
-      ap length (by-two d cs pos leaf lp active g some) ∙ length-append (atDepth e fs) (atDepth (suc e) fs)
-      ∙ two-count e fs (two-depths d cs pos leaf lp active g some) ∙ leaf-count-at 0 (levelCuts d cs leaf active)
+      let e = leastDepth domainDepth fs in
+      ap length (by-two d cs pos leaf lp active g some) ∙ length-append (atDepth domainDepth e fs) (atDepth domainDepth (suc e) fs)
+      ∙ two-count domainDepth e fs (two-depths d cs pos leaf lp active g some) ∙ leaf-count-at (levelCuts d cs leaf active)
 
   -- one node less than 2 times the domains
   pub record-long : suc (length (recordOf d cs leaf active)) ≡ 2 * length (leavesOf d cs leaf active)

@@ -10,7 +10,7 @@ use Rattle.lists.specs.Ascends.{All}
 use Rattle.lists.proofs.Tests.{le-or-lt}
 use Rattle.lists.proofs.All.{all-append}
 use Rattle.definition.specs.Cut.{Domain, longestAxis, plane, leftOf, rightOf}
-use Rattle.definition.specs.Record.{uncut, cutsOf, Deep, leavesUnder}
+use Rattle.definition.specs.Record.{uncut, cutsOf, leavesUnder}
 use Rattle.definition.proofs.Cuts.{Good, left-length, right-length, left-good, right-good}
 use Rattle.record_laws.specs.Table.{cutsAt, nodeCount, leafCount}
 use Rattle.record_laws.proofs.Entries.{leaf-count-leaf, leaf-count-cut, node-count-leaf, node-count-cut}
@@ -19,28 +19,28 @@ use Rattle.record_laws.proofs.Steps.{cuts-more, cuts-done, step-more, s
 -- ---- what both halves of a domain have if it has it, all leaves under it have
 module _ (d : ℕ) (cs : List Float) (leaf : ℕ) where
   module _ (P : Domain → Type 0) (hl : (q : Domain) → P q → P (leftOf d cs q)) (hr : (q : Domain) → P q → P (rightOf d cs q)) where
-    fuel-all : (fuel e : ℕ) (q : Domain) → P q → All (λ (x : Deep Domain). P (x .domain)) (leavesUnder e (cutsOf d cs leaf fuel q))
+    fuel-all : (fuel : ℕ) (q : Domain) → P q → All P (leavesUnder (cutsOf d cs leaf fuel q))
     unfolding All cutsOf leavesUnder
-    fuel-all zero e q h = (h, tt)
-    fuel-all (suc fuel) e q h =
+    fuel-all zero q h = (h, tt)
+    fuel-all (suc fuel) q h =
         ⊎-elim
         (λ (big : 2 * leaf ≤ length (q .rows)). rw (step-more d cs leaf fuel q big)
-        (all-append (λ (x : Deep Domain). P (x .domain)) (leavesUnder (suc e) (cutsOf d cs leaf fuel (leftOf d cs q))) (leavesUnder (suc e) (cutsOf d cs leaf fuel (rightOf d cs q)))
-        (fuel-all fuel (suc e) (leftOf d cs q) (hl q h)) (fuel-all fuel (suc e) (rightOf d cs q) (hr q h))))
+        (all-append P (leavesUnder (cutsOf d cs leaf fuel (leftOf d cs q))) (leavesUnder (cutsOf d cs leaf fuel (rightOf d cs q)))
+        (fuel-all fuel (leftOf d cs q) (hl q h)) (fuel-all fuel (rightOf d cs q) (hr q h))))
         (λ (small : length (q .rows) < 2 * leaf). rw (step-done d cs leaf fuel q small) (hl q h, (hr q h, tt)))
         (le-or-lt (2 * leaf) (length (q .rows)))
 
-    pub cuts-all : (e : ℕ) (q : Domain) → P q → All (λ (x : Deep Domain). P (x .domain)) (leavesUnder e (cutsAt d cs leaf q))
+    pub cuts-all : (q : Domain) → P q → All P (leavesUnder (cutsAt d cs leaf q))
     unfolding cutsAt
-    cuts-all e q h = fuel-all (length (q .rows)) e q h
+    cuts-all q h = fuel-all (length (q .rows)) q h
 
   -- their boxes are as wide as the domain's
-  pub cuts-wide : (w e : ℕ) (q : Domain) → length (q .box) ≡ w → All (λ (x : Deep Domain). length (x .domain .box) ≡ w) (leavesUnder e (cutsAt d cs leaf q))
+  pub cuts-wide : (w : ℕ) (q : Domain) → length (q .box) ≡ w → All (λ (x : Domain). length (x .box) ≡ w) (leavesUnder (cutsAt d cs leaf q))
   unfolding leftOf rightOf
-  cuts-wide w e q h =
+  cuts-wide w q h =
       cuts-all (λ q. length (q .box) ≡ w)
       (λ q h. length-set (q .box) (d + longestAxis d cs (q .rows)) (plane d cs (q .rows)) ∙ h)
-      (λ q h. length-set (q .box) (longestAxis d cs (q .rows)) (plane d cs (q .rows)) ∙ h) e q h
+      (λ q h. length-set (q .box) (longestAxis d cs (q .rows)) (plane d cs (q .rows)) ∙ h) q h
 
 -- ---- how much there can be under a domain: at most two leaves for each row, and a node less than four
 pub cuts-small : (d : ℕ) (cs : List Float) (leaf : ℕ) → 0 < d → 1 ≤ leaf → (q : Domain) → Good d cs (q .rows) → 1 ≤ length (q .rows)

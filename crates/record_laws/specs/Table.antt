@@ -44,19 +44,19 @@ nodeCount t = length (nodesFrom unnumbered 0 t)
 
 -- how many leaves
 unfoldable pub leafCount : Cuts → ℕ
-leafCount t = length (leavesUnder 0 t)
+leafCount t = length (leavesUnder t)
 
--- the entries of the leaves of a domain at depth e whose record stands from `place` on
-unfoldable pub entriesUnder : ℕ → ℕ → Cuts → List Entry
-entriesUnder e place (uncut q) = record { depth = e; count = length (q .rows); place = place } ∷ []
-entriesUnder e place (cutAt a p l r) = entriesUnder (suc e) (suc place) l ++ entriesUnder (suc e) (suc place + nodeCount l) r
+-- the entries of the leaves of a domain whose record stands from `place` on
+unfoldable pub entriesUnder : ℕ → Cuts → List Entry
+entriesUnder place (uncut q) = record { depth = q .depth; count = length (q .rows); place = place } ∷ []
+entriesUnder place (cutAt a p l r) = entriesUnder (suc place) l ++ entriesUnder (suc place + nodeCount l) r
 
 -- the rows of the leaves, and their boxes, from left to right
 unfoldable pub rowsUnder : Cuts → List ℕ
-rowsUnder t = joined (map (λ f. f .domain .rows) (leavesUnder 0 t))
+rowsUnder t = joined (map (λ q. q .rows) (leavesUnder t))
 
 unfoldable pub boxesUnder : Cuts → List Float
-boxesUnder t = joined (map (λ f. f .domain .box) (leavesUnder 0 t))
+boxesUnder t = joined (map (λ q. q .box) (leavesUnder t))
 
 -- ---- what the numbering makes of it: one depth at a time
 

@@ -1,6 +1,6 @@
 -- How long the file of a job's tree can be: 24 bytes and 26 for each of 32 points; 10 for each of 4 levels and 193 domains; 4 for each of
--- 128 level rows, as many internal rows, and 3,264 borrowed rows; 48 for each of 192 boxes; 8 for each of 193 covers. This makes 27,666.
--- Assumes nothing.
+-- 128 level rows, as many internal rows, and 3,264 borrowed rows; 48 for each of 192 boxes; 12 for the cover and the depth of each of 193
+-- domains. This makes 28,438. Assumes nothing.
 use mathlib.Core.Path.{_≡_, refl, sym, subst, _∙_}
 use Prim.Native.Nat.{ℕ, _+_, _-_, _*_, _≤_}
 use native.Mathlib.Nat.{mul-le-mul}

@@ -1,10 +1,10 @@
 -- How long the printout of a sound tree can be: over at most 32 rows on at most 3 axes there are at most four levels and 193 domains.
 -- Assumes nothing.
 use mathlib.Core.Path.{_≡_, sym}
-use Prim.Native.Nat.{ℕ, suc, _+_, _*_, _≤_}
+use Prim.Native.Nat.{ℕ, suc, _+_, _*_, _≤_, _<_}
 use native.Mathlib.Omega.{arith}
 use mathlib.Core.Bool.{true, true≢false}
-use mathlib.Core.List.{List, [], _∷_, _++_}
+use mathlib.Core.List.{List, [], _∷_, _++_, List·Memᴰ}
 use lib.ListN.{length, length-append}
 use lib.Dec.{leb, eqb}
 use borrow.Author.Tests.{leb-true, eqb-true}
@@ -19,13 +19,17 @@ use Rattle.formats.specs.Stream.{streamPoints}
 use Rattle.formats.specs.Printout.{ascii, domainLine, fineLines, coarseLines, levelLine, levelsText, treeText}
 use Rattle.stream_laws.specs.Sizes.{mostBytes}
 use Rattle.stream_laws.proofs.Long.{decimal-long, each-long, FewRows, few-from, Brief, domain-long, level-long, fine-long, dash-long}
-use Rattle.stored.specs.Sound.{soundBox, soundLevels, firstAll, fits, sound}
+use Rattle.stored.specs.Sound.{soundBox, soundDepths, soundLevels, firstAll, fits, sound}
 use Rattle.tree_tests.proofs.AllRows.{same-is}
 use Rattle.stored_laws.proofs.Stowed.{leaves-many}
+use Rattle.tree_tests.proofs.Depths.{depth-most}
 use Rattle.tree_tests.proofs.SoundLevels.{coarse-level, fine-level, sound-rows-first, sound-rows-ascend}
 use Rattle.reload_laws.proofs.SoundRows.{few-inside, own-few, borrowed-few}
 
 -- ---- a level
+two-digits : (l : Level) → soundDepths l ≡ true → (f : Leaf) → List·Memᴰ f (l .leaves) → f .depth < 100
+two-digits l h f m = omega (arith, depth-most l h f m)
+
 module _ (d : ℕ) (axes : d ≤ 3) where
   box-few : (f : Leaf) → soundBox d f ≡ true → length (f .box) ≤ 6
   unfolding soundBox
@@ -33,23 +37,23 @@ module _ (d : ℕ) (axes : d ≤ 3) where
 
   -- the coarse one
   coarse-long : (t : ℕ) (l : Level) → soundLevels d (l ∷ []) ≡ true → FewRows (l .points)
-      → length (levelsText t (l ∷ [])) ≤ 130 + 349 * length (l .leaves)
+      → length (levelsText t (l ∷ [])) ≤ 130 + 358 * length (l .leaves)
   unfolding levelsText coarseLines
   coarse-long t l h rows =
       let c = coarse-level d l h in
-      let Few : Leaf → Type 0 = λ f. FewRows (f .own) × FewRows (f .borrowed) in
-      let all : All Few (l .leaves) = all-of Few (l .leaves) (λ f m. (own-few l (c .rows) rows f m, borrowed-few l (c .rows) rows f m)) in
-      let lines = each-long (λ f. domainLine 0 f (ascii " -")) 349 Few (λ f k. omega (arith, domain-long 0 f (ascii " -") (k .0) (k .1) (omega arith), dash-long)) (l .leaves) all in
+      let Few : Leaf → Type 0 = λ f. FewRows (f .own) × FewRows (f .borrowed) × (f .depth < 100) in
+      let all : All Few (l .leaves) = all-of Few (l .leaves) (λ f m. (own-few l (c .rows) rows f m, borrowed-few l (c .rows) rows f m, two-digits l (c .depths) f m)) in
+      let lines = each-long (λ f. domainLine 0 f (ascii " -")) 358 Few (λ f k. omega (arith, domain-long 0 f (ascii " -") (k .0) (k .1) (k .2) (omega arith), dash-long)) (l .leaves) all in
       omega (arith, length-append (levelLine t l) (coarseLines (l .leaves)), level-long t l rows, lines)
 
   -- one before others
   fine-text : (t : ℕ) (l m : Level) (ls : List Level) → soundLevels d (l ∷ m ∷ ls) ≡ true → FewRows (l .points) → length (l .leaves) ≤ 1000
-      → length (levelLine t l ++ fineLines 0 (l .leaves)) ≤ 130 + 349 * length (l .leaves)
+      → length (levelLine t l ++ fineLines 0 (l .leaves)) ≤ 130 + 358 * length (l .leaves)
   fine-text t l m ls h rows few =
       let c = fine-level d l m ls h in
       let all : All Brief (l .leaves) =
       all-of Brief (l .leaves)
-      (λ f k. record { own = own-few l (c .rows) rows f k; borrowed = borrowed-few l (c .rows) rows f k; box = box-few f (c .boxes f k) }) in
+      (λ f k. record { own = own-few l (c .rows) rows f k; borrowed = borrowed-few l (c .rows) rows f k; box = box-few f (c .boxes f k); depth = two-digits l (c .depths) f k }) in
       omega (arith, length-append (levelLine t l) (fineLines 0 (l .leaves)), level-long t l rows, fine-long 0 (l .leaves) (omega arith) all)
 
   -- ---- the levels from any on
@@ -61,7 +65,7 @@ module _ (d : ℕ) (axes : d ≤ 3) where
       (sound-rows-ascend l (c .rows)) rows (c .inside)
 
   levels-long : (t : ℕ) (l : Level) (ls : List Level) → soundLevels d (l ∷ ls) ≡ true → FewRows (l .points) → length (leavesIn (l ∷ ls)) ≤ 1000
-      → length (levelsText t (l ∷ ls)) ≤ 130 * length (l ∷ ls) + 349 * length (leavesIn (l ∷ ls))
+      → length (levelsText t (l ∷ ls)) ≤ 130 * length (l ∷ ls) + 358 * length (leavesIn (l ∷ ls))
   unfolding levelsText leavesIn joined
   levels-long t l [] h rows few = omega (arith, coarse-long t l h rows, length-append (l .leaves) [])
   levels-long t l (m ∷ ls) h rows few =
@@ -81,7 +85,7 @@ module _ (s : Settings) (n : ℕ) (few : n ≤ streamPoints) where
   first-few l ls h = rw (same-is (l .points) (from 0 n) h) (few-from n few)
 
   tree-long : (axes : s .dimension ≤ 3) (ls : List Level) → length ls ≤ mostLevels → length (leavesIn ls) ≤ mostRows n → firstAll n ls ≡ true
-      → soundLevels (s .dimension) ls ≡ true → length (levelsText 0 ls) ≤ 67877
+      → soundLevels (s .dimension) ls ≡ true → length (levelsText 0 ls) ≤ 69614
   unfolding soundLevels
   tree-long axes [] short most first h = absurd (true≢false (sym h))
   tree-long axes (l ∷ ls) short most first h =

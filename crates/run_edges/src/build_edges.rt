@@ -81,7 +81,7 @@ fn run(
     print_counts(b"  domains", each);
     print_front(b"  level points", level_points, 20);
     print_front(b"  internals", internals, 20);
-    print_front(b"  domain rows", domains, 64);
+    print_front(b"  domain rows", domains, 80);
     print_front(b"  borrowed", borrowed, 24);
 }
 
@@ -99,7 +99,7 @@ fn show(points: &[f64], dimensions: usize, leaf: u32, neighbours: u32, factor: u
         params,
         &mut [9; 64],
         &mut [9; 64],
-        &mut [9; 388],
+        &mut [9; 485],
         &mut [9.0; 679],
         &mut [9; 384],
         &mut [9.0; 512],

@@ -7,12 +7,12 @@ ghost use lib.ListN.{length};
 ghost use Rattle.stream_laws.specs.Sizes.{mostBytes};
 
 // The room for a file, and for a printout.
-const FILE: usize = 1572864;
+const FILE: usize = 1835008;
 
 const TEXT: usize = job_room::TEXT;
 
 fn file_room() -> [u8; FILE]
-    ensures { λ r. ⌜ 1572864 ≡ length r ⌝ }
+    ensures { λ r. ⌜ 1835008 ≡ length r ⌝ }
 {
     [0; FILE]
 }

@@ -95,15 +95,15 @@ pub record Turn (d : ℕ) (cs : List Float) (leaf : ℕ) (R : List ℕ) (whole :
   pub good : GoodRows d cs R
   pub deep : e + length R < 2 ^ 64
   pub room : Space d base (length R) place first W F C P
-  pub rows : R′ ≡ leftOf d cs (domainOf R whole) .rows ++ rightOf d cs (domainOf R whole) .rows
+  pub rows : R′ ≡ leftOf d cs (domainOf R whole e) .rows ++ rightOf d cs (domainOf R whole e) .rows
   pub found : AsFoundFrom (length R) W W′
   pub cuts : C′ ≡ set C place (longestAxis d cs R)
   pub planes : P′ ≡ set P place (plane d cs R)
   pub long-W : length W′ ≡ length W
   pub long-C : length C′ ≡ length C
   pub long-P : length P′ ≡ length P
-  pub left-is : domainOf (leftOf d cs (domainOf R whole) .rows) left ≡ leftOf d cs (domainOf R whole)
-  pub right-is : domainOf (rightOf d cs (domainOf R whole) .rows) right ≡ rightOf d cs (domainOf R whole)
+  pub left-is : domainOf (leftOf d cs (domainOf R whole e) .rows) left (e + 1) ≡ leftOf d cs (domainOf R whole e)
+  pub right-is : domainOf (rightOf d cs (domainOf R whole e) .rows) right (e + 1) ≡ rightOf d cs (domainOf R whole e)
   pub left-on : left .dimensions ≡ d
   pub right-on : right .dimensions ≡ d
   pub left-wide : length (floatsOf left) ≡ boxWidth d
@@ -128,15 +128,15 @@ module _ {d : ℕ} {cs : List Float} {leaf : ℕ} (R : List ℕ) (whole left rig
         good = asked .4;
         deep = lent .2;
         room = lent .3;
-        rows = eR ∙ cut-is d cs (domainOf R whole) R refl;
+        rows = eR ∙ cut-is d cs (domainOf R whole e) R refl;
         found = found;
         cuts = eC;
         planes = eP;
         long-W = nW;
         long-C = ap length eC ∙ length-set C place (longestAxis d cs R);
         long-P = ap length eP ∙ length-set P place (plane d cs R);
-        left-is = rw (l .1, lent .0, at .0, at .1);
-        right-is = rw (r .1, at .0, at .1);
+        left-is = rw (l .1, lent .0, at .0, at .1, add-one e);
+        right-is = rw (r .1, at .0, at .1, add-one e);
         left-on = l .0 ∙ lent .0;
         right-on = r .0 ∙ lent .0;
         left-wide = ap length (l .1) ∙ length-set (floatsOf whole) (whole .dimensions + axis) value ∙ lent .1;
@@ -146,7 +146,7 @@ module _ {d : ℕ} {cs : List Float} {leaf : ℕ} (R : List ℕ) (whole left rig
 module _ {d : ℕ} {cs : List Float} {leaf : ℕ} {R : List ℕ} {whole : Extents} {base e place first : ℕ} {W : List ℕ} {F : List Float} {C : List ℕ} {P : List Float} {R′ W′ C′ : List ℕ} {P′ : List Float} {left right : Extents}
     (x : Turn d cs leaf R whole base e place first W F C P R′ W′ C′ P′ left right) where
   abbrev q : Domain
-  q = domainOf R whole
+  q = domainOf R whole e
 
   abbrev a : ℕ
   a = longestAxis d cs R
@@ -157,10 +157,10 @@ module _ {d : ℕ} {cs : List Float} {leaf : ℕ} {R : List ℕ} {whole : Extent
   known : Good d cs R
   known = good-good R (x .good)
 
-  pub left-long : length (leftOf d cs (domainOf R whole) .rows) ≡ length R / 2
+  pub left-long : length (leftOf d cs (domainOf R whole e) .rows) ≡ length R / 2
   left-long = left-length d cs (x .pos) q known
 
-  pub right-long : length (rightOf d cs (domainOf R whole) .rows) ≡ length R - length R / 2
+  pub right-long : length (rightOf d cs (domainOf R whole e) .rows) ≡ length R - length R / 2
   right-long = right-length d cs (x .pos) q known
 
   pub rows-long : length R′ ≡ length R
@@ -168,10 +168,10 @@ module _ {d : ℕ} {cs : List Float} {leaf : ℕ} {R : List ℕ} {whole : Extent
 
   -- both halves are written behind the cut
   written : {next after : ℕ} {W₂ : List ℕ} {F₂ : List Float} {C₂ : List ℕ} {P₂ : List Float} (l r : Cuts)
-      → WrittenTwo d base l r (e + 1) (place + 1) first next after W′ W₂ F F₂ C′ C₂ P′ P₂ → Written d base (cutAt a p l r) e place first next after W W₂ F F₂ C C₂ P P₂
+      → WrittenTwo d base l r (place + 1) first next after W′ W₂ F F₂ C′ C₂ P′ P₂ → Written d base (cutAt a p l r) place first next after W W₂ F F₂ C C₂ P P₂
   written l r two =
       written-cut a p (omega (arith, x .some, x .room .cuts)) (omega (arith, x .some, x .room .planes)) (table-kept W W′ (length R) base (x .found) (x .room .ordering)) (x .cuts) (x .planes)
-      (rw (add-one e, add-one place) at two)
+      (rw (add-one place) at two)
 
   -- ---- the halves are leaves
   pub leaves-asked :
@@ -194,14 +194,14 @@ module _ {d : ℕ} {cs : List Float} {leaf : ℕ} {R : List ℕ} {whole : Extent
     done : cutsAt d cs leaf q ≡ cutAt a p (uncut (leftOf d cs q)) (uncut (rightOf d cs q))
     done = cuts-done d cs leaf (x .pos) (x .lp) q known (x .some) (omega arith)
 
-    pub leaves-rows : R′ ≡ rowsUnder (cutsAt d cs leaf (domainOf R whole))
+    pub leaves-rows : R′ ≡ rowsUnder (cutsAt d cs leaf (domainOf R whole e))
     leaves-rows =
         x .rows
         ∙ sym (ap rowsUnder done ∙ rows-under-cut a p (uncut (leftOf d cs q)) (uncut (rightOf d cs q)) ∙ rw (rows-under-leaf (leftOf d cs q), rows-under-leaf (rightOf d cs q)))
 
     pub leaves-written : {next after : ℕ} {W₂ : List ℕ} {F₂ : List Float} {C₂ : List ℕ} {P₂ : List Float}
-        → WrittenTwo (left .dimensions) base (uncut (domainOf (leftOf d cs (domainOf R whole) .rows) left)) (uncut (domainOf (rightOf d cs (domainOf R whole) .rows) right)) (e + 1) (place + 1) first next after W′ W₂ F F₂ C′ C₂ P′ P₂
-        → Written d base (cutsAt d cs leaf (domainOf R whole)) e place first next after W W₂ F F₂ C C₂ P P₂
+        → WrittenTwo (left .dimensions) base (uncut (domainOf (leftOf d cs (domainOf R whole e) .rows) left (e + 1))) (uncut (domainOf (rightOf d cs (domainOf R whole e) .rows) right (e + 1))) (place + 1) first next after W′ W₂ F F₂ C′ C₂ P′ P₂
+        → Written d base (cutsAt d cs leaf (domainOf R whole e)) place first next after W W₂ F F₂ C C₂ P P₂
     leaves-written two = rw done (written (uncut (leftOf d cs q)) (uncut (rightOf d cs q)) (two-of (x .left-on) (ap uncut (x .left-is)) (ap uncut (x .right-is)) two))
 
   -- ---- the halves are cut too
@@ -212,8 +212,8 @@ module _ {d : ℕ} {cs : List Float} {leaf : ℕ} {R : List ℕ} {whole : Extent
     left-lent : take (length R / 2) R′ ≡ leftOf d cs q .rows
     left-lent = first-lent R′ (leftOf d cs q .rows) (rightOf d cs q .rows) (length R / 2) (x .rows) left-long
 
-    left-now : domainOf (take (length R / 2) R′) left ≡ leftOf d cs q
-    left-now = ap (λ (z : List ℕ). domainOf z left) left-lent ∙ x .left-is
+    left-now : domainOf (take (length R / 2) R′) left (e + 1) ≡ leftOf d cs q
+    left-now = ap (λ (z : List ℕ). domainOf z left (e + 1)) left-lent ∙ x .left-is
 
     -- the left one
     pub left-less : length (take (length R / 2) R′) < length R
@@ -248,16 +248,16 @@ module _ {d : ℕ} {cs : List Float} {leaf : ℕ} {R : List ℕ} {whole : Extent
       right-lent : Right ≡ rightOf d cs q .rows
       right-lent = second-lent R′ (leftOf d cs q .rows) (rightOf d cs q .rows) (length R / 2) (x .rows) left-long f f-long
 
-      right-now : domainOf Right right ≡ rightOf d cs q
-      right-now = ap (λ (z : List ℕ). domainOf z right) right-lent ∙ x .right-is
+      right-now : domainOf Right right (e + 1) ≡ rightOf d cs q
+      right-now = ap (λ (z : List ℕ). domainOf z right (e + 1)) right-lent ∙ x .right-is
 
       pub right-less : length (take (length (f ++ drop (length R / 2) R′) - length R / 2) (drop (length R / 2) (f ++ drop (length R / 2) R′))) < length R
       right-less = omega (arith, ap length right-lent, right-long, big, x .lp)
 
       module _ {n₁ k₁ : ℕ} (W₁ : List ℕ) (F₁ : List Float) (C₁ : List ℕ) (P₁ : List Float)
-          (l : Written d base (cutsAt d cs leaf (domainOf (take (length R / 2) R′) left)) (e + 1) (place + 1) first n₁ k₁ W′ W₁ F F₁ C′ C₁ P′ P₁)
+          (l : Written d base (cutsAt d cs leaf (domainOf (take (length R / 2) R′) left (e + 1))) (place + 1) first n₁ k₁ W′ W₁ F F₁ C′ C₁ P′ P₁)
           (nW : length W₁ ≡ length W′) (nF : length F₁ ≡ length F) (nC : length C₁ ≡ length C′) (nP : length P₁ ≡ length P′) where
-        first-half : Written d base (cutsAt d cs leaf (leftOf d cs q)) (e + 1) (place + 1) first n₁ k₁ W′ W₁ F F₁ C′ C₁ P′ P₁
+        first-half : Written d base (cutsAt d cs leaf (leftOf d cs q)) (place + 1) first n₁ k₁ W′ W₁ F F₁ C′ C₁ P′ P₁
         first-half = written-of refl (ap (cutsAt d cs leaf) left-now) l
 
         pub right-asked :
@@ -284,12 +284,12 @@ module _ {d : ℕ} {cs : List Float} {leaf : ℕ} {R : List ℕ} {whole : Extent
         -- both are done, and g came back for the right one's rows
         wide-left : length (boxesUnder (cutsAt d cs leaf (leftOf d cs q))) ≡ boxWidth d * leafCount (cutsAt d cs leaf (leftOf d cs q))
         wide-left =
-            boxes-under-length (boxWidth d) 0 (cutsAt d cs leaf (leftOf d cs q))
-            (cuts-wide d cs leaf (boxWidth d) 0 (leftOf d cs q) (ap (λ (z : Domain). length (z .box)) (sym (x .left-is)) ∙ x .left-wide))
+            boxes-under-length (boxWidth d) (cutsAt d cs leaf (leftOf d cs q))
+            (cuts-wide d cs leaf (boxWidth d) (leftOf d cs q) (ap (λ (z : Domain). length (z .box)) (sym (x .left-is)) ∙ x .left-wide))
 
         pub halves-written : {n₂ k₂ : ℕ} {W₂ : List ℕ} {F₂ : List Float} {C₂ : List ℕ} {P₂ : List Float}
-            → Written d base (cutsAt d cs leaf (domainOf (take (length (f ++ drop (length R / 2) R′) - length R / 2) (drop (length R / 2) (f ++ drop (length R / 2) R′))) right)) (e + 1) n₁ k₁ n₂ k₂ W₁ W₂ F₁ F₂ C₁ C₂ P₁ P₂
-            → Written d base (cutsAt d cs leaf (domainOf R whole)) e place first n₂ k₂ W W₂ F F₂ C C₂ P P₂
+            → Written d base (cutsAt d cs leaf (domainOf (take (length (f ++ drop (length R / 2) R′) - length R / 2) (drop (length R / 2) (f ++ drop (length R / 2) R′))) right (e + 1))) n₁ k₁ n₂ k₂ W₁ W₂ F₁ F₂ C₁ C₂ P₁ P₂
+            → Written d base (cutsAt d cs leaf (domainOf R whole e)) place first n₂ k₂ W W₂ F F₂ C C₂ P P₂
         halves-written r =
             let less : first ≤ first + 2 * length R = omega arith in
             rw more
@@ -298,9 +298,9 @@ module _ {d : ℕ} {cs : List Float} {leaf : ℕ} {R : List ℕ} {whole : Extent
             (omega (arith, x .some, x .room .cuts, x .long-C)) (omega (arith, x .some, x .room .planes, x .long-P)) wide-left first-half
             (written-of refl (ap (cutsAt d cs leaf) right-now) r)))
 
-      pub halves-rows : (g : List ℕ) → f ≡ rowsUnder (cutsAt d cs leaf (domainOf (take (length R / 2) R′) left))
-          → g ≡ rowsUnder (cutsAt d cs leaf (domainOf (take (length (f ++ drop (length R / 2) R′) - length R / 2) (drop (length R / 2) (f ++ drop (length R / 2) R′))) right))
-          → putMid (length R / 2) (length (f ++ drop (length R / 2) R′) - length R / 2) (f ++ drop (length R / 2) R′) g ≡ rowsUnder (cutsAt d cs leaf (domainOf R whole))
+      pub halves-rows : (g : List ℕ) → f ≡ rowsUnder (cutsAt d cs leaf (domainOf (take (length R / 2) R′) left (e + 1)))
+          → g ≡ rowsUnder (cutsAt d cs leaf (domainOf (take (length (f ++ drop (length R / 2) R′) - length R / 2) (drop (length R / 2) (f ++ drop (length R / 2) R′))) right (e + 1)))
+          → putMid (length R / 2) (length (f ++ drop (length R / 2) R′) - length R / 2) (f ++ drop (length R / 2) R′) g ≡ rowsUnder (cutsAt d cs leaf (domainOf R whole e))
       halves-rows g ef eg =
           let l = ef ∙ ap (λ (z : Domain). rowsUnder (cutsAt d cs leaf z)) left-now in
           let r = eg ∙ ap (λ (z : Domain). rowsUnder (cutsAt d cs leaf z)) right-now in

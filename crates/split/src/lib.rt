@@ -29,8 +29,8 @@ pub fn split(
 ) -> Next
     requires { ⌜ (0 < dimensions) × (dimensions ≤ 3) × (1 ≤ leaf) × (1 ≤ length (now rows)) × GoodRows dimensions (now points) (now rows) ⌝ }
     requires { ⌜ (whole .dimensions ≡ dimensions) × (length (floatsOf whole) ≡ boxWidth dimensions) × (depth + length (now rows) < 2 ^ 64) × Space dimensions base (length (now rows)) (from .place) (from .leaves) (now wholes) (now floats) (now cuts) (now planes) ⌝ }
-    ensures rows { λ _. ⌜ now (rows .exit) ≡ rowsUnder (cutsAt dimensions (now (points .entry)) leaf (domainOf (now (rows .entry)) whole)) ⌝ }
-    ensures written { λ r. ⌜ Written dimensions base (cutsAt dimensions (now (points .entry)) leaf (domainOf (now (rows .entry)) whole)) depth (from .place) (from .leaves) (r .place) (r .leaves)
+    ensures rows { λ _. ⌜ now (rows .exit) ≡ rowsUnder (cutsAt dimensions (now (points .entry)) leaf (domainOf (now (rows .entry)) whole depth)) ⌝ }
+    ensures written { λ r. ⌜ Written dimensions base (cutsAt dimensions (now (points .entry)) leaf (domainOf (now (rows .entry)) whole depth)) (from .place) (from .leaves) (r .place) (r .leaves)
         (now (wholes .entry)) (now (wholes .exit)) (now (floats .entry)) (now (floats .exit)) (now (cuts .entry)) (now (cuts .exit)) (now (planes .entry)) (now (planes .exit)) ⌝ }
 {
     let count = rows.len();

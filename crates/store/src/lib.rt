@@ -18,6 +18,9 @@ const HEAD: usize = settings_record::SIZE + bytes_in::NUMBER;
 // A level's or a domain's bytes before its rows: the mark's, and two counts.
 const COUNTS: usize = bytes_in::MARK + 2 * bytes_in::NUMBER;
 
+// A domain's bytes after its rows and its box: the cover's, and the depth's.
+const END: usize = bytes_in::FLOAT + bytes_in::NUMBER;
+
 // The number of a refusal (0 for none) and its place, and how many bytes were written.
 pub struct StoreAnswer {
     pub number: usize,
@@ -37,7 +40,7 @@ fn refusal(number: usize, place: usize) -> StoreAnswer
 }
 
 // The bytes of a tree's file, by its counts: the rows, domains and borrowed rows of all its levels. Each of its rows stands in it twice, as
-// a level's row and as a domain's own; each domain has a cover, and all but the coarse one a box.
+// a level's row and as a domain's own; each domain has a cover and a depth, and all but the coarse one a box.
 fn file_size(
     dimensions: usize,
     n: usize,
@@ -54,8 +57,8 @@ fn file_size(
     let front = HEAD + n * point;
     let counts = COUNTS * (levels + domains);
     let numbers = bytes_in::NUMBER * (2 * rows + borrowed);
-    let covers = bytes_in::FLOAT * domains;
-    front + counts + numbers + covers + bounds * (domains - 1)
+    let ends = END * domains;
+    front + counts + numbers + ends + bounds * (domains - 1)
 }
 
 // The tree of a call that the build's own tests let pass: 20 where the lists and counts are not those of a sound tree, 11 where the file list

@@ -18,7 +18,7 @@ use Rattle.definition.specs.Packed.{rowFloats}
 use Rattle.formats.specs.Bytes.{Mark, markBytes, numberBytes, numbersBytes, floatsBytes}
 use Rattle.formats.specs.Stream.{settingsBytes}
 use Rattle.packed.specs.declared.DomainRow.{DomainRow}
-use Rattle.packed.specs.Reading.{Packed, readLeaf, ownAt, borrowedAt, boxAt, coverAt, RowFits, ownStart, ownCount, borrowedStart, borrowedCount}
+use Rattle.packed.specs.Reading.{Packed, readLeaf, ownAt, borrowedAt, boxAt, coverAt, RowFits, ownStart, ownCount, borrowedStart, borrowedCount, depthAt}
 use Rattle.packed.specs.Rows.{IsRow}
 use Rattle.stored.specs.File.{headMark, filePointMark, levelMark, domainMark, headBytes, pointBytes, domainBytes}
 use Rattle.store_records.specs.Records.{countsBytes, levelRecord, boundsGiven, floatsGiven, domainRecord}
@@ -67,9 +67,9 @@ module _ (coarse : Bool) (d : ℕ) (boxes : List Float) (j : ℕ) (fits : rowFlo
       (ap floatsBytes (ap (λ (xs : List Float). boxAt d boxes j ++ xs) (sym cover-one) ∙ part-append boxes (rowFloats d * j) (boxWidth d) 1))
 
 -- ---- a domain's record, by the row r that was read
-six-parts : (a b c d e f : List ℕ) → a ++ b ++ c ++ d ++ e ++ f ≡ joined ((a ++ b ++ c) ∷ d ∷ e ∷ f ∷ [])
+seven-parts : (a b c d e f g : List ℕ) → a ++ b ++ c ++ d ++ e ++ f ++ g ≡ joined ((a ++ b ++ c) ∷ d ∷ e ∷ f ∷ g ∷ [])
 unfolding joined
-six-parts a b c d e f = simp (append-assoc, append-nil)
+seven-parts a b c d e f g = simp (append-assoc, append-nil)
 
 module _ (coarse : Bool) (p : Packed) (j : ℕ) (fits : RowFits p j) (r : DomainRow) (e : IsRow r (p .domains) j) where
   abbrev pub domainParts : List (List ℕ)
@@ -78,6 +78,7 @@ module _ (coarse : Bool) (p : Packed) (j : ℕ) (fits : RowFits p j) (r : Domain
       ∷ numbersBytes (part (p .internals) (r .«internal_start») (r .«internal_count»))
       ∷ numbersBytes (part (p .borrowed) (r .«borrowed_start») (r .«borrowed_count»))
       ∷ floatsBytes (floatsGiven coarse (boxAt (p .dimension) (p .boxes) j) (coverAt (p .dimension) (p .boxes) j))
+      ∷ numberBytes (r .depth)
       ∷ []
 
   pub domain-parts : domainRecord coarse (readLeaf p j) ≡ joined domainParts
@@ -86,8 +87,9 @@ module _ (coarse : Bool) (p : Packed) (j : ℕ) (fits : RowFits p j) (r : Domain
       let own = ownAt (p .internals) (p .domains) j in
       let lent = borrowedAt (p .borrowed) (p .domains) j in
       let floats = floatsBytes (floatsGiven coarse (boxAt (p .dimension) (p .boxes) j) (coverAt (p .dimension) (p .boxes) j)) in
-      rw (e .own-start, e .own-count, e .borrowed-start, e .borrowed-count)
-      (six-parts (markBytes domainMark) (numberBytes (length own)) (numberBytes (length lent)) (numbersBytes own) (numbersBytes lent) floats
-      ∙ ap₂ (λ (x y : ℕ). joined ((markBytes domainMark ++ numberBytes x ++ numberBytes y) ∷ numbersBytes own ∷ numbersBytes lent ∷ floats ∷ []))
+      let depth = numberBytes (depthAt (p .domains) j) in
+      rw (e .own-start, e .own-count, e .borrowed-start, e .borrowed-count, e .depth)
+      (seven-parts (markBytes domainMark) (numberBytes (length own)) (numberBytes (length lent)) (numbersBytes own) (numbersBytes lent) floats depth
+      ∙ ap₂ (λ (x y : ℕ). joined ((markBytes domainMark ++ numberBytes x ++ numberBytes y) ∷ numbersBytes own ∷ numbersBytes lent ∷ floats ∷ depth ∷ []))
       (length-part (p .internals) (ownStart (p .domains) j) (ownCount (p .domains) j) (fits .own))
       (length-part (p .borrowed) (borrowedStart (p .domains) j) (borrowedCount (p .domains) j) (fits .borrowed)))

@@ -20,7 +20,7 @@ levelRecord rows m = countsBytes levelMark (length rows) m ++ numbersBytes rows
 unfoldable pub boundsGiven : Bool → List Float → List Float
 boundsGiven coarse box = cond coarse [] box
 
--- the floats that it ends with
+-- the floats that it has
 abbrev pub floatsGiven : Bool → List Float → Float → List Float
 floatsGiven coarse box cover = boundsGiven coarse box ++ cover ∷ []
 

@@ -143,8 +143,11 @@ pub fn put_domain(
     let row = packed::read_row(domains, j);
     let own = row.internal_count;
     let lent = row.borrowed_count;
+    let depth = row.depth;
     let counted = put_counts(DOMAIN, own, lent, out, at);
     let owned = put_rows(internals, row.internal_start, own, out, counted);
     let listed = put_rows(borrowed, row.borrowed_start, lent, out, owned);
-    put_row_floats(boxes, dimensions, j, coarse, out, listed)
+    let covered = put_row_floats(boxes, dimensions, j, coarse, out, listed);
+    bytes_out::put_short(depth, out, covered);
+    covered + NUMBER
 }

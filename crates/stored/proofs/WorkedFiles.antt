@@ -19,27 +19,32 @@ use Rattle.formats.specs.Bytes.{little, bytesOf, numbersAt, numbersBytes, float
 use Rattle.formats.specs.Stream.{settingsIn, settingsBytes, policyFits, readPoints, held, jobIn}
 use Rattle.formats.specs.Printout.{ascii, decimalOnto, decimal, hexOnto, rowsText, floatsText, domainLine, fineLines, coarseLines, levelLine, levelsText, treeText, refusalText, builtText, jobText, printout}
 use Rattle.stored.specs.File.{headBytes, pointBytes, frontBytes, levelBytes, domainBytes, treeRecords, fileBytes}
-use Rattle.stored.specs.Sound.{same, ascending, partitioned, soundLeaf, soundBox, noBox, soundRows, properPart, soundLevels, firstAll, fits, sound}
+use Rattle.stored.specs.Sound.{same, ascending, partitioned, soundLeaf, soundBox, noBox, soundRows, neverFalls, deepEnough, soundDepths, properPart, soundLevels, firstAll, fits, sound}
 use Rattle.stored.specs.Stored.{leafIn, leafSize, leavesAt, afterLeaves, levelIn, afterLevel, levelsAt, pointsIn, treeIn, taken, buildable, wellFormed}
 use Rattle.stored.specs.Programs.{file, nothing, keptBy, keptJob, kept, blankLists, reloadedBy, reloadedFor, reloaded}
 use Rattle.stored.specs.Outcome.{listsShort, ownTests, loadVerdict, loadAnswer, loadLists, treeHeld, packs, writeVerdict, writeAnswer, writeOutput}
 
--- head; four points; level 0 and its four domains, each with its box and its cover; level 1 and the coarse domain, with its cover
+-- head; four points; level 0 and its four domains, each with its box, its cover and its depth; level 1 and the coarse domain, with its
+-- cover and its depth
 unfoldable pub fourFile : List ℕ
 fourFile =
     (0x54 ∷ 0x48 ∷ 1 ∷ 2 ∷ 0 ∷ 0 ∷ 0 ∷ 1 ∷ 0 ∷ 0 ∷ 0 ∷ 2 ∷ 0 ∷ 0 ∷ 0 ∷ 1 ∷ 2 ∷ 0 ∷ 0 ∷ 0 ∷ 4 ∷ 0 ∷ 0 ∷ 0 ∷ [])
     ++ (0x54 ∷ 0x50 ∷ 0 ∷ 0 ∷ 0 ∷ 0 ∷ 0 ∷ 0 ∷ 0 ∷ 0 ∷ 0x54 ∷ 0x50 ∷ 0 ∷ 0 ∷ 0 ∷ 0 ∷ 0 ∷ 0 ∷ 0xf0 ∷ 0x3f ∷ 0x54 ∷ 0x50 ∷ 0 ∷ 0 ∷ 0 ∷ 0 ∷ 0 ∷ 0 ∷ 8 ∷ 0x40 ∷ 0x54 ∷ 0x50 ∷ 0 ∷ 0 ∷ 0 ∷ 0 ∷ 0 ∷ 0 ∷ 0x1c ∷ 0x40 ∷ [])
     ++ (0x54 ∷ 0x4c ∷ 4 ∷ 0 ∷ 0 ∷ 0 ∷ 4 ∷ 0 ∷ 0 ∷ 0 ∷ 0 ∷ 0 ∷ 0 ∷ 0 ∷ 1 ∷ 0 ∷ 0 ∷ 0 ∷ 2 ∷ 0 ∷ 0 ∷ 0 ∷ 3 ∷ 0 ∷ 0 ∷ 0 ∷ [])
-    ++ (0x54 ∷ 0x44 ∷ 1 ∷ 0 ∷ 0 ∷ 0 ∷ 1 ∷ 0 ∷ 0 ∷ 0 ∷ 0 ∷ 0 ∷ 0 ∷ 0 ∷ 1 ∷ 0 ∷ 0 ∷ 0 ∷ 0 ∷ 0 ∷ 0 ∷ 0 ∷ 0 ∷ 0 ∷ 0 ∷ 0 ∷ 0 ∷ 0 ∷ 0 ∷ 0 ∷ 0 ∷ 0 ∷ 0xf0 ∷ 0x3f ∷ 0 ∷ 0 ∷ 0 ∷ 0 ∷ 0 ∷ 0 ∷ 0 ∷ 0 ∷ [])
-    ++ (0x54 ∷ 0x44 ∷ 1 ∷ 0 ∷ 0 ∷ 0 ∷ 2 ∷ 0 ∷ 0 ∷ 0 ∷ 1 ∷ 0 ∷ 0 ∷ 0 ∷ 0 ∷ 0 ∷ 0 ∷ 0 ∷ 2 ∷ 0 ∷ 0 ∷ 0 ∷ 0 ∷ 0 ∷ 0 ∷ 0 ∷ 0 ∷ 0 ∷ 0xf0 ∷ 0x3f ∷ 0 ∷ 0 ∷ 0 ∷ 0 ∷ 0 ∷ 0 ∷ 8 ∷ 0x40 ∷ 0 ∷ 0 ∷ 0 ∷ 0 ∷ 0 ∷ 0 ∷ 0 ∷ 0 ∷ [])
-    ++ (0x54 ∷ 0x44 ∷ 1 ∷ 0 ∷ 0 ∷ 0 ∷ 2 ∷ 0 ∷ 0 ∷ 0 ∷ 2 ∷ 0 ∷ 0 ∷ 0 ∷ 1 ∷ 0 ∷ 0 ∷ 0 ∷ 3 ∷ 0 ∷ 0 ∷ 0 ∷ 0 ∷ 0 ∷ 0 ∷ 0 ∷ 0 ∷ 0 ∷ 8 ∷ 0x40 ∷ 0 ∷ 0 ∷ 0 ∷ 0 ∷ 0 ∷ 0 ∷ 0x1c ∷ 0x40 ∷ 0 ∷ 0 ∷ 0 ∷ 0 ∷ 0 ∷ 0 ∷ 0xf0 ∷ 0x7f ∷ [])
-    ++ (0x54 ∷ 0x44 ∷ 1 ∷ 0 ∷ 0 ∷ 0 ∷ 1 ∷ 0 ∷ 0 ∷ 0 ∷ 3 ∷ 0 ∷ 0 ∷ 0 ∷ 2 ∷ 0 ∷ 0 ∷ 0 ∷ 0 ∷ 0 ∷ 0 ∷ 0 ∷ 0 ∷ 0 ∷ 0x1c ∷ 0x40 ∷ 0 ∷ 0 ∷ 0 ∷ 0 ∷ 0 ∷ 0 ∷ 0x1c ∷ 0x40 ∷ 0 ∷ 0 ∷ 0 ∷ 0 ∷ 0 ∷ 0 ∷ 0xf0 ∷ 0x7f ∷ [])
+    ++ (0x54 ∷ 0x44 ∷ 1 ∷ 0 ∷ 0 ∷ 0 ∷ 1 ∷ 0 ∷ 0 ∷ 0 ∷ 0 ∷ 0 ∷ 0 ∷ 0 ∷ 1 ∷ 0 ∷ 0 ∷ 0 ∷ 0 ∷ 0 ∷ 0 ∷ 0 ∷ 0 ∷ 0 ∷ 0 ∷ 0 ∷ 0 ∷ 0 ∷ 0 ∷ 0 ∷ 0 ∷ 0 ∷ 0xf0 ∷ 0x3f ∷ 0 ∷ 0 ∷ 0 ∷ 0 ∷ 0 ∷ 0 ∷ 0 ∷ 0 ∷ 2 ∷ 0 ∷ 0 ∷ 0 ∷ [])
+    ++ (0x54 ∷ 0x44 ∷ 1 ∷ 0 ∷ 0 ∷ 0 ∷ 2 ∷ 0 ∷ 0 ∷ 0 ∷ 1 ∷ 0 ∷ 0 ∷ 0 ∷ 0 ∷ 0 ∷ 0 ∷ 0 ∷ 2 ∷ 0 ∷ 0 ∷ 0 ∷ 0 ∷ 0 ∷ 0 ∷ 0 ∷ 0 ∷ 0 ∷ 0xf0 ∷ 0x3f ∷ 0 ∷ 0 ∷ 0 ∷ 0 ∷ 0 ∷ 0 ∷ 8 ∷ 0x40 ∷ 0 ∷ 0 ∷ 0 ∷ 0 ∷ 0 ∷ 0 ∷ 0 ∷ 0 ∷ 2 ∷ 0 ∷ 0 ∷ 0 ∷ [])
+    ++ (0x54 ∷ 0x44 ∷ 1 ∷ 0 ∷ 0 ∷ 0 ∷ 2 ∷ 0 ∷ 0 ∷ 0 ∷ 2 ∷ 0 ∷ 0 ∷ 0 ∷ 1 ∷ 0 ∷ 0 ∷ 0 ∷ 3 ∷ 0 ∷ 0 ∷ 0 ∷ 0 ∷ 0 ∷ 0 ∷ 0 ∷ 0 ∷ 0 ∷ 8 ∷ 0x40 ∷ 0 ∷ 0 ∷ 0 ∷ 0 ∷ 0 ∷ 0 ∷ 0x1c ∷ 0x40 ∷ 0 ∷ 0 ∷ 0 ∷ 0 ∷ 0 ∷ 0 ∷ 0xf0 ∷ 0x7f ∷ 2 ∷ 0 ∷ 0 ∷ 0 ∷ [])
+    ++ (0x54 ∷ 0x44 ∷ 1 ∷ 0 ∷ 0 ∷ 0 ∷ 1 ∷ 0 ∷ 0 ∷ 0 ∷ 3 ∷ 0 ∷ 0 ∷ 0 ∷ 2 ∷ 0 ∷ 0 ∷ 0 ∷ 0 ∷ 0 ∷ 0 ∷ 0 ∷ 0 ∷ 0 ∷ 0x1c ∷ 0x40 ∷ 0 ∷ 0 ∷ 0 ∷ 0 ∷ 0 ∷ 0 ∷ 0x1c ∷ 0x40 ∷ 0 ∷ 0 ∷ 0 ∷ 0 ∷ 0 ∷ 0 ∷ 0xf0 ∷ 0x7f ∷ 2 ∷ 0 ∷ 0 ∷ 0 ∷ [])
     ++ (0x54 ∷ 0x4c ∷ 2 ∷ 0 ∷ 0 ∷ 0 ∷ 1 ∷ 0 ∷ 0 ∷ 0 ∷ 0 ∷ 0 ∷ 0 ∷ 0 ∷ 1 ∷ 0 ∷ 0 ∷ 0 ∷ [])
-    ++ (0x54 ∷ 0x44 ∷ 2 ∷ 0 ∷ 0 ∷ 0 ∷ 0 ∷ 0 ∷ 0 ∷ 0 ∷ 0 ∷ 0 ∷ 0 ∷ 0 ∷ 1 ∷ 0 ∷ 0 ∷ 0 ∷ 0 ∷ 0 ∷ 0 ∷ 0 ∷ 0 ∷ 0 ∷ 0 ∷ 0 ∷ [])
+    ++ (0x54 ∷ 0x44 ∷ 2 ∷ 0 ∷ 0 ∷ 0 ∷ 0 ∷ 0 ∷ 0 ∷ 0 ∷ 0 ∷ 0 ∷ 0 ∷ 0 ∷ 1 ∷ 0 ∷ 0 ∷ 0 ∷ 0 ∷ 0 ∷ 0 ∷ 0 ∷ 0 ∷ 0 ∷ 0 ∷ 0 ∷ 0 ∷ 0 ∷ 0 ∷ 0 ∷ [])
 
--- the file of the form before, without covers
+-- the file of the form before, without depths
 unfoldable oldFile : List ℕ
-oldFile = part fourFile 0 124 ++ part fourFile 132 38 ++ part fourFile 178 38 ++ part fourFile 224 34 ++ part fourFile 266 36
+oldFile = part fourFile 0 132 ++ part fourFile 136 46 ++ part fourFile 186 46 ++ part fourFile 236 42 ++ part fourFile 282 44
+
+-- and of the form before that one, without covers too
+unfoldable olderFile : List ℕ
+olderFile = part fourFile 0 124 ++ part fourFile 136 38 ++ part fourFile 186 38 ++ part fourFile 236 34 ++ part fourFile 282 36
 
 -- the settings and points, the tree, its counts and its lists, with tails of nines
 abbrev place : List Float
@@ -125,25 +130,29 @@ shortBoxes = withBoxes (line (replicate 74 9))
 abbrev counts : ℕ → List ℕ → List ℕ → Counts
 counts n rows domains = record { levels = n; rows = rows; domains = domains }
 
--- ---- the limits: two points, two leaves of one row each, then leaves without rows, and a coarse level of one row
+-- ---- the limits: two points, leaves over both rows, and a coarse level of one row
 
--- a leaf with the box 0, 1 and the cover 3
-abbrev leaf : List ℕ → List ℕ → Leaf
-leaf own borrowed =
-    record { own = own; borrowed = borrowed; box = line (0 ∷ 1 ∷ []); cover = ofBits binary64 0x4008000000000000 }
+-- a leaf at this depth, with the box 0, 1 and the cover 3
+abbrev leaf : ℕ → List ℕ → List ℕ → Leaf
+leaf e own borrowed =
+    record { own = own; borrowed = borrowed; box = line (0 ∷ 1 ∷ []); cover = ofBits binary64 0x4008000000000000; depth = e }
 
-unfoldable pair : List Leaf → List Level
-pair more =
-    record { points = 0 ∷ 1 ∷ []; leaves = leaf (0 ∷ []) [] ∷ leaf (1 ∷ []) [] ∷ more }
-    ∷ record { points = 0 ∷ []; leaves = record { own = 0 ∷ []; borrowed = []; box = line (0 ∷ 0 ∷ []); cover = plusZero } ∷ [] }
+unfoldable over : List Leaf → List Level
+over leaves =
+    record { points = 0 ∷ 1 ∷ []; leaves = leaves }
+    ∷ record { points = 0 ∷ []; leaves = record { own = 0 ∷ []; borrowed = []; box = line (0 ∷ 0 ∷ []); cover = plusZero; depth = 0 } ∷ [] }
     ∷ []
+
+-- two leaves of one row each, then leaves without rows
+unfoldable pair : List Leaf → List Level
+pair more = over (leaf 1 (0 ∷ []) [] ∷ leaf 1 (1 ∷ []) [] ∷ more)
 
 -- so many leaves that hold and borrow nothing, and that borrow both rows
 abbrev empty : ℕ → List Leaf
-empty m = replicate m (leaf [] [])
+empty m = replicate m (leaf 2 [] [])
 
 abbrev borrowing : ℕ → List Leaf
-borrowing m = replicate m (leaf [] (0 ∷ 1 ∷ []))
+borrowing m = replicate m (leaf 2 [] (0 ∷ 1 ∷ []))
 
 abbrev onPair : ℕ → Settings
 onPair neighbours = record { dimension = 1; leaf = 1; neighbours = neighbours; factor = 2; policy = fixed 1 }
@@ -152,30 +161,37 @@ onPair neighbours = record { dimension = 1; leaf = 1; neighbours = neighbours; f
 abbrev passes : ℕ → List Leaf → Bool
 passes neighbours more = wellFormed (fileBytes (onPair neighbours) (line (0 ∷ 1 ∷ [])) (pair more))
 
+-- the tests of a tree with these leaves
+abbrev stands : List Level → Bool
+stands ls = sound (onPair 1) 2 ls
+
 -- To unfold this is to unfold every definition that its line names.
 unfoldable pub everything : ℕ
-unfolding opened little bytesOf numbersAt numbersBytes floatsAt floatsBytes settingsIn settingsBytes readLeaf readLeaves readLevel readLevels headBytes pointBytes frontBytes levelBytes domainBytes treeRecords fileBytes same ascending partitioned soundLeaf soundBox noBox soundRows properPart soundLevels firstAll fits sound leafIn leafSize leavesAt afterLeaves levelIn afterLevel levelsAt pointsIn treeIn taken buildable wellFormed listsShort ownTests loadVerdict loadAnswer loadLists treeHeld packs writeVerdict writeAnswer writeOutput fourFile pair policyFits readPoints held jobIn ascii decimalOnto decimal hexOnto rowsText floatsText domainLine fineLines coarseLines levelLine levelsText treeText refusalText builtText jobText printout keptBy keptJob kept blankLists reloadedBy reloadedFor reloaded stream oldFile
+unfolding opened little bytesOf numbersAt numbersBytes floatsAt floatsBytes settingsIn settingsBytes readLeaf readLeaves readLevel readLevels headBytes pointBytes frontBytes levelBytes domainBytes treeRecords fileBytes same ascending partitioned soundLeaf soundBox noBox soundRows neverFalls deepEnough soundDepths properPart soundLevels firstAll fits sound leafIn leafSize leavesAt afterLeaves levelIn afterLevel levelsAt pointsIn treeIn taken buildable wellFormed listsShort ownTests loadVerdict loadAnswer loadLists treeHeld packs writeVerdict writeAnswer writeOutput fourFile over pair policyFits readPoints held jobIn ascii decimalOnto decimal hexOnto rowsText floatsText domainLine fineLines coarseLines levelLine levelsText treeText refusalText builtText jobText printout keptBy keptJob kept blankLists reloadedBy reloadedFor reloaded stream oldFile olderFile
 everything = 0
 
 pub record Files : Type 0 where
-  -- a domain record: internal rows, then borrowed rows; lower bounds, then upper ones, then the cover; the coarse domain has no bounds
-  internal-first : domainBytes [] (leaf (1 ∷ []) (0 ∷ 2 ∷ [])) ≡ 0x54 ∷ 0x44 ∷ numbersBytes (1 ∷ 2 ∷ 1 ∷ 0 ∷ 2 ∷ 0 ∷ 0x40080000 ∷ [])
+  -- a domain record: internal rows, then borrowed rows; lower bounds, then upper ones, then the cover, then the depth; the coarse domain has no
+  -- bounds
+  internal-first : domainBytes [] (leaf 5 (1 ∷ []) (0 ∷ 2 ∷ [])) ≡ 0x54 ∷ 0x44 ∷ numbersBytes (1 ∷ 2 ∷ 1 ∷ 0 ∷ 2 ∷ 0 ∷ 0x40080000 ∷ 5 ∷ [])
   lower-first :
-      domainBytes (line (0 ∷ 1 ∷ [])) (leaf (1 ∷ []) []) ≡ 0x54 ∷ 0x44 ∷ numbersBytes (1 ∷ 0 ∷ 1 ∷ 0 ∷ 0 ∷ 0 ∷ 0x3ff00000 ∷ 0 ∷ 0x40080000 ∷ [])
-  coarse-bare : getD (treeRecords four) 6 [] ≡ 0x54 ∷ 0x44 ∷ numbersBytes (2 ∷ 0 ∷ 0 ∷ 1 ∷ 0 ∷ 0 ∷ [])
-  -- the writer's bytes, 310 of them, and the tree read back
+      domainBytes (line (0 ∷ 1 ∷ [])) (leaf 5 (1 ∷ []) []) ≡ 0x54 ∷ 0x44 ∷ numbersBytes (1 ∷ 0 ∷ 1 ∷ 0 ∷ 0 ∷ 0 ∷ 0x3ff00000 ∷ 0 ∷ 0x40080000 ∷ 5 ∷ [])
+  coarse-bare : getD (treeRecords four) 6 [] ≡ 0x54 ∷ 0x44 ∷ numbersBytes (2 ∷ 0 ∷ 0 ∷ 1 ∷ 0 ∷ 0 ∷ 0 ∷ [])
+  -- the writer's bytes, 330 of them, and the tree read back
   whole-file : fileBytes (onLine 2 2) place four ≡ fourFile
-  bytes : length fourFile ≡ 310
+  bytes : length fourFile ≡ 330
   tree : treeIn fourFile ≡ four
   -- loaded: the counts and lists of the build
   loaded : load fourFile ≡ reports fourCounts
   lists : loadLists (onLine 2 2) place fourFile (nines 4) ≡ fourLists
-  -- nothing at all, one byte less, one byte more, and the form before, without covers
+  -- nothing at all, one byte less, one byte more, and the forms before, without depths, and without covers too
   no-bytes : load [] ≡ refuses 20 zeroCounts
-  cut : load (take 309 fourFile) ≡ refuses 20 zeroCounts
+  cut : load (take 329 fourFile) ≡ refuses 20 zeroCounts
   longer : load (fourFile ++ 0 ∷ []) ≡ refuses 20 zeroCounts
-  old-bytes : length oldFile ≡ 270
+  old-bytes : length oldFile ≡ 310
   old-form : load oldFile ≡ refuses 20 zeroCounts
+  older-bytes : length olderFile ≡ 270
+  older-form : load olderFile ≡ refuses 20 zeroCounts
   -- a mark, a policy, a leaf threshold that the build refuses
   mark : load (with 91 0x45) ≡ refuses 20 zeroCounts
   policy : load (with 15 2) ≡ refuses 20 zeroCounts
@@ -183,16 +199,22 @@ pub record Files : Type 0 where
   -- a NaN bound; a NaN cover of a fine and of the coarse domain
   bound : load (withFloat 116 nan) ≡ refuses 20 zeroCounts
   cover : load (withFloat 124 nan) ≡ refuses 20 zeroCounts
-  coarse-cover : load (withFloat 302 nan) ≡ refuses 20 zeroCounts
+  coarse-cover : load (withFloat 318 nan) ≡ refuses 20 zeroCounts
   -- an own row borrowed; a row in two leaves; a next level with a row twice
   own-borrowed : load (with 104 0) ≡ refuses 20 zeroCounts
-  two-leaves : load (with 142 0) ≡ refuses 20 zeroCounts
-  next-twice : load (with 280 0) ≡ refuses 20 zeroCounts
+  two-leaves : load (with 146 0) ≡ refuses 20 zeroCounts
+  next-twice : load (with 296 0) ≡ refuses 20 zeroCounts
   -- a bound turned or infinite, another cover, of the coarse domain too, and another foreign row, are not noticed
   infinite : load (withFloat 116 plusInfinity) ≡ reports fourCounts
   other-cover : load (withFloat 124 minusZero) ≡ reports fourCounts
-  coarse-cover-one : load (withFloat 302 one) ≡ reports fourCounts
+  coarse-cover-one : load (withFloat 318 one) ≡ reports fourCounts
   other-row : load (with 104 3) ≡ reports fourCounts
+  -- a leaf with 1 of 4 rows is too small for depth 1, and at 3 it may be; depths that fall; the coarse domain at 1 (its 2 rows are half of them
+  -- and one more)
+  shallow : load (with 132 1) ≡ refuses 20 zeroCounts
+  deeper : load (with 278 3) ≡ reports fourCounts
+  falling : load (with 132 3) ≡ refuses 20 zeroCounts
+  coarse-depth : load (with 326 1) ≡ refuses 20 zeroCounts
   -- a box list that is one float short
   short-boxes : loadAnswer (onLine 2 2) place fourFile shortBoxes ≡ refuses 11 zeroCounts
   -- other settings, other points, and -0 for +0; of two refusals the one that comes first
@@ -205,26 +227,29 @@ pub record Files : Type 0 where
   -- Auto is not the number that it resolves to
   as-given : loadAnswer (onAuto auto) place (fileBytes (onAuto (fixed 512)) place (levels (onAuto (fixed 512)) place)) (nines 4) ≡ refuses 18 zeroCounts
   -- written: as many bytes, the bytes, and what stood behind them
-  written : write fourCounts fourLists 311 ≡ reports 310
-  output : writeOutput (onLine 2 2) place fourCounts fourLists (replicate 311 9) ≡ fourFile ++ 9 ∷ []
-  no-room : write fourCounts fourLists 309 ≡ refuses 11 0
+  written : write fourCounts fourLists 331 ≡ reports 330
+  output : writeOutput (onLine 2 2) place fourCounts fourLists (replicate 331 9) ≡ fourFile ++ 9 ∷ []
+  no-room : write fourCounts fourLists 329 ≡ refuses 11 0
   -- no level, five, a count past the last level, a count that no list holds
-  no-level : write (counts 0 (0 ∷ 0 ∷ 0 ∷ 0 ∷ []) (0 ∷ 0 ∷ 0 ∷ 0 ∷ [])) fourLists 310 ≡ refuses 20 0
-  past-last : write (counts 2 (4 ∷ 2 ∷ 0 ∷ 0 ∷ []) (4 ∷ 1 ∷ 0 ∷ 1 ∷ [])) fourLists 310 ≡ refuses 20 0
-  rows-past : write (counts 2 (4 ∷ 2 ∷ 1 ∷ 0 ∷ []) (4 ∷ 1 ∷ 0 ∷ 0 ∷ [])) fourLists 310 ≡ refuses 20 0
+  no-level : write (counts 0 (0 ∷ 0 ∷ 0 ∷ 0 ∷ []) (0 ∷ 0 ∷ 0 ∷ 0 ∷ [])) fourLists 330 ≡ refuses 20 0
+  past-last : write (counts 2 (4 ∷ 2 ∷ 0 ∷ 0 ∷ []) (4 ∷ 1 ∷ 0 ∷ 1 ∷ [])) fourLists 330 ≡ refuses 20 0
+  rows-past : write (counts 2 (4 ∷ 2 ∷ 1 ∷ 0 ∷ []) (4 ∷ 1 ∷ 0 ∷ 0 ∷ [])) fourLists 330 ≡ refuses 20 0
   -- a last level with several domains, although each has +0 for a box
-  several-last : write (counts 1 (4 ∷ 0 ∷ 0 ∷ 0 ∷ []) (4 ∷ 0 ∷ 0 ∷ 0 ∷ [])) (withBoxes (line (replicate 75 0))) 310 ≡ refuses 20 0
+  several-last : write (counts 1 (4 ∷ 0 ∷ 0 ∷ 0 ∷ []) (4 ∷ 0 ∷ 0 ∷ 0 ∷ [])) (withBoxes (line (replicate 75 0))) 330 ≡ refuses 20 0
   -- a stretch that starts elsewhere, and one that ends past its list
-  elsewhere : write fourCounts (withDomain 4 2) 310 ≡ refuses 20 0
-  past-list : write fourCounts (withDomain 17 64) 310 ≡ refuses 20 0
+  elsewhere : write fourCounts (withDomain 5 2) 330 ≡ refuses 20 0
+  past-list : write fourCounts (withDomain 21 64) 330 ≡ refuses 20 0
   -- a coarse box of -0; before that the room for the file does not count
   minus-zero : write fourCounts (withBoxFloat 13 minusZero) 0 ≡ refuses 20 0
   -- a NaN cover of a fine and of the coarse domain; a coarse cover of 1 is written; a box list that is one float short
-  write-cover : write fourCounts (withBoxFloat 2 nan) 310 ≡ refuses 20 0
-  write-coarse-cover : write fourCounts (withBoxFloat 14 nan) 310 ≡ refuses 20 0
-  write-coarse-one : write fourCounts (withBoxFloat 14 one) 310 ≡ reports 310
-  one-written : writeOutput (onLine 2 2) place fourCounts (withBoxFloat 14 one) (replicate 310 9) ≡ withFloat 302 one
-  write-short-boxes : write fourCounts shortBoxes 310 ≡ refuses 11 0
+  write-cover : write fourCounts (withBoxFloat 2 nan) 330 ≡ refuses 20 0
+  write-coarse-cover : write fourCounts (withBoxFloat 14 nan) 330 ≡ refuses 20 0
+  write-coarse-one : write fourCounts (withBoxFloat 14 one) 330 ≡ reports 330
+  one-written : writeOutput (onLine 2 2) place fourCounts (withBoxFloat 14 one) (replicate 330 9) ≡ withFloat 318 one
+  write-short-boxes : write fourCounts shortBoxes 330 ≡ refuses 11 0
+  -- a leaf that is too small for its depth, and the coarse domain at 1
+  write-shallow : write fourCounts (withDomain 4 1) 330 ≡ refuses 20 0
+  write-coarse-depth : write fourCounts (withDomain 24 1) 330 ≡ refuses 20 0
   -- the programs: a job's file, and its printout again; a refusal of the stream, of the build, and of the file
   keeps : kept (stream 2) ≡ file fourFile
   keeps-nothing : kept [] ≡ nothing (record { number = 16; place = 0 })
@@ -236,7 +261,14 @@ pub record Files : Type 0 where
   domains-most : passes 1 (empty 10) ≡ true
   domains-more : passes 1 (empty 11) ≡ false
   borrowed-most : passes 0 (borrowing 6 ++ empty 4) ≡ true
-  borrowed-more : passes 0 (borrowing 6 ++ leaf [] (0 ∷ []) ∷ empty 3) ≡ false
+  borrowed-more : passes 0 (borrowing 6 ++ leaf 2 [] (0 ∷ []) ∷ empty 3) ≡ false
+  -- a leaf at 21 passes, and at 22 it doesn't; both of 2 rows at 0 and at 1, and not at 2; 1 row at 1, and not at 0
+  deepest : stands (pair (leaf 21 [] [] ∷ [])) ≡ true
+  too-deep : stands (pair (leaf 22 [] [] ∷ [])) ≡ false
+  all-at-root : stands (over (leaf 0 (0 ∷ 1 ∷ []) [] ∷ leaf 2 [] [] ∷ [])) ≡ true
+  one-more : stands (over (leaf 1 (0 ∷ 1 ∷ []) [] ∷ leaf 2 [] [] ∷ [])) ≡ true
+  two-more : stands (over (leaf 2 (0 ∷ 1 ∷ []) [] ∷ leaf 2 [] [] ∷ [])) ≡ false
+  one-less : stands (over (leaf 0 (0 ∷ []) [] ∷ leaf 1 (1 ∷ []) [] ∷ [])) ≡ false
 
 pub files : Files
 unfolding everything
@@ -255,6 +287,8 @@ files =
       longer = refl;
       old-bytes = refl;
       old-form = refl;
+      older-bytes = refl;
+      older-form = refl;
       mark = refl;
       policy = refl;
       threshold-zero = refl;
@@ -268,6 +302,10 @@ files =
       other-cover = refl;
       coarse-cover-one = refl;
       other-row = refl;
+      shallow = refl;
+      deeper = refl;
+      falling = refl;
+      coarse-depth = refl;
       short-boxes = refl;
       settings = refl;
       points = refl;
@@ -291,6 +329,8 @@ files =
       write-coarse-one = refl;
       one-written = refl;
       write-short-boxes = refl;
+      write-shallow = refl;
+      write-coarse-depth = refl;
       keeps = refl;
       keeps-nothing = refl;
       build-refuses = refl;
@@ -301,4 +341,10 @@ files =
       domains-more = refl;
       borrowed-most = refl;
       borrowed-more = refl;
+      deepest = refl;
+      too-deep = refl;
+      all-at-root = refl;
+      one-more = refl;
+      two-more = refl;
+      one-less = refl;
     }

@@ -47,11 +47,11 @@ unfoldable pub levelBytes : Level → List ℕ
 levelBytes l =
     markBytes levelMark ++ numberBytes (length (l .points)) ++ numberBytes (length (l .leaves)) ++ numbersBytes (l .points)
 
--- internal count, borrowed count, internal rows, borrowed rows, the bounds given, and the cover
+-- internal count, borrowed count, internal rows, borrowed rows, the bounds given, the cover, and the depth
 unfoldable pub domainBytes : List Float → Leaf → List ℕ
 domainBytes bounds f =
     markBytes domainMark ++ numberBytes (length (f .own)) ++ numberBytes (length (f .borrowed)) ++ numbersBytes (f .own) ++ numbersBytes (f .borrowed)
-    ++ floatsBytes (bounds ++ f .cover ∷ [])
+    ++ floatsBytes (bounds ++ f .cover ∷ []) ++ numberBytes (f .depth)
 
 -- The records of the levels, each with those of its domains after it. The last level is the coarse one, whose domain has no box.
 unfoldable pub treeRecords : List Level → List (List ℕ)

@@ -1,6 +1,6 @@
 -- The tests that a tree has to pass before it is written or handed out. Definitions only.
-use Prim.Native.Nat.{ℕ}
-use mathlib.Core.Bool.{Bool, true, false, not, _&&_}
+use Prim.Native.Nat.{ℕ, _+_, _/_, _^_}
+use mathlib.Core.Bool.{Bool, true, false, not, _&&_, _||_}
 use mathlib.Core.List.{List, [], _∷_, map}
 use lib.ListN.{length, replicate}
 use lib.Dec.{leb, ltb, eqb}
@@ -8,7 +8,7 @@ use lib.Ieee.{binary64, toBits, isNan}
 use Rattle.lists.specs.Lists.{anyOf, member, count, from, joined}
 use Rattle.definition.specs.Number.{plusZero}
 use Rattle.definition.specs.Points.{boxWidth}
-use Rattle.definition.specs.Tree.{Settings, Leaf, Level}
+use Rattle.definition.specs.Tree.{Settings, Leaf, Level, mostDepth}
 use Rattle.definition.specs.Packed.{mostLevels, leafFloats, buildStated, packedLevelPoints, packedInternals, packedDomains, packedBorrowed}
 
 -- ---- lists
@@ -28,6 +28,11 @@ same (x ∷ xs) (y ∷ ys) = eqb x y && same xs ys
 unfoldable pub ascending : List ℕ → Bool
 ascending [] = true
 ascending (x ∷ xs) = allOf (λ y. ltb x y) xs && ascending xs
+
+-- x and then the list never fall: each is at least the one before it
+unfoldable pub neverFalls : ℕ → List ℕ → Bool
+neverFalls x [] = true
+neverFalls x (y ∷ ys) = leb x y && neverFalls y ys
 
 -- ---- a level
 
@@ -53,6 +58,19 @@ noBox d f = same (map (toBits binary64) (f .box)) (map (toBits binary64) (replic
 unfoldable pub soundRows : Level → Bool
 soundRows l = ascending (l .points) && partitioned l && allOf (soundLeaf (l .points)) (l .leaves)
 
+-- a leaf with `own` rows at depth e in a level of a rows: e is at most 21, and it has a / 2^e rows, rounded down, or one more
+unfoldable pub deepEnough : ℕ → ℕ → ℕ → Bool
+deepEnough a own e = leb e mostDepth && (eqb own (a / 2 ^ e) || eqb own (a / 2 ^ e + 1))
+
+-- in row order depths never fall, and each leaf has the rows that its depth says
+unfoldable pub soundDepths : Level → Bool
+soundDepths l =
+    neverFalls 0 (map (λ f. f .depth) (l .leaves)) && allOf (λ f. deepEnough (length (l .points)) (length (f .own)) (f .depth)) (l .leaves)
+
+-- the coarse domain's depth is the root's
+abbrev pub atRoot : Leaf → Bool
+atRoot f = eqb (f .depth) 0
+
 -- a nonempty proper part (both lists ascend, so a proper part is a shorter one)
 unfoldable pub properPart : List ℕ → List ℕ → Bool
 properPart rows above = ltb 0 (length rows) && ltb (length rows) (length above) && allOf (λ i. member i above) rows
@@ -61,9 +79,9 @@ properPart rows above = ltb 0 (length rows) && ltb (length rows) (length above) 
 
 unfoldable pub soundLevels : ℕ → List Level → Bool
 soundLevels d [] = false
-soundLevels d (l ∷ []) = soundRows l && eqb (length (l .leaves)) 1 && allOf (noBox d) (l .leaves)
+soundLevels d (l ∷ []) = soundRows l && soundDepths l && eqb (length (l .leaves)) 1 && allOf (noBox d) (l .leaves) && allOf atRoot (l .leaves)
 soundLevels d (l ∷ m ∷ ls) =
-    soundRows l && not (eqb (length (l .leaves)) 1) && allOf (soundBox d) (l .leaves) && properPart (m .points) (l .points)
+    soundRows l && soundDepths l && not (eqb (length (l .leaves)) 1) && allOf (soundBox d) (l .leaves) && properPart (m .points) (l .points)
     && soundLevels d (m ∷ ls)
 
 -- the first level lists all rows

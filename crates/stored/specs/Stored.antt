@@ -33,7 +33,7 @@ firstCount bs = numberAt markSize bs
 abbrev pub secondCount : List ℕ → ℕ
 secondCount bs = numberAt (markSize + numberSize) bs
 
--- where a domain's borrowed rows, its bounds and its cover begin; the coarse one has no bounds
+-- where a domain's borrowed rows, its bounds, its cover and its depth begin; the coarse one has no bounds
 abbrev pub borrowedPlace : List ℕ → ℕ
 borrowedPlace bs = countsSize + numberSize * firstCount bs
 
@@ -43,6 +43,9 @@ boundsPlace bs = countsSize + numberSize * (firstCount bs + secondCount bs)
 abbrev pub coverPlace : ℕ → Bool → List ℕ → ℕ
 coverPlace d coarse bs = boundsPlace bs + cond coarse 0 (floatSize * boxWidth d)
 
+abbrev pub depthPlace : ℕ → Bool → List ℕ → ℕ
+depthPlace d coarse bs = coverPlace d coarse bs + floatSize
+
 -- the domain at the front of bs; the coarse one has no box
 unfoldable pub leafIn : ℕ → Bool → List ℕ → Leaf
 leafIn d coarse bs =
@@ -51,11 +54,12 @@ leafIn d coarse bs =
       borrowed = numbersAt (secondCount bs) (borrowedPlace bs) bs;
       box = cond coarse (replicate (boxWidth d) plusZero) (floatsAt (boxWidth d) (boundsPlace bs) bs);
       cover = floatAt (coverPlace d coarse bs) bs;
+      depth = numberAt (depthPlace d coarse bs) bs;
     }
 
 -- its bytes
 unfoldable pub leafSize : ℕ → Bool → List ℕ → ℕ
-leafSize d coarse bs = coverPlace d coarse bs + floatSize
+leafSize d coarse bs = depthPlace d coarse bs + numberSize
 
 -- m domains one after another, and what stands after them
 unfoldable pub leavesAt : ℕ → Bool → ℕ → List ℕ → List Leaf

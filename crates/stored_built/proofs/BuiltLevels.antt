@@ -23,8 +23,9 @@ use Rattle.definition.specs.Number.{plusZero}
 use Rattle.definition.specs.Points.{boxWidth}
 use Rattle.definition.specs.Cut.{Domain, leavesOf}
 use Rattle.definition.specs.Overlaps.{borrowedBy}
-use Rattle.definition.specs.Tree.{Settings, Leaf, Level, coarseLevel, fineLeaf, fineLevel, nextActive, reductionsLeft, levelsFrom}
+use Rattle.definition.specs.Tree.{Settings, Leaf, Level, coarseLeaf, coarseLevel, fineLeaf, fineLevel, nextActive, reductionsLeft, levelsFrom}
 use Rattle.definition.specs.Packed.{leafFloats}
+use Rattle.definition.specs.Refusals.{mostPoints}
 use Rattle.definition.proofs.Cuts.{Good, rowsOf, leaves-ascend}
 use Rattle.definition.proofs.Borrowed.{borrows-not-own}
 use Rattle.definition.proofs.Steps.{fineOf, sizeFrom, nextOf, sentFrom, levels-last, levels-end, levels-more}
@@ -32,11 +33,13 @@ use Rattle.definition.proofs.FineLeaves.{fine-many, fine-map, fine-each}
 use Rattle.definition.proofs.Sizes.{sized}
 use Rattle.definition.proofs.OneLevel.{OneLevel, one-level}
 use Rattle.definition_laws.proofs.Shape.{leaves-boxes}
-use Rattle.definition.proofs.Levels.{next-good}
-use Rattle.stored.specs.Sound.{allOf, ascending, partitioned, soundLeaf, soundBox, noBox, soundRows, properPart, soundLevels}
+use Rattle.definition_laws.proofs.Depths.{fine-holds, coarse-holds}
+use Rattle.definition.proofs.Levels.{next-short, next-good}
+use Rattle.stored.specs.Sound.{allOf, ascending, partitioned, soundLeaf, soundBox, noBox, soundRows, soundDepths, atRoot, properPart, soundLevels}
 use Rattle.tree_tests.proofs.AllPass.{all-pass, ascends-ascending}
 use Rattle.tree_tests.proofs.AllRows.{same-self}
 use Rattle.tree_tests.proofs.Partition.{times-divided}
+use Rattle.tree_tests.proofs.Depths.{depths-pass}
 use Rattle.stored_built.proofs.FineLeaves.{leaves-two, zero-known, Finite, cover-known, leaves-known}
 
 next-ascends : (active : List ℕ) (sent : List (List ℕ)) → Ascends active → Ascends (nextActive active sent)
@@ -52,10 +55,7 @@ pub record Starts (active : List ℕ) (ls : List Level) : Type 0 where
 
 -- ---- the coarse level
 module _ (d : ℕ) (active : List ℕ) (ascends : Ascends active) where
-  abbrev coarseLeaf : Leaf
-  coarseLeaf = record { own = active; borrowed = []; box = replicate (boxWidth d) plusZero; cover = plusZero }
-
-  coarse-leaf : soundLeaf active coarseLeaf ≡ true
+  coarse-leaf : soundLeaf active (coarseLeaf d active) ≡ true
   unfolding soundLeaf ascending anyOf
   coarse-leaf = rw (ascends-ascending active ascends)
 
@@ -64,15 +64,23 @@ module _ (d : ℕ) (active : List ℕ) (ascends : Ascends active) where
   coarse-rows =
       and-of
       (and-of (ascends-ascending active ascends) (rw (joined-one active) (times-divided active active (ascends-once active ascends) (λ r. refl))))
-      (all-pass (soundLeaf active) (coarseLeaf ∷ []) (coarse-leaf, tt))
+      (all-pass (soundLeaf active) (coarseLeaf d active ∷ []) (coarse-leaf, tt))
 
-  coarse-box : noBox d coarseLeaf ≡ true
+  coarse-box : noBox d (coarseLeaf d active) ≡ true
   unfolding noBox
   coarse-box = and-of (same-self (map (toBits binary64) (replicate (boxWidth d) plusZero))) (ap not zero-known)
 
+  coarse-depths : soundDepths (coarseLevel d active) ≡ true
+  unfolding coarseLevel
+  coarse-depths = depths-pass (coarseLevel d active) (coarse-holds d active)
+
   coarse-passes : soundLevels d (coarseLevel d active ∷ []) ≡ true
   unfolding soundLevels coarseLevel All
-  coarse-passes = and-of (and-of coarse-rows refl) (all-pass (noBox d) (coarseLeaf ∷ []) (coarse-box, tt))
+  coarse-passes =
+      let leaf = coarseLeaf d active in
+      and-of
+      (and-of (and-of (and-of coarse-rows coarse-depths) refl) (all-pass (noBox d) (leaf ∷ []) (coarse-box, tt)))
+      (all-pass atRoot (leaf ∷ []) (eq-eqb 0 0 refl, tt))
 
 -- two lists taken together, with what holds of each
 all-zipped : {A B C : Type 0} (Q : A → Type 0) (R : B → Type 0) (P : C → Type 0) (f : A → B → C) → ((x : A) (y : B) → Q x → R y → P (f x y))
@@ -84,7 +92,7 @@ all-zipped Q R P f each (x ∷ xs) (y ∷ ys) h g = (each x y (h .0) (g .0), all
 
 -- ---- a fine level
 module _ (s : Settings) (cs : List Float) (c k built : ℕ) (active : List ℕ) (pos : 0 < s .dimension) (lp : 1 ≤ s .leaf) (cp : 1 ≤ c)
-    (good : Good (s .dimension) cs active) (ascends : Ascends active) (many : c < length active) where
+    (good : Good (s .dimension) cs active) (few : length active ≤ mostPoints) (ascends : Ascends active) (many : c < length active) where
   abbrev d : ℕ
   d = s .dimension
 
@@ -183,6 +191,10 @@ module _ (s : Settings) (cs : List Float) (c k built : ℕ) (active : List ℕ) 
   fine-boxes =
       all-pass (soundBox d) fs (all-zipped Boxed (All (Finite d cs)) (λ f. soundBox d f ≡ true) toLeaf box-passes qs sent leaves-boxed sent-finite)
 
+  -- ---- its depths
+  fine-depths : soundDepths (fineOf s cs size active) ≡ true
+  fine-depths = depths-pass (fineOf s cs size active) (fine-holds s cs pos lp size active good few)
+
   -- ---- two leaves or more, so that it isn't taken for the coarse level
   fine-count : not (eqb (length fs) 1) ≡ true
   fine-count =
@@ -206,7 +218,7 @@ module _ (s : Settings) (cs : List Float) (c k built : ℕ) (active : List ℕ) 
   unfolding soundLevels fineLevel
   fine-passes ls st h =
       let below = subst (λ (x : List Level). soundLevels d x ≡ true) (st .are) h in
-      rw (st .are) (and-of (and-of (and-of (and-of fine-rows fine-count) fine-boxes) (rw (st .lists) next-passes)) below)
+      rw (st .are) (and-of (and-of (and-of (and-of (and-of fine-rows fine-depths) fine-count) fine-boxes) (rw (st .lists) next-passes)) below)
 
 -- ---- the levels over active rows
 module _ (s : Settings) (cs : List Float) (c k : ℕ) where
@@ -229,16 +241,16 @@ module _ (s : Settings) (cs : List Float) (c k : ℕ) where
       (le-or-lt (length active) c)
 
   -- THE LAW: all of them pass, down to the coarse one
-  pub levels-pass : 0 < s .dimension → 1 ≤ s .leaf → 1 ≤ c → (fuel built : ℕ) (active : List ℕ) → Good (s .dimension) cs active → Ascends active
-      → soundLevels (s .dimension) (levelsFrom s cs c k fuel built active) ≡ true
-  levels-pass pos lp cp zero built active g h = rw (levels-last s cs c k built active) (coarse-passes (s .dimension) active h)
-  levels-pass pos lp cp (suc fuel) built active g h =
+  pub levels-pass : 0 < s .dimension → 1 ≤ s .leaf → 1 ≤ c → (fuel built : ℕ) (active : List ℕ) → Good (s .dimension) cs active → length active ≤ mostPoints
+      → Ascends active → soundLevels (s .dimension) (levelsFrom s cs c k fuel built active) ≡ true
+  levels-pass pos lp cp zero built active g few h = rw (levels-last s cs c k built active) (coarse-passes (s .dimension) active h)
+  levels-pass pos lp cp (suc fuel) built active g few h =
       ⊎-elim
-      (λ (few : length active ≤ c). rw (levels-end s cs c k fuel built active few) (coarse-passes (s .dimension) active h))
+      (λ (end : length active ≤ c). rw (levels-end s cs c k fuel built active end) (coarse-passes (s .dimension) active h))
       (λ (many : c < length active).
       let sent = sentFrom s cs c k built active in
       let next = nextOf s cs c k built active in
       rw (levels-more s cs c k fuel built active many)
-      (fine-passes s cs c k built active pos lp cp g h many (levelsFrom s cs c k fuel (suc built) next) (levels-start fuel (suc built) next)
-      (levels-pass pos lp cp fuel (suc built) next (next-good active sent (s .dimension) cs g) (next-ascends active sent h))))
+      (fine-passes s cs c k built active pos lp cp g few h many (levelsFrom s cs c k fuel (suc built) next) (levels-start fuel (suc built) next)
+      (levels-pass pos lp cp fuel (suc built) next (next-good active sent (s .dimension) cs g) (omega (arith, next-short active sent)) (next-ascends active sent h))))
       (le-or-lt (length active) c)

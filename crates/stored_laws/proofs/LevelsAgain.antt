@@ -21,7 +21,7 @@ use Rattle.definition.specs.Packed.{leafFloats}
 use Rattle.formats.specs.Bytes.{Mark, markSize, markBytes, markedBy, whole, numberSize, numberBytes, numbersAt, numbersBytes, floatBytes, floatsBytes}
 use Rattle.stored.specs.File.{levelMark, domainMark, levelBytes, domainBytes, treeRecords}
 use Rattle.stored.specs.Sound.{same, soundBox, noBox, soundLevels}
-use Rattle.stored.specs.Stored.{countsSize, firstCount, secondCount, borrowedPlace, boundsPlace, coverPlace, leafIn, leafSize, leavesAt, afterLeaves, oneDomain, domainsPlace, levelIn, afterLevel, levelsAt}
+use Rattle.stored.specs.Stored.{countsSize, firstCount, secondCount, borrowedPlace, boundsPlace, coverPlace, depthPlace, leafIn, leafSize, leavesAt, afterLeaves, oneDomain, domainsPlace, levelIn, afterLevel, levelsAt}
 use Rattle.tree_tests.specs.Whole.{leavesWhole, levelWhole, levelsWhole}
 use Rattle.tree_tests.proofs.SoundLevels.{coarse-level, fine-level}
 use Rattle.tree_tests.proofs.Lengths.{length-leaves-at}
@@ -65,14 +65,16 @@ module _ (d : ℕ) (bs : List ℕ) (bytes : All IsByte bs) where
   bounds-again true l clean = let z : boundsPlace bs + 0 ≡ boundsPlace bs = omega arith in ap (λ (k : ℕ). drop k bs) z
   bounds-again false l clean = floats-again bs bytes (boxWidth d) (boundsPlace bs) l clean
 
-  -- the bounds, and the cover
+  -- the bounds, the cover, and the depth
   values-again : (coarse : Bool) → leafSize d coarse bs ≤ length bs → Clean coarse (leafIn d coarse bs)
-      → floatsBytes (boundsOf coarse (leafIn d coarse bs)) ++ (floatBytes (leafIn d coarse bs .cover) ++ drop (leafSize d coarse bs) bs) ≡ drop (boundsPlace bs) bs
+      → floatsBytes (boundsOf coarse (leafIn d coarse bs)) ++ (floatBytes (leafIn d coarse bs .cover) ++ (numberBytes (leafIn d coarse bs .depth) ++ drop (leafSize d coarse bs) bs))
+      ≡ drop (boundsPlace bs) bs
   unfolding leafIn leafSize All
   values-again coarse l clean =
       let bounds = boundsOf coarse (leafIn d coarse bs) in
       let cover = leafIn d coarse bs .cover in
-      ap (λ (r : List ℕ). floatsBytes bounds ++ r) (float-again bs bytes (coverPlace d coarse bs) l (all-right NoNan bounds (cover ∷ []) clean .0))
+      ap (λ (r : List ℕ). floatsBytes bounds ++ (floatBytes cover ++ r)) (field-again bs bytes numberSize (depthPlace d coarse bs) l)
+      ∙ ap (λ (r : List ℕ). floatsBytes bounds ++ r) (float-again bs bytes (coverPlace d coarse bs) (omega (arith, l)) (all-right NoNan bounds (cover ∷ []) clean .0))
       ∙ bounds-again coarse (omega (arith, l)) (all-left NoNan bounds (cover ∷ []) clean)
 
   size-least : (coarse : Bool) → boundsPlace bs ≤ leafSize d coarse bs
@@ -88,7 +90,7 @@ module _ (d : ℕ) (bs : List ℕ) (bytes : All IsByte bs) where
       let own = numbersAt (firstCount bs) countsSize bs in
       let borrowed = numbersAt (secondCount bs) (borrowedPlace bs) bs in
       let bounds = boundsOf coarse (leafIn d coarse bs) in
-      let rest = floatBytes (leafIn d coarse bs .cover) ++ drop (leafSize d coarse bs) bs in
+      let rest = floatBytes (leafIn d coarse bs .cover) ++ (numberBytes (leafIn d coarse bs .depth) ++ drop (leafSize d coarse bs) bs) in
       sym
       (domain-parts bounds (leafIn d coarse bs) (drop (leafSize d coarse bs) bs)
       ∙ ap₂ (λ (n m : ℕ). markBytes domainMark ++ (numberBytes n ++ (numberBytes m ++ (numbersBytes own ++ (numbersBytes borrowed ++ (floatsBytes bounds ++ rest))))))

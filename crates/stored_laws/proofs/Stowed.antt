@@ -20,14 +20,15 @@ use Rattle.lists.proofs.Members.{member-mem}
 use Rattle.lists.proofs.Ascends.{ascends-few}
 use Rattle.definition.specs.Number.{plusZero}
 use Rattle.definition.specs.Points.{boxWidth}
-use Rattle.definition.specs.Tree.{Settings, Leaf, Level}
+use Rattle.definition.specs.Tree.{Settings, Leaf, Level, mostDepth}
 use Rattle.definition.specs.Packed.{mostLevels, mostRows, rowNumbers, leafFloats, buildStated, leavesIn, packedLevelPoints, packedInternals, packedDomains, packedBorrowed}
 use Rattle.definition.specs.Refusals.{mostPoints}
 use Rattle.definition_laws.proofs.Fit.{length-domains}
 use Rattle.tree_tests.proofs.AllPass.{all-pass-each, ascending-ascends}
 use Rattle.tree_tests.proofs.AllRows.{same-is}
+use Rattle.tree_tests.proofs.Depths.{depth-most}
 use Rattle.tree_tests.proofs.SoundLevels.{coarse-level, fine-level}
-use Rattle.stored.specs.Sound.{allOf, same, ascending, partitioned, soundLeaf, soundBox, noBox, soundRows, soundLevels, firstAll, fits, sound}
+use Rattle.stored.specs.Sound.{allOf, same, ascending, partitioned, soundLeaf, soundBox, noBox, soundRows, soundDepths, soundLevels, firstAll, fits, sound}
 use Rattle.stored_laws.specs.Writable.{NumberFits, FloatFits, BoxesFit}
 use Rattle.stored_laws.proofs.Domains.{Stowed, Boxed}
 use Rattle.stored_laws.proofs.Levels.{StowedLevel, StowedTree}
@@ -40,9 +41,9 @@ small : (n : ℕ) (l : List ℕ) → n ≤ mostPoints → Below n l → All Numb
 small n l h k = all-of NumberFits l (λ x m. omega (arith, all-mem (λ i. i < n) l k x m))
 
 -- ---- a leaf
-leaf-stowed : (n : ℕ) (active : List ℕ) (f : Leaf) → n ≤ mostPoints → Below n active → Below n (f .own) → soundLeaf active f ≡ true → Stowed f
+leaf-stowed : (n : ℕ) (active : List ℕ) (f : Leaf) → n ≤ mostPoints → Below n active → Below n (f .own) → soundLeaf active f ≡ true → f .depth ≤ mostDepth → Stowed f
 unfolding soundLeaf
-leaf-stowed n active f h k o e =
+leaf-stowed n active f h k o e deep =
     let p : ℕ → Bool = λ j. member j active && not (member j (f .own)) in
     let g = three-pass (ascending (f .own)) (ascending (f .borrowed)) (allOf p (f .borrowed)) e in
     let b : Below n (f .borrowed) =
@@ -55,6 +56,7 @@ leaf-stowed n active f h k o e =
       borrowed-few = omega (arith, v, h);
       own-small = small n (f .own) h o;
       borrowed-small = small n (f .borrowed) h b;
+      depth-small = omega (arith, deep);
     }
 
 -- ---- boxes and covers
@@ -86,9 +88,9 @@ fine-boxed d f h e = (eqb-true (length (f .box)) (boxWidth d) (and-fst (eqb (len
 abbrev Inside : ℕ → Level → Type 0
 Inside n l = (length (l .points) ≤ n) × Below n (l .points)
 
-leaves-stowed : (n : ℕ) (l : Level) → n ≤ mostPoints → Inside n l → soundRows l ≡ true → All Stowed (l .leaves)
+leaves-stowed : (n : ℕ) (l : Level) → n ≤ mostPoints → Inside n l → soundRows l ≡ true → soundDepths l ≡ true → All Stowed (l .leaves)
 unfolding soundRows partitioned
-leaves-stowed n l h k e =
+leaves-stowed n l h k e deep =
     let own = joined (map (λ f. f .own) (l .leaves)) in
     let p : ℕ → Bool = λ i. eqb (count (λ j. eqb j i) own) 1 in
     let q : ℕ → Bool = λ i. member i (l .points) in
@@ -97,17 +99,18 @@ leaves-stowed n l h k e =
     let c : All (λ f. Below n (f .own)) (l .leaves) =
     map-all (λ r. Below n r) (λ f. f .own) (l .leaves) (joined-all (λ i. i < n) (map (λ f. f .own) (l .leaves)) b) in
     all-of Stowed (l .leaves)
-    (λ f m. leaf-stowed n (l .points) f h (k .1) (all-mem (λ x. Below n (x .own)) (l .leaves) c f m) (all-pass-each (soundLeaf (l .points)) (l .leaves) (g .2) f m))
+    (λ f m. leaf-stowed n (l .points) f h (k .1) (all-mem (λ x. Below n (x .own)) (l .leaves) c f m) (all-pass-each (soundLeaf (l .points)) (l .leaves) (g .2) f m)
+    (depth-most l deep f m))
 
-level-stowed : (d n : ℕ) (coarse : Bool) (l : Level) → n ≤ mostPoints → Inside n l → length (l .leaves) ≤ mostRows n → soundRows l ≡ true
+level-stowed : (d n : ℕ) (coarse : Bool) (l : Level) → n ≤ mostPoints → Inside n l → length (l .leaves) ≤ mostRows n → soundRows l ≡ true → soundDepths l ≡ true
     → eqb (length (l .leaves)) 1 ≡ coarse → All (Boxed d coarse) (l .leaves) → StowedLevel d coarse l
-level-stowed d n coarse l h k m e o x =
+level-stowed d n coarse l h k m e deep o x =
     record {
       one = o;
       rows-few = omega (arith, k .0, h);
       leaves-few = omega (arith, m, h);
       rows-small = small n (l .points) h (k .1);
-      stowed = leaves-stowed n l h k e;
+      stowed = leaves-stowed n l h k e deep;
       boxed = x;
     }
 
@@ -122,12 +125,12 @@ levels-stowed : (d n : ℕ) (l : Level) (ls : List Level) → n ≤ mostPoints �
 unfolding StowedTree leavesIn joined All
 levels-stowed d n l [] h k m b e =
     let g = coarse-level d l e in
-    level-stowed d n true l h k (omega (arith, length-append (l .leaves) [], m)) (g .rows) (eq-eqb (length (l .leaves)) 1 (g .one))
+    level-stowed d n true l h k (omega (arith, length-append (l .leaves) [], m)) (g .rows) (g .depths) (eq-eqb (length (l .leaves)) 1 (g .one))
     (all-of (Boxed d true) (l .leaves) (λ f u. coarse-boxed d f (all-mem (λ x. All FloatFits (leafFloats x)) (l .leaves) (b .0) f u) (g .boxes f u)))
 levels-stowed d n l (t ∷ ls) h k m b e =
     let g = fine-level d l t ls e in
     let z = length-append (l .leaves) (leavesIn (t ∷ ls)) in (
-      level-stowed d n false l h k (omega (arith, z, m)) (g .rows) (g .more)
+      level-stowed d n false l h k (omega (arith, z, m)) (g .rows) (g .depths) (g .more)
           (all-of (Boxed d false) (l .leaves) (λ f u. fine-boxed d f (all-mem (λ x. All FloatFits (leafFloats x)) (l .leaves) (b .0) f u) (g .boxes f u))),
       levels-stowed d n t ls h (next-inside d n l t ls k e) (omega (arith, z, m)) (b .1) (g .later),
     )

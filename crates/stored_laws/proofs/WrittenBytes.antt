@@ -88,7 +88,8 @@ level-bytes l =
 domain-bytes : (bounds : List Float) (f : Leaf) → Bytes (domainBytes bounds f)
 unfolding domainBytes
 domain-bytes bounds f =
-    and-then _ (floatsBytes (bounds ++ f .cover ∷ []))
+    and-then _ (numberBytes (f .depth))
+    (and-then _ (floatsBytes (bounds ++ f .cover ∷ []))
     (and-then _ (numbersBytes (f .borrowed))
     (and-then _ (numbersBytes (f .own))
     (and-then _ (numberBytes (length (f .borrowed)))
@@ -96,7 +97,8 @@ domain-bytes bounds f =
     (number-bytes numberSize (length (f .borrowed))))
     (numbers-bytes (f .own)))
     (numbers-bytes (f .borrowed)))
-    (floats-bytes (bounds ++ f .cover ∷ []))
+    (floats-bytes (bounds ++ f .cover ∷ [])))
+    (number-bytes numberSize (f .depth))
 
 -- ---- the file
 domains-bytes : (bounds : Leaf → List Float) (fs : List Leaf) → All Bytes (map (λ f. domainBytes (bounds f) f) fs)

@@ -1,4 +1,4 @@
--- A TREE THAT PASSES ITS TESTS HAS DEMAND 3'S RULES WHERE IT IS HANDED OUT. Assumes nothing.
+-- A TREE THAT PASSES ITS TESTS HAS DEMAND 3'S RULES WHERE IT IS HANDED OUT, AND ITS LEAVES' SIZES FOLLOW FROM THEIR DEPTHS. Assumes nothing.
 use mathlib.Core.Path.{_≡_, sym, ap, _∙_}
 use mathlib.Core.Bool.{true}
 use mathlib.Core.List.{List, map}
@@ -22,7 +22,9 @@ use Rattle.packed.proofs.Unpacked.{noLeaf}
 use Rattle.demand3.specs.Handed.{Handed, handed, levelCount, leavesOn, HasNext, listed, ownOf, borrowedOf, ownLists}
 use Rattle.demand3.specs.Demand3.{Rows, NextRows, SingleDomain}
 use Rattle.demand3.specs.LoadedTree.{LoadedTree}
+use Rattle.demand3.specs.Depths.{TreeDepths}
 use Rattle.demand3.proofs.Unpack.{PackedIn, handed-levels, handed-leaves, handed-listed, handed-own, handed-borrowed, handed-box, handed-counted, handed-beyond}
+use Rattle.demand3.proofs.Depths.{depths-handed}
 use Rattle.stored.specs.Sound.{sound}
 use Rattle.stored_built.proofs.Held.{lists-hold}
 use Rattle.stored_laws.specs.Writable.{BoxesFit}
@@ -139,11 +141,29 @@ module _ (d : ℕ) (ls : List Level) (h : Handed) (packs : PackedIn d ls h) wher
       none-beyond = handed-beyond d ls h packs;
     }
 
--- THE LAW: the lists after an accepted call that writes the tree ls, with its counts. Its bounds and covers are values of the format.
-pub loaded-rules : (s : Settings) (n : ℕ) (ls : List Level) (old : TreeLists) → sound s n ls ≡ true
-    → All BoxesFit ls
-    → LoadedTree (s .dimension) n (handed (record { number = 0; place = 0; value = countsOf ls }) (treeListsAfter accepted ls old))
-loaded-rules s n ls old h fit =
-    let tests = sound-tree s n ls h in
-    held-rules (s .dimension) ls (handed (record { number = 0; place = 0; value = countsOf ls }) (treeListsAfter accepted ls old))
-    (lists-hold (s .dimension) ls old (tests .few) (tests .boxed)) n tests fit
+-- ---- its depths
+held-depths : (d n : ℕ) (ls : List Level) (h : Handed) → PackedIn d ls h → SoundTree d n ls → TreeDepths h
+held-depths d n ls h packs tests =
+    let l = length ls - 1 in
+    let last = tests .last l (omega (arith, tests .some)) in
+    let some : 0 < length (getD ls l noLevel .leaves) = omega (arith, last .one-leaf) in
+    depths-handed d ls h packs (tests .depths) some (all-at (λ f. f .depth ≡ 0) (getD ls l noLevel .leaves) 0 noLeaf (last .at-root) some)
+
+-- ---- the lists after an accepted call that writes the tree ls, with its counts
+module _ (s : Settings) (n : ℕ) (ls : List Level) (old : TreeLists) (h : sound s n ls ≡ true) where
+  abbrev out : Handed
+  out = handed (record { number = 0; place = 0; value = countsOf ls }) (treeListsAfter accepted ls old)
+
+  tests : SoundTree (s .dimension) n ls
+  tests = sound-tree s n ls h
+
+  packs : PackedIn (s .dimension) ls out
+  packs = lists-hold (s .dimension) ls old (tests .few) (tests .boxed)
+
+  -- THE LAWS: where its bounds and covers are values of the format
+  pub loaded-rules : All BoxesFit ls → LoadedTree (s .dimension) n (handed (record { number = 0; place = 0; value = countsOf ls }) (treeListsAfter accepted ls old))
+  loaded-rules fit = held-rules (s .dimension) ls out packs n tests fit
+
+  -- and whatever they are
+  pub loaded-depths : TreeDepths (handed (record { number = 0; place = 0; value = countsOf ls }) (treeListsAfter accepted ls old))
+  loaded-depths = held-depths (s .dimension) n ls out packs tests

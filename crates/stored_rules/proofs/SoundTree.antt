@@ -18,10 +18,12 @@ use Rattle.lists.proofs.Members.{mem-at}
 use Rattle.definition.specs.Points.{boxWidth}
 use Rattle.definition.specs.Tree.{Settings, Leaf, Level}
 use Rattle.definition.specs.Packed.{mostLevels, leavesIn}
+use Rattle.definition_laws.proofs.Depths.{LevelHolds}
 use Rattle.packed.proofs.Counts.{noLevel}
 use Rattle.stored.specs.Sound.{soundBox, noBox, soundLevels, firstAll, fits, sound}
 use Rattle.tree_tests.proofs.AllRows.{same-is}
-use Rattle.tree_tests.proofs.SoundLevels.{FineLevel, coarse-level, fine-level, sound-rows-each}
+use Rattle.tree_tests.proofs.Depths.{passed-depths}
+use Rattle.tree_tests.proofs.SoundLevels.{FineLevel, coarse-level, fine-level, sound-rows-each, sound-depths-each}
 use Rattle.stored_rules.proofs.LevelRows.{LevelRows, level-rows}
 use Rattle.stored_rules.proofs.LastLevel.{no-box-width}
 
@@ -47,10 +49,11 @@ box-width d f h = eqb-true (length (f .box)) (boxWidth d) (both-pass h .0)
 
 -- ---- the levels
 module _ (d : ℕ) where
-  -- the last: one leaf, and no box
+  -- the last: one leaf, no box, and depth 0
   pub record IsLast (l : Level) : Type 0 where
     pub one-leaf : length (l .leaves) ≡ 1
     pub no-boxes : All (λ f. noBox d f ≡ true) (l .leaves)
+    pub at-root : All (λ f. f .depth ≡ 0) (l .leaves)
 
   levels-some : (ls : List Level) → soundLevels d ls ≡ true → 1 ≤ length ls
   unfolding soundLevels
@@ -78,7 +81,11 @@ module _ (d : ℕ) where
   levels-last [] h l e = absurd (omega arith)
   levels-last (l ∷ []) h zero e =
       let g = coarse-level d l h in
-      record { one-leaf = g .one; no-boxes = all-of (λ f. noBox d f ≡ true) (l .leaves) (g .boxes) }
+      record {
+        one-leaf = g .one;
+        no-boxes = all-of (λ f. noBox d f ≡ true) (l .leaves) (g .boxes);
+        at-root = all-of (λ f. f .depth ≡ 0) (l .leaves) (g .root);
+      }
   levels-last (l ∷ []) h (suc i) e = absurd (omega arith)
   levels-last (l ∷ m ∷ ls) h zero e = absurd (omega arith)
   levels-last (l ∷ m ∷ ls) h (suc i) e = levels-last (m ∷ ls) (fine-level d l m ls h .later) i (omega arith)
@@ -92,6 +99,7 @@ pub record SoundTree (d n : ℕ) (ls : List Level) : Type 0 where
   pub next : (l : ℕ) → suc l < length ls → PartOf (getD ls (suc l) noLevel .points) (getD ls l noLevel .points)
   pub last : (l : ℕ) → suc l ≡ length ls → IsLast d (getD ls l noLevel)
   pub boxed : All (λ (f : Leaf). length (f .box) ≡ boxWidth d) (leavesIn ls)
+  pub depths : All LevelHolds ls
 
 first-is : (n : ℕ) (ls : List Level) → firstAll n ls ≡ true → getD ls 0 noLevel .points ≡ from 0 n
 unfolding firstAll
@@ -114,4 +122,5 @@ sound-tree s n ls h =
       boxed =
           all-joined (λ (f : Leaf). length (f .box) ≡ boxWidth d) (map (λ l. l .leaves) ls)
           (all-map (λ fs. All (λ (f : Leaf). length (f .box) ≡ boxWidth d) fs) (λ (l : Level). l .leaves) ls (levels-boxed d ls (g .2)));
+      depths = all-of LevelHolds ls (λ l m. passed-depths l (sound-depths-each d ls (g .2) l m));
     }

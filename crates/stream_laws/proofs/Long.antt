@@ -1,5 +1,5 @@
 -- How long a printout can be. A stream has at most 32 points, so each row has at most two digits; a level has at most four leaves for
--- each row, and three levels at most are fine. `decimal-long` and `refusal-long` bound a number and a refusal, `job-long` the text of a
+-- each row, each with a depth of at most two digits, and three levels at most are fine. `decimal-long` and `refusal-long` bound a number and a refusal, `job-long` the text of a
 -- job, `printout-long` every printout. Assumes nothing.
 -- Holds: decimal-long, each-long, FewRows, few-from, Brief, domain-long, level-long, fine-long, dash-long, refusal-long,
 --   job-long, printout-long
@@ -17,7 +17,7 @@ use lib.Ieee.{Float, binary64, toBits}
 use Rattle.lists.specs.Lists.{keep, joined, from, total}
 use Rattle.lists.specs.Ascends.{All}
 use Rattle.lists.proofs.Tests.{le-or-lt}
-use Rattle.lists.proofs.All.{all-keep, all-mem, all-of}
+use Rattle.lists.proofs.All.{all-append, all-imp, all-keep, all-mem, all-of}
 use Rattle.lists.proofs.Count.{count-len, length-keep}
 use Rattle.lists.proofs.From.{all-from, length-from}
 use Rattle.lists.proofs.Joined.{length-joined}
@@ -27,12 +27,12 @@ use Rattle.definition.specs.Levels.{threshold, reductions}
 use Rattle.definition.specs.Cut.{Domain, rootDomain, cutKeys, leftOf, rightOf, queueLeaves, leavesOf}
 use Rattle.definition.specs.Overlaps.{borrowedBy}
 use Rattle.definition.specs.Points.{boxWidth}
-use Rattle.definition.specs.Tree.{Settings, Leaf, Level, coarseLevel, fineLevel, mostFine, nextActive, levelsFrom, levelsOver, pointCount, levels}
+use Rattle.definition.specs.Tree.{Settings, Leaf, Level, coarseLeaf, coarseLevel, fineLevel, mostFine, nextActive, levelsFrom, levelsOver, pointCount, levels}
 use Rattle.definition.specs.Refusals.{Refusal, Verdict, accepted, refused}
 use Rattle.formats.specs.Stream.{Job, job, broken, streamPoints, jobIn}
 use Rattle.formats.specs.Printout.{ascii, digitOf, decimal, decimalOnto, hexOnto, rowsText, floatsText, domainLine, fineLines, coarseLines, levelLine, levelsText, treeText, refusalText, builtText, jobText, printout}
 use Rattle.definition.proofs.Halves.{first-rows, other-rows}
-use Rattle.definition.proofs.Cuts.{leaves-all}
+use Rattle.definition.proofs.Cuts.{left-depth, right-depth, leaves-all}
 use Rattle.definition.proofs.Steps.{fineOf, sizeFrom, nextOf, queue-wait, queue-done, levels-last, levels-end, levels-more}
 use Rattle.definition.proofs.FineLeaves.{fine-many, fine-each}
 use Rattle.definition_laws.proofs.Shape.{leaves-boxes}
@@ -136,6 +136,31 @@ module _ (d : ℕ) (cs : List Float) where
       (λ (small : length (q .rows) < 2 * leaf). rw (queue-done d cs leaf fuel q qs small) (omega (arith, queue-many leaf fuel qs)))
       (le-or-lt (2 * leaf) (length (q .rows)))
 
+  -- a leaf was cut at most as often as the queue
+  queue-deep : (leaf fuel e : ℕ) (qs : List Domain) → All (λ (q : Domain). q .depth ≤ e) qs → All (λ (q : Domain). q .depth ≤ e + fuel) (queueLeaves d cs leaf fuel qs)
+  unfolding queueLeaves All
+  queue-deep leaf zero e qs h = tt
+  queue-deep leaf (suc fuel) e [] h = tt
+  queue-deep leaf (suc fuel) e (q ∷ qs) h =
+      let Within : ℕ → Domain → Type 0 = λ m q. q .depth ≤ m in
+      let rest : All (Within (suc e)) qs = all-imp (Within e) (Within (suc e)) qs (λ q u. omega arith) (h .1) in
+      let l : leftOf d cs q .depth ≤ suc e = omega (arith, left-depth d cs q, h .0) in
+      let r : rightOf d cs q .depth ≤ suc e = omega (arith, right-depth d cs q, h .0) in
+      let more : All (Within (suc e)) (qs ++ leftOf d cs q ∷ rightOf d cs q ∷ []) =
+      all-append (Within (suc e)) qs (leftOf d cs q ∷ rightOf d cs q ∷ []) rest (l, (r, tt)) in
+      let next : e + suc fuel ≡ suc e + fuel = omega arith in
+      ⊎-elim
+      (λ (big : 2 * leaf ≤ length (q .rows)). rw (queue-wait d cs leaf fuel q qs big, next)
+      (queue-deep leaf fuel (suc e) (qs ++ leftOf d cs q ∷ rightOf d cs q ∷ []) more))
+      (λ (small : length (q .rows) < 2 * leaf). rw (queue-done d cs leaf fuel q qs small, next) (omega arith, (omega arith, queue-deep leaf fuel (suc e) qs rest)))
+      (le-or-lt (2 * leaf) (length (q .rows)))
+
+  leaves-deep : (leaf : ℕ) (active : List ℕ) → length active ≤ streamPoints → All (λ (q : Domain). q .depth < 100) (leavesOf d cs leaf active)
+  unfolding leavesOf rootDomain All
+  leaves-deep leaf active h =
+      all-imp (λ (q : Domain). q .depth ≤ 0 + 2 * length active) (λ (q : Domain). q .depth < 100) (leavesOf d cs leaf active) (λ q u. omega arith)
+      (queue-deep leaf (2 * length active) 0 (rootDomain d cs active ∷ []) (omega arith, tt))
+
   leaves-many : (leaf : ℕ) (active : List ℕ) → length active ≤ streamPoints → length (leavesOf d cs leaf active) ≤ 128
   unfolding leavesOf
   leaves-many leaf active h = omega (arith, queue-many leaf (2 * length active) (rootDomain d cs active ∷ []))
@@ -152,24 +177,26 @@ pub record Brief (f : Leaf) : Type 0 where
   pub own : FewRows (f .own)
   pub borrowed : FewRows (f .borrowed)
   pub box : length (f .box) ≤ 6
+  pub depth : f .depth < 100
 
-pub domain-long : (i : ℕ) (f : Leaf) (box : List ℕ) → FewRows (f .own) → FewRows (f .borrowed) → i < 1000 → length (domainLine i f box) ≤ 247 + length box
+pub domain-long : (i : ℕ) (f : Leaf) (box : List ℕ) → FewRows (f .own) → FewRows (f .borrowed) → f .depth < 100 → i < 1000
+    → length (domainLine i f box) ≤ 256 + length box
 unfolding domainLine ascii
-domain-long i f box h g small =
-    simp length-append (omega (arith, decimal-short 2 i small, rows-long (f .own) h, rows-long (f .borrowed) g, floats-long (f .cover ∷ [])))
+domain-long i f box h g deep small =
+    simp length-append (omega (arith, decimal-short 2 i small, rows-long (f .own) h, rows-long (f .borrowed) g, floats-long (f .cover ∷ []), decimal-short 1 (f .depth) deep))
 
 pub level-long : (t : ℕ) (l : Level) → FewRows (l .points) → length (levelLine t l) ≤ 130
 unfolding levelLine ascii
 level-long t l s = simp length-append (omega (arith, decimal-long t, rows-long (l .points) s))
 
-pub fine-long : (i : ℕ) (fs : List Leaf) → i + length fs ≤ 1000 → All Brief fs → length (fineLines i fs) ≤ 349 * length fs
+pub fine-long : (i : ℕ) (fs : List Leaf) → i + length fs ≤ 1000 → All Brief fs → length (fineLines i fs) ≤ 358 * length fs
 unfolding fineLines All
 fine-long i [] h a = omega arith
 fine-long i (f ∷ fs) h a =
     omega (
       arith,
       length-append (domainLine i f (floatsText (f .box))) (fineLines (suc i) fs),
-      domain-long i f (floatsText (f .box)) (a .0 .own) (a .0 .borrowed) (omega arith),
+      domain-long i f (floatsText (f .box)) (a .0 .own) (a .0 .borrowed) (a .0 .depth) (omega arith),
       floats-long (f .box),
       a .0 .box,
       fine-long (suc i) fs (omega arith) (a .1),
@@ -193,7 +220,7 @@ module _ (s : Settings) (cs : List Float) (axes : s .dimension ≤ 3) where
 
     -- what is known of a leaf of the cut
     abbrev Narrow : Domain → Type 0
-    Narrow q = FewRows (q .rows) × (length (q .box) ≡ boxWidth (s .dimension))
+    Narrow q = FewRows (q .rows) × (length (q .box) ≡ boxWidth (s .dimension)) × (q .depth < 100)
 
     leaves-narrow : All Narrow qs
     leaves-narrow =
@@ -202,14 +229,15 @@ module _ (s : Settings) (cs : List Float) (axes : s .dimension ≤ 3) where
         (λ q m. (
           all-mem (λ (q : Domain). FewRows (q .rows)) qs (leaves-rows d cs (s .leaf) active a) q m,
           all-mem (λ (q : Domain). length (q .box) ≡ boxWidth d) qs (leaves-boxes d cs (s .leaf) active) q m,
+          all-mem (λ (q : Domain). q .depth < 100) qs (leaves-deep d cs (s .leaf) active (a .few)) q m,
         ))
 
     leaves-brief : (size : ℕ) → All Brief (fineOf s cs size active .leaves)
     unfolding borrowedBy
     leaves-brief size =
-        fine-each s cs size active Narrow Brief (λ q sent h. record { own = h .0; borrowed = few-keep _ active a; box = omega (arith, h .1) }) leaves-narrow
+        fine-each s cs size active Narrow Brief (λ q sent h. record { own = h .0; borrowed = few-keep _ active a; box = omega (arith, h .1); depth = h .2 }) leaves-narrow
 
-    fine-level-long : (size t : ℕ) → length (levelLine t (fineOf s cs size active)) + length (fineLines 0 (fineOf s cs size active .leaves)) ≤ 44802
+    fine-level-long : (size t : ℕ) → length (levelLine t (fineOf s cs size active)) + length (fineLines 0 (fineOf s cs size active .leaves)) ≤ 45954
     unfolding fineLevel
     fine-level-long size t =
         let l = fineOf s cs size active in
@@ -217,17 +245,17 @@ module _ (s : Settings) (cs : List Float) (axes : s .dimension ≤ 3) where
         let same = fine-many s cs size active in
         omega (arith, level-long t l a, fine-long 0 (l .leaves) (omega arith) (leaves-brief size))
 
-    coarse-long : (t : ℕ) → length (levelsText t (coarseLevel (s .dimension) active ∷ [])) ≤ 379
+    coarse-long : (t : ℕ) → length (levelsText t (coarseLevel (s .dimension) active ∷ [])) ≤ 388
     unfolding levelsText coarseLevel coarseLines joined
     coarse-long t =
-        let f : Leaf = record { own = active; borrowed = []; box = replicate (boxWidth (s .dimension)) plusZero; cover = plusZero } in
+        let f = coarseLeaf (s .dimension) active in
         let l : Level = record { points = active; leaves = f ∷ [] } in
         omega (
           arith,
           length-append (levelLine t l) (domainLine 0 f (ascii " -") ++ []),
           length-append (domainLine 0 f (ascii " -")) [],
           level-long t l a,
-          domain-long 0 f (ascii " -") a few-none (omega arith),
+          domain-long 0 f (ascii " -") a few-none (omega arith) (omega arith),
           dash-long,
         )
 
@@ -235,7 +263,7 @@ module _ (s : Settings) (cs : List Float) (axes : s .dimension ≤ 3) where
   unfolding nextActive
   next-few c k built active a = few-keep _ active a
 
-  levels-long : (c k fuel built t : ℕ) (active : List ℕ) → FewRows active → length (levelsText t (levelsFrom s cs c k fuel built active)) ≤ 379 + 44802 * fuel
+  levels-long : (c k fuel built t : ℕ) (active : List ℕ) → FewRows active → length (levelsText t (levelsFrom s cs c k fuel built active)) ≤ 388 + 45954 * fuel
   levels-long c k zero built t active a = rw (levels-last s cs c k built active) (coarse-long active a t)
   levels-long c k (suc fuel) built t active a =
       ⊎-elim

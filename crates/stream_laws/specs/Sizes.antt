@@ -23,4 +23,4 @@ decisive = settingsSize + suc streamPoints * pointSize 3
 
 -- the size of the output list that always suffices (`printout-long`)
 abbrev pub mostBytes : ℕ
-mostBytes = 135168
+mostBytes = 139264

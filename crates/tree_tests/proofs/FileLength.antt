@@ -40,7 +40,7 @@ borrowedOf ls = total (map (λ (l : Level). borrowedTotal (l .leaves)) ls)
 abbrev Records : ℕ → List Level → Type 0
 Records d ls =
     length (joined (treeRecords ls)) + floatSize * boxWidth d
-    ≡ countsSize * (length ls + domainsOf ls) + numberSize * (2 * rowsOf ls + borrowedOf ls) + floatSize * domainsOf ls
+    ≡ countsSize * (length ls + domainsOf ls) + numberSize * (2 * rowsOf ls + borrowedOf ls) + (floatSize + numberSize) * domainsOf ls
     + floatSize * boxWidth d * domainsOf ls
 
 box-length : (d : ℕ) (f : Leaf) → soundBox d f ≡ true → length (f .box) ≡ boxWidth d

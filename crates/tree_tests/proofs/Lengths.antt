@@ -60,7 +60,7 @@ unfolding levelBytes
 length-level l = simp (length-append, length-bytes, length-numbers) (omega arith)
 
 pub length-domain : (bounds : List Float) (f : Leaf)
-    → length (domainBytes bounds f) ≡ countsSize + numberSize * (length (f .own) + length (f .borrowed)) + floatSize * (length bounds + 1)
+    → length (domainBytes bounds f) ≡ countsSize + numberSize * (length (f .own) + length (f .borrowed)) + floatSize * (length bounds + 1) + numberSize
 unfolding domainBytes
 length-domain bounds f = simp (length-append, length-bytes, length-numbers, length-floats) (omega arith)
 
@@ -71,9 +71,9 @@ ownTotal fs = total (map (λ f. length (f .own)) fs)
 abbrev pub borrowedTotal : List Leaf → ℕ
 borrowedTotal fs = total (map (λ f. length (f .borrowed)) fs)
 
--- domains one after the other, with w bounds and a cover each
+-- domains one after the other, with w bounds, a cover and a depth each
 pub length-domains-in : (bounds : Leaf → List Float) (w : ℕ) (fs : List Leaf) → ((f : Leaf) → List·Memᴰ f fs → length (bounds f) ≡ w)
-    → length (joined (map (λ f. domainBytes (bounds f) f) fs)) ≡ (countsSize + floatSize * (w + 1)) * length fs + numberSize * (ownTotal fs + borrowedTotal fs)
+    → length (joined (map (λ f. domainBytes (bounds f) f) fs)) ≡ (countsSize + floatSize * (w + 1) + numberSize) * length fs + numberSize * (ownTotal fs + borrowedTotal fs)
 unfolding joined total
 length-domains-in bounds w [] h = omega arith
 length-domains-in bounds w (f ∷ fs) h =

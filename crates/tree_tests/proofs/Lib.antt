@@ -8,6 +8,8 @@ pub mod Taken
 pub mod Marking
 pub mod Partition
 pub mod Leaves
+pub mod Fitted
+pub mod Depths
 pub mod AllRows
 pub mod Levels
 pub mod SoundLevels

@@ -6,8 +6,8 @@ use Rattle.formats.specs.Stream.{pointSize}
 use Rattle.stored.specs.Stored.{headSize, countsSize}
 
 -- n points on d axes; the level rows, domains and borrowed rows of all levels. Each level row is internal once as well, and each domain has a
--- cover; one domain, the coarse one, has no box.
+-- cover and a depth; one domain, the coarse one, has no box.
 abbrev pub fileSize : ℕ → ℕ → ℕ → ℕ → ℕ → ℕ → ℕ
 fileSize d n levels rows domains borrowed =
-    headSize + n * pointSize d + countsSize * (levels + domains) + numberSize * (2 * rows + borrowed) + floatSize * domains
+    headSize + n * pointSize d + countsSize * (levels + domains) + numberSize * (2 * rows + borrowed) + (floatSize + numberSize) * domains
     + floatSize * boxWidth d * (domains - 1)

@@ -5,7 +5,7 @@
 #[path = "../../src/packed.rs"]
 pub mod packed;
 
-use packed::{box_floats, ROW_NUMBERS};
+use packed::{box_floats, DEPTH, ROW_NUMBERS};
 use std::ffi::{c_char, c_int, c_void, CStr, CString};
 use std::hint::black_box;
 
@@ -19,8 +19,9 @@ extern "C" {
 const RTLD_LOCAL: c_int = 0;
 const RTLD_NOW: c_int = 2;
 
-/// The first version whose domain rows and samples have covers.
+/// The first version whose domain rows and samples have covers, and the first one whose domain rows have depths.
 const COVERS: usize = 500;
+const DEPTHS: usize = 600;
 
 /// What a comparison with an earlier commit is given: two shared libraries, the earlier one and the present one, and the earlier version.
 pub struct Against {
@@ -33,6 +34,16 @@ impl Against {
     pub fn had_covers(&self) -> bool {
         self.version >= COVERS
     }
+
+    /// The numbers of a domain row in each library: before there were depths, those in front of the depth.
+    pub fn row_numbers(&self) -> [usize; 2] {
+        [if self.version >= DEPTHS { ROW_NUMBERS } else { DEPTH }, ROW_NUMBERS]
+    }
+}
+
+/// The stretches of the first m domain rows, of so many numbers each.
+pub fn stretches(domains: &[usize], numbers: usize, m: usize) -> Vec<usize> {
+    domains.chunks(numbers).take(m).flat_map(|row| row[..DEPTH].to_vec()).collect()
 }
 
 /// The libraries and the version that the command names.
@@ -139,7 +150,7 @@ impl Lent {
     /// Lists that are long enough to cut `n` rows.
     pub fn for_cut(n: usize, d: usize) -> Lent {
         let leaves = 2 * n;
-        Lent::new(n, ROW_NUMBERS * leaves, box_floats(d) * leaves, box_floats(d) * leaves, 6 * n)
+        Lent::new(n, ROW_NUMBERS * leaves, box_floats(d) * leaves, box_floats(d) * leaves, 8 * n)
     }
 
     /// Cuts the rows into leaves. The answer is their number.

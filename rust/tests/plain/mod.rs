@@ -1,4 +1,4 @@
-//! Document 01 with requests 2, 4 and 5 of document 02 in plain Rust, from the papers alone: what the library's answers are compared with.
+//! Document 01 with requests 2, 4, 5 and 6 of document 02 in plain Rust, from the papers alone: what the library's answers are compared with.
 #![allow(dead_code)]
 
 pub mod random;
@@ -25,6 +25,7 @@ pub struct Leaf {
     pub lower: Vec<f64>,
     pub upper: Vec<f64>,
     pub cover: f64,
+    pub depth: usize,
 }
 
 #[derive(Clone, Debug, PartialEq)]
@@ -73,6 +74,10 @@ pub fn lent_refusal(coords: &[f64], d: usize, s: &Settings, lent: &[usize]) -> O
     if short { Some((11, 0)) } else { coordinate_refusal(coords) }
 }
 
+/// What a domain row has in the list of the domains: where its own rows start and how many they are, the same of the borrowed ones, and its
+/// depth.
+pub const ROW_NUMBERS: usize = 5;
+
 /// A box: its bounds.
 pub fn box_floats(d: usize) -> usize {
     2 * d
@@ -86,7 +91,7 @@ pub fn row_floats(d: usize) -> usize {
 /// The entries that each list needs: level_points, internals, domains, boxes, borrowed, floats, wholes; cuts, planes.
 pub fn stated(n: usize, d: usize, neighbours: u32) -> [usize; 9] {
     let (domains, near) = (6 * n + 1, neighbours as usize + 1);
-    [4 * n, 4 * n, 4 * domains, row_floats(d) * domains, 6 * n * near, 32 * n, 32 * n + 8 * n * near, 12 * n, 12 * n]
+    [4 * n, 4 * n, ROW_NUMBERS * domains, row_floats(d) * domains, 6 * n * near, 32 * n, 32 * n + 8 * n * near, 12 * n, 12 * n]
 }
 
 fn coordinate_refusal(coords: &[f64]) -> Option<(usize, usize)> {
@@ -239,6 +244,13 @@ struct Domain {
     rows: Vec<usize>,
     lower: Vec<f64>,
     upper: Vec<f64>,
+    depth: usize,
+}
+
+/// The whole level, which was not cut yet.
+fn root(points: &Points, active: &[usize]) -> Domain {
+    let (lower, upper) = bounds(points, active);
+    Domain { rows: active.to_vec(), lower, upper, depth: 0 }
 }
 
 fn bounds(points: &Points, rows: &[usize]) -> (Vec<f64>, Vec<f64>) {
@@ -273,16 +285,15 @@ fn cut(points: &Points, domain: &Domain) -> (usize, f64, Domain, Domain) {
     let plane = points.at(right[0], axis);
     order.sort_unstable();
     right.sort_unstable();
-    let mut left = Domain { rows: order, lower: domain.lower.clone(), upper: domain.upper.clone() };
-    let mut right = Domain { rows: right, lower: domain.lower.clone(), upper: domain.upper.clone() };
+    let half = |rows| Domain { rows, lower: domain.lower.clone(), upper: domain.upper.clone(), depth: domain.depth + 1 };
+    let (mut left, mut right) = (half(order), half(right));
     left.upper[axis] = plane;
     right.lower[axis] = plane;
     (axis, plane, left, right)
 }
 
 pub fn leaves(points: &Points, leaf: u32, active: &[usize]) -> Vec<Leaf> {
-    let (lower, upper) = bounds(points, active);
-    let mut queue = std::collections::VecDeque::from([Domain { rows: active.to_vec(), lower, upper }]);
+    let mut queue = std::collections::VecDeque::from([root(points, active)]);
     let mut out = Vec::new();
     while let Some(domain) = queue.pop_front() {
         let (_, _, left, right) = cut(points, &domain);
@@ -290,7 +301,8 @@ pub fn leaves(points: &Points, leaf: u32, active: &[usize]) -> Vec<Leaf> {
             if domain.rows.len() as u64 >= 2 * leaf as u64 {
                 queue.push_back(half);
             } else {
-                out.push(Leaf { own: half.rows, borrowed: Vec::new(), lower: half.lower, upper: half.upper, cover: 0.0 });
+                let Domain { rows, lower, upper, depth } = half;
+                out.push(Leaf { own: rows, borrowed: Vec::new(), lower, upper, cover: 0.0, depth });
             }
         }
     }
@@ -317,23 +329,22 @@ impl Node {
 }
 
 /// Each cut before its halves, and the left half completely before the right; leaves without their numbers.
-fn cuts(points: &Points, leaf: u32, domain: &Domain, depth: usize, out: &mut Vec<Node>) {
+fn cuts(points: &Points, leaf: u32, domain: &Domain, out: &mut Vec<Node>) {
     let (axis, plane, left, right) = cut(points, domain);
-    out.push(Node::Cut { depth, axis, plane });
+    out.push(Node::Cut { depth: domain.depth, axis, plane });
     for half in [left, right] {
         if domain.rows.len() as u64 >= 2 * leaf as u64 {
-            cuts(points, leaf, &half, depth + 1, out);
+            cuts(points, leaf, &half, out);
         } else {
-            out.push(Node::Leaf { depth: depth + 1, number: 0 });
+            out.push(Node::Leaf { depth: half.depth, number: 0 });
         }
     }
 }
 
 /// The record of a level with these active rows. Its leaves are numbered by depth, and then from left to right.
 pub fn record(points: &Points, leaf: u32, active: &[usize]) -> Vec<Node> {
-    let (lower, upper) = bounds(points, active);
     let mut nodes = Vec::new();
-    cuts(points, leaf, &Domain { rows: active.to_vec(), lower, upper }, 0, &mut nodes);
+    cuts(points, leaf, &root(points, active), &mut nodes);
     let mut leaves: Vec<(usize, usize)> = Vec::new();
     for (place, node) in nodes.iter().enumerate() {
         if let Node::Leaf { depth, .. } = node {
@@ -433,7 +444,7 @@ pub fn build(coords: &[f64], d: usize, s: &Settings) -> Result<Vec<Level>, (usiz
         active = next;
     }
     let zeros = vec![0.0; d];
-    let leaf = Leaf { own: active.clone(), borrowed: Vec::new(), lower: zeros.clone(), upper: zeros, cover: 0.0 };
+    let leaf = Leaf { own: active.clone(), borrowed: Vec::new(), lower: zeros.clone(), upper: zeros, cover: 0.0, depth: 0 };
     levels.push(Level { rows: active, leaves: vec![leaf] });
     Ok(levels)
 }

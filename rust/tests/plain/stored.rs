@@ -1,5 +1,5 @@
-//! Requests 1 and 5 of document 02 in plain Rust, written from their words alone: the file of a tree, and a loader with the same tests.
-use super::{box_floats, row_floats, Level, Policy, Settings};
+//! Requests 1, 5 and 6 of document 02 in plain Rust, written from their words alone: the file of a tree, and a loader with the same tests.
+use super::{box_floats, row_floats, Level, Policy, Settings, ROW_NUMBERS};
 
 /// The five lists of a tree, packed level by level and leaf by leaf.
 #[derive(Clone, Debug, Default, PartialEq)]
@@ -20,7 +20,7 @@ pub fn packed(tree: &[Level], d: usize) -> Packed {
         lists.leaves.push(level.leaves.len());
         lists.level_points.extend(&level.rows);
         for leaf in &level.leaves {
-            lists.domains.extend([lists.internals.len(), leaf.own.len(), lists.borrowed.len(), leaf.borrowed.len()]);
+            lists.domains.extend([lists.internals.len(), leaf.own.len(), lists.borrowed.len(), leaf.borrowed.len(), leaf.depth]);
             lists.internals.extend(&leaf.own);
             lists.borrowed.extend(&leaf.borrowed);
             let start = lists.boxes.len();
@@ -81,7 +81,7 @@ pub fn store(coords: &[f64], d: usize, s: &Settings, lists: &Packed) -> Vec<u8> 
         numbers(&mut out, &[rows, leaves]);
         numbers(&mut out, &lists.level_points[row..row + rows]);
         for j in domain..domain + leaves {
-            let at = &lists.domains[4 * j..4 * j + 4];
+            let at = &lists.domains[ROW_NUMBERS * j..ROW_NUMBERS * (j + 1)];
             out.extend(b"TD");
             numbers(&mut out, &[at[1], at[3]]);
             numbers(&mut out, &lists.internals[at[0]..at[0] + at[1]]);
@@ -89,11 +89,23 @@ pub fn store(coords: &[f64], d: usize, s: &Settings, lists: &Packed) -> Vec<u8> 
             let row = &lists.boxes[row_floats(d) * j..row_floats(d) * (j + 1)];
             let coarse = t + 1 == lists.rows.len();
             floats(&mut out, if coarse { &row[box_floats(d)..] } else { row });
+            number(&mut out, at[4]);
         }
         row += rows;
         domain += leaves;
     }
     out
+}
+
+/// Whether the depths in the domain rows of a level of so many rows never fall, are not above 21, and give the leaves' sizes: the rows divided
+/// by two to the depth, rounded down, or one more. The coarse domain's is 0.
+fn depths_fit(rows: usize, coarse: bool, domains: &[usize]) -> bool {
+    let mut before = 0;
+    domains.chunks(ROW_NUMBERS).all(|row| {
+        let (own, depth, least) = (row[1], row[4], before);
+        before = depth;
+        if coarse { depth == 0 } else { least <= depth && depth <= 21 && (own == rows >> depth || own == (rows >> depth) + 1) }
+    })
 }
 
 /// Whether packed lists hold a tree that passes the tests, and their stretches follow one another.
@@ -107,11 +119,14 @@ pub fn passes(coords: &[f64], d: usize, s: &Settings, lists: &Packed) -> bool {
         if !fits || (leaves == 1) != last || in_set(listed, &above).is_none() {
             return false;
         }
+        if !depths_fit(rows, last, &lists.domains[ROW_NUMBERS * domain..ROW_NUMBERS * (domain + leaves)]) {
+            return false;
+        }
         above.iter_mut().for_each(|x| *x = false);
         listed.iter().for_each(|&i| above[i] = true);
         let (mut left, mut own_at) = (above.clone(), row);
         for j in domain..domain + leaves {
-            let at = &lists.domains[4 * j..4 * j + 4];
+            let at = &lists.domains[ROW_NUMBERS * j..ROW_NUMBERS * (j + 1)];
             if at[0] != own_at || at[2] != lent || at[1] > row + rows - own_at || at[3] > lists.borrowed.len() - lent {
                 return false;
             }
@@ -228,7 +243,7 @@ fn level(r: &mut Reader, d: usize, n: usize, above: &mut Vec<bool>, lists: &mut 
     if !fits {
         return None;
     }
-    let start = lists.level_points.len();
+    let (start, row) = (lists.level_points.len(), lists.domains.len());
     rows_in(r.numbers(count)?, above, &mut lists.level_points)?;
     above.iter_mut().for_each(|x| *x = false);
     for &row in &lists.level_points[start..] {
@@ -250,7 +265,6 @@ fn level(r: &mut Reader, d: usize, n: usize, above: &mut Vec<bool>, lists: &mut 
             above[row] = true;
         }
         many += own;
-        lists.domains.extend([first, own, next, borrowed]);
         // the coarse domain has a cover and no box
         let absent = if domains == 1 { box_floats(d) } else { 0 };
         lists.boxes.extend(std::iter::repeat(0.0).take(absent));
@@ -260,10 +274,11 @@ fn level(r: &mut Reader, d: usize, n: usize, above: &mut Vec<bool>, lists: &mut 
             }
             lists.boxes.push(x);
         }
+        lists.domains.extend([first, own, next, borrowed, r.number()?]);
     }
     lists.rows.push(count);
     lists.leaves.push(domains);
-    (many == count).then_some(domains == 1)
+    (many == count && depths_fit(count, domains == 1, &lists.domains[row..])).then_some(domains == 1)
 }
 
 pub fn stood(bytes: &[u8], coords: &[f64]) -> Option<Stood> {
@@ -301,7 +316,7 @@ pub fn stood(bytes: &[u8], coords: &[f64]) -> Option<Stood> {
             break;
         }
     }
-    let fits = lists.domains.len() <= 4 * (6 * n + 1) && lists.borrowed.len() <= 6 * n * (s.neighbours as usize + 1);
+    let fits = lists.domains.len() <= ROW_NUMBERS * (6 * n + 1) && lists.borrowed.len() <= 6 * n * (s.neighbours as usize + 1);
     (r.bytes.is_empty() && fits).then_some(Stood { settings, same_points: same, lists })
 }
 

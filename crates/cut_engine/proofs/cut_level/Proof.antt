@@ -10,7 +10,7 @@ enum-told : tie.Need-enum-told
 enum-told c = search needs
 
 leaves-requires : tie.Need-leaves-requires
-leaves-requires c κs = let p = c .before .before .before .before .before .before .before .before .before .before .before .before .before .before .before .before .pre in (p .0, ((omega (arith, p .1 .0 .0), p .1 .0 .1), p .1 .1 .0))
+leaves-requires c κs = let p = c .before .before .before .before .before .before .before .before .before .before .before .before .before .before .before .before .pre in (p .0, (p .1 .0, p .1 .1 .0))
 
 enum-told-2 : tie.Need-enum-told-2
 enum-told-2 c = search needs
@@ -19,7 +19,7 @@ leaves-requires-2 : tie.Need-leaves-requires-2
 leaves-requires-2 c κs =
     let p = c .before .before .before .before .before .before .before .before .before .before .before .before .before .before .before .before .before .before .pre in
     let e = c .before .before .before .before .before .before .before .enum-told2 .given .1 in
-    (p .0, (p .1 .0, (p .1 .1 .0, rw e at (p .1 .1 .1))))
+    (p .0, ((omega (arith, p .1 .0 .0), p .1 .0 .1), (p .1 .1 .0, rw e at (p .1 .1 .1))))
 
 mul-t43 : tie.Need-mul-t43
 mul-t43 c =

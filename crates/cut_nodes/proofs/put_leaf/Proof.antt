@@ -82,7 +82,7 @@ returns c = (
       let p = a .pre in
       let w = a .args .whole .dimensions in
       let entry = a .args .base + 3 * a .args .from .leaves in
-      leaf-written w (a .args .base) (domainOf rows (a .args .whole)) (a .args .depth) (a .args .from .place) (a .args .from .leaves) _ _
+      leaf-written w (a .args .base) (domainOf rows (a .args .whole) (a .args .depth)) (a .args .from .place) (a .args .from .leaves) _ _
       (a .args .wholes .now) _ (a .args .floats .now) _ (a .args .cuts .now) _ (a .args .planes .now) _
       (omega (arith, p .1)) (p .3) (p .4)
       (c .before .before .before .before .before .before .before .before .before .before .before .before .before .before .put-pair .ensures ∙ entry-put (a .args .wholes .now) entry (a .args .depth) (a .args .count) (a .args .from .place) (omega (arith, p .1))

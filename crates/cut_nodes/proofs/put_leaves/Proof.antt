@@ -54,7 +54,7 @@ returns c l m el em =
     let y = c .before .before .before .before .before .before .before .before .put-leaf2 .ensures .1 m em in
     let w = boxWidth (a .args .left .dimensions) in
     let f = a .args .from .leaves in
-    let q = domainOf l (a .args .left) in
+    let q = domainOf l (a .args .left) (a .args .depth) in
     written-two (omega (arith, p .3)) (omega (arith, p .4, mul-add w f 2)) (omega (arith, p .5)) (omega (arith, p .6))
     (ap length (boxes-under-leaf q) ∙ p .2 ∙ sym (ap (λ (n : ℕ). w * n) (leaf-count-leaf q) ∙ mul-one w)) x (written-on (p .1) y)
 

@@ -1,13 +1,13 @@
 -- `depth_first::cut_leaves` meets its contract. Assumes nothing.
 use mathlib.Core.Path.{refl, ap, _∙_}
 use mathlib.Core.List.{List}
-use Prim.Native.Nat.{ℕ, _*_}
+use Prim.Native.Nat.{_*_}
 use native.Mathlib.Omega.{arith}
 use borrow.Author.Needs.{needs}
 use lib.Ieee.{Float}
 use Rattle.lists.specs.Lists.{put, joined}
 use Rattle.definition.specs.Points.{boxWidth}
-use Rattle.queue.specs.Rows.{withOwn}
+use Rattle.queue.specs.Rows.{Own, withOwn}
 use Rattle.rows.proofs.Good.{good-inside}
 use Rattle.record_laws.specs.Table.{rowsUnder}
 use Rattle.record_laws.proofs.Long.{record-long}
@@ -95,6 +95,7 @@ returns c =
     let eR = x .ensures .0 ∙ ap rowsUnder is in
     let e = c .before .before .before .before .before .before .before .before .before .before .number-leaves .ensures in
     let rows = level.level-rows d cs (g .0) leaf (g .2) R (g .4) (g .3) (x .last .1 .1 .1 .0) (x .last .1 .1 .1 .1 .1 .1 .1 .1 .0) (x .last .1 .1 .1 .1 .1 .1 .1 .0) (x .last .1 .1 .1 .1 .1 .1 .1 .1 .1 .0) (x .last .1 .1 .1 .1 .1 .1 .1 .1 .1 .1 .0) eR w (x .kept .1 .1 .1 .0) (x .kept .1 .1 .1 .1 .1 .1 .1 .1 .0) (x .kept .1 .1 .1 .1 .1 .1 .1 .0) (x .kept .1 .1 .1 .1 .1 .1 .1 .1 .1 .0) room in
+    let own = level.level-own d cs (g .0) leaf (g .2) R (g .4) (g .3) (x .last .1 .1 .1 .0) (x .last .1 .1 .1 .1 .1 .1 .1 .1 .0) (x .last .1 .1 .1 .1 .1 .1 .1 .0) (x .last .1 .1 .1 .1 .1 .1 .1 .1 .1 .0) (x .last .1 .1 .1 .1 .1 .1 .1 .1 .1 .1 .0) eR w (x .kept .1 .1 .1 .0) (x .kept .1 .1 .1 .1 .1 .1 .1 .1 .0) (x .kept .1 .1 .1 .1 .1 .1 .1 .0) (x .kept .1 .1 .1 .1 .1 .1 .1 .1 .1 .0) room in
     let m = level.level-many d cs (g .0) leaf (g .2) R (g .4) (g .3) (x .last .1 .1 .1 .0) (x .last .1 .1 .1 .1 .1 .1 .1 .1 .0) (x .last .1 .1 .1 .1 .1 .1 .1 .0) (x .last .1 .1 .1 .1 .1 .1 .1 .1 .1 .0) (x .last .1 .1 .1 .1 .1 .1 .1 .1 .1 .1 .0) eR w (x .kept .1 .1 .1 .0) (x .kept .1 .1 .1 .1 .1 .1 .1 .1 .0) (x .kept .1 .1 .1 .1 .1 .1 .1 .0) (x .kept .1 .1 .1 .1 .1 .1 .1 .1 .1 .0) room in (
       m,
       (
@@ -102,7 +103,7 @@ returns c =
         (
           e .0 ∙ ap joined rows,
           (
-            e .1 .0 ∙ ap (λ (z : List (List ℕ)). withOwn (a .args .at) z (a .args .first) (a .args .domains .now)) rows,
+            e .1 .0 ∙ ap (λ (z : List Own). withOwn (a .args .at) z (a .args .first) (a .args .domains .now)) own,
             (
               e .1 .1 .0 ∙ ap (λ (z : List (List Float)). put (a .args .boxes .now) (boxWidth d * a .args .first) (joined z)) (level.level-boxes d cs (g .0) leaf (g .2) R (g .4) (g .3) (x .last .1 .1 .1 .0) (x .last .1 .1 .1 .1 .1 .1 .1 .1 .0) (x .last .1 .1 .1 .1 .1 .1 .1 .0) (x .last .1 .1 .1 .1 .1 .1 .1 .1 .1 .0) (x .last .1 .1 .1 .1 .1 .1 .1 .1 .1 .1 .0) eR w (x .kept .1 .1 .1 .0) (x .kept .1 .1 .1 .1 .1 .1 .1 .1 .0) (x .kept .1 .1 .1 .1 .1 .1 .1 .0) (x .kept .1 .1 .1 .1 .1 .1 .1 .1 .1 .0) room),
               (e .1 .1 .1 ∙ level.level-cuts-are d cs (g .0) leaf (g .2) R (g .4) (g .3) (x .last .1 .1 .1 .0) (x .last .1 .1 .1 .1 .1 .1 .1 .1 .0) (x .last .1 .1 .1 .1 .1 .1 .1 .0) (x .last .1 .1 .1 .1 .1 .1 .1 .1 .1 .0) (x .last .1 .1 .1 .1 .1 .1 .1 .1 .1 .1 .0) eR w (x .kept .1 .1 .1 .0) (x .kept .1 .1 .1 .1 .1 .1 .1 .1 .0) (x .kept .1 .1 .1 .1 .1 .1 .1 .0) (x .kept .1 .1 .1 .1 .1 .1 .1 .1 .1 .0) room, level.level-planes d cs (g .0) leaf (g .2) R (g .4) (g .3) (x .last .1 .1 .1 .0) (x .last .1 .1 .1 .1 .1 .1 .1 .1 .0) (x .last .1 .1 .1 .1 .1 .1 .1 .0) (x .last .1 .1 .1 .1 .1 .1 .1 .1 .1 .0) (x .last .1 .1 .1 .1 .1 .1 .1 .1 .1 .1 .0) eR w (x .kept .1 .1 .1 .0) (x .kept .1 .1 .1 .1 .1 .1 .1 .1 .0) (x .kept .1 .1 .1 .1 .1 .1 .1 .0) (x .kept .1 .1 .1 .1 .1 .1 .1 .1 .1 .0) room),

@@ -63,6 +63,9 @@ sub-left c =
     let marked = sym (e .before .counts-stand .ensures) ∙ not-false _ (e .if1 .left) in
     omega (arith, counts-room (a .at) (a .bytes .now) marked)
 
+add-if2 : tie.Need-add-if2
+add-if2 c = search needs
+
 nothing-requires-2 : tie.Need-nothing-requires-2
 nothing-requires-2 c κs = search needs
 
@@ -76,6 +79,12 @@ returns-2 c =
     let own = n .before .number-at .ensures .0 ∙ number-here (a .at) (a .bytes .now) 2 in
     let borrowed = n .number-at2 .ensures .0 ∙ number-here (a .at) (a .bytes .now) 6 in
     too-short bs (a .at) (a .tail) _ (c .nothing2 .ensures) (omega (arith, length-drop (a .at) (a .bytes .now)))
+
+sub-if3 : tie.Need-sub-if3
+sub-if3 c = search needs
+
+sub-if3-2 : tie.Need-sub-if3-2
+sub-if3-2 c = search needs
 
 nothing-requires-3 : tie.Need-nothing-requires-3
 nothing-requires-3 c κs = search needs
@@ -91,11 +100,11 @@ returns-3 c =
     let borrowed = n .number-at2 .ensures .0 ∙ number-here (a .at) (a .bytes .now) 6 in
     too-short bs (a .at) (a .tail) _ (c .nothing3 .ensures) (omega (arith, length-drop (a .at) (a .bytes .now)))
 
-add-t11 : tie.Need-add-t11
-add-t11 c = search needs
-
 add-t10 : tie.Need-add-t10
 add-t10 c = search needs
+
+add-t11 : tie.Need-add-t11
+add-t11 c = search needs
 
 mul-t12 : tie.Need-mul-t12
 mul-t12 c = search needs
@@ -112,6 +121,15 @@ add-t15 c = search needs
 add-t16 : tie.Need-add-t16
 add-t16 c = search needs
 
+add-t17 : tie.Need-add-t17
+add-t17 c = search needs
+
+add-t18 : tie.Need-add-t18
+add-t18 c = search needs
+
+add-t19 : tie.Need-add-t19
+add-t19 c = search needs
+
 returns-4 : tie.Need-returns-4
 returns-4 c =
     let n = c .before .before in
@@ -123,7 +141,7 @@ returns-4 c =
     let borrowed = n .number-at2 .ensures .0 ∙ number-here (a .at) (a .bytes .now) 6 in
     let room = counts-room (a .at) (a .bytes .now) marked in
     is-whole bs (a .at) (a .tail) _ marked (omega (arith, length-drop (a .at) (a .bytes .now))) refl
-    record { own = own; borrowed = borrowed; own-at = refl; borrowed-at = omega arith; bounds-at = omega arith; next = omega arith }
+    record { own = own; borrowed = borrowed; own-at = refl; borrowed-at = omega arith; bounds-at = omega arith; depth-at = omega arith; next = omega arith }
 
 pub domain-at-spec : {M : Type 1} → statement M
 domain-at-spec =
@@ -140,15 +158,21 @@ domain-at-spec =
     mul-place
     add-place-2
     sub-left
+    add-if2
     nothing-requires-2
     returns-2
+    sub-if3
+    sub-if3-2
     nothing-requires-3
     returns-3
-    add-t11
     add-t10
+    add-t11
     mul-t12
     add-t13
     add-t14
     add-t15
     add-t16
+    add-t17
+    add-t18
+    add-t19
     returns-4)

@@ -78,9 +78,26 @@ mul-count c = search needs
 slice-read-count : tie.Need-slice-read-count Inv-loop μ-loop
 slice-read-count c = search needs
 
+add-below : tie.Need-add-below Inv-loop μ-loop
+add-below c = search needs
+
+mul-below : tie.Need-mul-below Inv-loop μ-loop
+mul-below c = search needs
+
+slice-read-below : tie.Need-slice-read-below Inv-loop μ-loop
+slice-read-below c = search needs
+
+add-below-2 : tie.Need-add-below-2 Inv-loop μ-loop
+add-below-2 c =
+    let t = c .before .before .before in
+    let i = t .before .loop .inv in
+    let x = front (i .0) (t .loop-test .taken) in
+    let u = known x in
+    omega (arith, u .shallow, u .fit-w, i .1 .same-w, i .1 .cap-w)
+
 add-end : tie.Need-add-end Inv-loop μ-loop
 add-end c =
-    let t = c .before .before in
+    let t = c .before .before .before in
     let i = t .before .loop .inv in
     let x = front (i .0) (t .loop-test .taken) in
     let u = known x in
@@ -88,7 +105,7 @@ add-end c =
 
 mul-read-box : tie.Need-mul-read-box Inv-loop μ-loop
 mul-read-box c =
-    let t = c .before .before .before in
+    let t = c .before .before .before .before in
     let i = t .before .loop .inv in
     let x = front (i .0) (t .loop-test .taken) in
     let u = known x in
@@ -96,7 +113,7 @@ mul-read-box c =
 
 read-box-requires : tie.Need-read-box-requires Inv-loop μ-loop
 read-box-requires c κs =
-    let t = c .before .before .before in
+    let t = c .before .before .before .before in
     let i = t .before .loop .inv in
     let x = front (i .0) (t .loop-test .taken) in
     let u = known x in
@@ -104,11 +121,11 @@ read-box-requires c κs =
 
 mul-cut-stretch : tie.Need-mul-cut-stretch Inv-loop μ-loop
 mul-cut-stretch c =
-    let t = c .before .before .before .before in
+    let t = c .before .before .before .before .before in
     let i = t .before .loop .inv in
     let x = front (i .0) (t .loop-test .taken) in
     let u = known x in
-    omega (arith, u .inside, u .same, c .before .before .before .before .before .before .before .before .before .before .before .before .before .before .before .before .before .before .before .before .before .good .1 .1 .1 .0 .0)
+    omega (arith, u .inside, u .same, c .before .before .before .before .before .before .before .before .before .before .before .before .before .before .before .before .before .before .before .before .before .before .good .1 .1 .1 .0 .0)
 
 sub-cut-stretch : tie.Need-sub-cut-stretch Inv-loop μ-loop
 sub-cut-stretch c = search needs
@@ -118,7 +135,7 @@ part-cut-stretch-start c = search needs
 
 part-cut-stretch-end : tie.Need-part-cut-stretch-end Inv-loop μ-loop
 part-cut-stretch-end c =
-    let t = c .before .before .before .before in
+    let t = c .before .before .before .before .before in
     let i = t .before .loop .inv in
     let x = front (i .0) (t .loop-test .taken) in
     let u = known x in
@@ -126,7 +143,7 @@ part-cut-stretch-end c =
 
 slice-relend-prefix-cut-stretch : tie.Need-slice-relend-prefix-cut-stretch Inv-loop μ-loop
 slice-relend-prefix-cut-stretch c =
-    let t = c .before .before .before .before .before in
+    let t = c .before .before .before .before .before .before in
     let i = t .before .loop .inv in
     let x = front (i .0) (t .loop-test .taken) in
     let u = known x in
@@ -134,14 +151,14 @@ slice-relend-prefix-cut-stretch c =
 
 slice-aggregate-cut-stretch : tie.Need-slice-aggregate-cut-stretch Inv-loop μ-loop
 slice-aggregate-cut-stretch c =
-    let t = c .before .before .before .before .before .before in
+    let t = c .before .before .before .before .before .before .before in
     let i = t .before .loop .inv in
     let x = front (i .0) (t .loop-test .taken) in
     sym (spare-length x)
 
 cut-stretch-requires : tie.Need-cut-stretch-requires Inv-loop μ-loop
 cut-stretch-requires c κs =
-    let t = c .before .before .before .before .before .before in
+    let t = c .before .before .before .before .before .before .before in
     let i = t .before .loop .inv in
     let x = front (i .0) (t .loop-test .taken) in
     (i .0 .pos, lent-some x, lent-good x, lent-room x)
@@ -151,7 +168,7 @@ add-head c = search needs
 
 mul-put-halves : tie.Need-mul-put-halves Inv-loop μ-loop
 mul-put-halves c =
-    let t = c .before .before .before .before .before .before .before .before .before .before .before .before .before in
+    let t = c .before .before .before .before .before .before .before .before .before .before .before .before .before .before in
     let i = t .before .loop .inv in
     let x = front (i .0) (t .loop-test .taken) in
     let u = known x in
@@ -159,7 +176,7 @@ mul-put-halves c =
 
 add-put-halves : tie.Need-add-put-halves Inv-loop μ-loop
 add-put-halves c =
-    let t = c .before .before .before .before .before .before .before .before .before .before .before .before .before in
+    let t = c .before .before .before .before .before .before .before .before .before .before .before .before .before .before in
     let i = t .before .loop .inv in
     let x = front (i .0) (t .loop-test .taken) in
     let u = known x in
@@ -168,7 +185,7 @@ add-put-halves c =
 put-halves-requires : tie.Need-put-halves-requires Inv-loop μ-loop
 put-halves-requires c κs =
     let cut = c .before .before .before .before .before .before in
-    let t = c .before .before .before .before .before .before .before .before .before .before .before .before .before in
+    let t = c .before .before .before .before .before .before .before .before .before .before .before .before .before .before in
     let i = t .before .loop .inv in
     let x = front (i .0) (t .loop-test .taken) in
     let u = known x in
@@ -177,7 +194,7 @@ put-halves-requires c κs =
 
 mul-write-halves : tie.Need-mul-write-halves Inv-loop μ-loop
 mul-write-halves c =
-    let t = c .before .before .before .before .before .before .before .before .before .before .before .before .before .before .before .before .before in
+    let t = c .before .before .before .before .before .before .before .before .before .before .before .before .before .before .before .before .before .before in
     let i = t .before .loop .inv in
     let x = front (i .0) (t .loop-test .taken) in
     let u = known x in
@@ -187,7 +204,7 @@ write-halves-requires : tie.Need-write-halves-requires Inv-loop μ-loop
 write-halves-requires c κs =
     let cut = c .before .before .before .before .before .before .before .before .before .before in
     let read = c .before .before .before .before .before .before .before .before .before .before .before .before .before in
-    let t = c .before .before .before .before .before .before .before .before .before .before .before .before .before .before .before .before .before in
+    let t = c .before .before .before .before .before .before .before .before .before .before .before .before .before .before .before .before .before .before in
     let i = t .before .loop .inv in
     let x = front (i .0) (t .loop-test .taken) in
     let u = known x in
@@ -195,13 +212,18 @@ write-halves-requires c κs =
     (rw e (axis-fit x _ (cut .cut-stretch .ensures .1 .1 .0)), rw e (i .0 .few), rw (i .2, e) (u .floats-fit (c .before .before .before .before .before .if1 .taken)))
 
 add-tail : tie.Need-add-tail Inv-loop μ-loop
-add-tail c = search needs
+add-tail c =
+    let t = c .before .before .before .before .before .before .before .before .before .before .before .before .before .before .before .before .before .before .before .before .before in
+    let i = t .before .loop .inv in
+    let x = front (i .0) (t .loop-test .taken) in
+    let u = known x in
+    omega (arith, u .room-fit (c .before .before .before .before .before .before .before .before .if1 .taken), u .fit-w, i .1 .same-w, i .1 .cap-w)
 
 loop-less : tie.Need-loop-less Inv-loop μ-loop
 loop-less c =
     let cut = c .before .before .before .before .before .before .before .before .before .before .before .before .before in
     let read = c .before .before .before .before .before .before .before .before .before .before .before .before .before .before .before .before in
-    let t = c .before .before .before .before .before .before .before .before .before .before .before .before .before .before .before .before .before .before .before .before in
+    let t = c .before .before .before .before .before .before .before .before .before .before .before .before .before .before .before .before .before .before .before .before .before in
     let i = t .before .loop .inv in
     let x = front (i .0) (t .loop-test .taken) in
     wait-less x (cut .cut-stretch .last .1 .1 .0) (cut .cut-stretch .last .1 .1 .1 .0) (cut .cut-stretch .ensures .0) (cut .cut-stretch .kept .1 .1 .1 .0)
@@ -215,7 +237,7 @@ loop-again c =
     let put = c .before .before .before .before .before .before in
     let cut = c .before .before .before .before .before .before .before .before .before .before .before .before .before in
     let read = c .before .before .before .before .before .before .before .before .before .before .before .before .before .before .before .before in
-    let t = c .before .before .before .before .before .before .before .before .before .before .before .before .before .before .before .before .before .before .before .before in
+    let t = c .before .before .before .before .before .before .before .before .before .before .before .before .before .before .before .before .before .before .before .before .before in
     let i = t .before .loop .inv in
     let x = front (i .0) (t .loop-test .taken) in
     let u = known x in
@@ -230,7 +252,7 @@ loop-again c =
 
 add-copy-rows : tie.Need-add-copy-rows Inv-loop μ-loop
 add-copy-rows c =
-    let t = c .before .before .before .before .before .before .before .before .before .before .before .before .before .before in
+    let t = c .before .before .before .before .before .before .before .before .before .before .before .before .before .before .before in
     let i = t .before .loop .inv in
     let x = front (i .0) (t .loop-test .taken) in
     let u = known x in
@@ -239,7 +261,7 @@ add-copy-rows c =
 copy-rows-requires : tie.Need-copy-rows-requires Inv-loop μ-loop
 copy-rows-requires c κs =
     let cut = c .before .before .before .before .before .before .before in
-    let t = c .before .before .before .before .before .before .before .before .before .before .before .before .before .before in
+    let t = c .before .before .before .before .before .before .before .before .before .before .before .before .before .before .before in
     let i = t .before .loop .inv in
     let x = front (i .0) (t .loop-test .taken) in
     let u = known x in
@@ -249,25 +271,25 @@ copy-rows-requires c κs =
 
 add-put-leaves : tie.Need-add-put-leaves Inv-loop μ-loop
 add-put-leaves c =
-    let t = c .before .before .before .before .before .before .before .before .before .before .before .before .before .before .before .before .before .before in
+    let t = c .before .before .before .before .before .before .before .before .before .before .before .before .before .before .before .before .before .before .before in
     let i = t .before .loop .inv in
     let x = front (i .0) (t .loop-test .taken) in
     let u = known x in
-    let p = c .before .before .before .before .before .before .before .before .before .before .before .before .before .before .before .before .before .before .before .before .before .before .before .before .before .before .before .before .before .before .before .before .before .before .before .pre .1 .1 .0 in
+    let p = c .before .before .before .before .before .before .before .before .before .before .before .before .before .before .before .before .before .before .before .before .before .before .before .before .before .before .before .before .before .before .before .before .before .before .before .before .pre .1 .1 .0 in
     omega (arith, u .rows-fit, p)
 
 put-leaves-requires : tie.Need-put-leaves-requires Inv-loop μ-loop
 put-leaves-requires c κs =
-    let t = c .before .before .before .before .before .before .before .before .before .before .before .before .before .before .before .before .before .before in
+    let t = c .before .before .before .before .before .before .before .before .before .before .before .before .before .before .before .before .before .before .before in
     let i = t .before .loop .inv in
     let x = front (i .0) (t .loop-test .taken) in
     let u = known x in
-    let p = c .before .before .before .before .before .before .before .before .before .before .before .before .before .before .before .before .before .before .before .before .before .before .before .before .before .before .before .before .before .before .before .before .before .before .before .pre .1 .1 .0 in
+    let p = c .before .before .before .before .before .before .before .before .before .before .before .before .before .before .before .before .before .before .before .before .before .before .before .before .before .before .before .before .before .before .before .before .before .before .before .before .pre .1 .1 .0 in
     (u .leaves-fit, omega (arith, u .rows-fit, p))
 
 mul-write-halves-2 : tie.Need-mul-write-halves-2 Inv-loop μ-loop
 mul-write-halves-2 c =
-    let t = c .before .before .before .before .before .before .before .before .before .before .before .before .before .before .before .before .before .before .before .before .before .before in
+    let t = c .before .before .before .before .before .before .before .before .before .before .before .before .before .before .before .before .before .before .before .before .before .before .before in
     let i = t .before .loop .inv in
     let x = front (i .0) (t .loop-test .taken) in
     let u = known x in
@@ -277,7 +299,7 @@ write-halves-requires-2 : tie.Need-write-halves-requires-2 Inv-loop μ-loop
 write-halves-requires-2 c κs =
     let cut = c .before .before .before .before .before .before .before .before .before .before .before .before .before .before .before in
     let read = c .before .before .before .before .before .before .before .before .before .before .before .before .before .before .before .before .before .before in
-    let t = c .before .before .before .before .before .before .before .before .before .before .before .before .before .before .before .before .before .before .before .before .before .before in
+    let t = c .before .before .before .before .before .before .before .before .before .before .before .before .before .before .before .before .before .before .before .before .before .before .before in
     let i = t .before .loop .inv in
     let x = front (i .0) (t .loop-test .taken) in
     let u = known x in
@@ -286,7 +308,7 @@ write-halves-requires-2 c κs =
 
 add-done : tie.Need-add-done Inv-loop μ-loop
 add-done c =
-    let t = c .before .before .before .before .before .before .before .before .before .before .before .before .before .before .before .before .before .before .before .before .before .before .before .before .before in
+    let t = c .before .before .before .before .before .before .before .before .before .before .before .before .before .before .before .before .before .before .before .before .before .before .before .before .before .before in
     let i = t .before .loop .inv in
     let x = front (i .0) (t .loop-test .taken) in
     let u = known x in
@@ -294,7 +316,7 @@ add-done c =
 
 add-k : tie.Need-add-k Inv-loop μ-loop
 add-k c =
-    let t = c .before .before .before .before .before .before .before .before .before .before .before .before .before .before .before .before .before .before .before .before .before .before .before .before .before in
+    let t = c .before .before .before .before .before .before .before .before .before .before .before .before .before .before .before .before .before .before .before .before .before .before .before .before .before .before in
     let i = t .before .loop .inv in
     let x = front (i .0) (t .loop-test .taken) in
     let u = known x in
@@ -304,7 +326,7 @@ loop-less-2 : tie.Need-loop-less-2 Inv-loop μ-loop
 loop-less-2 c =
     let cut = c .before .before .before .before .before .before .before .before .before .before .before .before .before .before .before .before .before .before in
     let read = c .before .before .before .before .before .before .before .before .before .before .before .before .before .before .before .before .before .before .before .before .before in
-    let t = c .before .before .before .before .before .before .before .before .before .before .before .before .before .before .before .before .before .before .before .before .before .before .before .before .before in
+    let t = c .before .before .before .before .before .before .before .before .before .before .before .before .before .before .before .before .before .before .before .before .before .before .before .before .before .before in
     let i = t .before .loop .inv in
     let x = front (i .0) (t .loop-test .taken) in
     next-leaves-less x (cut .cut-stretch .last .1 .1 .0) (cut .cut-stretch .last .1 .1 .1 .0) (cut .cut-stretch .ensures .0) (cut .cut-stretch .kept .1 .1 .1 .0)
@@ -319,7 +341,7 @@ loop-again-2 c =
     let packed = c .before .before .before .before .before .before .before .before .before .before in
     let cut = c .before .before .before .before .before .before .before .before .before .before .before .before .before .before .before .before .before .before in
     let read = c .before .before .before .before .before .before .before .before .before .before .before .before .before .before .before .before .before .before .before .before .before in
-    let t = c .before .before .before .before .before .before .before .before .before .before .before .before .before .before .before .before .before .before .before .before .before .before .before .before .before in
+    let t = c .before .before .before .before .before .before .before .before .before .before .before .before .before .before .before .before .before .before .before .before .before .before .before .before .before .before in
     let i = t .before .loop .inv in
     let x = front (i .0) (t .loop-test .taken) in
     let u = known x in
@@ -392,6 +414,10 @@ cut-leaves-spec =
     add-count
     mul-count
     slice-read-count
+    add-below
+    mul-below
+    slice-read-below
+    add-below-2
     add-end
     mul-read-box
     read-box-requires

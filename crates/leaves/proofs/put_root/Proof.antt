@@ -3,11 +3,11 @@ use borrow.Author.Needs.{needs}
 use Rattle.leaves.proofs.put_root.Statement.{statement}
 use Rattle.leaves.proofs.put_root.Tie as tie
 
-mul-put-pair : tie.Need-mul-put-pair
-mul-put-pair c = search needs
+mul-put-waiting : tie.Need-mul-put-waiting
+mul-put-waiting c = search needs
 
-put-pair-requires : tie.Need-put-pair-requires
-put-pair-requires c κs = search needs
+put-waiting-requires : tie.Need-put-waiting-requires
+put-waiting-requires c κs = search needs
 
 get-pointarray-extents-requires : tie.Need-get-pointarray-extents-requires
 get-pointarray-extents-requires c κs = search needs
@@ -26,14 +26,14 @@ returns c =
     let boxed = c .before .before in
     let measured = boxed .before .before in
     let second = measured .before .before .before in
-    (rw (measured .get-pointarray-extents .ensures .1) at (boxed .write-box .ensures), second .put-pair .ensures)
+    (rw (measured .get-pointarray-extents .ensures .1) at (boxed .write-box .ensures), second .put-waiting .ensures)
 
 pub put-root-spec : {M : Type 1} → statement M
 put-root-spec =
     tie.close
     (tie.spec
-    mul-put-pair
-    put-pair-requires
+    mul-put-waiting
+    put-waiting-requires
     get-pointarray-extents-requires
     write-box-requires
     same-length

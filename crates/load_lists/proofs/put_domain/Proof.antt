@@ -18,50 +18,65 @@ mul-fetch-domain c =
 fetch-domain-requires : tie.Need-fetch-domain-requires
 fetch-domain-requires c κs = search needs
 
+number-at-requires : tie.Need-number-at-requires
+number-at-requires c κs =
+    let f = c in
+    let s = f .before .before .before .before .before .before .before in
+    let h = found (s .args .dimensions) (s .args .coarse) (s .args .bytes .now) (s .args .c) _ (f .fetch-domain .result) (f .before .record-floats .ensures) (f .fetch-domain .ensures) (s .pre .0 .1) in
+    h .depth-within
+
 read-numbers-requires : tie.Need-read-numbers-requires
 read-numbers-requires c κs =
-    let s = c .before .before .before .before .before .before .before .before in
-    let h = found (s .args .dimensions) (s .args .coarse) (s .args .bytes .now) (s .args .c) _ (c .before .fetch-domain .result) (c .before .before .record-floats .ensures) (c .before .fetch-domain .ensures) (s .pre .0 .1) in
+    let f = c .before .before in
+    let s = f .before .before .before .before .before .before .before in
+    let h = found (s .args .dimensions) (s .args .coarse) (s .args .bytes .now) (s .args .c) _ (f .fetch-domain .result) (f .before .record-floats .ensures) (f .fetch-domain .ensures) (s .pre .0 .1) in
     (h .own-within, own-fits h (s .pre .1))
 
 read-numbers-requires-2 : tie.Need-read-numbers-requires-2
 read-numbers-requires-2 c κs =
-    let s = c .before .before .before .before .before .before .before .before .before .before .before .before in
-    let h = found (s .args .dimensions) (s .args .coarse) (s .args .bytes .now) (s .args .c) _ (c .before .before .before .before .before .fetch-domain .result) (c .before .before .before .before .before .before .record-floats .ensures) (c .before .before .before .before .before .fetch-domain .ensures) (s .pre .0 .1) in
+    let f = c .before .before .before .before .before .before in
+    let s = f .before .before .before .before .before .before .before in
+    let h = found (s .args .dimensions) (s .args .coarse) (s .args .bytes .now) (s .args .c) _ (f .fetch-domain .result) (f .before .record-floats .ensures) (f .fetch-domain .ensures) (s .pre .0 .1) in
     (h .borrowed-within, borrowed-fits h (s .pre .1))
 
 put-row-requires : tie.Need-put-row-requires
-put-row-requires c κs = c .before .before .before .before .before .before .before .before .before .before .before .before .before .before .before .before .pre .1 .domains
+put-row-requires c κs = c .before .before .before .before .before .before .before .before .before .before .before .before .before .before .before .before .before .pre .1 .domains
 
 floats-before-requires : tie.Need-floats-before-requires
 floats-before-requires c κs =
-    let s = c .before .before .before .before .before .before .before .before .before .before .before .before .before .before .before .before .before .before .before in
-    let h = found (s .args .dimensions) (s .args .coarse) (s .args .bytes .now) (s .args .c) _ (c .before .before .before .before .before .before .before .before .before .before .before .before .fetch-domain .result) (c .before .before .before .before .before .before .before .before .before .before .before .before .before .record-floats .ensures) (c .before .before .before .before .before .before .before .before .before .before .before .before .fetch-domain .ensures) (s .pre .0 .1) in
+    let f = c .before .before .before .before .before .before .before .before .before .before .before .before .before in
+    let s = f .before .before .before .before .before .before .before in
+    let h = found (s .args .dimensions) (s .args .coarse) (s .args .bytes .now) (s .args .c) _ (f .fetch-domain .result) (f .before .record-floats .ensures) (f .fetch-domain .ensures) (s .pre .0 .1) in
     (s .pre .0 .0, omega (arith, floats-fit h (s .pre .1), s .good))
 
 put-row-floats-requires : tie.Need-put-row-floats-requires
 put-row-floats-requires c κs =
-    let s = c .before .before .before .before .before .before .before .before .before .before .before .before .before .before .before .before .before .before .before .before .before in
-    let h = found (s .args .dimensions) (s .args .coarse) (s .args .bytes .now) (s .args .c) _ (c .before .before .before .before .before .before .before .before .before .before .before .before .before .before .fetch-domain .result) (c .before .before .before .before .before .before .before .before .before .before .before .before .before .before .before .record-floats .ensures) (c .before .before .before .before .before .before .before .before .before .before .before .before .before .before .fetch-domain .ensures) (s .pre .0 .1) in
+    let f = c .before .before .before .before .before .before .before .before .before .before .before .before .before .before .before in
+    let s = f .before .before .before .before .before .before .before in
+    let h = found (s .args .dimensions) (s .args .coarse) (s .args .bytes .now) (s .args .c) _ (f .fetch-domain .result) (f .before .record-floats .ensures) (f .fetch-domain .ensures) (s .pre .0 .1) in
     (s .pre .0 .0, h .floats-within, omega (arith, c .before .floats-before .ensures, floats-fit h (s .pre .1)))
 
-add-t13 : tie.Need-add-t13
-add-t13 c =
-    let s = c .before .before .before .before .before .before .before .before .before .before .before .before .before .before .before .before .before .before .before .before .before .before .before .before .before .before in
-    let h = found (s .args .dimensions) (s .args .coarse) (s .args .bytes .now) (s .args .c) _ (c .before .before .before .before .before .before .before .before .before .before .before .before .before .before .before .before .before .before .before .fetch-domain .result) (c .before .before .before .before .before .before .before .before .before .before .before .before .before .before .before .before .before .before .before .before .record-floats .ensures) (c .before .before .before .before .before .before .before .before .before .before .before .before .before .before .before .before .before .before .before .fetch-domain .ensures) (s .pre .0 .1) in
+add-t14 : tie.Need-add-t14
+add-t14 c =
+    let f = c .before .before .before .before .before .before .before .before .before .before .before .before .before .before .before .before .before .before .before .before in
+    let s = f .before .before .before .before .before .before .before in
+    let h = found (s .args .dimensions) (s .args .coarse) (s .args .bytes .now) (s .args .c) _ (f .fetch-domain .result) (f .before .record-floats .ensures) (f .fetch-domain .ensures) (s .pre .0 .1) in
     omega (arith, own-fits h (s .pre .1), s .good)
 
-add-t23 : tie.Need-add-t23
-add-t23 c =
-    let s = c .before .before .before .before .before .before .before .before .before .before .before .before .before .before .before .before .before .before .before .before .before .before .before .before .before .before .before .before in
-    let h = found (s .args .dimensions) (s .args .coarse) (s .args .bytes .now) (s .args .c) _ (c .before .before .before .before .before .before .before .before .before .before .before .before .before .before .before .before .before .before .before .before .before .fetch-domain .result) (c .before .before .before .before .before .before .before .before .before .before .before .before .before .before .before .before .before .before .before .before .before .before .record-floats .ensures) (c .before .before .before .before .before .before .before .before .before .before .before .before .before .before .before .before .before .before .before .before .before .fetch-domain .ensures) (s .pre .0 .1) in
+add-t24 : tie.Need-add-t24
+add-t24 c =
+    let f = c .before .before .before .before .before .before .before .before .before .before .before .before .before .before .before .before .before .before .before .before .before .before in
+    let s = f .before .before .before .before .before .before .before in
+    let h = found (s .args .dimensions) (s .args .coarse) (s .args .bytes .now) (s .args .c) _ (f .fetch-domain .result) (f .before .record-floats .ensures) (f .fetch-domain .ensures) (s .pre .0 .1) in
     omega (arith, borrowed-fits h (s .pre .1), s .good)
 
-add-t24 : tie.Need-add-t24
-add-t24 c = let s = c .before .before .before .before .before .before .before .before .before .before .before .before .before .before .before .before .before .before .before .before .before .before .before .before .before .before .before .before .before in omega (arith, s .pre .1 .domains, s .good)
+add-t25 : tie.Need-add-t25
+add-t25 c =
+    let s = c .before .before .before .before .before .before .before .before .before .before .before .before .before .before .before .before .before .before .before .before .before .before .before .before .before .before .before .before .before .before in
+    omega (arith, s .pre .1 .domains, s .good)
 
 same-length : tie.Need-same-length
-same-length c = search needs
+same-length c = c .before .before .before .before .before .before .before .before .before .before .before .before .before .before .before .before .before .before .before .before .read-numbers .kept .1 .1 .1 .0
 
 same-length-2 : tie.Need-same-length-2
 same-length-2 c = search needs
@@ -74,11 +89,12 @@ same-length-4 c = search needs
 
 returns : tie.Need-returns
 returns c =
-    let s = c .before .before .before .before .before .before .before .before .before .before .before .before .before .before .before .before .before .before .before .before .before .before .before .before .before .before .before .before .before in
-    let a = s .args in
-    let h = found (a .dimensions) (a .coarse) (a .bytes .now) (a .c) _ (c .before .before .before .before .before .before .before .before .before .before .before .before .before .before .before .before .before .before .before .before .before .before .fetch-domain .result) (c .before .before .before .before .before .before .before .before .before .before .before .before .before .before .before .before .before .before .before .before .before .before .before .record-floats .ensures) (c .before .before .before .before .before .before .before .before .before .before .before .before .before .before .before .before .before .before .before .before .before .before .fetch-domain .ensures) (s .pre .0 .1) in (
+    let f = c .before .before .before .before .before .before .before .before .before .before .before .before .before .before .before .before .before .before .before .before .before .before .before in
+    let s = f .before .before .before .before .before .before .before in
+    let h = found (s .args .dimensions) (s .args .coarse) (s .args .bytes .now) (s .args .c) _ (f .fetch-domain .result) (f .before .record-floats .ensures) (f .fetch-domain .ensures) (s .pre .0 .1) in
+    let a = s .args in (
       (h .next, refl),
-      domain-written h (a .internals .now) (a .domains .now) (a .boxes .now) (a .borrowed .now) _ _ _ _ _ (c .before .before .before .before .before .before .before .before .before .floats-before .ensures)
+      domain-written h (a .internals .now) (a .domains .now) (a .boxes .now) (a .borrowed .now) _ _ _ _ _ _ (c .before .before .before .before .before .before .before .before .before .before .before .before .before .before .before .before .before .before .before .before .before .before .number-at .ensures .0) (c .before .before .before .before .before .before .before .before .before .floats-before .ensures)
           (c .before .before .before .before .before .before .before .before .before .before .before .before .before .before .before .before .before .before .before .before .read-numbers .ensures) (c .before .before .before .before .before .before .before .before .before .before .before .before .before .before .before .before .read-numbers2 .ensures) (c .before .before .before .before .before .before .before .before .before .before .before .before .put-row .ensures) (c .before .before .before .before .before .before .before .put-row-floats .ensures),
     )
 
@@ -89,14 +105,15 @@ put-domain-spec =
     record-floats-requires
     mul-fetch-domain
     fetch-domain-requires
+    number-at-requires
     read-numbers-requires
     read-numbers-requires-2
     put-row-requires
     floats-before-requires
     put-row-floats-requires
-    add-t13
-    add-t23
+    add-t14
     add-t24
+    add-t25
     same-length
     same-length-2
     same-length-3

@@ -3,6 +3,7 @@ use Rattle.print_tree.specs.Unpack.{leafOf, boxPart}
 use Rattle.formats.specs.Printout.{ascii}
 use Rattle.print_texts.proofs.Writing.{begin, text-room, text-added, finish}
 use Rattle.print_tree.proofs.Lines.{domain-texts, domainTexts}
+use native.Mathlib.Omega.{arith}
 use borrow.Author.Needs.{needs}
 use Rattle.print_tree.proofs.write_domain.Statement.{statement}
 use Rattle.print_tree.proofs.write_domain.Tie as tie
@@ -15,7 +16,7 @@ unfolding ascii
 write-numbered-requires c κs =
     let start = c .before .before .before .before .before .before in
     let a = start .args in
-    let f = leafOf (a .own .now) (a .borrowed .now) (a .bounds .now) (a .cover) in
+    let f = leafOf (a .own .now) (a .borrowed .now) (a .bounds .now) (a .cover) (a .depth) in
     let box = boxPart (a .fine) (a .bounds .now) in
     let w0 = begin (domainTexts (a .i) f box) (domain-texts (a .i) f box) (start .pre) in
     text-room w0 tt
@@ -28,7 +29,7 @@ unfolding ascii
 write-listed-requires c κs =
     let start = c .before .before .before .before .before .before .before .before .before .before .before in
     let a = start .args in
-    let f = leafOf (a .own .now) (a .borrowed .now) (a .bounds .now) (a .cover) in
+    let f = leafOf (a .own .now) (a .borrowed .now) (a .bounds .now) (a .cover) (a .depth) in
     let box = boxPart (a .fine) (a .bounds .now) in
     let w0 = begin (domainTexts (a .i) f box) (domain-texts (a .i) f box) (start .pre) in
     let w1 = text-added w0 tt (c .before .before .before .before .write-numbered .ensures) in
@@ -42,7 +43,7 @@ unfolding ascii
 write-listed-requires-2 c κs =
     let start = c .before .before .before .before .before .before .before .before .before .before .before .before .before .before .before .before in
     let a = start .args in
-    let f = leafOf (a .own .now) (a .borrowed .now) (a .bounds .now) (a .cover) in
+    let f = leafOf (a .own .now) (a .borrowed .now) (a .bounds .now) (a .cover) (a .depth) in
     let box = boxPart (a .fine) (a .bounds .now) in
     let w0 = begin (domainTexts (a .i) f box) (domain-texts (a .i) f box) (start .pre) in
     let w1 = text-added w0 tt (c .before .before .before .before .before .before .before .before .before .write-numbered .ensures) in
@@ -57,7 +58,7 @@ unfolding ascii
 write-text-requires c κs =
     let start = c .before .before .before .before .before .before .before .before .before .before .before .before .before .before .before .before .before .before .before .before .before in
     let a = start .args in
-    let f = leafOf (a .own .now) (a .borrowed .now) (a .bounds .now) (a .cover) in
+    let f = leafOf (a .own .now) (a .borrowed .now) (a .bounds .now) (a .cover) (a .depth) in
     let box = boxPart (a .fine) (a .bounds .now) in
     let w0 = begin (domainTexts (a .i) f box) (domain-texts (a .i) f box) (start .pre) in
     let w1 = text-added w0 tt (c .before .before .before .before .before .before .before .before .before .before .before .before .before .before .write-numbered .ensures) in
@@ -70,7 +71,7 @@ unfolding ascii
 write-box-requires c κs =
     let start = c .before .before .before .before .before .before .before .before .before .before .before .before .before .before .before .before .before .before .before .before .before .before .before .before .before in
     let a = start .args in
-    let f = leafOf (a .own .now) (a .borrowed .now) (a .bounds .now) (a .cover) in
+    let f = leafOf (a .own .now) (a .borrowed .now) (a .bounds .now) (a .cover) (a .depth) in
     let box = boxPart (a .fine) (a .bounds .now) in
     let w0 = begin (domainTexts (a .i) f box) (domain-texts (a .i) f box) (start .pre) in
     let w1 = text-added w0 tt (c .before .before .before .before .before .before .before .before .before .before .before .before .before .before .before
@@ -88,7 +89,7 @@ unfolding ascii
 write-valued-requires c κs =
     let start = c .before .before .before .before .before .before .before .before .before .before .before .before .before .before .before .before .before .before .before .before .before .before .before .before .before .before .before .before .before .before in
     let a = start .args in
-    let f = leafOf (a .own .now) (a .borrowed .now) (a .bounds .now) (a .cover) in
+    let f = leafOf (a .own .now) (a .borrowed .now) (a .bounds .now) (a .cover) (a .depth) in
     let box = boxPart (a .fine) (a .bounds .now) in
     let w0 = begin (domainTexts (a .i) f box) (domain-texts (a .i) f box) (start .pre) in
     let w1 = text-added w0 tt (c .before .before .before .before .before .before .before .before .before .before .before .before .before .before .before .before .before .before .before .before .before .before .before .write-numbered .ensures) in
@@ -98,41 +99,74 @@ write-valued-requires c κs =
     let w5 = text-added w4 tt (c .before .before .before .before .write-box .ensures) in
     text-room w5 tt
 
+slice-aggregate-write-numbered-2 : tie.Need-slice-aggregate-write-numbered-2
+slice-aggregate-write-numbered-2 c = search needs
+
+write-numbered-requires-2 : tie.Need-write-numbered-requires-2
+unfolding ascii
+write-numbered-requires-2 c κs =
+    let start = c .before .before .before .before .before .before .before .before .before .before .before .before .before .before .before .before .before .before .before .before .before .before .before .before .before .before .before .before .before .before .before .before .before .before .before in
+    let a = start .args in
+    let f = leafOf (a .own .now) (a .borrowed .now) (a .bounds .now) (a .cover) (a .depth) in
+    let box = boxPart (a .fine) (a .bounds .now) in
+    let w0 = begin (domainTexts (a .i) f box) (domain-texts (a .i) f box) (start .pre) in
+    let w1 = text-added w0 tt (c .before .before .before .before .before .before .before .before .before .before .before .before .before .before .before .before .before .before .before .before .before .before .before .before .before .before .before .before .write-numbered .ensures) in
+    let w2 = text-added w1 tt (c .before .before .before .before .before .before .before .before .before .before .before .before .before .before .before .before .before .before .before .before .before .before .before .write-listed .ensures) in
+    let w3 = text-added w2 tt (c .before .before .before .before .before .before .before .before .before .before .before .before .before .before .before .before .before .before .write-listed2 .ensures) in
+    let w4 = text-added w3 tt (c .before .before .before .before .before .before .before .before .before .before .before .before .before .write-text .ensures) in
+    let w5 = text-added w4 tt (c .before .before .before .before .before .before .before .before .before .write-box .ensures) in
+    let w6 = text-added w5 tt (c .before .before .before .before .write-valued .ensures) in
+    text-room w6 tt
+
 write-byte-requires : tie.Need-write-byte-requires
 unfolding ascii
 write-byte-requires c κs =
-    let start = c .before .before .before .before .before .before .before .before .before .before .before .before .before .before .before .before .before .before .before .before .before .before .before .before .before .before .before .before .before .before .before .before .before .before in
+    let start = c .before .before .before .before .before .before .before .before .before .before .before .before .before .before .before .before .before .before .before .before .before .before .before .before .before .before .before .before .before .before .before .before .before .before .before .before .before .before .before in
     let a = start .args in
-    let f = leafOf (a .own .now) (a .borrowed .now) (a .bounds .now) (a .cover) in
+    let f = leafOf (a .own .now) (a .borrowed .now) (a .bounds .now) (a .cover) (a .depth) in
     let box = boxPart (a .fine) (a .bounds .now) in
     let w0 = begin (domainTexts (a .i) f box) (domain-texts (a .i) f box) (start .pre) in
-    let w1 = text-added w0 tt (c .before .before .before .before .before .before .before .before .before .before .before .before .before .before .before .before .before .before .before .before .before .before .before .before .before .before .before .write-numbered .ensures) in
-    let w2 = text-added w1 tt (c .before .before .before .before .before .before .before .before .before .before .before .before .before .before .before .before .before .before .before .before .before .before .write-listed .ensures) in
-    let w3 = text-added w2 tt (c .before .before .before .before .before .before .before .before .before .before .before .before .before .before .before .before .before .write-listed2 .ensures) in
-    let w4 = text-added w3 tt (c .before .before .before .before .before .before .before .before .before .before .before .before .write-text .ensures) in
-    let w5 = text-added w4 tt (c .before .before .before .before .before .before .before .before .write-box .ensures) in
-    let w6 = text-added w5 tt (c .before .before .before .write-valued .ensures) in
-    text-room w6 tt
+    let w1 = text-added w0 tt (c .before .before .before .before .before .before .before .before .before .before .before .before .before .before .before .before .before .before .before .before .before .before .before .before .before .before .before .before .before .before .before .before .write-numbered .ensures) in
+    let w2 = text-added w1 tt (c .before .before .before .before .before .before .before .before .before .before .before .before .before .before .before .before .before .before .before .before .before .before .before .before .before .before .before .write-listed .ensures) in
+    let w3 = text-added w2 tt (c .before .before .before .before .before .before .before .before .before .before .before .before .before .before .before .before .before .before .before .before .before .before .write-listed2 .ensures) in
+    let w4 = text-added w3 tt (c .before .before .before .before .before .before .before .before .before .before .before .before .before .before .before .before .before .write-text .ensures) in
+    let w5 = text-added w4 tt (c .before .before .before .before .before .before .before .before .before .before .before .before .before .write-box .ensures) in
+    let w6 = text-added w5 tt (c .before .before .before .before .before .before .before .before .write-valued .ensures) in
+    let w7 = text-added w6 tt (c .before .before .before .write-numbered2 .ensures) in
+    text-room w7 tt
 
+-- each call keeps the list's length
 same-length : tie.Need-same-length
-same-length c = search needs
+same-length c =
+    omega (
+      arith,
+      c .before .before .before .before .before .before .before .before .before .before .before .before .before .before .before .before .before .before .before .before .before .before .before .before .before .before .before .before .before .before .before .before .before .before .before .write-numbered .kept .1 .1 .0,
+      c .before .before .before .before .before .before .before .before .before .before .before .before .before .before .before .before .before .before .before .before .before .before .before .before .before .before .before .before .before .before .write-listed .kept .1 .1 .0,
+      c .before .before .before .before .before .before .before .before .before .before .before .before .before .before .before .before .before .before .before .before .before .before .before .before .before .write-listed2 .kept .1 .1 .0,
+      c .before .before .before .before .before .before .before .before .before .before .before .before .before .before .before .before .before .before .before .before .write-text .kept .1 .0,
+      c .before .before .before .before .before .before .before .before .before .before .before .before .before .before .before .before .write-box .kept .1 .1 .0,
+      c .before .before .before .before .before .before .before .before .before .before .before .write-valued .kept .1 .1 .0,
+      c .before .before .before .before .before .before .write-numbered2 .kept .1 .1 .0,
+      c .before .before .write-byte .kept .1 .0,
+    )
 
 returns : tie.Need-returns
 unfolding ascii
 returns c =
-    let start = c .before .before .before .before .before .before .before .before .before .before .before .before .before .before .before .before .before .before .before .before .before .before .before .before .before .before .before .before .before .before .before .before .before .before .before .before .before in
+    let start = c .before .before .before .before .before .before .before .before .before .before .before .before .before .before .before .before .before .before .before .before .before .before .before .before .before .before .before .before .before .before .before .before .before .before .before .before .before .before .before .before .before .before in
     let a = start .args in
-    let f = leafOf (a .own .now) (a .borrowed .now) (a .bounds .now) (a .cover) in
+    let f = leafOf (a .own .now) (a .borrowed .now) (a .bounds .now) (a .cover) (a .depth) in
     let box = boxPart (a .fine) (a .bounds .now) in
     let w0 = begin (domainTexts (a .i) f box) (domain-texts (a .i) f box) (start .pre) in
-    let w1 = text-added w0 tt (c .before .before .before .before .before .before .before .before .before .before .before .before .before .before .before .before .before .before .before .before .before .before .before .before .before .before .before .before .before .before .write-numbered .ensures) in
-    let w2 = text-added w1 tt (c .before .before .before .before .before .before .before .before .before .before .before .before .before .before .before .before .before .before .before .before .before .before .before .before .before .write-listed .ensures) in
-    let w3 = text-added w2 tt (c .before .before .before .before .before .before .before .before .before .before .before .before .before .before .before .before .before .before .before .before .write-listed2 .ensures) in
-    let w4 = text-added w3 tt (c .before .before .before .before .before .before .before .before .before .before .before .before .before .before .before .write-text .ensures) in
-    let w5 = text-added w4 tt (c .before .before .before .before .before .before .before .before .before .before .before .write-box .ensures) in
-    let w6 = text-added w5 tt (c .before .before .before .before .before .before .write-valued .ensures) in
-    let w7 = text-added w6 tt (c .before .before .write-byte .ensures) in
-    finish (domainTexts (a .i) f box) (domain-texts (a .i) f box) w7
+    let w1 = text-added w0 tt (c .before .before .before .before .before .before .before .before .before .before .before .before .before .before .before .before .before .before .before .before .before .before .before .before .before .before .before .before .before .before .before .before .before .before .before .write-numbered .ensures) in
+    let w2 = text-added w1 tt (c .before .before .before .before .before .before .before .before .before .before .before .before .before .before .before .before .before .before .before .before .before .before .before .before .before .before .before .before .before .before .write-listed .ensures) in
+    let w3 = text-added w2 tt (c .before .before .before .before .before .before .before .before .before .before .before .before .before .before .before .before .before .before .before .before .before .before .before .before .before .write-listed2 .ensures) in
+    let w4 = text-added w3 tt (c .before .before .before .before .before .before .before .before .before .before .before .before .before .before .before .before .before .before .before .before .write-text .ensures) in
+    let w5 = text-added w4 tt (c .before .before .before .before .before .before .before .before .before .before .before .before .before .before .before .before .write-box .ensures) in
+    let w6 = text-added w5 tt (c .before .before .before .before .before .before .before .before .before .before .before .write-valued .ensures) in
+    let w7 = text-added w6 tt (c .before .before .before .before .before .before .write-numbered2 .ensures) in
+    let w8 = text-added w7 tt (c .before .before .write-byte .ensures) in
+    finish (domainTexts (a .i) f box) (domain-texts (a .i) f box) w8
 
 pub write-domain-spec : {M : Type 1} → statement M
 write-domain-spec =
@@ -149,6 +183,8 @@ write-domain-spec =
     write-box-requires
     slice-aggregate-write-valued
     write-valued-requires
+    slice-aggregate-write-numbered-2
+    write-numbered-requires-2
     write-byte-requires
     same-length
     returns)

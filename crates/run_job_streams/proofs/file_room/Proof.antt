@@ -6,7 +6,7 @@ use Rattle.run_job_streams.proofs.file_room.Statement.{statement}
 use Rattle.run_job_streams.proofs.file_room.Tie as tie
 
 returns : tie.Need-returns
-returns c = sym (length-replicate {A = ℕ} 1572864 0)
+returns c = sym (length-replicate {A = ℕ} 1835008 0)
 
 pub file-room-spec : {M : Type 1} → statement M
 file-room-spec = tie.close (tie.spec returns)

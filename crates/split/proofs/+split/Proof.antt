@@ -117,7 +117,7 @@ split-returns t c =
     (e .0) (e .1 .0) (e .1 .1 .0) (e .1 .1 .1 .0) (e .1 .1 .1 .1) (k .kept .1 .1 .1 .0) (u .ensures) (v .ensures) in
     let small = c .before .before .before .before .before .before .before .before .before .before .before .before .before .if1 .taken in
     let d = a .args .dimensions in
-    let q = domainOf (a .args .rows .now) (a .args .whole) in (
+    let q = domainOf (a .args .rows .now) (a .args .whole) (a .args .depth) in (
       leaves-rows x small,
       leaves-written x small
           (c .before .before .before .before .before .before .before .before .put-leaves .ensures (leftOf d (a .args .points .now) q .rows) (rightOf d (a .args .points .now) q .rows) (left-long x) (right-long x)),

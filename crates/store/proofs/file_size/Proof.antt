@@ -38,8 +38,8 @@ add-numbers c = search needs
 mul-numbers-2 : tie.Need-mul-numbers-2
 mul-numbers-2 c = search needs
 
-mul-covers : tie.Need-mul-covers
-mul-covers c = search needs
+mul-ends : tie.Need-mul-ends
+mul-ends c = search needs
 
 add-result : tie.Need-add-result
 add-result c = record { fits = omega (arith, points-most (c .before .pre)) }
@@ -77,7 +77,7 @@ file-size-spec =
     mul-numbers
     add-numbers
     mul-numbers-2
-    mul-covers
+    mul-ends
     add-result
     add-result-2
     add-result-3

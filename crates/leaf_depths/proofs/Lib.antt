@@ -1,0 +1,2 @@
+-- Laws of a depth that is tested.
+pub mod Ways
