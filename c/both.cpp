@@ -3,6 +3,7 @@
 //   c++ -O2 -o both c/both.cpp target/staticlib/libddm_c.a && ./both
 #include "ddm.h"
 #include "ddm_tree.h"
+#include <cstdint>
 #include <cstdio>
 #include <cstring>
 
@@ -29,6 +30,7 @@ static void calls() {
     EXPECT(ddm_quotas(sizes, 2, 4, out, 4, wholes, 4, slot, DDM_QUOTA_SLOT) == 0 && slot[DDM_QUOTA_SEATS] == 4);
     EXPECT(ddm_square_root(6.25, root, DDM_ROOT_SLOT) == 0 && root[0] == 2.5);
     EXPECT(ddm_row_test(3, 3, 5) == 12);
+    EXPECT(std::strcmp(ddm_refusal_text(21), "the table is full") == 0);
     EXPECT(std::strcmp(ddm_refusal_text(6), "there are no points") == 0);
 }
 
@@ -57,9 +59,27 @@ static void trees() {
     EXPECT(ddm_tree_build(points, 0, 1, params, &error) == nullptr && std::strcmp(ddm_error_text(error), "there are no points") == 0);
 }
 
+static void tables() {
+    const double point = 3.0;
+    std::uint8_t flags[2] = {0, 0};
+    double coordinates[2] = {0.0, 0.0};
+    std::size_t slot[DDM_ADD_SLOT];
+    ddm_head head = {0, 0};
+    ddm_error error;
+    EXPECT(ddm_add(&head, flags, 2, coordinates, 2, 1, &point, 1, slot, DDM_ADD_SLOT) == 0 && slot[DDM_ADD_TAKEN] == 0);
+    EXPECT(ddm_add(&head, flags, 2, coordinates, 2, 1, &point, 1, slot, DDM_ADD_SLOT) == 0 && slot[DDM_ADD_TAKEN] == 1);
+    EXPECT(ddm_retire(&head, flags, 2, coordinates, 2, 1, 0) == 0 && head.slots == 2 && head.live == 1);
+    ddm_tree *tree = ddm_tree_build_slots(head, flags, 2, coordinates, 2, 1, ddm_default_params(), &error);
+    EXPECT(tree != nullptr && error.number == 0 && ddm_tree_levels(tree) == 1);
+    EXPECT(ddm_tree_own(tree, 0, 0).count == 1 && ddm_tree_own(tree, 0, 0).rows[0] == 1);
+    ddm_tree_free(tree);
+    EXPECT(ddm_retire(&head, flags, 2, coordinates, 2, 1, 0) == 22);
+}
+
 int main() {
     calls();
     trees();
+    tables();
     if (wrong == 0)
         std::printf("both: ok\n");
     return wrong != 0;

@@ -6,7 +6,8 @@
  * call's lists overlap. Every function but ddm_version returns a refusal number, 0 for none; ddm_refusal_text says it in words.
  * Counts and values go to the slot `result`, which is no lent list: a refusal writes zeros there (and the place, where one is named)
  * and touches nothing else. A slot that is too short is refused with 11 before anything else is looked at, and then it is not written
- * either. ddm_sample has two slots, `cover` and `result`: both are written or neither.
+ * either. ddm_sample has two slots, `cover` and `result`: both are written or neither. ddm_add and ddm_retire change a table where the
+ * caller keeps it, and a refused one leaves it as it was.
  *
  * Threads. There is no global state: any number of calls may run at once, as long as no list is lent to two of them. Points may be
  * shared, since they are only read.
@@ -33,7 +34,7 @@ extern "C" {
 
 /* major * 10000 + minor * 100 + patch, of this header; ddm_version gives that of the library. Another minor version may have wider rows
  * and more lists, so that a program which loads the shared library tests ddm_version() / 100 == DDM_VERSION / 100 first. */
-#define DDM_VERSION 600
+#define DDM_VERSION 700
 
 /* ---- limits and settings */
 
@@ -80,6 +81,19 @@ extern "C" {
 /* The entries that each of the two lists needs, for n points. */
 #define DDM_RECORD_ENTRIES(n) (12 * (n))
 
+/* ---- the table of wells that ddm_add and ddm_retire edit and ddm_build_slots builds over */
+
+/* The head, which stays where the caller keeps it: how many slots have been given out, and how many of them are live. A table without wells
+ * has 0 and 0. The table itself is two lists:
+ *   flags        a byte for each slot: 0 not live, any other live; at or above the slot count none is live
+ *   coordinates  those of slot i start at i * dimensions; at least as many as the capacity asks for
+ * The capacity is flags_len, held to DDM_MOST_POINTS: what stands behind it is neither read nor written. What stands in slots that are not
+ * live may be anything, a NaN too. Each call brings the dimension, which has to be the same in all of them. An edit takes one pass over the
+ * flags below the slot count. */
+typedef struct ddm_head {
+    size_t slots, live;
+} ddm_head;
+
 /* ---- the result slots: how many entries they have, and what stands where */
 
 /* The build's: the place of a refusal, the levels, then the rows and the domains of each level, 0 beyond the last. */
@@ -104,6 +118,11 @@ extern "C" {
 #define DDM_SAMPLE_WRITTEN 1
 #define DDM_SAMPLE_SLOT 2
 #define DDM_COVER_SLOT 1
+
+/* That of ddm_add: the place of a refusal, the slot of the table that the well takes. */
+#define DDM_ADD_PLACE 0
+#define DDM_ADD_TAKEN 1
+#define DDM_ADD_SLOT 2
 
 /* The writer's: the place of a refusal, the bytes written. */
 #define DDM_STORE_PLACE 0
@@ -150,10 +169,32 @@ size_t ddm_build_depth_first(const double *points, size_t points_len, size_t dim
                              size_t floats_len, size_t *wholes, size_t wholes_len, size_t *cuts, size_t cuts_len, double *planes,
                              size_t planes_len, size_t *result, size_t result_len);
 
+/* Adds a well to the table, in the lowest slot that is retired or else in the next new one, and answers with the slot (result:
+ * DDM_ADD_SLOT). Its flag becomes 1 and the point is written to its coordinates; the live count rises by one, and the slot count too where
+ * the slot is new. point: one coordinate for each axis. Refusals 1, 11, 27, 7, 10, 21, in this order; the place of 10 is counted in the
+ * point. A refused call leaves the table as it was. */
+size_t ddm_add(ddm_head *head, uint8_t *flags, size_t flags_len, double *coordinates, size_t coordinates_len, size_t dimensions,
+               const double *point, size_t point_len, size_t *result, size_t result_len);
+
+/* Retires a live slot: its flag becomes 0, and the live count falls by one. The slot count and the coordinates stay. Nothing is answered,
+ * so there is no result slot. Refusals 1, 11, 27, 22, in this order. A refused call leaves the table as it was. */
+size_t ddm_retire(ddm_head *head, uint8_t *flags, size_t flags_len, const double *coordinates, size_t coordinates_len,
+                  size_t dimensions, size_t slot);
+
+/* Builds the tree over the live slots of the table with the head {slots, live}, in slot order: rows in every list are slots, and n is the
+ * live count, in the lengths of the lists too. The table is only read. All else is as for ddm_build. Refusals 27, 1 to 6, 9, 11, 10, in
+ * this order; 6 where no slot is live, 11 for short coordinates too, and 10 for live slots alone, its place counted in `coordinates`. */
+size_t ddm_build_slots(size_t slots, size_t live, const uint8_t *flags, size_t flags_len, const double *coordinates,
+                       size_t coordinates_len, size_t dimensions, uint32_t leaf_threshold, uint32_t overlap_knn,
+                       uint32_t coarse_reduction_factor, uint32_t policy, uint32_t coarse_threshold, size_t *level_points,
+                       size_t level_points_len, size_t *internals, size_t internals_len, size_t *domains, size_t domains_len,
+                       double *boxes, size_t boxes_len, size_t *borrowed, size_t borrowed_len, double *floats, size_t floats_len,
+                       size_t *wholes, size_t wholes_len, size_t *result, size_t result_len);
+
 /* Writes a tree as the bytes of a file, with the points and settings that it was built or loaded for. tree: the slot that the build or
  * load wrote (DDM_BUILD_SLOT; a shorter one is refused with 11 before all but the result slot). The lists are those of the tree, as long as
  * for a build; file has at least ddm_file_size bytes, and what stands past them stays as it was. result: DDM_STORE_SLOT. Refusals 1 to 9,
- * 11, 10, 20, and 11 for a short file, in this order. */
+ * 11, 10, 20, and 11 for a short file, in this order. A tree over slots is refused with 20, unless they are 0 to n - 1. */
 size_t ddm_store(const double *points, size_t points_len, size_t dimensions, uint32_t leaf_threshold, uint32_t overlap_knn,
                  uint32_t coarse_reduction_factor, uint32_t policy, uint32_t coarse_threshold, const size_t *tree, size_t tree_len,
                  const size_t *level_points, size_t level_points_len, const size_t *internals, size_t internals_len,
@@ -206,8 +247,9 @@ size_t ddm_square_root(double x, double *result, size_t result_len);
  * leaf are then list[start] to list[start + count - 1]. */
 size_t ddm_row_test(size_t start, size_t count, size_t list_len);
 
-/* A refusal in words. Whoever sets the station can mend 1 to 5, 9 and 18; whoever brings the points 6, 7, 8, 10 and 19; the calling program
- * 11 to 15; whoever keeps the file 20; whoever feeds the program ddm_tree a job stream 16 and 17, which no function here gives. */
+/* A refusal in words. Whoever sets the station can mend 1 to 5, 9 and 18; whoever brings the points 6, 7, 8, 10 and 19; whoever edits the
+ * table 21 and 22; the calling program 11 to 15 and 27; whoever keeps the file 20; whoever feeds the program ddm_tree a job stream 16 and
+ * 17, which no function here gives. */
 static inline const char *ddm_refusal_text(size_t number) {
     switch (number) {
     case 0: return "nothing was refused";
@@ -217,7 +259,7 @@ static inline const char *ddm_refusal_text(size_t number) {
     case 4: return "the coarse threshold is fixed at 0";
     case 5: return "the neighbour count is above 64";
     case 6: return "there are no points";
-    case 7: return "the coordinate count is no multiple of the dimension";
+    case 7: return "the coordinate count is no multiple of the dimension (or a point to be added has not one for each axis)";
     case 8: return "there are more than 1,048,576 points";
     case 9: return "three reductions by the factor do not reach the coarse threshold (or the asked reductions are 0 or above 3)";
     case 10: return "a coordinate is infinite or not a number";
@@ -231,6 +273,9 @@ static inline const char *ddm_refusal_text(size_t number) {
     case 18: return "the stored tree is of other settings";
     case 19: return "the stored tree is of other points";
     case 20: return "the file, or the lists to be stored, hold no sound tree";
+    case 21: return "the table is full";
+    case 22: return "the slot is not live";
+    case 27: return "the table's head does not fit its flags";
     default: return "no refusal has this number";
     }
 }

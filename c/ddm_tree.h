@@ -13,8 +13,9 @@
  *       }
  *   ddm_tree_free(tree);
  *
- * ddm_tree_build_depth_first builds the same tree and keeps its cuts: ddm_tree_record. ddm_tree_store gives a tree as the bytes of a file,
- * which holds no cuts, and ddm_tree_load takes them for the same points and settings.
+ * ddm_tree_build_depth_first builds the same tree and keeps its cuts: ddm_tree_record. ddm_tree_build_slots builds over the live slots of
+ * a table, which ddm_add and ddm_retire edit. ddm_tree_store gives a tree as the bytes of a file, which holds no cuts, and ddm_tree_load
+ * takes them for the same points and settings.
  *
  * The lists come from calloc, so that what the build does not touch costs nothing; afterwards the working room is given back and the
  * others are cut to what they hold. A tree is only read by the functions that walk it: any number of threads may do so at once. A level
@@ -51,7 +52,7 @@ typedef struct ddm_error {
 /* The library is of another major or minor version than this header, so its rows may have other columns. */
 #define DDM_OTHER_VERSION ((size_t)-2)
 
-/* Rows of the point list, ascending; they stand in the tree and end with it. */
+/* Rows of the point list (slots, for a tree over a table), ascending; they stand in the tree and end with it. */
 typedef struct ddm_rows {
     const size_t *rows;
     size_t count;
@@ -160,18 +161,48 @@ static inline size_t ddm_lists_build_depth_first(ddm_lists *lists, const double 
                                  sizes[DDM_SIZES_WHOLES], cuts, entries, planes, entries, result, DDM_BUILD_SLOT);
 }
 
+/* The same over the live slots of a table. */
+static inline size_t ddm_lists_build_slots(ddm_lists *lists, ddm_head head, const uint8_t *flags, size_t flags_len,
+                                           const double *coordinates, size_t coordinates_len, size_t dimensions, ddm_params params,
+                                           size_t *result) {
+    const size_t *sizes = lists->sizes;
+    return ddm_build_slots(head.slots, head.live, flags, flags_len, coordinates, coordinates_len, dimensions, params.leaf_threshold,
+                           params.overlap_knn, params.coarse_reduction_factor, params.policy, params.coarse_threshold, lists->level_points,
+                           sizes[DDM_SIZES_LEVEL_POINTS], lists->internals, sizes[DDM_SIZES_INTERNALS], lists->domains,
+                           sizes[DDM_SIZES_DOMAINS], lists->boxes, sizes[DDM_SIZES_BOXES], lists->borrowed, sizes[DDM_SIZES_BORROWED],
+                           lists->floats, sizes[DDM_SIZES_FLOATS], lists->wholes, sizes[DDM_SIZES_WHOLES], result, DDM_BUILD_SLOT);
+}
+
+/* Lists without entries, over these two values. */
+static inline ddm_lists ddm_lists_none(size_t *whole, double *value) {
+    ddm_lists none;
+    none.level_points = none.internals = none.domains = none.borrowed = none.wholes = whole;
+    none.boxes = none.floats = value;
+    for (size_t i = 0; i < DDM_SIZES_SLOT; i++)
+        none.sizes[i] = 0;
+    return none;
+}
+
 /* The refusal of these settings and counts, 0 for none: where they are good, a build that is lent nothing is refused with 11. */
 static inline size_t ddm_lists_test(const double *points, size_t points_len, size_t dimensions, ddm_params params, size_t *result) {
     size_t whole = 0, number;
     double value = 0.0;
-    ddm_lists none;
+    ddm_lists none = ddm_lists_none(&whole, &value);
     if (ddm_version() / 100 != DDM_VERSION / 100)
         return DDM_OTHER_VERSION;
-    none.level_points = none.internals = none.domains = none.borrowed = none.wholes = &whole;
-    none.boxes = none.floats = &value;
-    for (size_t i = 0; i < DDM_SIZES_SLOT; i++)
-        none.sizes[i] = 0;
     number = ddm_lists_build(&none, points, points_len, dimensions, params, result);
+    return number == 11 ? 0 : number;
+}
+
+/* The same for a table; its coordinates, where they are short, are refused later. */
+static inline size_t ddm_lists_test_slots(ddm_head head, const uint8_t *flags, size_t flags_len, const double *coordinates,
+                                          size_t coordinates_len, size_t dimensions, ddm_params params, size_t *result) {
+    size_t whole = 0, number;
+    double value = 0.0;
+    ddm_lists none = ddm_lists_none(&whole, &value);
+    if (ddm_version() / 100 != DDM_VERSION / 100)
+        return DDM_OTHER_VERSION;
+    number = ddm_lists_build_slots(&none, head, flags, flags_len, coordinates, coordinates_len, dimensions, params, result);
     return number == 11 ? 0 : number;
 }
 
@@ -280,6 +311,40 @@ static inline ddm_tree *ddm_tree_build(const double *points, size_t points_len, 
 static inline ddm_tree *ddm_tree_build_depth_first(const double *points, size_t points_len, size_t dimensions, ddm_params params,
                                                    ddm_error *error) {
     return ddm_tree_built(points, points_len, dimensions, params, 1, error);
+}
+
+/* Builds the tree over the live slots of a table, in which slots are the rows; or gives NULL and says why, as ddm_tree_build does. */
+static inline ddm_tree *ddm_tree_build_slots(ddm_head head, const uint8_t *flags, size_t flags_len, const double *coordinates,
+                                             size_t coordinates_len, size_t dimensions, ddm_params params, ddm_error *error) {
+    ddm_error kept;
+    ddm_lists lists;
+    ddm_tree *tree = NULL;
+    size_t result[DDM_BUILD_SLOT];
+    kept.place = 0;
+    kept.number = ddm_lists_test_slots(head, flags, flags_len, coordinates, coordinates_len, dimensions, params, result);
+    if (!kept.number)
+        kept.number = ddm_build_sizes(head.live, dimensions, params.overlap_knn, lists.sizes, DDM_SIZES_SLOT);
+    if (!kept.number) {
+        tree = (ddm_tree *)calloc(1, sizeof(ddm_tree));
+        if (!tree || !ddm_lists_make(&lists)) {
+            kept.number = DDM_NO_MEMORY;
+        } else {
+            tree->dimensions = dimensions;
+            kept.number = ddm_lists_build_slots(&lists, head, flags, flags_len, coordinates, coordinates_len, dimensions, params,
+                                                tree->result);
+            kept.place = tree->result[DDM_SLOT_PLACE];
+            if (kept.number)
+                ddm_lists_free(&lists);
+            else
+                ddm_tree_take(tree, &lists);
+        }
+    }
+    if (error)
+        *error = kept;
+    if (!kept.number)
+        return tree;
+    free(tree);
+    return NULL;
 }
 
 /* ---- storing and loading */

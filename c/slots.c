@@ -250,11 +250,14 @@ static void builds(void) {
 
 /* Every refusal has words of its own, and so has a number that is none. */
 static void texts(void) {
-    enum { LAST = 20 };
-    for (size_t i = 0; i <= LAST + 1; i++)
+    const size_t numbers[] = {0, 1, 2, 3, 4, 5, 6, 7, 8, 9, 10, 11, 12, 13, 14, 15, 16, 17, 18, 19, 20, 21, 22, 27, 28};
+    const size_t count = sizeof numbers / sizeof *numbers;
+    for (size_t i = 0; i < count; i++)
         for (size_t j = 0; j < i; j++)
-            EXPECT(strcmp(ddm_refusal_text(i), ddm_refusal_text(j)) != 0);
-    EXPECT(strcmp(ddm_refusal_text((size_t)-1), ddm_refusal_text(LAST + 1)) == 0);
+            EXPECT(strcmp(ddm_refusal_text(numbers[i]), ddm_refusal_text(numbers[j])) != 0);
+    for (size_t none = 23; none < 27; none++)
+        EXPECT(strcmp(ddm_refusal_text(none), ddm_refusal_text(28)) == 0);
+    EXPECT(strcmp(ddm_refusal_text((size_t)-1), ddm_refusal_text(28)) == 0);
     EXPECT(strcmp(ddm_refusal_text(2), "the leaf threshold is 0") == 0);
 }
 

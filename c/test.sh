@@ -55,7 +55,7 @@ literal='(row|result)\[[0-9]|[0-9] \+ level|[^0-9](4|5|12) \* |2 \* (d|dimension
 
 # ---- C and C++, plain and under the sanitizers
 programs() {
-    for name in example lists slots tree stored record; do
+    for name in example lists slots tree stored record table; do
         compile "$name" "$@"
     done
     right_example "$made/example"
@@ -66,6 +66,7 @@ programs() {
     "$made/tree"
     "$made/stored"
     "$made/record"
+    "$made/table"
     there "$cxx" || { skipped "the C++ program (there is no '$cxx')"; return; }
     # shellcheck disable=SC2086
     "$cxx" -std=c++11 $strict "$@" -o "$made/both" c/both.cpp "$lib"

@@ -144,6 +144,38 @@ static void random_tree(void) {
     ddm_lists_free(&lists);
 }
 
+/* A table of which some slots are live, by ddm_tree_build_slots and by lists. */
+static void random_slots(void) {
+    double coordinates[3 * 120];
+    uint8_t flags[120];
+    const size_t d = 1 + below(3), capacity = 1 + below(120);
+    ddm_head head = {below(capacity + 1), 0};
+    ddm_params params = ddm_default_params();
+    ddm_lists lists;
+    ddm_error error;
+    size_t result[DDM_BUILD_SLOT], refused;
+    for (size_t i = 0; i < capacity; i++) {
+        flags[i] = below(3) ? (uint8_t)below(256) : 0;
+        head.live += i < head.slots && flags[i];
+        for (size_t a = 0; a < d; a++)
+            coordinates[i * d + a] = i < head.slots && flags[i] ? (double)below(50) : NAN;
+    }
+    params.leaf_threshold = (uint32_t)(1 + below(9));
+    params.overlap_knn = (uint32_t)below(9);
+    params.coarse_reduction_factor = (uint32_t)(2 + below(4));
+    params.policy = DDM_POLICY_FIXED;
+    params.coarse_threshold = (uint32_t)(1 + below(30));
+    EXPECT(ddm_build_sizes(head.live + 1, d, params.overlap_knn, lists.sizes, DDM_SIZES_SLOT) == 0 && ddm_lists_make(&lists));
+    refused = ddm_lists_build_slots(&lists, head, flags, capacity, coordinates, capacity * d, d, params, result);
+    EXPECT(refused == 0 || refused == 9 || (refused == 6 && !head.live));
+    ddm_tree *tree = ddm_tree_build_slots(head, flags, capacity, coordinates, capacity * d, d, params, &error);
+    EXPECT(error.number == refused && error.place == 0 && !tree == (refused != 0));
+    if (tree)
+        same_tree(tree, &lists, result);
+    ddm_tree_free(tree);
+    ddm_lists_free(&lists);
+}
+
 /* ---- refusals */
 
 static ddm_error refusal(const double *points, size_t points_len, size_t dimensions, ddm_params params) {
@@ -174,7 +206,37 @@ static void refusals(void) {
     EXPECT(refusal(points, 4, 1, good).number == 10 && refusal(points, 4, 1, good).place == 3 && made != 0);
 }
 
+/* Four slots, two of them live; as many coordinates as there are slots. */
+static ddm_error slots_refusal(ddm_head head, const double *coordinates, size_t coordinates_len, size_t dimensions, ddm_params params) {
+    const uint8_t flags[4] = {0, 1, 0, 255};
+    ddm_error error;
+    EXPECT(!ddm_tree_build_slots(head, flags, 4, coordinates, coordinates_len, dimensions, params, &error));
+    EXPECT(!ddm_tree_build_slots(head, flags, 4, coordinates, coordinates_len, dimensions, params, NULL));
+    return error;
+}
+
+static void slots_refusals(void) {
+    const double points[4] = {NAN, 1.0, NAN, 3.0}, bad[4] = {NAN, 1.0, NAN, INFINITY};
+    const ddm_head right = {4, 2}, none = {1, 0}, many = {4, 3}, past = {5, 2};
+    const ddm_params good = ddm_default_params();
+    ddm_params leaf = good;
+    leaf.leaf_threshold = 0;
+    made = 0;
+    EXPECT(slots_refusal(many, bad, 3, 0, leaf).number == 27 && slots_refusal(past, bad, 3, 0, leaf).number == 27);
+    EXPECT(slots_refusal(right, bad, 3, 4, leaf).number == 1 && slots_refusal(right, bad, 3, 1, leaf).number == 2);
+    EXPECT(slots_refusal(none, bad, 3, 1, good).number == 6 && made == 0);
+    EXPECT(slots_refusal(right, bad, 3, 1, good).number == 11 && slots_refusal(right, points, 3, 1, good).number == 11);
+    EXPECT(slots_refusal(right, bad, 4, 1, good).number == 10 && slots_refusal(right, bad, 4, 1, good).place == 3);
+}
+
 /* ---- memory */
+
+/* A table of which every slot is live. */
+static ddm_tree *build_all_slots(const double *points, size_t points_len, size_t dimensions, ddm_params params, ddm_error *error) {
+    const uint8_t flags[4] = {1, 1, 1, 1};
+    const ddm_head head = {points_len / dimensions, points_len / dimensions};
+    return ddm_tree_build_slots(head, flags, head.slots, points, points_len, dimensions, params, error);
+}
 
 /* How many lists it takes until this build has a tree: with one fewer there is none. */
 static size_t lists_of(ddm_tree *(*build)(const double *, size_t, size_t, ddm_params, ddm_error *)) {
@@ -196,6 +258,7 @@ static void memory(void) {
     /* the tree itself and its lists, and two more for the record */
     EXPECT(lists_of(ddm_tree_build) == 1 + DDM_SIZES_SLOT);
     EXPECT(lists_of(ddm_tree_build_depth_first) == 1 + DDM_SIZES_SLOT + 2);
+    EXPECT(lists_of(build_all_slots) == 1 + DDM_SIZES_SLOT);
 }
 
 /* ---- what ddm.h says of the lent bytes: how many they are, and that few are touched */
@@ -243,6 +306,8 @@ static void versions(void) {
     const double point = 0.0;
     version = ddm_version() + 100;
     EXPECT(refusal(&point, 1, 1, ddm_default_params()).number == DDM_OTHER_VERSION);
+    ddm_error error;
+    EXPECT(!build_all_slots(&point, 1, 1, ddm_default_params(), &error) && error.number == DDM_OTHER_VERSION);
     version = DDM_VERSION / 100 * 100 + 99;
     ddm_tree *tree = ddm_tree_build(&point, 1, 1, ddm_default_params(), NULL);
     EXPECT(tree && ddm_tree_levels(tree) == 1);
@@ -281,7 +346,10 @@ int main(void) {
     version = ddm_version();
     for (size_t i = 0; i < 2000; i++)
         random_tree();
+    for (size_t i = 0; i < 1000; i++)
+        random_slots();
     refusals();
+    slots_refusals();
     memory();
     lent_bytes(256, 100);
     lent_bytes(1, 700);

@@ -200,7 +200,7 @@ def leaf_cover(cs, d, rows, sent):
 
 # ---- the build
 
-def check(cs, d, leaf, neighbours, f, policy, number):
+def check_settings(d, leaf, neighbours, f, policy, number):
     if not 1 <= d <= 3:
         raise Refused(1)
     if leaf == 0:
@@ -211,6 +211,21 @@ def check(cs, d, leaf, neighbours, f, policy, number):
         raise Refused(4)
     if neighbours > 64:
         raise Refused(5)
+
+
+def check_reach(f, policy, number, n):
+    if threshold(policy, number, n) * f ** 3 < n:
+        raise Refused(9)
+
+
+def check_finite(cs, places):
+    for at in places:
+        if not math.isfinite(cs[at]):
+            raise Refused(10, at)
+
+
+def check(cs, d, leaf, neighbours, f, policy, number):
+    check_settings(d, leaf, neighbours, f, policy, number)
     if not cs:
         raise Refused(6)
     if len(cs) % d:
@@ -218,20 +233,21 @@ def check(cs, d, leaf, neighbours, f, policy, number):
     n = len(cs) // d
     if n > MOST_POINTS:
         raise Refused(8)
-    if threshold(policy, number, n) * f ** 3 < n:
-        raise Refused(9)
-    for at, x in enumerate(cs):
-        if not math.isfinite(x):
-            raise Refused(10, at)
+    check_reach(f, policy, number, n)
+    check_finite(cs, range(len(cs)))
 
 
 def build(cs, d, leaf, neighbours, f, policy, number):
     """The levels: (active rows, leaves); a leaf is (own rows, borrowed rows, box or None, cover, depth)."""
     check(cs, d, leaf, neighbours, f, policy, number)
-    n = len(cs) // d
-    c = threshold(policy, number, n)
-    k = reductions(n, c, f)
-    active, levels, built = list(range(n)), [], 0
+    return levels_over(cs, d, leaf, neighbours, f, policy, number, range(len(cs) // d))
+
+
+def levels_over(cs, d, leaf, neighbours, f, policy, number, rows):
+    """The levels over these rows, ascending: n is their count."""
+    c = threshold(policy, number, len(rows))
+    k = reductions(len(rows), c, f)
+    active, levels, built = list(rows), [], 0
     while len(active) > c:
         leaves = leaves_of(cs, d, leaf, active)
         borrowed = borrowed_of(cs, d, neighbours, active, leaves)

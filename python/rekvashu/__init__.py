@@ -8,6 +8,9 @@
 
 `rekvashu.build(.., engine="depth-first")` builds the same tree and keeps its cuts: `level.cuts` has them from the root downwards.
 
+`rekvashu.Table(capacity, dimension)` is a table of wells that is edited between builds: `table.add(point)` answers with the well's slot,
+`table.retire(slot)` frees it, and `table.build(..)` builds over the live slots.
+
 `tree.to_bytes()` gives a tree as the bytes of a file, and `rekvashu.load(points, data, ..)` takes them for the same points and settings.
 
 The shared library is made by python/make_shared.sh. Arrays are numpy's where numpy is there, otherwise plain lists.
@@ -15,8 +18,9 @@ The shared library is made by python/make_shared.sh. Arrays are numpy's where nu
 from .calls import Sample, build, build_sizes, level_size, library_version, load, quotas, row_test, sample, square_root
 from .library import LibraryError
 from .refusals import Refusal
+from .table import Table
 from .tree import Leaf, Level, Node, Tree
 from .version import VERSION as __version__
 
 __all__ = ["build", "build_sizes", "level_size", "library_version", "load", "quotas", "row_test", "sample", "square_root", "LibraryError",
-           "Refusal", "Leaf", "Level", "Node", "Sample", "Tree", "__version__"]
+           "Refusal", "Leaf", "Level", "Node", "Sample", "Table", "Tree", "__version__"]

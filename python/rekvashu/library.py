@@ -13,6 +13,14 @@ SIZE, UINT32, DOUBLE = ctypes.c_size_t, ctypes.c_uint32, ctypes.c_double
 WHOLES, FLOATS = [ctypes.POINTER(SIZE), SIZE], [ctypes.POINTER(DOUBLE), SIZE]
 BYTES = [ctypes.c_void_p, SIZE]
 POINTS = FLOATS + [SIZE]
+
+
+class Head(ctypes.Structure):
+    """The head of a table: how many slots have been given out, and how many of them are live."""
+    _fields_ = [("slots", SIZE), ("live", SIZE)]
+
+
+HEAD = [ctypes.POINTER(Head)]
 TREE = WHOLES * 3 + FLOATS + WHOLES
 
 # The public functions and their arguments, as in c/ddm.h; each returns a refusal number, ddm_version its number.
@@ -21,6 +29,9 @@ FUNCTIONS = {
     "ddm_build_sizes": [SIZE, SIZE, UINT32] + WHOLES,
     "ddm_build": POINTS + [UINT32] * 5 + TREE + FLOATS + WHOLES + WHOLES,
     "ddm_build_depth_first": POINTS + [UINT32] * 5 + TREE + FLOATS + WHOLES + WHOLES + FLOATS + WHOLES,
+    "ddm_add": HEAD + BYTES + POINTS + FLOATS + WHOLES,
+    "ddm_retire": HEAD + BYTES + POINTS + [SIZE],
+    "ddm_build_slots": [SIZE] * 2 + BYTES + POINTS + [UINT32] * 5 + TREE + FLOATS + WHOLES + WHOLES,
     "ddm_store": POINTS + [UINT32] * 5 + WHOLES + TREE + BYTES + WHOLES,
     "ddm_load": POINTS + [UINT32] * 5 + BYTES + TREE + WHOLES,
     "ddm_sample": POINTS + [SIZE] * 2 + WHOLES + FLOATS + WHOLES + FLOATS + WHOLES,

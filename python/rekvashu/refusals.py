@@ -2,6 +2,7 @@
 
 SETTER, BRINGER = "whoever sets the station", "whoever brings the points"
 CALLER, FEEDER, KEEPER = "the calling program", "whoever feeds the program", "whoever keeps the file"
+EDITOR = "whoever edits the table"
 
 # number: (what is wrong, who can mend it)
 REFUSALS = {
@@ -11,7 +12,7 @@ REFUSALS = {
     4: ("the coarse threshold is fixed at 0", SETTER),
     5: ("the neighbour count is above 64", SETTER),
     6: ("there are no points", BRINGER),
-    7: ("the coordinate count is no multiple of the dimension", BRINGER),
+    7: ("the coordinate count is no multiple of the dimension (or a point to be added has not one for each axis)", BRINGER),
     8: ("there are more than 1,048,576 points", BRINGER),
     9: ("three reductions by the factor do not reach the coarse threshold (or the asked reductions are 0 or above 3)", SETTER),
     10: ("a coordinate is infinite or not a number", BRINGER),
@@ -25,6 +26,9 @@ REFUSALS = {
     18: ("the stored tree is of other settings", SETTER),
     19: ("the stored tree is of other points", BRINGER),
     20: ("the file, or the lists to be stored, hold no sound tree", KEEPER),
+    21: ("the table is full", EDITOR),
+    22: ("the slot is not live", EDITOR),
+    27: ("the table's head does not fit its flags", CALLER),
 }
 
 # What the place counts, for the refusals that name one.

@@ -35,8 +35,12 @@ class Header(unittest.TestCase):
             words = re.search(rf"\b{name}\s*\(([^)]*)\)", header()).group(1)
             kinds = [] if words == "void" else [re.sub(r"\bconst\b|\w+$|\s", "", word) for word in words.split(",")]
             ours = [{library.SIZE: "size_t", library.UINT32: "uint32_t", library.DOUBLE: "double", library.WHOLES[0]: "size_t*",
-                     library.FLOATS[0]: "double*", library.BYTES[0]: "uint8_t*"}[a] for a in arguments]
+                     library.FLOATS[0]: "double*", library.BYTES[0]: "uint8_t*", library.HEAD[0]: "ddm_head*"}[a] for a in arguments]
             self.assertEqual(kinds, ours, name)
+
+    def test_the_head_of_a_table(self):
+        fields = re.search(r"typedef struct ddm_head {\s*size_t ([\w, ]+);\s*} ddm_head;", header()).group(1)
+        self.assertEqual(library.Head._fields_, [(name, library.SIZE) for name in fields.split(", ")])
 
     def test_strides_slots_and_limits(self):
         defined = dict(re.findall(r"#define DDM_(\w+) (.+)", header()))

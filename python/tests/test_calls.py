@@ -25,7 +25,11 @@ def seen(tree):
 
 
 def expected(cs, d, leaf, neighbours, factor, policy, number):
-    levels = model.build(cs, d, leaf, neighbours, factor, policy, number)
+    return as_seen(model.build(cs, d, leaf, neighbours, factor, policy, number))
+
+
+def as_seen(levels):
+    """The model's levels as `seen` gives a tree."""
     return [(points, [(own, borrowed, box and bits(box[0] + box[1]), bits([cover]), depth) for own, borrowed, box, cover, depth in leaves])
             for points, leaves in levels]
 

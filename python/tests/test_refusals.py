@@ -54,6 +54,18 @@ ROUND_TRIPS = [
     (5, 0, lambda: rekvashu.build_sizes(1, 1, 65)),
     (6, 0, lambda: rekvashu.build_sizes(0, 1, 1)),
     (8, 0, lambda: rekvashu.build_sizes(1_048_577, 1, 1)),
+    # a table of wells
+    (1, 0, lambda: rekvashu.Table(4, 4)),
+    (6, 0, lambda: rekvashu.Table(4, 2).build()),
+    (7, 0, lambda: rekvashu.Table(4, 2).add([1.0])),
+    (7, 0, lambda: rekvashu.Table(4, 2).add([1.0, 2.0, 3.0])),
+    (10, 1, lambda: rekvashu.Table(4, 2).add([1.0, NAN])),
+    (21, 0, lambda: rekvashu.Table(0, 1).add(1.0)),
+    (22, 0, lambda: rekvashu.Table(4, 1).retire(0)),
+    (22, 0, lambda: rekvashu.Table(4, 1).retire(2 ** 64 - 1)),
+    (27, 0, lambda: unsound_table().add([])),
+    (27, 0, lambda: unsound_table().retire(0)),
+    (27, 0, lambda: unsound_table().build(leaf=0)),
     # the first in document 01's order is the one that is said
     (2, 0, lambda: rekvashu.build([], leaf=0, factor=0)),
     (5, 0, lambda: rekvashu.build([1.0], neighbours=65, dimension=2)),
@@ -64,6 +76,13 @@ setUpModule = support.need_library
 
 def bytes_of_points(count):
     return memoryview(bytes(8 * count)).cast("d")
+
+
+def unsound_table():
+    """A table whose head says another number of live slots than its flags: the package never makes one itself."""
+    table = rekvashu.Table(4, 1)
+    table._head.slots, table._head.live = 2, 1
+    return table
 
 
 def short_build():
@@ -94,7 +113,7 @@ class RoundTrips(unittest.TestCase):
             self.assertEqual(str(refusal), refusal.text)
 
     def test_every_number_of_the_library(self):
-        self.assertEqual({number for number, _, _ in ROUND_TRIPS}, set(range(1, 16)))
+        self.assertEqual({number for number, _, _ in ROUND_TRIPS}, set(range(1, 16)) | {21, 22, 27})
 
 
 if __name__ == "__main__":

@@ -24,21 +24,21 @@ const fn whole(digits: &str) -> usize {
 /// The version of the linked library: major * 10,000 + minor * 100 + patch.
 ///
 /// ```
-/// assert!(rekvashu::version() >= 600);
+/// assert!(rekvashu::version() >= 700);
 /// ```
 pub fn version() -> usize {
     sys::version()
 }
 
 /// Lists are lent only to a library of this crate's series: in another one the rows may be wider.
-fn right_version() -> Result<(), Error> {
+pub(crate) fn right_version() -> Result<(), Error> {
     match version() {
         number if number / 100 == SERIES => Ok(()),
         number => Err(Error::OtherVersion(number)),
     }
 }
 
-fn refused(number: usize, place: usize) -> Error {
+pub(crate) fn refused(number: usize, place: usize) -> Error {
     Error::Refused(Refusal::new(number, place))
 }
 
@@ -67,7 +67,8 @@ pub fn build_sizes(n: usize, dimension: usize, neighbours: u32) -> Result<BuildS
 /// # Ok::<(), rekvashu::Error>(())
 /// ```
 pub fn build(points: &[f64], dimension: usize, params: DDMParams) -> Result<Tree, Error> {
-    built(sys::build, points, dimension, params, Ok)
+    let call = |lists: &mut Lists, slot: &mut _| sys::build(points, dimension, params, lists, slot);
+    built(call, rows(points, dimension), dimension, params, Ok)
 }
 
 /// Builds the same tree as [`build`], and keeps the cuts that made it: [`Level::nodes`](crate::Level::nodes) gives them from the root
@@ -89,22 +90,29 @@ pub fn build(points: &[f64], dimension: usize, params: DDMParams) -> Result<Tree
 /// # Ok::<(), rekvashu::Error>(())
 /// ```
 pub fn build_depth_first(points: &[f64], dimension: usize, params: DDMParams) -> Result<Tree, Error> {
-    built(sys::build_depth_first, points, dimension, params, |lists| lists.with_record(points.len() / dimension))
+    let call = |lists: &mut Lists, slot: &mut _| sys::build_depth_first(points, dimension, params, lists, slot);
+    let n = rows(points, dimension);
+    built(call, n, dimension, params, |lists| lists.with_record(n))
 }
 
-/// The tree that a build makes in lists of the stated lengths, with what else it needs.
-fn built(
-    build: fn(&[f64], usize, DDMParams, &mut Lists, &mut [usize; BUILD_SLOT]) -> usize, points: &[f64], dimension: usize,
-    params: DDMParams, with: impl FnOnce(Lists) -> Result<Lists, TryReserveError>,
+/// How many points these are; none where the dimension is 0, which every build refuses.
+fn rows(points: &[f64], dimension: usize) -> usize {
+    points.len().checked_div(dimension).unwrap_or(0)
+}
+
+/// The tree that a build over `n` points makes in lists of the stated lengths, with what else it needs.
+pub(crate) fn built(
+    build: impl Fn(&mut Lists, &mut [usize; BUILD_SLOT]) -> usize, n: usize, dimension: usize, params: DDMParams,
+    with: impl FnOnce(Lists) -> Result<Lists, TryReserveError>,
 ) -> Result<Tree, Error> {
     right_version()?;
     let mut slot = [0; BUILD_SLOT];
-    match build(points, dimension, params, &mut Lists::default(), &mut slot) {
+    match build(&mut Lists::default(), &mut slot) {
         SHORT_LIST => {}
         number => return Err(refused(number, slot[SLOT_PLACE])),
     }
-    let mut lists = with(Lists::reserved(&build_sizes(points.len() / dimension, dimension, params.overlap_knn)?)?)?;
-    match build(points, dimension, params, &mut lists, &mut slot) {
+    let mut lists = with(Lists::reserved(&build_sizes(n, dimension, params.overlap_knn)?)?)?;
+    match build(&mut lists, &mut slot) {
         0 => Ok(Tree::of(dimension, &slot, lists)),
         number => Err(refused(number, slot[SLOT_PLACE])),
     }

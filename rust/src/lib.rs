@@ -24,6 +24,8 @@
 //!
 //! [`build_depth_first`] builds the same tree and keeps its cuts, which [`Level::nodes`] gives from the root downwards.
 //!
+//! A [`Table`] of wells is edited between builds: wells are added and retired, and the tree is built over those that are live.
+//!
 //! [`Tree::to_bytes`] gives a tree as the bytes of a file, with the points and settings that it was built for, and [`load`] takes them: a tree
 //! is handed out only where the file is whole and sound and the present points and settings are its own, bit for bit.
 //!
@@ -42,6 +44,7 @@ mod params;
 mod record;
 mod refusal;
 mod sys;
+mod table;
 mod tree;
 
 pub use calls::{build, build_depth_first, build_sizes, level_size, load, quotas, sample, square_root, version, Sample};
@@ -49,4 +52,5 @@ pub use lists::BuildSizes;
 pub use params::{DDMParams, SizePolicy};
 pub use record::{Node, NodeKind};
 pub use refusal::{Error, Mender, Refusal};
+pub use table::Table;
 pub use tree::{Leaf, Level, Tree};

@@ -39,6 +39,9 @@ pub const fn record_entries(points: usize) -> usize {
     12 * points
 }
 
+/// The most points of a tree, and the most slots of a table.
+pub const MOST_POINTS: usize = 1_048_576;
+
 /// The most levels of a tree.
 pub const MOST_LEVELS: usize = 4;
 
@@ -66,6 +69,11 @@ pub const SAMPLE_SLOT: usize = 2;
 
 /// The slot of sampling's cover: one float.
 pub const COVER_SLOT: usize = 1;
+
+/// The slot of adding a well: the place of a refusal, the slot of the table that the well takes.
+pub const ADD_PLACE: usize = 0;
+pub const ADD_TAKEN: usize = 1;
+pub const ADD_SLOT: usize = 2;
 
 /// The writer's slot: the place of a refusal, the bytes written.
 pub const STORE_PLACE: usize = 0;
@@ -120,6 +128,7 @@ mod tests {
             ("ROW_NUMBERS", ROW_NUMBERS),
             ("RECORD_LEAF", RECORD_LEAF),
             ("RECORD_DEEPEST", RECORD_DEEPEST),
+            ("MOST_POINTS", MOST_POINTS),
             ("MOST_LEVELS", MOST_LEVELS),
             ("SLOT_PLACE", SLOT_PLACE),
             ("SLOT_LEVELS", SLOT_LEVELS),
@@ -136,6 +145,9 @@ mod tests {
             ("SAMPLE_WRITTEN", SAMPLE_WRITTEN),
             ("SAMPLE_SLOT", SAMPLE_SLOT),
             ("COVER_SLOT", COVER_SLOT),
+            ("ADD_PLACE", ADD_PLACE),
+            ("ADD_TAKEN", ADD_TAKEN),
+            ("ADD_SLOT", ADD_SLOT),
             ("STORE_PLACE", STORE_PLACE),
             ("STORE_BYTES", STORE_BYTES),
             ("STORE_SLOT", STORE_SLOT),

@@ -16,7 +16,7 @@ use std::fmt;
 pub struct Refusal {
     /// The number, by which document 01 and the other languages know it too.
     pub number: usize,
-    /// The position of the coordinate for refusal 10, and 0 for the others.
+    /// The position of the coordinate for refusal 10 (in the list of all coordinates, or in a point that is added), and 0 for the others.
     pub place: usize,
 }
 
@@ -34,6 +34,8 @@ pub enum Mender {
     Stream,
     /// Whoever keeps the file of a stored tree; where a tree is to be stored, whoever keeps its lists.
     File,
+    /// Whoever edits the table of wells.
+    Table,
 }
 
 impl Refusal {
@@ -49,6 +51,7 @@ impl Refusal {
             6 | 7 | 8 | 10 | 19 => Mender::Points,
             16 | 17 => Mender::Stream,
             20 => Mender::File,
+            21 | 22 => Mender::Table,
             _ => Mender::Program,
         }
     }
@@ -63,7 +66,7 @@ impl Refusal {
             4 => "the coarse threshold is fixed at 0",
             5 => "the neighbour count is above 64",
             6 => "there are no points",
-            7 => "the coordinate count is no multiple of the dimension",
+            7 => "the coordinate count is no multiple of the dimension (or a point to be added has not one for each axis)",
             8 => "there are more than 1,048,576 points",
             9 => "three reductions by the factor do not reach the coarse threshold (or the asked reductions are 0 or above 3)",
             10 => "a coordinate is infinite or not a number",
@@ -77,6 +80,9 @@ impl Refusal {
             18 => "the stored tree is of other settings",
             19 => "the stored tree is of other points",
             20 => "the file, or the lists to be stored, hold no sound tree",
+            21 => "the table is full",
+            22 => "the slot is not live",
+            27 => "the table's head does not fit its flags",
             _ => "no refusal has this number",
         }
     }
@@ -90,6 +96,7 @@ impl fmt::Display for Refusal {
             Mender::Program => "the calling program can mend it",
             Mender::Stream => "whoever feeds the program can mend it",
             Mender::File => "whoever keeps the file can mend it",
+            Mender::Table => "whoever edits the table can mend it",
         };
         write!(f, "refused {} at {}: {}; {}", self.number, self.place, self.reason(), who)
     }

@@ -5,6 +5,14 @@ use crate::lists::Lists;
 use crate::packed::*;
 use crate::{DDMParams, SizePolicy};
 
+/// The head of a table: how many slots have been given out, and how many of them are live.
+#[repr(C)]
+#[derive(Clone, Copy, Debug, Default, PartialEq, Eq)]
+pub struct Head {
+    pub slots: usize,
+    pub live: usize,
+}
+
 extern "C" {
     fn ddm_version() -> usize;
     fn ddm_build_sizes(n: usize, dimensions: usize, neighbours: u32, result: *mut usize, result_len: usize) -> usize;
@@ -22,6 +30,21 @@ extern "C" {
         boxes_len: usize, borrowed: *mut usize, borrowed_len: usize, floats: *mut f64, floats_len: usize, wholes: *mut usize,
         wholes_len: usize, cuts: *mut usize, cuts_len: usize, planes: *mut f64, planes_len: usize, result: *mut usize,
         result_len: usize,
+    ) -> usize;
+    fn ddm_add(
+        head: *mut Head, flags: *mut u8, flags_len: usize, coordinates: *mut f64, coordinates_len: usize, dimensions: usize,
+        point: *const f64, point_len: usize, result: *mut usize, result_len: usize,
+    ) -> usize;
+    fn ddm_retire(
+        head: *mut Head, flags: *mut u8, flags_len: usize, coordinates: *const f64, coordinates_len: usize, dimensions: usize,
+        slot: usize,
+    ) -> usize;
+    fn ddm_build_slots(
+        slots: usize, live: usize, flags: *const u8, flags_len: usize, coordinates: *const f64, coordinates_len: usize,
+        dimensions: usize, leaf_threshold: u32, overlap_knn: u32, coarse_reduction_factor: u32, policy: u32, coarse_threshold: u32,
+        level_points: *mut usize, level_points_len: usize, internals: *mut usize, internals_len: usize, domains: *mut usize,
+        domains_len: usize, boxes: *mut f64, boxes_len: usize, borrowed: *mut usize, borrowed_len: usize, floats: *mut f64,
+        floats_len: usize, wholes: *mut usize, wholes_len: usize, result: *mut usize, result_len: usize,
     ) -> usize;
     fn ddm_store(
         points: *const f64, points_len: usize, dimensions: usize, leaf_threshold: u32, overlap_knn: u32,
@@ -131,6 +154,46 @@ pub fn build_depth_first(
         }
     }
     number
+}
+
+/// Builds over the live slots of a table into the lists, and after an accepted call gives each its length.
+pub fn build_slots(
+    head: Head, flags: &[u8], coordinates: &[f64], dimensions: usize, params: DDMParams, lists: &mut Lists,
+    result: &mut [usize; BUILD_SLOT],
+) -> usize {
+    let (policy, threshold) = policy(&params);
+    let l = &mut *lists;
+    let number = unsafe {
+        ddm_build_slots(
+            head.slots, head.live, flags.as_ptr(), flags.len(), coordinates.as_ptr(), coordinates.len(), dimensions,
+            params.leaf_threshold, params.overlap_knn, params.coarse_reduction_factor, policy, threshold,
+            l.level_points.as_mut_ptr(), l.level_points.capacity(), l.internals.as_mut_ptr(), l.internals.capacity(),
+            l.domains.as_mut_ptr(), l.domains.capacity(), l.boxes.as_mut_ptr(), l.boxes.capacity(), l.borrowed.as_mut_ptr(),
+            l.borrowed.capacity(), l.floats.as_mut_ptr(), l.floats.capacity(), l.wholes.as_mut_ptr(), l.wholes.capacity(),
+            result.as_mut_ptr(), result.len(),
+        )
+    };
+    if number == 0 {
+        unsafe { tree_written(l, dimensions, result) };
+    }
+    number
+}
+
+/// Adds a point to a table, whose head, flags and coordinates are changed where they are.
+pub fn add(
+    head: &mut Head, flags: &mut [u8], coordinates: &mut [f64], dimensions: usize, point: &[f64], result: &mut [usize; ADD_SLOT],
+) -> usize {
+    unsafe {
+        ddm_add(
+            head, flags.as_mut_ptr(), flags.len(), coordinates.as_mut_ptr(), coordinates.len(), dimensions, point.as_ptr(),
+            point.len(), result.as_mut_ptr(), result.len(),
+        )
+    }
+}
+
+/// Retires a slot of a table.
+pub fn retire(head: &mut Head, flags: &mut [u8], coordinates: &[f64], dimensions: usize, slot: usize) -> usize {
+    unsafe { ddm_retire(head, flags.as_mut_ptr(), flags.len(), coordinates.as_ptr(), coordinates.len(), dimensions, slot) }
 }
 
 /// Loads into the five lists of a tree, and after an accepted call gives each its length.

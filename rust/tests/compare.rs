@@ -2,15 +2,8 @@
 mod plain;
 
 use plain::random::Random;
+use plain::trees::settings;
 use rekvashu::{build, level_size, quotas, sample, square_root, DDMParams, Error, Refusal, SizePolicy, Tree};
-
-fn settings(p: DDMParams) -> plain::Settings {
-    let policy = match p.coarse_threshold {
-        SizePolicy::Auto => plain::Policy::Auto,
-        SizePolicy::Fixed(c) => plain::Policy::Fixed(c),
-    };
-    plain::Settings { leaf: p.leaf_threshold, neighbours: p.overlap_knn, factor: p.coarse_reduction_factor, policy }
-}
 
 fn bits(xs: &[f64]) -> Vec<u64> {
     xs.iter().map(|x| x.to_bits()).collect()

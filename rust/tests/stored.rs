@@ -2,8 +2,8 @@
 #[path = "plain/mod.rs"]
 mod plain;
 
-use plain::stored;
-use rekvashu::{build, load, DDMParams, SizePolicy, Tree};
+use plain::{stored, trees};
+use rekvashu::{build, load, DDMParams, SizePolicy};
 
 /// Numbers that look random, the same in each run.
 struct Random(u64);
@@ -22,31 +22,6 @@ impl Random {
 
 fn params(leaf: u32, neighbours: u32, factor: u32, policy: SizePolicy) -> DDMParams {
     DDMParams { leaf_threshold: leaf, overlap_knn: neighbours, coarse_reduction_factor: factor, coarse_threshold: policy }
-}
-
-fn plainly(p: DDMParams) -> plain::Settings {
-    let policy = match p.coarse_threshold {
-        SizePolicy::Auto => plain::Policy::Auto,
-        SizePolicy::Fixed(c) => plain::Policy::Fixed(c),
-    };
-    plain::Settings { leaf: p.leaf_threshold, neighbours: p.overlap_knn, factor: p.coarse_reduction_factor, policy }
-}
-
-fn levels(tree: &Tree) -> Vec<plain::Level> {
-    tree.levels()
-        .map(|level| plain::Level {
-            rows: level.rows().to_vec(),
-            leaves: level
-                .leaves()
-                .map(|leaf| {
-                    let (lower, upper) = leaf.bounds().unwrap_or((&[], &[]));
-                    let (own, borrowed) = (leaf.own().to_vec(), leaf.borrowed().to_vec());
-                    let (lower, upper) = (lower.to_vec(), upper.to_vec());
-                    plain::Leaf { own, borrowed, lower, upper, cover: leaf.cover(), depth: leaf.depth() }
-                })
-                .collect(),
-        })
-        .collect()
 }
 
 /// A job with up to `most` points: dimension, points, settings.
@@ -70,7 +45,7 @@ fn what_is_written_loads_again() {
         let (d, points, p) = job(&mut random, 120);
         let tree = build(&points, d, p).unwrap();
         let file = tree.to_bytes(&points, p).unwrap();
-        assert_eq!(file, stored::file(&points, d, &plainly(p), &levels(&tree)));
+        assert_eq!(file, stored::file(&points, d, &trees::settings(p), &trees::levels(&tree)));
         let again = load(&points, d, p, &file).unwrap();
         assert_eq!(again, tree);
         assert_eq!(again.to_bytes(&points, p).unwrap(), file);
@@ -97,7 +72,7 @@ fn each_byte_of_three_files_counts() {
             for flip in 1..=255u8 {
                 let mut other = file.clone();
                 other[at] ^= flip;
-                let expected = stored::load(&points, d, &plainly(p), &other);
+                let expected = stored::load(&points, d, &trees::settings(p), &other);
                 assert_eq!(number(&points, d, p, &other), expected.err().unwrap_or(0), "byte {at} changed by {flip}");
             }
         }
@@ -180,10 +155,10 @@ fn depths_of_leaves_fit_their_sizes() {
         let leaves = vec![leaf((0..size).collect(), first), leaf((size..5).collect(), second)];
         let coarse = plain::Level { rows: vec![0], leaves: vec![plain::Leaf { lower: vec![], upper: vec![], ..leaf(vec![0], 0) }] };
         let tree = [plain::Level { rows: (0..5).collect(), leaves }, coarse];
-        let file = stored::file(&points, 1, &plainly(p), &tree);
+        let file = stored::file(&points, 1, &trees::settings(p), &tree);
         let fits = |own: usize, depth: u32| depth <= 21 && (own == 5 / 2usize.pow(depth) || own == 5 / 2usize.pow(depth) + 1);
         let expected = if first <= second && fits(size, first as u32) && fits(5 - size, second as u32) { 0 } else { 20 };
-        assert_eq!(stored::load(&points, 1, &plainly(p), &file).err().unwrap_or(0), expected);
+        assert_eq!(stored::load(&points, 1, &trees::settings(p), &file).err().unwrap_or(0), expected);
         assert_eq!(number(&points, 1, p, &file), expected, "{size} at depth {first}, and the others at {second}");
         if expected == 0 {
             let tree = load(&points, 1, p, &file).unwrap();

@@ -188,15 +188,20 @@ fn version_is_the_packages() {
 #[test]
 fn refusals_have_the_words_of_the_other_languages() {
     let python = std::fs::read_to_string(concat!(env!("CARGO_MANIFEST_DIR"), "/../python/rekvashu/refusals.py"));
-    for number in 1..=20 {
+    let none = Refusal::new(usize::MAX, 0).reason();
+    for number in 1..=30 {
         let reason = Refusal::new(number, 0).reason();
+        if reason == none {
+            assert!(!include_str!("../../c/ddm.h").contains(&format!("case {number}:")), "c/ddm.h has {number}");
+            continue;
+        }
         assert!(include_str!("../../c/ddm.h").contains(&format!("case {number}: return \"{reason}\";")), "c/ddm.h lacks {number}: {reason}");
         if let Ok(python) = &python {
             assert!(python.contains(&format!("{number}: (\"{reason}\"")), "refusals.py lacks {number}: {reason}");
         }
     }
-    assert_eq!(Refusal::new(21, 0).reason(), Refusal::new(usize::MAX, 0).reason());
-    assert!(!include_str!("../../c/ddm.h").contains("case 21:"));
+    let numbers: Vec<usize> = (1..=30).filter(|&number| Refusal::new(number, 0).reason() != none).collect();
+    assert_eq!(numbers, (1..=22).chain([27]).collect::<Vec<_>>());
 }
 
 #[test]
@@ -207,6 +212,8 @@ fn refusals_say_who_can_mend_them() {
     assert_eq!(Refusal::new(11, 0).mender(), Mender::Program);
     assert_eq!(Refusal::new(16, 20).to_string(), "refused 16 at 20: the job stream is broken; whoever feeds the program can mend it");
     assert_eq!([18, 19, 20].map(|number| Refusal::new(number, 0).mender()), [Mender::Settings, Mender::Points, Mender::File]);
+    assert_eq!([21, 22, 27].map(|number| Refusal::new(number, 0).mender()), [Mender::Table, Mender::Table, Mender::Program]);
+    assert_eq!(Refusal::new(21, 0).to_string(), "refused 21 at 0: the table is full; whoever edits the table can mend it");
     let refused = build(&[0.0, f64::NAN], 1, DDMParams::default()).unwrap_err();
     assert_eq!(refused.to_string(), "refused 10 at 1: a coordinate is infinite or not a number; whoever brings the points can mend it");
     assert_eq!((Error::OutOfMemory.refusal(), Error::OutOfMemory.to_string()), (None, "there is no memory for the lists".to_string()));

@@ -37,6 +37,11 @@ def groups_of_architecture():
     return groups
 
 
+def edits():
+    """The edits that must fail: the gate's, and those that tools/try_edits.sh tries."""
+    return sorted([*ROOT.glob("crates/*/must-fail/*.edit"), *ROOT.glob("crates/*/must-fail-by-hand/*.edit")])
+
+
 class Layout(unittest.TestCase):
     def test_crates_and_architecture_have_the_same_groups(self):
         self.assertEqual(groups_of_crates(), groups_of_architecture())
@@ -46,14 +51,13 @@ class Layout(unittest.TestCase):
         self.assertEqual(listed, sorted(p.name for p in (ROOT / "crates").iterdir() if p.is_dir()))
 
     def test_each_edit_says_what_would_go_wrong(self):
-        edits = sorted(ROOT.glob("crates/*/must-fail/*.edit"))
-        self.assertTrue(edits)
-        for path in edits:
+        self.assertTrue(edits())
+        for path in edits():
             with self.subTest(str(path.relative_to(ROOT))):
                 self.assertRegex(path.read_text(encoding="utf-8"), r"(?m)^# \S+ \S+")
 
     def test_each_edit_fits_its_file(self):
-        for path in sorted(ROOT.glob("crates/*/must-fail/*.edit")):
+        for path in edits():
             with self.subTest(str(path.relative_to(ROOT))):
                 text = ""
                 for line in path.read_text(encoding="utf-8").splitlines():

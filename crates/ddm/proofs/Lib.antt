@@ -1,3 +1,4 @@
--- Laws of the build, and of both builds together.
+-- Laws of the build, of both builds together, and of the build over slots where all are live.
 pub mod Outcomes
 pub mod BothBuilds
+pub mod AllSlots

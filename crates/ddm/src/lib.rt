@@ -1,5 +1,5 @@
-// The library: the build of a multilevel domain tree over points, written to lists that the caller lends; the tree stored and loaded; and
-// the other calls.
+// The library: the build of a multilevel domain tree over points, or over the live slots of a table of wells, written to lists that the
+// caller lends; the table's edits; the tree stored and loaded; and the other calls.
 ghost use Rattle.config.specs.Params.{settingsOf};
 ghost use Rattle.tree_answer.specs.Answers.{treeAnswer, listsOf};
 ghost use Rattle.ddm.specs.Build.{Built};
@@ -28,6 +28,13 @@ pub use sampling::SampleAnswer;
 pub use sampling::farthest_point_sampling;
 pub use store::StoreAnswer;
 pub use store::store_tree;
+pub use table::Head;
+pub use table::add;
+pub use table::retire;
+pub use table_build::build_slots;
+pub use table_edits::EditAnswer;
+pub use table_edits::added;
+pub use table_edits::retired;
 pub use tree_answer::DDMTree;
 pub use tree_answer::TreeCounts;
 

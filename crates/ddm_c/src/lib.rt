@@ -8,12 +8,14 @@ ghost use Rattle.tree_answer.specs.Answers.{listsOf};
 ghost use Rattle.depth_first_build.specs.Outcome.{recordsOf};
 ghost use Rattle.slots.specs.Settings.{settingsFrom};
 ghost use Rattle.slots.specs.Slots.{valueSlot, sizesSlot, versionNumber};
-ghost use Rattle.slots.specs.Told.{Told, QuotasTold, SampleTold, BuildTold, DepthFirstTold, StoreTold, LoadTold};
+ghost use Rattle.table_checks.specs.Tables.{tableOf};
+ghost use Rattle.slots.specs.Told.{Told, QuotasTold, SampleTold, BuildTold, DepthFirstTold, StoreTold, LoadTold, AddTold, RetireTold, SlotsTold};
+use table::Head;
 
 // The version as one number: major * 10000 + minor * 100 + patch.
 #[no_mangle]
 pub extern "C" fn ddm_version() -> usize
-    ensures { λ r. ⌜ r ≡ versionNumber 0 6 0 ⌝ }
+    ensures { λ r. ⌜ r ≡ versionNumber 0 7 0 ⌝ }
 {
     slots::version()
 }
@@ -316,6 +318,103 @@ pub extern "C" fn ddm_load(
         domains,
         boxes,
         borrowed,
+    );
+    let rows = tree.rows;
+    let each = tree.domains;
+    slots::put_counts(result, tree.place, tree.levels, rows, each);
+    tree.number
+}
+
+// Adds a point to the table whose head, its slot count and its live count, stands where the caller keeps it. The slot: place, slot taken.
+// Refusals 1, 11, 27, 7, 10, 21.
+#[no_mangle]
+pub extern "C" fn ddm_add(
+    head: &mut [usize; 2],
+    flags: &mut [u8],
+    coordinates: &mut [f64],
+    dimensions: usize,
+    point: &[f64],
+    result: &mut [usize],
+) -> usize
+    ensures { λ r. ⌜ AddTold dimensions (now (head .entry)) (now (head .exit)) (now (flags .entry)) (now (flags .exit))
+        (now (coordinates .entry)) (now (coordinates .exit)) (now (point .entry)) (now (result .entry)) (now (result .exit)) r ⌝ }
+{
+    if result.len() < 2 {
+        return 11;
+    }
+    let answer = table_edits::added(head[0], head[1], flags, coordinates, dimensions, point);
+    head[0] = answer.slots;
+    head[1] = answer.live;
+    stretches::put_pair(result, 0, answer.place, answer.slot);
+    answer.number
+}
+
+// Retires a slot of the table. No refusal names a place, and nothing is answered, so there is no slot. Refusals 1, 11, 27, 22.
+#[no_mangle]
+pub extern "C" fn ddm_retire(
+    head: &mut [usize; 2],
+    flags: &mut [u8],
+    coordinates: &[f64],
+    dimensions: usize,
+    slot: usize,
+) -> usize
+    ensures { λ r. ⌜ RetireTold dimensions (now (head .entry)) (now (head .exit)) (now (flags .entry)) (now (flags .exit)) (now (coordinates .entry)) slot r ⌝ }
+{
+    let answer = table_edits::retired(head[0], head[1], flags, coordinates, dimensions, slot);
+    head[0] = answer.slots;
+    head[1] = answer.live;
+    answer.number
+}
+
+// Builds the tree over the live slots of a table: rows in every list are slots, and n is the live count. The slot is that of a build.
+// Refusals 27, then 1 to 6, 9, 11, 10.
+#[no_mangle]
+pub extern "C" fn ddm_build_slots(
+    slots: usize,
+    live: usize,
+    flags: &[u8],
+    coordinates: &[f64],
+    dimensions: usize,
+    leaf: u32,
+    neighbours: u32,
+    factor: u32,
+    policy: u32,
+    threshold: u32,
+    level_points: &mut [usize],
+    internals: &mut [usize],
+    domains: &mut [usize],
+    boxes: &mut [f64],
+    borrowed: &mut [usize],
+    floats: &mut [f64],
+    wholes: &mut [usize],
+    result: &mut [usize],
+) -> usize
+    ensures { λ r. ⌜ SlotsTold (settingsFrom dimensions leaf neighbours factor policy threshold) (tableOf slots live (now (flags .entry)) (now (coordinates .entry)))
+        (listsOf (now («level_points» .entry)) (now (internals .entry)) (now (domains .entry)) (now (boxes .entry)) (now (borrowed .entry)))
+        (listsOf (now («level_points» .exit)) (now (internals .exit)) (now (domains .exit)) (now (boxes .exit)) (now (borrowed .exit)))
+        (now (floats .entry)) (now (floats .exit)) (now (wholes .entry)) (now (wholes .exit)) (now (result .entry)) (now (result .exit)) r ⌝ }
+{
+    if result.len() < 10 {
+        return 11;
+    }
+    let params = slots::params_of(leaf, neighbours, factor, policy, threshold);
+    let head = Head {
+        slots: slots,
+        live: live,
+    };
+    let tree = table_build::build_slots(
+        head,
+        flags,
+        coordinates,
+        dimensions,
+        params,
+        level_points,
+        internals,
+        domains,
+        boxes,
+        borrowed,
+        floats,
+        wholes,
     );
     let rows = tree.rows;
     let each = tree.domains;

@@ -1,5 +1,6 @@
 -- DEMAND 3: what an accepted build hands back has it, and its leaves' depths are as the sizes say. Assumes nothing.
--- Holds: all-levels, all-depths, demand-3, tree-depths, demand-3-of, tree-depths-of, demand-3-seen
+-- Holds: all-levels, all-depths, demand-3-over, tree-depths-over, demand-3, tree-depths, demand-3-of, tree-depths-of,
+--   demand-3-seen
 use mathlib.Core.Path.{_≡_, sym, ap, ap₂, _∙_, subst}
 use mathlib.Core.Logic.{⊎-elim}
 use mathlib.Core.List.{List, []}
@@ -17,11 +18,11 @@ use Rattle.definition.specs.Cut.{Domain, leavesOf}
 use Rattle.definition.specs.Sampling.{leafCover}
 use Rattle.definition.specs.Tree.{Settings, Leaf, Level, coarseLeaf, coarseLevel, fineLeaf, mostFine, levelsOver, pointCount, levels}
 use Rattle.definition.specs.Points.{boxWidth}
-use Rattle.definition.specs.Packed.{Counts, leavesIn, packedLevelPoints, packedInternals, packedDomains, packedBoxes, packedBorrowed}
-use Rattle.definition.specs.Refusals.{accepted, mostPoints}
-use Rattle.definition.specs.Outcome.{Answer, TreeLists, lentSizes, written, listAfter, valueOf, treeListsAfter, buildCall, buildAnswer, buildLists}
+use Rattle.definition.specs.Packed.{Counts, countsOf, leavesIn, packedLevelPoints, packedInternals, packedDomains, packedBoxes, packedBorrowed}
+use Rattle.definition.specs.Refusals.{Verdict, accepted, mostPoints}
+use Rattle.definition.specs.Outcome.{Answer, TreeLists, lentSizes, answered, zeroCounts, written, listAfter, valueOf, treeListsAfter, buildCall, buildAnswer, buildLists}
 use Rattle.definition.proofs.Cuts.{Good}
-use Rattle.definition_laws.proofs.Accepted.{build-accepted}
+use Rattle.definition_laws.proofs.Accepted.{Accepted, build-accepted}
 use Rattle.definition_laws.proofs.Fit.{packed-fit}
 use Rattle.definition.proofs.Steps.{fineOf, sizeFrom, sentWith, nextOf}
 use Rattle.definition.proofs.FineLeaves.{fine-many, fine-at-leaf}
@@ -181,61 +182,66 @@ module _ (s : Settings) (cs : List Float) (first : List ℕ) (pos : 0 < s .dimen
 
 -- ---- an accepted call
 
--- what it hands back holds the tree over all points
-handed-packs : (s : Settings) (cs : List Float) (old : TreeLists) (floats : List Float) (wholes : List ℕ) → buildCall s cs old floats wholes ≡ accepted
-    → length (levels s cs) ≤ suc mostFine → All (λ (f : Leaf). length (f .box) ≡ boxWidth (s .dimension)) (leavesIn (levels s cs))
-    → PackedIn (s .dimension) (levels s cs) (handedBack s cs old floats wholes)
-unfolding buildLists buildAnswer treeListsAfter listAfter valueOf written
-handed-packs s cs old floats wholes e few boxed = record {
+-- what it hands back holds its tree
+handed-packs : (d : ℕ) (tree : List Level) (old : TreeLists) (v : Verdict) → v ≡ accepted
+    → length tree ≤ suc mostFine → All (λ (f : Leaf). length (f .box) ≡ boxWidth d) (leavesIn tree)
+    → PackedIn d tree (handed (answered v (countsOf tree) zeroCounts) (treeListsAfter v tree old))
+unfolding treeListsAfter listAfter valueOf written
+handed-packs d tree old v e few boxed = record {
   few = few;
   boxed = boxed;
   counts = rw e;
-  points-rest = drop (length (packedLevelPoints (levels s cs))) (old .level-points);
+  points-rest = drop (length (packedLevelPoints tree)) (old .level-points);
   points-are = rw e;
-  internals-rest = drop (length (packedInternals (levels s cs))) (old .internals);
+  internals-rest = drop (length (packedInternals tree)) (old .internals);
   internals = rw e;
-  domains-rest = drop (length (packedDomains (levels s cs))) (old .domains);
+  domains-rest = drop (length (packedDomains tree)) (old .domains);
   domains = rw e;
-  boxes-rest = drop (length (packedBoxes (levels s cs))) (old .boxes);
+  boxes-rest = drop (length (packedBoxes tree)) (old .boxes);
   boxes = rw e;
-  borrowed-rest = drop (length (packedBorrowed (levels s cs))) (old .borrowed);
+  borrowed-rest = drop (length (packedBorrowed tree)) (old .borrowed);
   borrowed = rw e;
 }
 
--- THE THEOREM: what an accepted call of the build hands back has demand 3
-pub demand-3 : (s : Settings) (cs : List Float) (old : TreeLists) (floats : List Float) (wholes : List ℕ) → buildCall s cs old floats wholes ≡ accepted
-    → Demand3 s cs (handedBack s cs old floats wholes)
-unfolding levels
-demand-3 s cs old floats wholes e =
-    let a = build-accepted s cs (lentSizes old floats wholes) e in
-    let p = a .passes-all in
-    let m = pointCount (s .dimension) cs in
-    let first = from 0 m in
-    let is : m ≡ length first = sym (length-from 0 m) in
-    all-levels s cs first (p .axes) (p .leaf-some)
-    (subst (λ (i : ℕ). 1 ≤ coarseAt s i) is (p .coarse-some))
-    (subst (λ (i : ℕ). i ≤ coarseAt s i * s .factor ^ 3) is (p .reaches))
-    (a .good) (handedBack s cs old floats wholes)
-    (handed-packs s cs old floats wholes e (packed-fit s cs first (p .axes) (p .leaf-some) (a .good) .few)
-    (packed-fit s cs first (p .axes) (p .leaf-some) (a .good) .bounds))
+-- THE THEOREM: what an accepted call of a build over a first active list hands back has demand 3, and the depths
+module _ (s : Settings) (cs : List Float) (first : List ℕ) (pos : 0 < s .dimension) (lp : 1 ≤ s .leaf) (cp : 1 ≤ coarseAt s (length first))
+    (reach : length first ≤ coarseAt s (length first) * s .factor ^ 3) (good : Good (s .dimension) cs first)
+    (old : TreeLists) (v : Verdict) (e : v ≡ accepted) where
+  packs : PackedIn (s .dimension) (levelsOver s cs first) (handed (answered v (countsOf (levelsOver s cs first)) zeroCounts) (treeListsAfter v (levelsOver s cs first) old))
+  packs = handed-packs (s .dimension) (levelsOver s cs first) old v e (packed-fit s cs first pos lp good .few) (packed-fit s cs first pos lp good .bounds)
 
--- and the depths
-pub tree-depths : (s : Settings) (cs : List Float) (old : TreeLists) (floats : List Float) (wholes : List ℕ) → buildCall s cs old floats wholes ≡ accepted
-    → TreeDepths (handedBack s cs old floats wholes)
-unfolding levels
-tree-depths s cs old floats wholes e =
-    let a = build-accepted s cs (lentSizes old floats wholes) e in
-    let p = a .passes-all in
-    let m = pointCount (s .dimension) cs in
-    let first = from 0 m in
-    let is : m ≡ length first = sym (length-from 0 m) in
-    all-depths s cs first (p .axes) (p .leaf-some)
-    (subst (λ (i : ℕ). 1 ≤ coarseAt s i) is (p .coarse-some))
-    (subst (λ (i : ℕ). i ≤ coarseAt s i * s .factor ^ 3) is (p .reaches))
-    (a .good) (handedBack s cs old floats wholes)
-    (handed-packs s cs old floats wholes e (packed-fit s cs first (p .axes) (p .leaf-some) (a .good) .few)
-    (packed-fit s cs first (p .axes) (p .leaf-some) (a .good) .bounds))
-    (omega (arith, is, p .rows-few))
+  pub demand-3-over : Demand3Over s cs first (handed (answered v (countsOf (levelsOver s cs first)) zeroCounts) (treeListsAfter v (levelsOver s cs first) old))
+  demand-3-over = all-levels s cs first pos lp cp reach good _ packs
+
+  pub tree-depths-over : length first ≤ mostPoints → TreeDepths (handed (answered v (countsOf (levelsOver s cs first)) zeroCounts) (treeListsAfter v (levelsOver s cs first) old))
+  tree-depths-over few = all-depths s cs first pos lp cp reach good _ packs few
+
+-- over all points
+module _ (s : Settings) (cs : List Float) (old : TreeLists) (floats : List Float) (wholes : List ℕ) (e : buildCall s cs old floats wholes ≡ accepted) where
+  abbrev m : ℕ
+  m = pointCount (s .dimension) cs
+
+  called : Accepted s cs (lentSizes old floats wholes)
+  called = build-accepted s cs (lentSizes old floats wholes) e
+
+  all-counted : pointCount (s .dimension) cs ≡ length (from 0 (pointCount (s .dimension) cs))
+  all-counted = sym (length-from 0 m)
+
+  coarse-some : 1 ≤ coarseAt s (length (from 0 (pointCount (s .dimension) cs)))
+  coarse-some = subst (λ (i : ℕ). 1 ≤ coarseAt s i) all-counted (called .passes-all .coarse-some)
+
+  reaches : length (from 0 (pointCount (s .dimension) cs)) ≤ coarseAt s (length (from 0 (pointCount (s .dimension) cs))) * s .factor ^ 3
+  reaches = subst (λ (i : ℕ). i ≤ coarseAt s i * s .factor ^ 3) all-counted (called .passes-all .reaches)
+
+  pub demand-3 : Demand3 s cs (handedBack s cs old floats wholes)
+  unfolding levels buildAnswer buildLists
+  demand-3 = demand-3-over s cs (from 0 m) (called .passes-all .axes) (called .passes-all .leaf-some) coarse-some reaches (called .good) old (buildCall s cs old floats wholes) e
+
+  pub tree-depths : TreeDepths (handedBack s cs old floats wholes)
+  unfolding levels buildAnswer buildLists
+  tree-depths =
+      tree-depths-over s cs (from 0 m) (called .passes-all .axes) (called .passes-all .leaf-some) coarse-some reaches (called .good) old (buildCall s cs old floats wholes) e
+      (omega (arith, all-counted, called .passes-all .rows-few))
 
 -- The same of an answer and five lists of which a contract says that they are the definition's.
 module _ (s : Settings) (cs : List Float) (old : TreeLists) (floats : List Float) (wholes : List ℕ) (answer : Answer Counts)

@@ -1,129 +1,46 @@
--- What an accepted call has for its levels, and what they come to. Assumes nothing.
--- Holds: same-levels, same-records, tree-is, all-rows, all-space, few-reductions, points-whole, counts-whole, records-whole
-use mathlib.Core.Path.{_≡_, refl, sym, ap, _∙_}
-use mathlib.Core.Logic.{⊎-elim}
-use mathlib.Core.List.{List, _∷_, map}
-use Prim.Native.Nat.{ℕ, zero, suc, _+_, _-_, _*_, _≤_, _<_}
+-- What an accepted call over all points has for its tree. Assumes nothing.
+use mathlib.Core.Path.{_≡_, refl}
+use mathlib.Core.List.{List}
+use Prim.Native.Nat.{ℕ}
 use native.Mathlib.Omega.{arith}
-use native.Mathlib.Nat.{mul-assoc}
-use lib.ListN.{length, replicate}
+use lib.ListN.{length}
 use lib.Ieee.{Float}
-use Rattle.lists.specs.Lists.{put, from}
-use Rattle.lists.proofs.Tests.{le-or-lt}
-use Rattle.lists.proofs.Put.{put-again}
+use Rattle.lists.specs.Lists.{from}
 use Rattle.lists.proofs.From.{length-from}
-use Rattle.definition.specs.Levels.{threshold, reductions}
-use Rattle.definition.specs.Tree.{Settings, Level, mostFine, levelsFrom, levelsOver, levels, pointCount}
-use Rattle.definition.specs.Packed.{rowFloats, mostRows, buildStated, packedLevelPoints, countsOf}
+use Rattle.definition.specs.Tree.{Settings, mostFine, levelsOver, levels, pointCount}
 use Rattle.definition.specs.Outcome.{TreeLists, lentSizes}
-use Rattle.definition.specs.Record.{Node, nodesIn}
-use Rattle.definition.proofs.Steps.{fineOf, sizeFrom, nextOf, levels-last, levels-end, levels-more}
 use Rattle.definition_laws.proofs.Accepted.{Accepted}
-use Rattle.definition.proofs.Sizes.{ends}
 use Rattle.rows.proofs.AllRows.{all-rows-good}
-use Rattle.cut_engine.specs.declared.Engine.{Engine}
-use Rattle.cut_engine.specs.declared.Engine.the-variants.{Queue, DepthFirst}
 use Rattle.fine_level.specs.Fine.{Given}
-use Rattle.levels_loop.specs.After.{levelSettings, levelsAfter, Space}
-use Rattle.levels_loop.specs.Records.{recordsBy}
-use Rattle.levels_loop.proofs.Fine.{first-points, levels-few}
-use Rattle.packed.proofs.Counts.{counts-put}
+use Rattle.levels_loop.specs.After.{Space}
+use Rattle.grow_over.proofs.Over.{lent-space}
 
--- ---- the levels depend on three of the settings
-module _ (s : Settings) (cs : List Float) (c k : ℕ) where
-  pub same-levels : (fuel built : ℕ) (active : List ℕ)
-      → levelsFrom s cs c k fuel built active ≡ levelsFrom (levelSettings (s .dimension) (s .leaf) (s .neighbours)) cs c k fuel built active
-  same-levels zero built active =
-      levels-last s cs c k built active ∙ sym (levels-last (levelSettings (s .dimension) (s .leaf) (s .neighbours)) cs c k built active)
-  same-levels (suc fuel) built active =
-      let r = levelSettings (s .dimension) (s .leaf) (s .neighbours) in
-      ⊎-elim
-      (λ (few : length active ≤ c). levels-end s cs c k fuel built active few ∙ sym (levels-end r cs c k fuel built active few))
-      (λ (many : c < length active). levels-more s cs c k fuel built active many
-      ∙ ap (λ (ls : List Level). fineOf s cs (sizeFrom c k built active) active ∷ ls) (same-levels fuel (suc built) (nextOf s cs c k built active))
-      ∙ sym (levels-more r cs c k fuel built active many))
-      (le-or-lt (length active) c)
-
--- so do their records
-pub same-records : (engine : Engine) (s : Settings) (cs : List Float) (ls : List Level)
-    → recordsBy engine (levelSettings (s .dimension) (s .leaf) (s .neighbours)) cs ls ≡ recordsBy engine s cs ls
-unfolding nodesIn
-same-records Queue s cs ls = refl
-same-records DepthFirst s cs ls = refl
-
--- the levels over all points
-pub tree-is : (s : Settings) (cs : List Float) (n c k : ℕ) → n ≡ pointCount (s .dimension) cs → c ≡ threshold (s .policy) n → k ≡ reductions n c (s .factor)
-    → levels s cs ≡ levelsAfter (s .dimension) cs (s .leaf) (s .neighbours) c k 0 (from 0 n)
-unfolding levels levelsOver
-tree-is s cs n c k en ec ek = rw (← en, length-from 0 n, ← ec, ← ek) (same-levels s cs c k mostFine 0 (from 0 n))
-
--- ---- what an accepted call has
-module _ (s : Settings) (cs : List Float) (old : TreeLists) (floats : List Float) (wholes : List ℕ) (a : Accepted s cs (lentSizes old floats wholes)) where
+module _ (s : Settings) (cs : List Float) where
   abbrev d : ℕ
   d = s .dimension
 
   abbrev n : ℕ
   n = pointCount (s .dimension) cs
 
-  -- its points are rows to build a level over
-  pub all-rows : Given (s .dimension) cs (s .leaf) (s .neighbours) (from 0 (pointCount (s .dimension) cs))
-  all-rows = record {
-    axes = a .passes-all .axes;
-    axes-few = a .passes-all .axes-few;
-    leaf-some = a .passes-all .leaf-some;
-    near = a .passes-all .neighbours-few;
-    rows-some = omega (arith, length-from 0 n, a .passes-all .rows-some);
-    good = all-rows-good d cs n (a .passes-all .rows-few) (omega (arith, a .whole)) (a .finite-all);
-  }
+  -- ---- what an accepted call has
+  module _ (old : TreeLists) (floats : List Float) (wholes : List ℕ) (a : Accepted s cs (lentSizes old floats wholes)) where
+    -- its points are rows to build a level over
+    pub all-rows : Given (s .dimension) cs (s .leaf) (s .neighbours) (from 0 (pointCount (s .dimension) cs))
+    all-rows = record {
+      axes = a .passes-all .axes;
+      axes-few = a .passes-all .axes-few;
+      leaf-some = a .passes-all .leaf-some;
+      near = a .passes-all .neighbours-few;
+      rows-some = omega (arith, length-from 0 n, a .passes-all .rows-some);
+      good = all-rows-good d cs n (a .passes-all .rows-few) (omega (arith, a .whole)) (a .finite-all);
+    }
 
-  -- room for the levels
-  pub all-space : (P : List ℕ) → length P ≡ length (old .level-points)
-      → Space (s .dimension) (s .neighbours) (pointCount (s .dimension) cs) mostFine P (old .internals) (old .domains) (old .boxes) (old .borrowed) floats wholes 0 0 0
-  unfolding buildStated
-  all-space P e = record {
-    level-points = omega (arith, a .enough .level-points, e);
-    internals = omega (arith, a .enough .internals);
-    domains = omega (arith, a .enough .domains);
-    boxes = rows (a .enough .boxes);
-    borrowed = omega (arith, a .enough .borrowed, three n (s .neighbours + 1));
-    floats = omega (arith, a .enough .floats);
-    wholes = omega (arith, a .enough .wholes);
-  }
-    where
-      six : (n : ℕ) → 0 + 3 * (2 * n) + 1 ≡ 6 * n + 1
-      six n = omega arith
+    -- room for the levels
+    pub all-space : (P : List ℕ) → length P ≡ length (old .level-points)
+        → Space (s .dimension) (s .neighbours) (pointCount (s .dimension) cs) mostFine P (old .internals) (old .domains) (old .boxes) (old .borrowed) floats wholes 0 0 0
+    all-space P e = lent-space d (s .neighbours) n old floats wholes (a .enough) P e
 
-      three : (n q : ℕ) → 3 * (2 * n * q) ≡ 6 * n * q
-      three n q = sym (mul-assoc 3 (2 * n) q) ∙ ap (λ (m : ℕ). m * q) (twice n)
-        where
-          twice : (n : ℕ) → 3 * (2 * n) ≡ 6 * n
-          twice n = omega arith
-
-      rows : {L : ℕ} → rowFloats d * mostRows n ≤ L → rowFloats d * (0 + 3 * (2 * n) + 1) ≤ L
-      rows h = rw (six n) h
-
-  pub few-reductions : reductions (pointCount (s .dimension) cs) (threshold (s .policy) (pointCount (s .dimension) cs)) (s .factor) ≤ 3
-  few-reductions = ends n (threshold (s .policy) n) (s .factor) (a .passes-all .coarse-some) (a .passes-all .reaches) .few
-
--- ---- the level points begin with all rows, which are written first
-pub points-whole : (d : ℕ) (cs : List Float) (leaf q c k n : ℕ) (P P₁ P₂ : List ℕ) → n ≤ length P → P₁ ≡ put P 0 (from 0 n)
-    → P₂ ≡ put P₁ 0 (packedLevelPoints (levelsAfter d cs leaf q c k 0 (from 0 n))) → P₂ ≡ put P 0 (packedLevelPoints (levelsAfter d cs leaf q c k 0 (from 0 n)))
-points-whole d cs leaf q c k n P P₁ P₂ h e₁ e₂ =
-    let f = first-points (levelSettings d leaf q) cs c k mostFine 0 (from 0 n) in
-    e₂ ∙ rw (e₁, f .1) (put-again P 0 (from 0 n) (f .0) (omega (arith, length-from 0 n)))
-
--- ---- what the levels answer, as the definition counts it
-pub counts-whole : (d : ℕ) (cs : List Float) (leaf q c k : ℕ) (active : List ℕ) (number : ℕ) (rows counts : List ℕ)
-    → number ≡ length (levelsAfter d cs leaf q c k 0 active) → rows ≡ put (replicate 4 0) 0 (map (λ (l : Level). length (l .points)) (levelsAfter d cs leaf q c k 0 active))
-    → counts ≡ put (replicate 4 0) 0 (map (λ (l : Level). length (l .leaves)) (levelsAfter d cs leaf q c k 0 active))
-    → record { levels = number; rows = rows; domains = counts } ≡ countsOf (levelsAfter d cs leaf q c k 0 active)
-unfolding countsOf
-counts-whole d cs leaf q c k active number rows counts e₁ e₂ e₃ =
-    let few = levels-few (levelSettings d leaf q) cs c k mostFine 0 active in
-    let ls = levelsAfter d cs leaf q c k 0 active in
-    rw (e₁, e₂, e₃, counts-put (λ (l : Level). length (l .points)) ls few, counts-put (λ (l : Level). length (l .leaves)) ls few)
-
--- ---- a list of the records, which takes `f` of each node
-pub records-whole : {A : Type 0} (f : Node → A) (engine : Engine) (s : Settings) (cs : List Float) (ls : List Level) (X X₁ : List A) → levels s cs ≡ ls
-    → X₁ ≡ put X 0 (map f (recordsBy engine (levelSettings (s .dimension) (s .leaf) (s .neighbours)) cs ls)) → X₁ ≡ put X 0 (map f (recordsBy engine s cs (levels s cs)))
-records-whole f engine s cs ls X X₁ t e = e ∙ rw (t, same-records engine s cs ls)
+  -- ---- the levels over all rows are those over all points
+  pub over-all : levelsOver s cs (from 0 (pointCount (s .dimension) cs)) ≡ levels s cs
+  unfolding levels
+  over-all = refl

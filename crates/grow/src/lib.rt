@@ -1,4 +1,4 @@
-// The tree of an accepted call: the number of reductions, the rows of the first level, and all levels, for both builds.
+// The tree of an accepted call over all points: the rows of the first level, and the tree over them, for both builds.
 ghost use mathlib.Core.Path.{_≡_};
 ghost use mathlib.Core.List.{map};
 ghost use Rattle.lists.specs.Lists.{put};
@@ -43,18 +43,12 @@ pub fn grow(
     ensures planes { λ _. ⌜ now (planes .exit) ≡ put (now (planes .entry)) 0 (map floatOf (recordsBy engine (settingsOf dimensions params) (now (points .entry)) (levels (settingsOf dimensions params) (now (points .entry))))) ⌝ }
 {
     let n = points.len() / dimensions;
-    let policy = params.coarse_threshold;
-    let c = level_sizes::resolved_coarse_threshold(policy, n);
-    let k = level_sizes::get_num_level_reductions(n, c, params.coarse_reduction_factor);
     stretches::number_rows(level_points, n);
-    let counts = levels_loop::all_levels(
+    grow_over::grow_over(
         engine,
         points,
         dimensions,
-        params.leaf_threshold as usize,
-        params.overlap_knn as usize,
-        c as usize,
-        k,
+        params,
         n,
         level_points,
         internals,
@@ -65,14 +59,5 @@ pub fn grow(
         wholes,
         cuts,
         planes,
-    );
-    let rows = counts.rows;
-    let each = counts.domains;
-    DDMTree {
-        number: 0,
-        place: 0,
-        levels: counts.levels,
-        rows: rows,
-        domains: each,
-    }
+    )
 }

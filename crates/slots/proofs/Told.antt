@@ -1,8 +1,8 @@
 -- The whole outcome of each exported call: of one with a short slot, and of one that found its slot long enough, from the outcome of
 -- the call behind it. Assumes nothing.
--- Holds: told-short, told-long, told-value, quotas-short, quotas-long, sample-cover-short, sample-short, sample-long,
---   build-short, build-long, depth-first-short, depth-first-long, store-short, store-tree-short, store-long, load-short,
---   load-long
+-- Holds: told-short, told-long, told-value, quotas-short, quotas-long, sample-cover-short, sample-short, sample-long, tree-short,
+--   tree-long, build-short, build-long, slots-short, slots-long, depth-first-short, depth-first-long, store-short,
+--   store-tree-short, store-long, load-short, load-long, add-short, add-long, retire-told
 use mathlib.Core.Path.{_≡_, refl, subst, ap, ap₂, _∙_}
 use mathlib.Core.List.{List, [], _∷_}
 use Prim.Native.Nat.{ℕ, _≤_, _<_}
@@ -13,13 +13,16 @@ use Rattle.lists.specs.Lists.{put}
 use Rattle.lists.proofs.Put.{set-put, put-zero}
 use Rattle.definition.specs.Tree.{Settings}
 use Rattle.definition.specs.Packed.{Counts}
+use Rattle.definition.specs.Refusals.{Verdict}
 use Rattle.definition.specs.Outcome.{Answer, Shared, Sampled, TreeLists, written, RoomAfter, buildCall, buildAnswer, buildLists}
 use Rattle.definition.specs.DepthFirst.{RecordLists, depthFirstCall, depthFirstAnswer, depthFirstLists, depthFirstRecords}
+use Rattle.definition.specs.Table.{Table, addAnswer, addTable, retireAnswer, retireTable}
+use Rattle.definition.specs.Slots.{slotsCall, slotsAnswer, slotsLists}
 use Rattle.stored.specs.Outcome.{writeAnswer, writeOutput, loadAnswer, loadLists}
 use Rattle.quotas.specs.Outcome.{SeatsShared}
 use Rattle.sampling.specs.Outcome.{RowsSampled}
-use Rattle.slots.specs.Slots.{valueSlot, sampleSlot, coverSlot, placedSlot, buildSlot, countsIn}
-use Rattle.slots.specs.Told.{Told, QuotasTold, SampleTold, BuildTold, DepthFirstTold, StoreTold, LoadTold}
+use Rattle.slots.specs.Slots.{valueSlot, sampleSlot, coverSlot, placedSlot, buildSlot, countsIn, headWritten, tableFrom}
+use Rattle.slots.specs.Told.{Told, QuotasTold, SampleTold, TreeTold, BuildTold, SlotsTold, DepthFirstTold, StoreTold, LoadTold, AddTold, RetireTold}
 use Rattle.slots.proofs.Slots.{slot-short, slot-long, slot-written, room-short, room-long, number-long}
 
 -- ---- number and slot
@@ -102,16 +105,32 @@ module _ (d : ℕ) (cs : List Float) (wanted seed : ℕ) (out : List ℕ) (float
           wholes-free = room-long 1 cover _ _ _ h (room-long 2 slot _ _ _ g (o .wholes-free));
         }
 
--- ---- the build
-module _ (cs : List Float) (old : TreeLists) (floats : List Float) (wholes slot : List ℕ) where
-  pub build-short : (s : Settings) → length slot < 10 → BuildTold s cs old old floats floats wholes wholes slot slot 11
-  build-short s h =
+-- ---- a build
+module _ (v : Verdict) (due : Answer Counts) (due-lists old : TreeLists) (floats : List Float) (wholes slot : List ℕ) where
+  pub tree-short : length slot < 10 → TreeTold v due due-lists old old floats floats wholes wholes slot slot 11
+  tree-short h =
       record {
         told = told-short 10 _ slot _ h;
         lists = slot-short 10 slot _ _ h;
         floats-free = room-short 10 slot _ _ h;
         wholes-free = room-short 10 slot _ _ h;
       }
+
+  pub tree-long : (new : TreeLists) (floats′ : List Float) (wholes′ slot′ : List ℕ) (a : Answer Counts) → 10 ≤ length slot
+      → slot′ ≡ put slot 0 (buildSlot a) → a ≡ due → new ≡ due-lists → RoomAfter v floats floats′ → RoomAfter v wholes wholes′
+      → TreeTold v due due-lists old new floats floats′ wholes wholes′ slot slot′ (a .number)
+  tree-long new floats′ wholes′ slot′ a h w answers lists free-floats free-wholes =
+      record {
+        told = told-long 10 buildSlot slot slot′ (a .number) a _ h refl w answers;
+        lists = slot-long 10 slot _ _ _ h lists;
+        floats-free = room-long 10 slot _ _ _ h free-floats;
+        wholes-free = room-long 10 slot _ _ _ h free-wholes;
+      }
+
+-- over all points
+module _ (cs : List Float) (old : TreeLists) (floats : List Float) (wholes slot : List ℕ) where
+  pub build-short : (s : Settings) → length slot < 10 → BuildTold s cs old old floats floats wholes wholes slot slot 11
+  build-short s h = tree-short _ _ _ old floats wholes slot h
 
   -- s is the code's settings, and t the same from the numbers of the call
   pub build-long : (new : TreeLists) (floats′ : List Float) (wholes′ slot′ : List ℕ) (a : Answer Counts) (s t : Settings) → s ≡ t → 10 ≤ length slot
@@ -120,12 +139,20 @@ module _ (cs : List Float) (old : TreeLists) (floats : List Float) (wholes slot 
       → BuildTold t cs old new floats floats′ wholes wholes′ slot slot′ (a .number)
   build-long new floats′ wholes′ slot′ a s t e h w answers lists free-floats free-wholes =
       subst (λ (u : Settings). BuildTold u cs old new floats floats′ wholes wholes′ slot slot′ (a .number)) e
-      record {
-        told = told-long 10 buildSlot slot slot′ (a .number) a _ h refl w answers;
-        lists = slot-long 10 slot _ _ _ h lists;
-        floats-free = room-long 10 slot _ _ _ h free-floats;
-        wholes-free = room-long 10 slot _ _ _ h free-wholes;
-      }
+      (tree-long _ _ _ old floats wholes slot new floats′ wholes′ slot′ a h w answers lists free-floats free-wholes)
+
+-- over the live slots of a table
+module _ (x : Table) (old : TreeLists) (floats : List Float) (wholes slot : List ℕ) where
+  pub slots-short : (s : Settings) → length slot < 10 → SlotsTold s x old old floats floats wholes wholes slot slot 11
+  slots-short s h = tree-short _ _ _ old floats wholes slot h
+
+  pub slots-long : (new : TreeLists) (floats′ : List Float) (wholes′ slot′ : List ℕ) (a : Answer Counts) (s t : Settings) → s ≡ t → 10 ≤ length slot
+      → slot′ ≡ put slot 0 (buildSlot a) → a ≡ slotsAnswer s x old floats wholes → new ≡ slotsLists s x old floats wholes
+      → RoomAfter (slotsCall s x old floats wholes) floats floats′ → RoomAfter (slotsCall s x old floats wholes) wholes wholes′
+      → SlotsTold t x old new floats floats′ wholes wholes′ slot slot′ (a .number)
+  slots-long new floats′ wholes′ slot′ a s t e h w answers lists free-floats free-wholes =
+      subst (λ (u : Settings). SlotsTold u x old new floats floats′ wholes wholes′ slot slot′ (a .number)) e
+      (tree-long _ _ _ old floats wholes slot new floats′ wholes′ slot′ a h w answers lists free-floats free-wholes)
 
 -- ---- the build that cuts depth first
 module _ (cs : List Float) (old : TreeLists) (floats : List Float) (wholes : List ℕ) (records-old : RecordLists) (slot : List ℕ) where
@@ -206,3 +233,36 @@ module _ (cs : List Float) (bs : List ℕ) (old : TreeLists) (slot : List ℕ) w
         boxes = slot-long 10 slot _ _ _ h boxes;
         borrowed = slot-long 10 slot _ _ _ h borrowed;
       }
+
+-- ---- the table's edits, whose head is two numbers
+module _ (d : ℕ) (head flags : List ℕ) (cs point : List Float) (slot : List ℕ) where
+  pub add-short : length slot < 2 → AddTold d head head flags flags cs cs point slot slot 11
+  add-short h =
+      record {
+        told = told-short 2 _ slot _ h;
+        head-is = slot-short 2 slot _ _ h;
+        flags-are = slot-short 2 slot _ _ h;
+        coordinates-are = slot-short 2 slot _ _ h;
+      }
+
+  -- a is the answer of the call behind it, and t′ the table that it leaves
+  pub add-long : (flags′ : List ℕ) (cs′ : List Float) (slot′ : List ℕ) (a : Answer ℕ) (t′ : Table) → 2 ≤ length slot → slot′ ≡ put slot 0 (placedSlot a)
+      → a ≡ addAnswer d (tableFrom head flags cs) point → t′ ≡ addTable d (tableFrom head flags cs) point → flags′ ≡ t′ .flags → cs′ ≡ t′ .coordinates
+      → AddTold d head (headWritten (t′ .head) head) flags flags′ cs cs′ point slot slot′ (a .number)
+  add-long flags′ cs′ slot′ a t′ h w answers table f c =
+      record {
+        told = told-long 2 placedSlot slot slot′ (a .number) a _ h refl w answers;
+        head-is = slot-long 2 slot _ _ _ h (ap (λ (x : Table). headWritten (x .head) head) table);
+        flags-are = slot-long 2 slot _ _ _ h (f ∙ ap (λ (x : Table). x .flags) table);
+        coordinates-are = slot-long 2 slot _ _ _ h (c ∙ ap (λ (x : Table). x .coordinates) table);
+      }
+
+pub retire-told : (d : ℕ) (head flags flags′ : List ℕ) (cs : List Float) (slot : ℕ) (a : Answer ℕ) (t′ : Table)
+    → a ≡ retireAnswer d (tableFrom head flags cs) slot → t′ ≡ retireTable d (tableFrom head flags cs) slot → flags′ ≡ t′ .flags
+    → RetireTold d head (headWritten (t′ .head) head) flags flags′ cs slot (a .number)
+retire-told d head flags flags′ cs slot a t′ answers table f =
+    record {
+      number-is = ap (λ (x : Answer ℕ). x .number) answers;
+      head-is = ap (λ (x : Table). headWritten (x .head) head) table;
+      flags-are = f ∙ ap (λ (x : Table). x .flags) table;
+    }

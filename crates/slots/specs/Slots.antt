@@ -2,12 +2,13 @@
 use Prim.Native.Nat.{ℕ, _+_, _*_}
 use mathlib.Core.Bool.{cond}
 use mathlib.Core.List.{List, [], _∷_, _++_}
-use lib.ListN.{length, getD}
+use lib.ListN.{length, getD, set}
 use lib.Dec.{ltb}
 use lib.Ieee.{Float}
 use Rattle.lists.specs.Lists.{part}
 use Rattle.definition.specs.Packed.{Counts, BuildSizes, mostLevels}
 use Rattle.definition.specs.Refusals.{Verdict, refused}
+use Rattle.definition.specs.Table.{Head, Table}
 use Rattle.definition.specs.Outcome.{Answer, Shared, Sampled, written}
 
 -- ---- a slot that is to have n entries
@@ -47,7 +48,7 @@ sampleSlot a = a .place ∷ a .value .rows ∷ []
 abbrev pub coverSlot : Answer Sampled → List Float
 coverSlot a = a .value .cover ∷ []
 
--- the writer's: the place, and how many bytes were written
+-- the writer's: the place, and how many bytes were written; an add's: the place, and the slot taken
 abbrev pub placedSlot : Answer ℕ → List ℕ
 placedSlot a = a .place ∷ a .value ∷ []
 
@@ -65,6 +66,16 @@ buildSlot a = a .place ∷ a .value .levels ∷ a .value .rows ++ a .value .doma
 -- the counts of a tree, from the slot that a build or a load wrote
 abbrev pub countsIn : List ℕ → Counts
 countsIn slot = record { levels = getD slot 1 0; rows = part slot 2 mostLevels; domains = part slot 6 mostLevels }
+
+-- ---- a table's head, as two numbers
+
+-- the two numbers after a call that leaves this head
+abbrev pub headWritten : Head → List ℕ → List ℕ
+headWritten h head = set (set head 0 (h .slots)) 1 (h .live)
+
+abbrev pub tableFrom : List ℕ → List ℕ → List Float → Table
+tableFrom head flags coordinates =
+    record { head = record { slots = getD head 0 0; live = getD head 1 0 }; flags = flags; coordinates = coordinates }
 
 -- ---- the version, as one number
 abbrev pub versionNumber : ℕ → ℕ → ℕ → ℕ

@@ -3,6 +3,8 @@
 
 pub mod random;
 pub mod stored;
+pub mod table;
+pub mod trees;
 
 #[derive(Clone, Copy, Debug)]
 pub enum Policy {
@@ -425,14 +427,18 @@ pub fn set_covers(points: &Points, leaves: &mut [Leaf], next: &[usize]) {
 }
 
 pub fn build(coords: &[f64], d: usize, s: &Settings) -> Result<Vec<Level>, (usize, usize)> {
-    if let Some(refused) = refusal(coords, d, s) {
-        return Err(refused);
+    match refusal(coords, d, s) {
+        Some(refused) => Err(refused),
+        None => Ok(levels_over(coords, d, s, (0..coords.len() / d).collect())),
     }
+}
+
+/// The levels over these rows, ascending: n is their count.
+pub fn levels_over(coords: &[f64], d: usize, s: &Settings, rows: Vec<usize>) -> Vec<Level> {
     let points = Points { coords, d };
-    let n = coords.len() / d;
-    let c = threshold(s.policy, n);
-    let k = reductions(n, c, s.factor);
-    let mut active: Vec<usize> = (0..n).collect();
+    let c = threshold(s.policy, rows.len());
+    let k = reductions(rows.len(), c, s.factor);
+    let mut active = rows;
     let mut levels = Vec::new();
     while active.len() > c {
         let mut leaves = leaves(&points, s.leaf, &active);
@@ -446,5 +452,5 @@ pub fn build(coords: &[f64], d: usize, s: &Settings) -> Result<Vec<Level>, (usiz
     let zeros = vec![0.0; d];
     let leaf = Leaf { own: active.clone(), borrowed: Vec::new(), lower: zeros.clone(), upper: zeros, cover: 0.0, depth: 0 };
     levels.push(Level { rows: active, leaves: vec![leaf] });
-    Ok(levels)
+    levels
 }

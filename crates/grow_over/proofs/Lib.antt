@@ -1,0 +1,2 @@
+-- Laws of the tree over given rows.
+pub mod Over

@@ -1,0 +1,2 @@
+-- Laws that the proof of the listing cites.
+mod Listed

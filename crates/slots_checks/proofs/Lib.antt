@@ -1,0 +1,3 @@
+-- Laws that the proofs of the checks cite.
+mod Judged
+mod Groups

@@ -1,0 +1,2 @@
+-- Laws of the outcome of a build over slots.
+pub mod Outcomes

@@ -1,0 +1,2 @@
+-- What the contract of the build over slots cites.
+pub mod Outcome

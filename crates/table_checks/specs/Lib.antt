@@ -1,0 +1,2 @@
+-- What the contracts over a table of wells cite beside the definition.
+pub mod Tables

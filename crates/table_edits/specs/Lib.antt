@@ -1,0 +1,2 @@
+-- What the contracts of the edits cite.
+pub mod Edits
