@@ -1,6 +1,6 @@
 -- What an accepted call has: no refusal that it tries has its condition met. Assumes nothing.
--- Holds: passes, accepted-iff, both-accept, first-accepts, second-accepts, right-dimension, number-zero, build-zero, Passed,
---   passed, LentEnough, lent-enough, whole-points, finite-at, all-good, Accepted, build-accepted
+-- Holds: passes, decides, pass, accepted-iff, both-accept, first-accepts, second-accepts, right-dimension, number-zero,
+--   build-zero, Passed, passed, LentEnough, lent-enough, whole-points, finite-at, all-good, Accepted, build-accepted
 use mathlib.Core.Path.{_≡_, refl, _∙_}
 use mathlib.Core.Logic.{_↔_}
 use mathlib.Core.Bool.{Bool, true, false, not, _&&_, cond}
@@ -37,7 +37,12 @@ pub passes : (t : Test) (ts : List Test) → verdict (t ∷ ts) ≡ accepted →
 unfolding verdict
 passes t ts e = stop (t .holds) (t .refusal) (verdict ts) e
 
-pass : (t : Test) (ts : List Test) → t .holds ≡ false → verdict (t ∷ ts) ≡ verdict ts
+-- a test whose condition is met decides, and one whose condition is not met is passed by
+pub decides : (t : Test) (ts : List Test) → t .holds ≡ true → verdict (t ∷ ts) ≡ refused (t .refusal)
+unfolding verdict
+decides t ts e = rw e
+
+pub pass : (t : Test) (ts : List Test) → t .holds ≡ false → verdict (t ∷ ts) ≡ verdict ts
 unfolding verdict
 pass t ts e = rw e
 

@@ -7,13 +7,12 @@ use mathlib.Core.List.{List, []}
 use Prim.Native.Nat.{ℕ, suc, _+_, _-_, _*_, _^_, _≤_, _<_}
 use native.Mathlib.Omega.{arith}
 use native.Mathlib.Nat.{zero-add, pow-zero, mul-one}
-use lib.ListN.{length, getD, drop, replicate}
+use lib.ListN.{length, getD, drop}
 use lib.Ieee.{Float}
 use Rattle.lists.specs.Lists.{from}
 use Rattle.lists.specs.Ascends.{All}
 use Rattle.lists.proofs.Tests.{le-or-lt}
 use Rattle.lists.proofs.From.{length-from}
-use Rattle.definition.specs.Number.{plusZero}
 use Rattle.definition.specs.Cut.{Domain, leavesOf}
 use Rattle.definition.specs.Sampling.{leafCover}
 use Rattle.definition.specs.Tree.{Settings, Leaf, Level, coarseLeaf, coarseLevel, fineLeaf, mostFine, levelsOver, pointCount, levels}

@@ -1,11 +1,10 @@
 -- The live slots listed one by one: what is written after i of the slots, at the start, at each turn and at the end. Assumes nothing.
 -- Holds: fewer-below, Listing, starts, turn-fits, turn-live, turn-retired, ends
 use mathlib.Core.Path.{_≡_, refl, sym, ap, _∙_}
-use mathlib.Core.Bool.{Bool, true, false}
+use mathlib.Core.Bool.{Bool}
 use mathlib.Core.List.{List, [], _∷_, _++_}
 use Prim.Native.Nat.{ℕ, _+_, _-_, _≤_, _<_}
 use native.Mathlib.Omega.{arith}
-use native.Mathlib.Nat.{zero-add}
 use borrow.Author.Tests.{eq-eqb, ne-eqb}
 use lib.ListN.{length, getD, set, length-append}
 use Rattle.lists.specs.Lists.{put, keep, from}

@@ -2,8 +2,8 @@
 -- Holds: flag-live, flag-retired, None, none-first, none-same, none-more, judged-none, judged-here
 use mathlib.Core.Path.{_≡_, refl, sym, ap, _∙_}
 use mathlib.Core.Bool.{Bool, true, false, not, _||_, cond}
-use mathlib.Core.List.{List, [], _∷_, _++_, map, append-assoc}
-use Prim.Native.Nat.{ℕ, zero, suc, _+_, _-_, _*_, _≤_, _<_}
+use mathlib.Core.List.{List, [], _∷_, _++_}
+use Prim.Native.Nat.{ℕ, suc, _+_, _-_, _*_, _≤_, _<_}
 use native.Mathlib.Omega.{arith}
 use native.Mathlib.Nat.{zero-add}
 use borrow.Author.Tests.{lt-ltb, le-ltb, eq-eqb, ne-eqb}
@@ -12,13 +12,13 @@ use lib.Dec.{ltb}
 use lib.Ieee.{Float, nan}
 use lib.Ieee.Scale.{finite}
 use Rattle.lists.specs.Lists.{consIf, keep, anyOf, from, joined, part}
-use Rattle.lists.proofs.Tests.{clash, or-left, or-right, or-false, fails}
+use Rattle.lists.proofs.Tests.{clash}
 use Rattle.lists.proofs.Count.{keep-append, keep-none, keep-in, keep-out}
 use Rattle.lists.proofs.From.{below-suc, from-append}
 use Rattle.lists.proofs.Members.{any-append, none-any}
 use Rattle.lists.proofs.Joined.{joined-map-append, joined-map-snoc}
 use Rattle.lists.proofs.Put.{getD-part, length-part}
-use Rattle.definition.specs.Refusals.{Test, accepted, refused, verdict, firstBad}
+use Rattle.definition.specs.Refusals.{accepted, refused, verdict, firstBad}
 use Rattle.definition.specs.Table.{flagged}
 use Rattle.definition.specs.Slots.{placesOfRows, badAt, rowsNotFinite}
 use Rattle.build_checks.proofs.Laws.{bad-test}

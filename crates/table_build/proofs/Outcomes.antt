@@ -1,14 +1,13 @@
 -- What an accepted call over slots has for its levels, and its outcome: demand 3 and the depths follow from its answer and its lists.
 -- Assumes nothing.
 -- Holds: slots-given, slots-fit, slots-long, slots-listed, over-slots, built-slots
-use mathlib.Core.Path.{_≡_, refl, sym, ap, _∙_, subst}
+use mathlib.Core.Path.{_≡_, refl, sym, subst}
 use mathlib.Core.List.{List}
-use Prim.Native.Nat.{ℕ, _+_, _*_, _^_, _≤_, _<_}
+use Prim.Native.Nat.{ℕ, _*_, _^_, _≤_}
 use native.Mathlib.Omega.{arith}
 use lib.ListN.{length}
 use lib.Ieee.{Float}
 use Rattle.lists.specs.Lists.{keep, from}
-use Rattle.definition.specs.Levels.{threshold}
 use Rattle.definition.specs.Tree.{Settings, levelsOver}
 use Rattle.definition.specs.Packed.{Counts, countsOf, buildStated}
 use Rattle.definition.specs.Refusals.{accepted}

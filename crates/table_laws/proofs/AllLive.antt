@@ -1,16 +1,15 @@
 -- Over a table that 27 passes, whose slots are all live and fill its capacity, with the coordinates of exactly that many points, the build
 -- over slots is the build: its verdict, its answer and every list. Assumes nothing.
--- Holds: stops, passes-by, after, places-below, first-place, judged-same, all-live, same-verdicts, same-answers, same-lists
+-- Holds: places-below, first-place, judged-same, all-live, same-verdicts, same-answers, same-lists
 use mathlib.Core.Path.{_≡_, refl, sym, ap, ap₂, _∙_}
 use mathlib.Core.Logic.{⊎-elim}
-use mathlib.Core.Bool.{Bool, true, false, not, _&&_, _||_, cond}
+use mathlib.Core.Bool.{Bool, true, false, not, _||_, cond}
 use mathlib.Core.List.{List, [], _∷_, _++_, map}
 use Prim.Native.Nat.{ℕ, zero, suc, _+_, _*_, _/_, _%_, _≤_, _<_}
 use native.Mathlib.Omega.{arith}
 use native.Mathlib.Nat.{mul-div-cancel, mul-mod-left, suc-mul, zero-add, zero-mul}
 use borrow.Author.Tests.{eq-eqb, le-ltb}
 use lib.ListN.{length, getD}
-use lib.Dec.{ltb, eqb}
 use lib.Ieee.{Float, nan}
 use lib.Ieee.Scale.{finite}
 use Rattle.lists.specs.Lists.{keep, anyOf, from, joined}
@@ -19,26 +18,19 @@ use Rattle.lists.proofs.Ascends.{ascends-full}
 use Rattle.lists.proofs.From.{below-snoc, from-append}
 use Rattle.lists.proofs.Joined.{joined-nil, joined-map-snoc}
 use Rattle.definition.specs.Tree.{Settings, Level, levels, levelsOver, pointCount}
-use Rattle.definition.specs.Packed.{BuildSizes, buildStated, Counts, countsOf}
+use Rattle.definition.specs.Packed.{BuildSizes, buildStated, countsOf}
 use Rattle.definition.specs.Refusals.{Refusal, Test, Verdict, accepted, refused, on, verdict, wrongDimension, coordinatesMissing, firstBad, notFinite, settingsTests, pointsTests, buildShort, buildTests, buildVerdict}
-use Rattle.definition.specs.Outcome.{Answer, TreeLists, answered, valueOf, numberOf, placeOf, listAfter, treeListsAfter, zeroCounts, buildCall, buildAnswer, buildLists}
-use Rattle.definition.specs.Table.{Table, capacity, liveSlots, unsound, coordinatesShort}
-use Rattle.definition.specs.Slots.{placesOfRows, badAt, rowsNotFinite, rowsOf, slotsVerdict, slotLevels, slotsCall, slotsAnswer, slotsLists}
-use Rattle.definition_laws.proofs.Accepted.{right-dimension}
-use Rattle.table_laws.proofs.Live.{Sound, SoundTable, sound-table, live-mem}
+use Rattle.definition.specs.Outcome.{TreeLists, answered, valueOf, listAfter, treeListsAfter, zeroCounts, buildAnswer, buildLists}
+use Rattle.definition.specs.Table.{Table, capacity, unsound, coordinatesShort}
+use Rattle.definition.specs.Slots.{placesOfRows, badAt, rowsNotFinite, rowsOf, slotsVerdict, slotLevels, slotsAnswer, slotsLists}
+use Rattle.definition_laws.proofs.Accepted.{decides, pass, right-dimension}
+use Rattle.table_laws.proofs.Live.{Sound, sound-table, live-mem}
 use Rattle.table_laws.proofs.Slots.{live-ascends}
 
 -- ---- tests
-pub stops : (t : Test) (ts : List Test) → t .holds ≡ true → verdict (t ∷ ts) ≡ refused (t .refusal)
-unfolding verdict
-stops t ts e = rw e
-
-pub passes-by : (t : Test) (ts : List Test) → t .holds ≡ false → verdict (t ∷ ts) ≡ verdict ts
-unfolding verdict
-passes-by t ts e = rw e
 
 -- what comes after the same tests
-pub after : (ts us vs : List Test) → verdict us ≡ verdict vs → verdict (ts ++ us) ≡ verdict (ts ++ vs)
+after : (ts us vs : List Test) → verdict us ≡ verdict vs → verdict (ts ++ us) ≡ verdict (ts ++ vs)
 unfolding verdict
 after [] us vs e = e
 after (t ∷ ts) us vs e = ap (cond (t .holds) (refused (t .refusal))) (after ts us vs e)
@@ -74,11 +66,11 @@ judged-same d cs n e =
     let both = first-place cs 0 cs (λ j h. ap (λ (k : ℕ). getD cs k nan) (zero-add j)) in
     ⊎-elim
     (λ (f : anyOf (λ x. not (finite x)) cs ≡ true).
-    stops (rowsNotFinite d cs (from 0 n)) [] (ap (anyOf (badAt cs)) places ∙ both .0 ∙ f)
+    decides (rowsNotFinite d cs (from 0 n)) [] (ap (anyOf (badAt cs)) places ∙ both .0 ∙ f)
     ∙ ap (λ (p : ℕ). refused (record { number = 10; place = p })) (ap (λ (l : List ℕ). getD (keep (badAt cs) l) 0 0) places ∙ both .1 f)
-    ∙ sym (stops (notFinite cs) [] f))
+    ∙ sym (decides (notFinite cs) [] f))
     (λ (f : anyOf (λ x. not (finite x)) cs ≡ false).
-    passes-by (rowsNotFinite d cs (from 0 n)) [] (ap (anyOf (badAt cs)) places ∙ both .0 ∙ f) ∙ sym (passes-by (notFinite cs) [] f))
+    pass (rowsNotFinite d cs (from 0 n)) [] (ap (anyOf (badAt cs)) places ∙ both .0 ∙ f) ∙ sym (pass (notFinite cs) [] f))
     (true-or-false (anyOf (λ x. not (finite x)) cs))
 
 -- ---- such a table
@@ -142,7 +134,7 @@ module _ (s : Settings) (t : Table) (sound : Sound t) (live : t .head .live ≡ 
 
   wrong-own : (lent : BuildSizes) → wrongDimension (s .dimension) ≡ true → (verdict (own lent) ≡ refused (record { number = 1; place = 0 })) × (verdict (theirs lent) ≡ refused (record { number = 1; place = 0 }))
   unfolding buildTests
-  wrong-own lent w = (stops (on (wrongDimension d) 1) _ w, stops (on (wrongDimension d) 1) _ w)
+  wrong-own lent w = (decides (on (wrongDimension d) 1) _ w, decides (on (wrongDimension d) 1) _ w)
 
   build-wrong : (lent : BuildSizes) → wrongDimension (s .dimension) ≡ true → buildVerdict s (t .coordinates) lent ≡ refused (record { number = 1; place = 0 })
   unfolding buildVerdict
@@ -151,7 +143,7 @@ module _ (s : Settings) (t : Table) (sound : Sound t) (live : t .head .live ≡ 
   pub same-verdicts : (lent : BuildSizes) → slotsVerdict s t lent ≡ buildVerdict s (t .coordinates) lent
   unfolding slotsVerdict buildVerdict
   same-verdicts lent =
-      passes-by (on (unsound (t .head) (t .flags)) 27) (own lent) sound
+      pass (on (unsound (t .head) (t .flags)) 27) (own lent) sound
       ∙ ⊎-elim
       (λ (w : wrongDimension d ≡ true). wrong-own lent w .0 ∙ sym (wrong-own lent w .1))
       (λ (w : wrongDimension d ≡ false). fine-own lent (right-dimension d w .0))

@@ -4,22 +4,22 @@
 --   add-lowest, retire-live
 use mathlib.Core.Path.{_≡_, refl, sym, ap, _∙_}
 use mathlib.Core.Logic.{_⊎_, inl, inr, ⊎-elim}
-use mathlib.Core.Bool.{Bool, true, false, not, _&&_, _||_, and-false}
-use mathlib.Core.List.{List, [], _∷_, _++_}
-use Prim.Native.Nat.{ℕ, zero, suc, _+_, _-_, _≤_, _<_, max}
+use mathlib.Core.Bool.{true, false, not, _&&_, _||_, and-false}
+use mathlib.Core.List.{List, [], _∷_}
+use Prim.Native.Nat.{ℕ, suc, _-_, _≤_, _<_, max}
 use native.Mathlib.Omega.{arith}
-use borrow.Author.Tests.{eq-eqb, ne-eqb, eqb-true, eqb-false, leb-false, lt-ltb, le-ltb, not-false, not-true}
-use lib.ListN.{length, getD, set, take, length-set, length-take}
+use borrow.Author.Tests.{eq-eqb, ne-eqb, leb-false, lt-ltb, le-ltb, not-false, not-true}
+use lib.ListN.{length, set, take, length-set, length-take}
 use lib.Seq.{getD-set-same, getD-set-other, getD-take, take-set-le, take-set-lt}
-use lib.Dec.{leb, ltb, eqb}
+use lib.Dec.{ltb, eqb}
 use lib.Ieee.{Float}
-use Rattle.lists.specs.Lists.{count, member, least, from}
-use Rattle.lists.proofs.Tests.{clash, or-none, or-false, or-true, and-of, and-true, same-test, true-or-false, le-or-lt, same-or}
+use Rattle.lists.specs.Lists.{count, member, from}
+use Rattle.lists.proofs.Tests.{clash, or-none, or-false, or-true, and-of, and-true, le-or-lt, same-or}
 use Rattle.lists.proofs.Least.{least-before, least-holds}
 use Rattle.lists.proofs.Count.{count-set, count-more}
 use Rattle.definition.specs.Refusals.{Verdict, accepted, refused, Refusal, verdict}
 use Rattle.definition.specs.Outcome.{valueOf}
-use Rattle.definition.specs.Table.{Head, Table, capacity, flagged, liveSlots, nextSlot, unsound, tableTests, full, notLive, addVerdict, retireVerdict, added, addAnswer, addTable, retired, retireTable, Edit, adding, retiring, lending, lentBy, editVerdict, edited, afterAll}
+use Rattle.definition.specs.Table.{Head, Table, capacity, flagged, liveSlots, nextSlot, full, addVerdict, retireVerdict, added, addAnswer, addTable, retired, retireTable, Edit, adding, retiring, lending, lentBy, editVerdict, edited, afterAll}
 use Rattle.definition.specs.Slots.{rowsOf}
 use Rattle.definition_laws.proofs.Accepted.{passes}
 use Rattle.table_laws.proofs.Live.{Sound, SoundTable, sound-table, is-sound, nonzero, live-many, live-member, next-high}

@@ -1,21 +1,19 @@
 -- The live slots of a table: how many they are, and which; what a table that 27 passes has. Assumes nothing.
--- Holds: Sound, SoundTable, sound-table, is-sound, capacity-most, capacity-fits, nonzero, live-many, live-few, next-high,
---   live-mem, mem-live, live-member
+-- Holds: Sound, SoundTable, sound-table, is-sound, nonzero, live-many, live-few, next-high, live-mem, live-member
 use mathlib.Core.Path.{_≡_, sym, ap, _∙_}
 use mathlib.Core.Bool.{Bool, true, false, not, _&&_}
 use mathlib.Core.List.{List, List·Memᴰ}
 use Prim.Native.Nat.{ℕ, zero, suc, _≤_, _<_}
 use native.Mathlib.Omega.{arith}
 use borrow.Author.Tests.{eq-eqb, eqb-true, ltb-true, ltb-false, le-ltb, lt-ltb, not-false}
-use lib.ListN.{length, getD, take}
+use lib.ListN.{length, take}
 use lib.Dec.{eqb, ltb}
 use Rattle.lists.specs.Lists.{count, member, from}
 use Rattle.lists.proofs.Tests.{or-none, same-test}
 use Rattle.lists.proofs.Least.{least-high}
 use Rattle.lists.proofs.Count.{length-keep, count-more, count-nil, count-len}
 use Rattle.lists.proofs.From.{from-mem, mem-from, count-below-snoc, count-below-nil, length-from}
-use Rattle.lists.proofs.Members.{keep-mem, mem-keep, member-keep, member-mem, mem-member}
-use Rattle.definition.specs.Refusals.{mostPoints}
+use Rattle.lists.proofs.Members.{keep-mem, member-keep, member-mem, mem-member}
 use Rattle.definition.specs.Table.{Head, Table, capacity, flagged, liveSlots, nextSlot, unsound}
 
 -- ---- a table that 27 passes
@@ -39,13 +37,6 @@ sound-table h flags e =
 pub is-sound : (h : Head) (flags : List ℕ) → SoundTable h flags → unsound h flags ≡ false
 unfolding unsound
 is-sound h flags s = simp (le-ltb (capacity flags) (h .slots) (s .within), eq-eqb (h .live) (length (liveSlots h flags)) (s .counted))
-
--- the capacity is at most the flags, and at most the most points
-pub capacity-most : (flags : List ℕ) → capacity flags ≤ mostPoints
-capacity-most flags = omega arith
-
-pub capacity-fits : (flags : List ℕ) → capacity flags ≤ length flags
-capacity-fits flags = omega arith
 
 -- ---- how many slots are live: as many as flags below the slot count are not 0
 abbrev pub nonzero : ℕ → Bool
@@ -74,10 +65,6 @@ next-high h flags = least-high (λ i. not (flagged flags i)) (h .slots)
 pub live-mem : (h : Head) (flags : List ℕ) (i : ℕ) → List·Memᴰ i (liveSlots h flags) → (i < h .slots) × (flagged flags i ≡ true)
 unfolding liveSlots
 live-mem h flags i m = let k = keep-mem (flagged flags) (from 0 (h .slots)) m in (omega (arith, from-mem 0 (h .slots) (k .0)), k .1)
-
-pub mem-live : (h : Head) (flags : List ℕ) (i : ℕ) → i < h .slots → flagged flags i ≡ true → List·Memᴰ i (liveSlots h flags)
-unfolding liveSlots
-mem-live h flags i l f = mem-keep (flagged flags) (from 0 (h .slots)) (mem-from 0 (h .slots) (omega arith) (omega arith)) f
 
 below-member : (n i : ℕ) → member i (from 0 n) ≡ ltb i n
 below-member n i =

@@ -1,8 +1,7 @@
 -- The build over the live slots of a table: what an accepted call has, and two numbers that never come. Assumes nothing.
 -- Holds: live-ascends, places-mem, SlotsAccepted, slots-accepted, never, slots-never-7, live-most, slots-never-8
-use mathlib.Core.Path.{_≡_, refl, sym, ap, _∙_}
-use mathlib.Core.Logic.{⊎-elim}
-use mathlib.Core.Bool.{Bool, true, false, not, _||_, cond}
+use mathlib.Core.Path.{_≡_, refl, sym}
+use mathlib.Core.Bool.{Bool, true, false, _||_, cond}
 use mathlib.Core.List.{List, [], _∷_, map, List·Memᴰ}
 use Prim.Native.Nat.{ℕ, suc, _+_, _*_, _≤_, _<_}
 use native.Mathlib.Omega.{arith}
@@ -11,7 +10,7 @@ use borrow.Author.Tests.{ltb-false, le-ltb, not-false}
 use lib.ListN.{length, getD}
 use lib.Ieee.{Float, nan}
 use lib.Ieee.Scale.{finite}
-use Rattle.lists.specs.Lists.{from, joined}
+use Rattle.lists.specs.Lists.{from}
 use Rattle.lists.specs.Ascends.{All, Ascends}
 use Rattle.lists.proofs.Tests.{clash, or-none}
 use Rattle.lists.proofs.All.{all-of}
@@ -20,12 +19,12 @@ use Rattle.lists.proofs.From.{mem-from}
 use Rattle.lists.proofs.Members.{none-any, mem-joined, mem-map}
 use Rattle.definition.specs.Tree.{Settings}
 use Rattle.definition.specs.Packed.{BuildSizes, buildStated}
-use Rattle.definition.specs.Refusals.{Test, Verdict, accepted, refused, verdict, mostPoints, buildShort, buildTests}
+use Rattle.definition.specs.Refusals.{Test, accepted, refused, verdict, mostPoints, buildShort, buildTests}
 use Rattle.definition.specs.Outcome.{numberOf}
 use Rattle.definition.specs.Table.{Head, Table, capacity, liveSlots, unsound, coordinatesShort}
 use Rattle.definition.specs.Slots.{placesOfRows, badAt, rowsNotFinite, rowsOf, slotsVerdict}
 use Rattle.definition_laws.proofs.Accepted.{passes, Passed, passed, LentEnough, lent-enough}
-use Rattle.rows.specs.Rows.{Inside, GoodRow, GoodRows}
+use Rattle.rows.specs.Rows.{GoodRow, GoodRows}
 use Rattle.table_laws.proofs.Live.{Sound, SoundTable, sound-table, live-mem, live-few}
 
 -- ---- the rows of the build

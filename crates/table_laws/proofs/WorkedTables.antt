@@ -7,8 +7,8 @@ use lib.Ieee.{Float, nan, inf}
 use mathlib.Core.Bool.{true, false}
 use Rattle.definition.specs.Levels.{fixed}
 use Rattle.definition.specs.Tree.{Settings}
-use Rattle.definition.specs.Outcome.{Answer, TreeLists, zeroCounts}
-use Rattle.definition.specs.Table.{Head, Table, liveSlots, nextSlot, unsound, addVerdict, added, addAnswer, addTable, retireVerdict, retired, retireAnswer, retireTable, adding, retiring, edited, afterAll}
+use Rattle.definition.specs.Outcome.{Answer, zeroCounts}
+use Rattle.definition.specs.Table.{Table, liveSlots, nextSlot, unsound, addVerdict, added, addAnswer, addTable, retireVerdict, retired, retireAnswer, retireTable, adding, retiring, edited, afterAll}
 use Rattle.definition.specs.Slots.{placesOfRows, slotsVerdict, slotLevels, slotsAnswer, slotsLists}
 use Rattle.definition.proofs.WorkedSamples.{opened, line, onLine, nines, floatRoom, wholeRoom}
 

@@ -1,12 +1,10 @@
 -- `slots_checks::judge_slots` meets its contract. The invariant: of the live slots passed none has a coordinate that is not finite.
 -- Assumes nothing.
-use mathlib.Core.Path.{_≡_, refl, sym, ap, _∙_}
+use mathlib.Core.Path.{ap, _∙_}
 use mathlib.Core.Logic.{⊎-elim}
-use Prim.Native.Nat.{ℕ, suc, _+_, _-_, _*_, _≤_}
+use Prim.Native.Nat.{ℕ, _+_, _-_, _*_, _≤_}
 use native.Mathlib.Omega.{arith}
-use native.Mathlib.Nat.{mul-le-mul-right, suc-mul}
 use borrow.Author.Needs.{needs}
-use lib.ListN.{length}
 use Rattle.lists.proofs.Put.{part-lent}
 use Rattle.definition.specs.Refusals.{refused, firstBad}
 use Rattle.definition.specs.Table.{flagged}
