@@ -1,6 +1,6 @@
 // A list in a record is its count and the entries of its front. Past its front a list holds 9.
 use crate::fields;
-ghost use Prim.Native.Nat.{_+_, _^_, _≤_};
+ghost use Prim.Native.Nat.{_+_, _^_, _≤_, _<_};
 
 // What the lists hold past their fronts: the number, and the bits of the float.
 pub const NINE: usize = 9;
@@ -71,6 +71,7 @@ fn entry(record: &[u8], at: usize, i: usize, rest: u64) -> u64
 // The same of a list of bytes.
 fn byte_entry(record: &[u8], at: usize, i: usize) -> usize
     requires { ⌜ at ≤ 2 ^ 41 ⌝ }
+    ensures { λ r. ⌜ r < 256 ⌝ }
 {
     if fields::number(record, at) <= i {
         return NINE;
@@ -99,6 +100,18 @@ pub fn fill_floats(record: &[u8], at: usize, list: &mut [f64]) -> bool
     let mut i = 0;
     while i < list.len() {
         list[i] = bytes_in::float_of(entry(record, at, i, NINE_BITS));
+        i += 1;
+    }
+    fields::number(record, at) <= list.len()
+}
+
+// The same of bytes.
+pub fn fill_bytes(record: &[u8], at: usize, list: &mut [u8]) -> bool
+    requires { ⌜ at ≤ 2 ^ 41 ⌝ }
+{
+    let mut i = 0;
+    while i < list.len() {
+        list[i] = byte_entry(record, at, i) as u8;
         i += 1;
     }
     fields::number(record, at) <= list.len()

@@ -1,7 +1,8 @@
-// The records of stored calls: their fields, the settings and lists that they give, and a list compared with what a record says of it.
+// The records of stored calls: their fields, the settings and lists that they give, and lists and a tree's answer compared with what a record says of them.
 mod fields;
 mod fronts;
 mod given;
+mod trees;
 
 pub use fields::bits;
 pub use fields::byte;
@@ -9,6 +10,7 @@ pub use fields::number;
 pub use fronts::NINE;
 pub use fronts::Places;
 pub use fronts::bytes_agree;
+pub use fronts::fill_bytes;
 pub use fronts::fill_floats;
 pub use fronts::fill_numbers;
 pub use fronts::floats_agree;
@@ -27,3 +29,6 @@ pub use given::POINTS_PLACE;
 pub use given::dimensions;
 pub use given::fit;
 pub use given::params;
+pub use trees::ANSWER;
+pub use trees::answer_agrees;
+pub use trees::lists_agree;

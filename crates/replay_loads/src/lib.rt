@@ -1,14 +1,11 @@
 // The call of a load: five lists of the given lengths that hold 9, and their outcome.
 use call_records::Lengths;
-use tree_answer::DDMTree;
 ghost use Prim.Native.Nat.{_^_, _≤_};
 ghost use lib.ListN.{length};
 ghost use Rattle.call_records.specs.Room.{Fitting};
 
-// The bytes of the five lengths, and of an answer.
+// The bytes of the five lengths.
 const LENGTHS: usize = 20;
-
-const ANSWER: usize = 41;
 
 // The count of the points, and the five lengths from `at` on.
 fn lengths(record: &[u8], at: usize) -> Lengths
@@ -22,50 +19,6 @@ fn lengths(record: &[u8], at: usize) -> Lengths
         boxes: call_records::number(record, at + 12),
         borrowed: call_records::number(record, at + 16),
     }
-}
-
-// Whether four counts stand from `at` on.
-fn counts_agree(counts: [usize; 4], record: &[u8], at: usize) -> bool
-    requires { ⌜ at ≤ 2 ^ 41 ⌝ }
-{
-    counts[0] == call_records::number(record, at)
-        && counts[1] == call_records::number(record, at + 4)
-        && counts[2] == call_records::number(record, at + 8)
-        && counts[3] == call_records::number(record, at + 12)
-}
-
-// Whether an answer stands from `at` on.
-fn answer_agrees(tree: DDMTree, record: &[u8], at: usize) -> bool
-    requires { ⌜ at ≤ 2 ^ 40 ⌝ }
-{
-    let rows = tree.rows;
-    let domains = tree.domains;
-    tree.number == call_records::byte(record, at)
-        && tree.place == call_records::number(record, at + 1)
-        && tree.levels == call_records::number(record, at + 5)
-        && counts_agree(rows, record, at + 9)
-        && counts_agree(domains, record, at + 25)
-}
-
-// Whether the five lists stand from `at` on, and the record ends there.
-fn lists_agree(
-    record: &[u8],
-    at: usize,
-    level_points: &[usize],
-    internals: &[usize],
-    domains: &[usize],
-    boxes: &[f64],
-    borrowed: &[usize],
-) -> bool
-    requires { ⌜ at ≤ 2 ^ 38 ⌝ }
-{
-    let places = call_records::list_places(record, at, 0);
-    call_records::numbers_agree(level_points, record, places.level_points)
-        && call_records::numbers_agree(internals, record, places.internals)
-        && call_records::numbers_agree(domains, record, places.domains)
-        && call_records::floats_agree(boxes, record, places.boxes)
-        && call_records::numbers_agree(borrowed, record, places.borrowed)
-        && places.next == record.len()
 }
 
 // Whether the load of the file from `file` to `end` has the outcome after `end`.
@@ -93,16 +46,16 @@ fn load_agrees(
         boxes,
         borrowed,
     );
-    let same = lists_agree(
+    let same = call_records::lists_agree(
         record,
-        end + ANSWER,
+        end + call_records::ANSWER,
         level_points,
         internals,
         domains,
         boxes,
         borrowed,
     );
-    same & answer_agrees(tree, record, end)
+    same & call_records::answer_agrees(tree, record, end)
 }
 
 // The same with lists of these lengths, which hold 9.

@@ -1,8 +1,6 @@
 // Replays stored calls of the loader and the writer: reads the file that the first argument names, makes each call there, and says how
 // many of the calls differ from their stored outcomes, in their answers or in an entry of a list. tools/make_stored_calls.py makes the
 // file, and its head says the form of a record.
-ghost use Prim.Native.Nat.{_≤_};
-ghost use lib.ListN.{length};
 
 // More records than this are not replayed.
 const MOST: u64 = 100000;
@@ -12,36 +10,10 @@ const LOAD: usize = 1;
 
 const STORE: usize = 2;
 
-// Whether the file has a further record, whether it is whole, and how many bytes it has.
-struct Next {
-    found: bool,
-    whole: bool,
-    size: usize,
-}
-
 // How many calls were made, and how many of them differ.
 struct Tally {
     calls: u64,
     differ: u64,
-}
-
-// Reads the next record to the front of `room`.
-fn read_next(fd: i32, room: &mut [u8]) -> Next
-    ensures { λ r. ⌜ r .size ≤ length (now (room .exit)) ⌝ }
-{
-    let mut front = [0u8; 4];
-    let got = io::read_full(fd, &mut front);
-    let size = call_records::number(&front, 0);
-    let found = got != 0;
-    if got != 4 || room.len() < size {
-        return Next {
-            found,
-            whole: false,
-            size: 0,
-        };
-    }
-    let whole = io::read_full(fd, &mut room[..size]) == size;
-    Next { found, whole, size }
 }
 
 // Whether the call of a record has the record's outcome.
@@ -61,7 +33,7 @@ fn replay(fd: i32, room: &mut [u8]) -> Tally {
     let mut calls: u64 = 0;
     let mut differ: u64 = 0;
     while calls < MOST {
-        let next = read_next(fd, room);
+        let next = record_file::read_next(fd, room);
         if !next.found {
             break;
         }

@@ -1,10 +1,10 @@
--- `run_stored_calls::read_next` meets its contract. Assumes nothing.
+-- `record_file::read_next` meets its contract. Assumes nothing.
 use native.Mathlib.Omega.{arith}
 use mathlib.Core.Path.{sym}
 use lib.Seq.{length-take-le}
 use borrow.Author.Needs.{needs}
-use Rattle.run_stored_calls.proofs.read_next.Statement.{statement}
-use Rattle.run_stored_calls.proofs.read_next.Tie as tie
+use Rattle.record_file.proofs.read_next.Statement.{statement}
+use Rattle.record_file.proofs.read_next.Tie as tie
 
 slice-aggregate-read-full : tie.Need-slice-aggregate-read-full
 slice-aggregate-read-full c = search needs

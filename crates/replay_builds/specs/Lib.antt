@@ -1,0 +1,2 @@
+-- What the contracts of the replay cite.
+pub mod Room
