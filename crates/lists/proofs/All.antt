@@ -65,6 +65,7 @@ module _ {A : Type 0} (P : A → Type 0) where
   -- ---- by membership
   pub all-mem : (l : List A) → All P l → (x : A) → Memᴰ x l → P x
   unfolding All
+  all-mem [] h x x4 = elim x4 [ ]
   all-mem (y ∷ l) h x (Memᴰ.head e) = subst P (sym e) h.0
   all-mem (y ∷ l) h x (Memᴰ.tail m) = all-mem l h.1 x m
 

@@ -109,6 +109,7 @@ module _ {A : Type 0} where
   pub count-lt : (p q : A → Bool) (l : List A) → ((x : A) → Memᴰ x l → p x ≡ true → q x ≡ true)
       → (x : A) → Memᴰ x l → p x ≡ false → q x ≡ true → count p l < count q l
   unfolding count
+  count-lt p q [] h x x6 u v = elim x6 [ ]
   count-lt p q (y ∷ l) h x (Memᴰ.head e) u v =
       let a : one_if (p y) ≡ 0 = rw (← e, u) in
       let b : one_if (q y) ≡ 1 = rw (← e, v) in
@@ -130,6 +131,7 @@ module _ {A : Type 0} where
   -- ---- an element that passes is counted
   pub count-some : (p : A → Bool) (l : List A) (x : A) → Memᴰ x l → p x ≡ true → 0 < count p l
   unfolding count
+  count-some p [] x x4 h = elim x4 [ ]
   count-some p (y ∷ l) x (Memᴰ.head e) h = let a : one_if (p y) ≡ 1 = rw (← e, h) in omega arith
   count-some p (y ∷ l) x (Memᴰ.tail m) h = omega (arith, count-some p l x m h)
 

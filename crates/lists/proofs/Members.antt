@@ -21,6 +21,7 @@ use Rattle.lists.proofs.Tests.{clash, and-of, and-fst, and-snd, or_cases, or_lef
 module _ {A : Type 0} where
   -- ---- two lists together
   pub mem-left : {a : A} (s t : List A) → Memᴰ a s → Memᴰ a (s ++ t)
+  mem-left {a = a} [] t x' = elim x' [ ]
   mem-left (x ∷ s) t (Memᴰ.head e) = Memᴰ.head e
   mem-left (x ∷ s) t (Memᴰ.tail m) = Memᴰ.tail (mem-left s t m)
 
@@ -35,6 +36,7 @@ module _ {A : Type 0} where
   mem-at (x ∷ l) (suc i) d h = Memᴰ.tail (mem-at l i d (omega arith))
 
   pub mem_index : (l : List A) {a : A} (d : A) → Memᴰ a l → (i : ℕ) × (i < length l) × (get_or l i d ≡ a)
+  mem_index [] {a = a} d x' = elim x' [ ]
   mem_index (x ∷ l) d (Memᴰ.head e) = (zero, omega arith, sym e)
   mem_index (x ∷ l) d (Memᴰ.tail m) = let r = mem_index l d m in (suc r.0, omega (arith, r.1), r.2)
 
@@ -46,6 +48,7 @@ module _ {A : Type 0} where
 
   pub mem-any : (p : A → Bool) (l : List A) {x : A} → Memᴰ x l → p x ≡ true → any_of p l ≡ true
   unfolding any_of
+  mem-any p [] {x = x} x4 h = elim x4 [ ]
   mem-any p (y ∷ l) {x} (Memᴰ.head e) h = or_left (p y) (any_of p l) (subst (λ (z : A). p z ≡ true) e h)
   mem-any p (y ∷ l) (Memᴰ.tail m) h = or_right (p y) (any_of p l) (mem-any p l m h)
 
@@ -72,6 +75,7 @@ module _ {A : Type 0} where
 
   pub mem-keep : (p : A → Bool) (l : List A) {x : A} → Memᴰ x l → p x ≡ true → Memᴰ x (keep p l)
   unfolding keep
+  mem-keep p [] {x = x} x4 h = elim x4 [ ]
   mem-keep p (y ∷ l) {x} (Memᴰ.head e) h = rw (subst (λ (z : A). p z ≡ true) e h) (Memᴰ.head e)
   mem-keep p (y ∷ l) {x} (Memᴰ.tail m) h = go (p y) (mem-keep p l m h)
     where
@@ -94,16 +98,19 @@ module _ {A : Type 0} where
 
   pub mem-joined : (ls : List (List A)) {l : List A} {x : A} → Memᴰ l ls → Memᴰ x l → Memᴰ x (joined ls)
   unfolding joined
+  mem-joined [] {l = l} {x = x} x4 n = elim x4 [ ]
   mem-joined (k ∷ ls) {l} {x} (Memᴰ.head e) n = mem-left k (joined ls) (subst (λ (z : List A). Memᴰ x z) e n)
   mem-joined (k ∷ ls) (Memᴰ.tail m) n = mem-right k (joined ls) (mem-joined ls m n)
 
 -- ---- the image of a list
 module _ {A B : Type 0} (f : A → B) where
   pub mem-map : (l : List A) {x : A} → Memᴰ x l → Memᴰ (f x) (map f l)
+  mem-map [] x3 = elim x3 [ ]
   mem-map (y ∷ l) (Memᴰ.head e) = Memᴰ.head (ap f e)
   mem-map (y ∷ l) (Memᴰ.tail m) = Memᴰ.tail (mem-map l m)
 
   pub map-mem : (l : List A) {y : B} → Memᴰ y (map f l) → (x : A) × Memᴰ x l × (y ≡ f x)
+  map-mem [] {y = y} x' = elim x' [ ]
   map-mem (x ∷ l) (Memᴰ.head e) = (x, Memᴰ.head refl, e)
   map-mem (x ∷ l) (Memᴰ.tail m) = let r = map-mem l m in (r.0, Memᴰ.tail r.1, r.2)
 

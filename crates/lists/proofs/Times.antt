@@ -43,6 +43,7 @@ times-append r xs ys = count-append (λ x. eqb x r) xs ys
 
 -- ---- a member stands in the list at least once
 pub mem-times : (l : List ℕ) (z : ℕ) → Memᴰ z l → 0 < times z l
+mem-times [] z x' = elim x' [ ]
 mem-times (x ∷ l) z (mathlib.Core.List.Memᴰ.head e) = rw (← e) (omega (arith, times-one z l))
 mem-times (x ∷ l) z (mathlib.Core.List.Memᴰ.tail m) = omega (arith, mem-times l z m, times-cons z x l)
 
