@@ -1,4 +1,6 @@
 // A box by value, and boxes as lent: the lower bound on each axis, then the upper bound on each axis.
+#![tactic(auto)]
+
 ghost use Rattle.std.specs.Prelude.{◌≡◌, ◌+◌, ◌*◌, ◌^◌, ◌≤◌, ◌<◌, ◌++◌, length, set, take, replicate};
 ghost use Rattle.lists.specs.Lists.{part, put};
 ghost use Rattle.definition.specs.Number.{plus_zero};
@@ -28,7 +30,7 @@ pub fn bounds_before(dimensions: usize, k: usize) -> usize
 }
 
 // The bounds on up to three axes; those past the dimension are not used.
-#[derive(Drop)]
+#[derive(Clone, Copy)]
 pub struct Extents {
     pub lower: [f64; 3],
     pub upper: [f64; 3],

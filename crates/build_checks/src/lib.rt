@@ -1,4 +1,6 @@
 // The refusals of a build, tried in document 01's order before anything is written.
+#![tactic(auto)]
+
 ghost use Rattle.std.specs.Prelude.{◌≡◌, not, [], ◌∷◌, ◌++◌, ◌/◌, ◌%◌, ◌≤◌, eqb};
 ghost use Rattle.definition.specs.Packed.{build_stated};
 ghost use Rattle.definition.specs.Refusals.{most_points, most_neighbours, on, verdict, settings_tests, points_tests, not_finite_lem, zero_threshold_lem, build_short, build_verdict};
@@ -11,7 +13,7 @@ use config::{DDMParams, SizePolicy};
 use rows::{MOST_NEIGHBOURS, MOST_POINTS};
 
 // What the tests of a build come to: accepted, or refused with a number and a place.
-#[derive(Drop)]
+#[derive(Clone, Copy)]
 pub enum Checked {
     Accepted,
     Refused(usize, usize),

@@ -1,4 +1,6 @@
 // The lengths of the lists that a build is to be lent, for callers who lend them.
+#![tactic(auto)]
+
 ghost use Rattle.std.specs.Prelude.{◌≡◌, ◌≤◌};
 ghost use Rattle.definition.specs.Packed.{build_stated};
 ghost use Rattle.definition.specs.Refusals.{most_points, most_neighbours};
@@ -8,7 +10,7 @@ ghost use Rattle.build_sizes.specs.Sizes.{sizes_of, sizes_report, refused_with};
 use rows::{MOST_NEIGHBOURS, MOST_POINTS};
 
 // The lengths of the five lists, and of the two lists of working room.
-#[derive(Drop)]
+#[derive(Clone, Copy)]
 pub struct BuildSizes {
     pub level_points: usize,
     pub internals: usize,
@@ -20,7 +22,7 @@ pub struct BuildSizes {
 }
 
 // What a call answers: the number of a refusal, 0 for none, and the lengths, which are 0 for a refusal.
-#[derive(Drop)]
+#[derive(Clone, Copy)]
 pub struct SizesAnswer {
     pub number: usize,
     pub sizes: BuildSizes,

@@ -1,4 +1,6 @@
 // Numbers, floats and marks out of a list of bytes.
+#![tactic(auto)]
+
 ghost use Rattle.std.specs.Prelude.{◌≡◌, not, ◌+◌, ◌*◌, ◌%◌, ◌^◌, ◌≤◌, ◌<◌, leb, length, drop};
 ghost use Rattle.std.specs.Float.Ieee.{of_bits, is_nan};
 ghost use Rattle.std.specs.Float.{binary64};

@@ -1,5 +1,7 @@
 // Marks, whole numbers and floats to a list of bytes, the lowest byte first. What bytes_in reads there again is what was written
 // (`number-back` and `Float-back`).
+#![tactic(auto)]
+
 ghost use Rattle.std.specs.Prelude.{◌≡◌, ◌+◌, ◌*◌, ◌≤◌, ◌<◌, length};
 ghost use Rattle.std.specs.Float.Ieee.{to_bits};
 ghost use Rattle.std.specs.Float.{binary64};

@@ -27,7 +27,7 @@ pub fn past_bytes(record: &[u8], at: usize) -> usize
 }
 
 // Where each of the five lists of a tree begins, and the place past them.
-#[derive(Drop)]
+#[derive(Clone, Copy)]
 pub struct Places {
     pub level_points: usize,
     pub internals: usize,

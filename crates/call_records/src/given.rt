@@ -62,7 +62,7 @@ pub fn params(record: &[u8]) -> DDMParams {
 // ---- lengths
 
 // The lengths of the lists that are lent.
-#[derive(Drop)]
+#[derive(Clone, Copy)]
 pub struct Lengths {
     pub points: usize,
     pub level_points: usize,

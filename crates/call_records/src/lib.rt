@@ -1,4 +1,6 @@
 // The records of stored calls: their fields, the settings and lists that they give, and lists and a tree's answer compared with what a record says of them.
+#![tactic(auto)]
+
 mod fields;
 mod fronts;
 mod given;

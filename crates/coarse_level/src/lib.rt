@@ -1,4 +1,6 @@
 // The coarse level of a tree: one domain that holds all active rows.
+#![tactic(auto)]
+
 ghost use Rattle.std.specs.Prelude.{◌≡◌, [], ◌∷◌, ◌+◌, ◌*◌, ◌≤◌, length, replicate};
 ghost use Rattle.lists.specs.Lists.{put, part};
 ghost use Rattle.definition.specs.Number.{plus_zero};

@@ -1,4 +1,6 @@
 // The rows that the leaves of a level send up: the active rows of the next level.
+#![tactic(auto)]
+
 ghost use Rattle.std.specs.Prelude.{◌≡◌, ◌+◌, ◌-◌, ◌*◌, ◌≤◌, ◌<◌, length, take};
 ghost use Rattle.lists.specs.Lists.{total, part, put};
 ghost use Rattle.definition.specs.Quotas.{quotas_for};

@@ -1,5 +1,7 @@
 // The floats of a level's domain rows: the boxes of its leaves, which the cut has packed one after the other, each put to its own row
 // with its cover behind it.
+#![tactic(auto)]
+
 ghost use Rattle.std.specs.Prelude.{◌≡◌, [], ◌∷◌, ◌++◌, ◌+◌, ◌*◌, ◌≤◌, length};
 ghost use Rattle.lists.specs.Lists.{part, put};
 ghost use Rattle.definition.specs.Points.{box_width_lem};

@@ -1,4 +1,6 @@
 // The cut of a domain: its axis, its plane, and its rows in place.
+#![tactic(auto)]
+
 ghost use Rattle.std.specs.Prelude.{◌≡◌, ◌≤◌, ◌<◌, length};
 ghost use Rattle.lists.specs.Ascends.{All};
 ghost use Rattle.definition.specs.Points.{extent};
@@ -7,7 +9,7 @@ ghost use Rattle.rows.specs.Rows.{Inside, GoodRows};
 ghost use Rattle.halving.specs.Cuts.{halved};
 
 // Where a domain is cut: the axis, and the coordinate of the right row that comes first.
-#[derive(Drop)]
+#[derive(Clone, Copy)]
 pub struct Plane {
     pub axis: usize,
     pub value: f64,

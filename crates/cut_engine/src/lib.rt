@@ -1,4 +1,6 @@
 // The two engines that cut a level: its leaves are the same, and the one that goes depth first writes the record of its cuts too.
+#![tactic(auto)]
+
 ghost use Rattle.std.specs.Prelude.{◌≡◌, map, ◌+◌, ◌*◌, ◌≤◌, ◌<◌, length};
 ghost use Rattle.lists.specs.Lists.{put, joined};
 ghost use Rattle.definition.specs.Points.{box_width_lem};
@@ -10,14 +12,14 @@ ghost use Rattle.rows.specs.Rows.{GoodRows};
 ghost use Rattle.cut_engine.specs.Engines.{record_by, nodes_for};
 
 // How a level is cut: domains wait in a queue, or the left half is cut completely before the right.
-#[derive(Drop)]
+#[derive(Clone, Copy)]
 pub enum Engine {
     Queue,
     DepthFirst,
 }
 
 // How many leaves a level has, and how many nodes its record.
-#[derive(Drop)]
+#[derive(Clone, Copy)]
 pub struct Cut {
     pub leaves: usize,
     pub nodes: usize,

@@ -1,4 +1,6 @@
 // What the depth-first cut writes: the node of a cut, and leaves, each with its entry in the table of the leaves, its box and its node.
+#![tactic(auto)]
+
 ghost use Rattle.std.specs.Prelude.{◌≡◌, List, ℕ, ◌+◌, ◌-◌, ◌*◌, ◌/◌, ◌≤◌, ◌<◌, length, set};
 ghost use Rattle.lists.specs.Found.{AsFoundFrom};
 ghost use Rattle.definition.specs.Points.{box_width_lem};
@@ -15,7 +17,7 @@ use cut::Plane;
 use node::Node;
 
 // Where the next node goes, and how many leaves there are so far.
-#[derive(Drop)]
+#[derive(Clone, Copy)]
 pub struct Next {
     pub place: usize,
     pub leaves: usize,

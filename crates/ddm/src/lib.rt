@@ -1,5 +1,7 @@
 // The library: the build of a multilevel domain tree over points, or over the live slots of a table of wells, written to lists that the
 // caller lends; the table's edits; the tree stored and loaded; and the other calls.
+#![tactic(auto)]
+
 ghost use Rattle.config.specs.Params.{settings_of_lem};
 ghost use Rattle.tree_answer.specs.Answers.{tree_answer_lem, lists_of};
 ghost use Rattle.ddm.specs.Build.{Built};

@@ -1,6 +1,8 @@
 // The public functions for C and Rust callers: numbers and slices only. c/ddm.h is their header. Each returns a refusal's
 // number, 0 for none, and writes its place and its values to the slot `result`. A slot that is too short is refused with 11
 // before anything else is looked at, and nothing is written then.
+#![tactic(auto)]
+
 ghost use Rattle.std.specs.Prelude.{◌≡◌};
 ghost use Rattle.definition.specs.Refusals.{stretch_verdict};
 ghost use Rattle.definition.specs.Outcome.{number_of, root_answer, size_answer, sizes_answer};

@@ -1,5 +1,7 @@
 // The program: reads a job stream from standard input and writes the file of its tree to standard output. A refusal goes to standard
 // error, and then nothing is written to standard output.
+#![tactic(auto)]
+
 ghost use Rattle.std.specs.Prelude.{◌≡◌, ◌≤◌, length};
 ghost use Rattle.stored.specs.Programs.{nothing, kept};
 ghost use Rattle.stream_laws.specs.Sizes.{decisive};
@@ -17,7 +19,7 @@ const STREAM: usize = 1024;
 const LINE: usize = 64;
 
 // What is to be written: so many bytes of the file, a refusal by its number and place, or nothing, since a read failed.
-#[derive(Drop)]
+#[derive(Clone, Copy)]
 enum Reply {
     File(usize),
     Refused(usize, usize),

@@ -1,5 +1,7 @@
 // The program `ddm_reload JOB FILE`: reads a job stream and the file of a stored tree, and writes the tree that is loaded, or a refusal,
 // to standard output.
+#![tactic(auto)]
+
 ghost use Rattle.std.specs.Prelude.{false, ◌≡◌, ◌≤◌, ◌<◌, length, take};
 ghost use Rattle.stored.specs.Programs.{most_file, reloaded};
 ghost use Rattle.stream_laws.specs.Sizes.{decisive, most_bytes};

@@ -1,4 +1,6 @@
 // The program: reads a job stream from standard input and writes its printout to standard output.
+#![tactic(auto)]
+
 ghost use Rattle.std.specs.Prelude.{◌≡◌, ◌≤◌, length, take};
 ghost use Rattle.formats.specs.Printout.{printout};
 ghost use Rattle.stream_laws.specs.Sizes.{decisive, most_bytes};
@@ -20,7 +22,7 @@ fn text_room() -> [u8; TEXT]
 }
 
 // What is to be written: so many bytes of the text, or nothing, since a read failed.
-#[derive(Drop)]
+#[derive(Clone, Copy)]
 enum Reply {
     Text(usize),
     Unread,

@@ -1,1 +1,2 @@
 // Laws of the definition of the build; there is no code of its own.
+#![tactic(auto)]

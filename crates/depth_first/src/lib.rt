@@ -1,4 +1,6 @@
 // The leaves of a level, cut depth first, and the record of the cuts.
+#![tactic(auto)]
+
 ghost use Rattle.std.specs.Prelude.{◌≡◌, map, ◌+◌, ◌*◌, ◌^◌, ◌≤◌, ◌<◌, length};
 ghost use Rattle.lists.specs.Lists.{put, joined};
 ghost use Rattle.definition.specs.Points.{box_width_lem};

@@ -1,4 +1,6 @@
 // The build that cuts each level depth first, and writes the records of its cuts.
+#![tactic(auto)]
+
 ghost use Rattle.config.specs.Params.{settings_of_lem};
 ghost use Rattle.tree_answer.specs.Answers.{tree_answer_lem, lists_of};
 ghost use Rattle.depth_first_build.specs.Outcome.{records_of, BuiltDepthFirst};

@@ -4,11 +4,11 @@ ghost use Rattle.definition.specs.Points.{point_at, distance_sq_lem, rows_sq, ro
 ghost use Rattle.rows.specs.Rows.{Inside};
 
 // A place inside a leaf.
-#[derive(Drop)]
+#[derive(Clone, Copy)]
 pub struct LocalIdx(pub usize);
 
 // A row of the point list.
-#[derive(Drop)]
+#[derive(Clone, Copy)]
 pub struct GlobalIdx(pub usize);
 
 // The squared distance of the point whose coordinates start at `a` in `p` and the one at `b` in `q`.

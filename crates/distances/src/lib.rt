@@ -1,4 +1,6 @@
 // Helpers of the build: indices, distances, extents, and the places of least and greatest values.
+#![tactic(auto)]
+
 mod distance;
 mod places;
 

@@ -1,5 +1,7 @@
 // The domain records of a stored tree's level, tested one after the other in the caller's bytes. Two sets of rows, one bit for each row,
 // go along: `left`, the level's rows that no domain so far has, and `listed`, all of the level's rows.
+#![tactic(auto)]
+
 ghost use Rattle.std.specs.Prelude.{◌≡◌, Bool, ℕ, ◌+◌, ◌*◌, ◌≤◌, length};
 ghost use Rattle.formats.specs.Bytes.{number_size, numbers_at};
 ghost use Rattle.marks.specs.Bits.{Marked};
@@ -7,7 +9,7 @@ ghost use Rattle.file_domains.specs.Domains.{Inside, RowsPassed, DomainPassed, D
 
 // Whether the records pass; where they do, where what comes after them starts, how many internal and borrowed rows they have, and the depth
 // of the last one.
-#[derive(Drop)]
+#[derive(Clone, Copy)]
 pub struct Passed {
     pub good: bool,
     pub next: usize,

@@ -1,4 +1,6 @@
 // The head and the points of a stored tree, tested where they stand in the caller's bytes, and compared with the present points.
+#![tactic(auto)]
+
 ghost use Rattle.std.specs.Prelude.{◌≡◌, true, false, not, ◌&&◌, ◌+◌, ◌*◌, ◌^◌, ◌≤◌, ◌<◌, length, drop};
 ghost use Rattle.std.specs.Float.Ieee.Scale.{finite};
 ghost use Rattle.lists.specs.Lists.{any_of, part};
@@ -22,7 +24,7 @@ use settings_record::Settings;
 const HEAD: usize = settings_record::SIZE + bytes_in::NUMBER;
 
 // Whether the head and the points of a file pass; where they do, the settings and the point count in it, and where the levels begin.
-#[derive(Drop)]
+#[derive(Clone, Copy)]
 pub struct Front {
     pub good: bool,
     pub settings: Settings,

@@ -1,6 +1,8 @@
 // The levels of a stored tree, tested one after the other in the caller's bytes: each level's record, its rows among those of the level
 // above, and its domains. Two sets of rows, one bit for each row, go along: `listed`, the rows of the level above and then of the level
 // itself, and `left`, those of the level that no domain so far has.
+#![tactic(auto)]
+
 ghost use Rattle.std.specs.Prelude.{◌≡◌, Bool, true, ◌&&◌, ℕ, ◌+◌, ◌*◌, ◌≤◌, ◌<◌, ltb, length, drop};
 ghost use Rattle.lists.specs.Ascends.{All, Ascends};
 ghost use Rattle.definition.specs.Tree.{Settings};
@@ -28,7 +30,7 @@ const MOST_LEVELS: usize = 4;
 const WORDS: usize = 16_384;
 
 // Whether a whole level record stands at a place; where one does, its counts, and where its rows and its domains begin.
-#[derive(Drop)]
+#[derive(Clone, Copy)]
 pub struct LevelHead {
     pub whole: bool,
     pub rows: usize,
@@ -38,7 +40,7 @@ pub struct LevelHead {
 }
 
 // Whether a level passes; where it does, where what comes after it starts, and how many rows, domains and borrowed rows it has.
-#[derive(Drop)]
+#[derive(Clone, Copy)]
 pub struct LevelPassed {
     pub good: bool,
     pub next: usize,
@@ -48,7 +50,7 @@ pub struct LevelPassed {
 }
 
 // Whether the levels pass; where they do, how many domains and borrowed rows they have.
-#[derive(Drop)]
+#[derive(Clone, Copy)]
 pub struct TreePassed {
     pub good: bool,
     pub domains: usize,

@@ -1,5 +1,7 @@
 // The records of a stored tree, read where they stand in the caller's bytes: a domain's counts, and where its rows, its floats, its depth
 // and the next record begin.
+#![tactic(auto)]
+
 ghost use Rattle.std.specs.Prelude.{◌≡◌, ◌≤◌, drop};
 ghost use Rattle.formats.specs.Bytes.{whole};
 ghost use Rattle.stored.specs.File.{domain_mark};
@@ -14,14 +16,14 @@ const BORROWED: usize = OWN + bytes_in::NUMBER;
 const COUNTS: usize = BORROWED + bytes_in::NUMBER;
 
 // A position in the bytes of a stored tree.
-#[derive(Drop)]
+#[derive(Clone, Copy)]
 pub struct FileReader<'a> {
     pub bytes: &'a [u8],
     pub at: usize,
 }
 
 // Whether a whole domain record stands at a position; where one does, its counts, and where its parts and the next record begin.
-#[derive(Drop)]
+#[derive(Clone, Copy)]
 pub struct Fetched {
     pub whole: bool,
     pub own: usize,

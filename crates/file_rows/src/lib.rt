@@ -1,4 +1,6 @@
 // Rows that stand in bytes, four bytes each: asked for, marked, and taken out of sets.
+#![tactic(auto)]
+
 ghost use Rattle.std.specs.Prelude.{◌≡◌, Bool, true, ◌||◌, ℕ, ◌+◌, ◌*◌, ◌≤◌, length};
 ghost use Rattle.lists.specs.Lists.{member};
 ghost use Rattle.formats.specs.Bytes.{number_size, numbers_at};

@@ -1,4 +1,6 @@
 // One fine level: the leaves of the active rows, by either engine, what they borrow, and the rows that they send up.
+#![tactic(auto)]
+
 ghost use Rattle.std.specs.Prelude.{◌≡◌, map, ◌+◌, ◌*◌, ◌≤◌, length};
 ghost use Rattle.lists.specs.Lists.{put, part, joined};
 ghost use Rattle.definition.specs.Packed.{stretches, row_numbers, row_floats_lem};
@@ -13,7 +15,7 @@ ghost use Rattle.fine_level.specs.Planned.{divided_by, leaves_by, nodes_by, acti
 use cut_engine::Engine;
 
 // What every level of a build shares: how it is cut, the axes, the leaf threshold and the neighbour count.
-#[derive(Drop)]
+#[derive(Clone, Copy)]
 pub struct Plan {
     pub engine: Engine,
     pub dimensions: usize,
@@ -23,7 +25,7 @@ pub struct Plan {
 
 // Where a level stands in the lists: its `a` active rows from `from` on, its leaves' rows likewise, its first domain row, its
 // first borrowed row, and the first node of its record.
-#[derive(Drop)]
+#[derive(Clone, Copy)]
 pub struct Place {
     pub from: usize,
     pub a: usize,
@@ -33,7 +35,7 @@ pub struct Place {
 }
 
 // How many leaves a level has, how many rows they borrow, and how many nodes of its record are written.
-#[derive(Drop)]
+#[derive(Clone, Copy)]
 pub struct Parts {
     pub leaves: usize,
     pub borrowed: usize,
@@ -153,7 +155,7 @@ fn send_up(
 
 // How many leaves a level has, how many rows they borrow, how many active rows the next level has, and how many nodes of its record
 // are written.
-#[derive(Drop)]
+#[derive(Clone, Copy)]
 pub struct Written {
     pub leaves: usize,
     pub borrowed: usize,

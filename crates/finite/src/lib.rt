@@ -1,4 +1,6 @@
 // The test for finite values, and the first value of a list that is not finite.
+#![tactic(auto)]
+
 ghost use Rattle.std.specs.Prelude.{◌≡◌};
 ghost use Rattle.std.specs.Float.Ieee.Scale.{finite};
 ghost use Rattle.definition.specs.Refusals.{first_bad};

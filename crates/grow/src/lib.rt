@@ -1,4 +1,6 @@
 // The tree of an accepted call over all points: the rows of the first level, and the tree over them, for both builds.
+#![tactic(auto)]
+
 ghost use Rattle.std.specs.Prelude.{◌≡◌, map};
 ghost use Rattle.lists.specs.Lists.{put};
 ghost use Rattle.definition.specs.Tree.{levels, point_count};

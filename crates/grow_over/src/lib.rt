@@ -1,4 +1,6 @@
 // The tree over given rows: the coarse threshold, the number of reductions, and all levels, for every build.
+#![tactic(auto)]
+
 ghost use Rattle.std.specs.Prelude.{◌≡◌, map, ◌*◌, ◌^◌, ◌≤◌};
 ghost use Rattle.lists.specs.Lists.{put, part};
 ghost use Rattle.definition.specs.Levels.{threshold};

@@ -1,4 +1,6 @@
 // The stable halves of a list of rows around its middle row.
+#![tactic(auto)]
+
 ghost use Rattle.std.specs.Prelude.{◌≡◌, true, not, ◌+◌, ◌*◌, ◌≤◌, ◌<◌, length};
 ghost use Rattle.lists.specs.Lists.{keep, put};
 ghost use Rattle.rows.specs.Rows.{FiniteOn, GoodRows};

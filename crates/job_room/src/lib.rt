@@ -1,4 +1,5 @@
 // The room that suffices for every job: how long the lists of its tree are, and what a call answers that prints into a lent list.
+#![tactic(auto)]
 
 // The largest job: so many points on three axes, each of which takes so many rows, and its domain rows.
 const POINTS: usize = stream_reader::MOST_POINTS;
@@ -28,7 +29,7 @@ pub const WHOLES: usize = 32 * POINTS + 8 * POINTS * TAKEN;
 pub const TEXT: usize = 139264;
 
 // How many bytes were written, or the number of a refusal (11: the output list is short) and its place.
-#[derive(Drop)]
+#[derive(Clone, Copy)]
 pub struct Printed {
     pub number: usize,
     pub place: usize,

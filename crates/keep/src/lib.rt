@@ -1,4 +1,6 @@
 // The file of the tree of a job stream, as a function on lists: the stream's bytes in, the file's bytes out, or a refusal.
+#![tactic(auto)]
+
 ghost use Rattle.std.specs.Prelude.{◌≡◌, ◌≤◌, length};
 ghost use Rattle.formats.specs.Stream.{job};
 ghost use Rattle.stored.specs.Programs.{kept_job, kept};
@@ -15,7 +17,7 @@ use tree_answer::TreeCounts;
 pub const MOST_FILE_BYTES: usize = 32768;
 
 // The number of a refusal (0 for none) and its place, and how many bytes the file has.
-#[derive(Drop)]
+#[derive(Clone, Copy)]
 pub struct Kept {
     pub number: usize,
     pub place: usize,

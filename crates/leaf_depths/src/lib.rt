@@ -1,4 +1,6 @@
 // The depth of a leaf as it is tested before a tree is written or handed out: for the writer and the loader alike.
+#![tactic(auto)]
+
 ghost use Rattle.std.specs.Prelude.{◌≡◌};
 ghost use Rattle.stored.specs.Sound.{deep_enough};
 ghost use Rattle.tree_tests.specs.InTurn.{depth_passes_lem};

@@ -1,4 +1,6 @@
 // A leaf's rows: the stretch of the internal or of the borrowed list that its domain row names, and the test of the row.
+#![tactic(auto)]
+
 ghost use Rattle.std.specs.Prelude.{◌≡◌, [], length};
 ghost use Rattle.lists.specs.Lists.{part};
 ghost use Rattle.definition.specs.Refusals.{stretch_verdict};
@@ -9,7 +11,7 @@ ghost use Rattle.leaf_rows.specs.Asked.{which_of};
 use packed::DomainRow;
 
 // What is asked for: a leaf's own rows, or its borrowed rows.
-#[derive(Drop)]
+#[derive(Clone, Copy)]
 pub enum Which {
     Own,
     Borrowed,

@@ -1,5 +1,7 @@
 // The leaves of a level: the rows are cut in place where they are to stand, domains wait in a queue in the working room, and leaves are
 // packed there.
+#![tactic(auto)]
+
 ghost use Rattle.std.specs.Prelude.{◌≡◌, [], ◌∷◌, map, ◌+◌, ◌*◌, ◌^◌, ◌≤◌, ◌<◌, length};
 ghost use Rattle.lists.specs.Lists.{put, joined};
 ghost use Rattle.lists.specs.Ascends.{All};

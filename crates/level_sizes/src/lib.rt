@@ -1,4 +1,6 @@
 // The level arithmetic of the build: the coarse threshold, the number of reductions, and the size of the next level.
+#![tactic(auto)]
+
 ghost use Rattle.std.specs.Prelude.{◌≡◌, ◌≤◌, ◌<◌, ◌^◌};
 ghost use Rattle.definition.specs.Levels.{auto, threshold, reductions, exact_size_lem, level_size_lem};
 ghost use Rattle.definition.specs.Refusals.{most_points};
@@ -10,7 +12,7 @@ use config::SizePolicy;
 use rows::MOST_POINTS;
 
 // The size of the next level, or why there is none. `size_report` gives document 01's number of each refusal.
-#[derive(Drop)]
+#[derive(Clone, Copy)]
 pub enum LevelSize {
     Points(usize),
     ZeroThreshold,

@@ -1,4 +1,6 @@
 // The levels of a tree: a fine level while the active rows outnumber the coarse threshold, and then the coarse level.
+#![tactic(auto)]
+
 ghost use Rattle.std.specs.Prelude.{◌≡◌, ◌&&◌, map, ◌≤◌, ◌<◌, ltb, length, replicate};
 ghost use Rattle.lists.specs.Lists.{put, part};
 ghost use Rattle.definition.specs.Levels.{level_size_lem};
@@ -17,7 +19,7 @@ use fine_level::{Place, Plan};
 const MOST_FINE: usize = 3;
 
 // The number of levels, and the rows and the domains of each.
-#[derive(Drop)]
+#[derive(Clone, Copy)]
 pub struct Counts {
     pub levels: usize,
     pub rows: [usize; 4],

@@ -1,5 +1,7 @@
 // The leaves of a level that stand in packed lists, tested one after the other. Two sets of rows are kept as bits: the rows that the level
 // lists, and those of them that no leaf before has.
+#![tactic(auto)]
+
 ghost use Rattle.std.specs.Prelude.{◌≡◌, ℕ, ◌+◌, ◌≤◌, ◌<◌, length, get_or};
 ghost use Rattle.lists.specs.Lists.{part};
 ghost use Rattle.definition.specs.Number.{plus_zero};
@@ -14,7 +16,7 @@ ghost use Rattle.list_domains.specs.Passed.{Ready, RowsPassed, DomainPassed, Dom
 use packed::DomainRow;
 
 // Whether a domain row and its leaf pass, how many own and borrowed rows it has, and its depth.
-#[derive(Drop)]
+#[derive(Clone, Copy)]
 pub struct Passed {
     pub good: bool,
     pub own: usize,
@@ -23,7 +25,7 @@ pub struct Passed {
 }
 
 // Whether all domain rows of a level pass, and where their borrowed rows end.
-#[derive(Drop)]
+#[derive(Clone, Copy)]
 pub struct AllPassed {
     pub good: bool,
     pub borrowed_at: usize,

@@ -1,4 +1,6 @@
 // The levels of a tree that stand in packed lists, tested one after the other, and the whole tree.
+#![tactic(auto)]
+
 ghost use Rattle.std.specs.Prelude.{◌≡◌, false, ◌&&◌, ◌+◌, ◌*◌, ◌≤◌, ◌<◌, leb, length};
 ghost use Rattle.lists.specs.Lists.{part};
 ghost use Rattle.lists.specs.Ascends.{All, Ascends};
@@ -20,7 +22,7 @@ use tree_answer::TreeCounts;
 const WORDS: usize = 16_384;
 
 // Whether a tree in lists passes, and how many rows, domains and borrowed rows its levels have in all.
-#[derive(Drop)]
+#[derive(Clone, Copy)]
 pub struct ListsPassed {
     pub good: bool,
     pub rows: usize,

@@ -1,4 +1,6 @@
 // Rows that stand in a list: asked for, marked, and taken out of sets.
+#![tactic(auto)]
+
 ghost use Rattle.std.specs.Prelude.{◌≡◌, Bool, true, ◌||◌, ℕ, ◌+◌, ◌≤◌, leb, length};
 ghost use Rattle.lists.specs.Lists.{member, part};
 ghost use Rattle.tree_tests.specs.InTurn.{without, in_order_lem};

@@ -1,4 +1,6 @@
 // The live slots of a table as a list of rows.
+#![tactic(auto)]
+
 ghost use Rattle.std.specs.Prelude.{◌≡◌, ◌≤◌, length};
 ghost use Rattle.lists.specs.Lists.{put, keep, from};
 ghost use Rattle.definition.specs.Table.{flagged};

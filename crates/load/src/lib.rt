@@ -1,4 +1,6 @@
 // The loader: the tree that stands in the bytes of a file, handed out to lists that the caller lends.
+#![tactic(auto)]
+
 ghost use Rattle.std.specs.Prelude.{◌≡◌, true};
 ghost use Rattle.definition.specs.Refusals.{accepted, verdict};
 ghost use Rattle.stored.specs.Stored.{levels_place, well_formed};
@@ -13,7 +15,7 @@ use tree_answer::DDMTree;
 use tree_checks::TreeSizes;
 
 // Whether bytes are well formed; where they are, where the levels begin.
-#[derive(Drop)]
+#[derive(Clone, Copy)]
 pub struct FilePassed {
     pub good: bool,
     pub next: usize,

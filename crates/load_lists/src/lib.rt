@@ -1,5 +1,7 @@
 // The tree that stands in the bytes of a file, written to the fronts of the lists that the caller lends. The records are known to be
 // whole, and the lists to be long enough.
+#![tactic(auto)]
+
 ghost use Rattle.std.specs.Prelude.{◌≡◌, true, cond, [], ◌∷◌, ◌+◌, ◌-◌, ◌*◌, ◌≤◌, eqb, length, drop};
 ghost use Rattle.lists.specs.Lists.{put};
 ghost use Rattle.definition.specs.Packed.{row_floats_lem, most_levels, counts_of, packed_level_points, packed_internals, packed_domains, packed_boxes, packed_borrowed};
@@ -26,7 +28,7 @@ const MOST_LEVELS: usize = 4;
 
 // Where the next record starts in the file, and where its parts go in the lists: level points, internals, borrowed rows and domain
 // row.
-#[derive(Drop)]
+#[derive(Clone, Copy)]
 struct Cursor {
     pub at: usize,
     pub points: usize,

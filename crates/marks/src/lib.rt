@@ -1,4 +1,6 @@
 // Sets of rows, one bit for each row in a list of words: 16,384 words hold 1,048,576 rows.
+#![tactic(auto)]
+
 ghost use Rattle.std.specs.Prelude.{◌≡◌, Bool, false, not, ◌&&◌, ◌||◌, ℕ, ◌*◌, ◌≤◌, ◌<◌, eqb, ltb, length};
 ghost use Rattle.marks.specs.Bits.{bit_at, marking, unmarking, Marked, TakenOut};
 

@@ -1,4 +1,6 @@
 // The middle row of a list of rows, found without sorting them all.
+#![tactic(auto)]
+
 ghost use Rattle.std.specs.Prelude.{◌≡◌, true, ◌+◌, ◌*◌, ◌≤◌, ◌<◌, length, take};
 ghost use Rattle.lists.specs.Lists.{count, keep, put};
 ghost use Rattle.rows.specs.Rows.{FiniteOn, GoodRows};
@@ -60,7 +62,7 @@ fn keep_side(
 }
 
 // Where the search stands: among the first `count` rows of a list, the row is looked for that has `rank` of them before it.
-#[derive(Drop)]
+#[derive(Clone, Copy)]
 struct Search {
     count: usize,
     rank: usize,

@@ -1,4 +1,6 @@
 // A node of the cut record, by value, and as lent: a whole number and a float.
+#![tactic(auto)]
+
 ghost use Rattle.std.specs.Prelude.{◌≡◌, ◌+◌, ◌^◌, ◌<◌, length, get_or, set};
 ghost use Rattle.std.specs.Float.{nan};
 ghost use Rattle.definition.specs.Record.{whole_of, float_of};
@@ -11,7 +13,7 @@ pub const LEAF: usize = 3;
 pub const ENTRY: usize = 3;
 
 // A cut, with its axis and the coordinate of its plane, or a leaf with its number.
-#[derive(Drop)]
+#[derive(Clone, Copy)]
 pub enum Node {
     Cut { axis: usize, plane: f64 },
     Leaf(usize),

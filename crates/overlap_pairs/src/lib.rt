@@ -1,4 +1,6 @@
 // The pairs of rows that two leaves lend each other, each as a number: the leaf that borrows, and the position of the row.
+#![tactic(auto)]
+
 ghost use Rattle.std.specs.Prelude.{◌≡◌, ◌+◌, ◌*◌, ◌<◌, ◌≤◌, length, get_or};
 ghost use Rattle.lists.specs.Lists.{put};
 ghost use Rattle.definition.specs.Refusals.{most_neighbours};

@@ -1,4 +1,6 @@
 // The rows that each leaf of a level borrows from the other leaves.
+#![tactic(auto)]
+
 ghost use Rattle.std.specs.Prelude.{◌≡◌, ℕ, ◌+◌, ◌*◌, ◌<◌, ◌≤◌, ◌%◌, length, get_or, take};
 ghost use mathlib.Core.List.{List, map, Memᴰ};
 ghost use Rattle.lists.specs.Lists.{put, joined};

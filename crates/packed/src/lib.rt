@@ -1,4 +1,6 @@
 // Domain rows in the lent lists: their strides, and a row read and written. No other crate knows which of a row's numbers says what.
+#![tactic(auto)]
+
 ghost use Rattle.std.specs.Prelude.{◌≡◌, ◌+◌, ◌*◌, ◌^◌, ◌≤◌, ◌<◌, length};
 ghost use Rattle.definition.specs.Packed.{row_numbers, row_floats_lem};
 ghost use Rattle.packed.specs.Rows.{plain_row, IsRow, put_row_lem, put_own_lem, put_borrowed_lem};
@@ -22,7 +24,7 @@ pub const COVER: usize = 1;
 pub const MOST_ROW_FLOATS: usize = boxes::WIDEST_BOX + COVER;
 
 // A domain row: where the leaf's stretch of each list starts, and how many rows it has there; and the leaf's depth.
-#[derive(Drop)]
+#[derive(Clone, Copy)]
 pub struct DomainRow {
     pub internal_start: usize,
     pub internal_count: usize,

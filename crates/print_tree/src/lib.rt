@@ -1,5 +1,7 @@
 // The printout of a tree, line by line, from the packed lists: each part is appended to a lent list of bytes at a position, and
 // the answer is the next position.
+#![tactic(auto)]
+
 ghost use Rattle.std.specs.Prelude.{ℕ, ◌+◌, ◌<◌};
 ghost use Rattle.formats.specs.Printout.{domain_line, fine_lines, levels_text, tree_text};
 ghost use Rattle.bytes_out.specs.Wrote.{Wrote, RoomFor};

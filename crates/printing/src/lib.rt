@@ -1,4 +1,6 @@
 // Texts, numbers and lists on standard output, for the programs that run stored edges.
+#![tactic(auto)]
+
 ghost use Rattle.std.specs.Prelude.{◌≡◌, min, length};
 
 // Writes the text.

@@ -1,4 +1,6 @@
 // What the program prints for a job stream, as a function on lists: bytes in, bytes out, and the count of them back.
+#![tactic(auto)]
+
 ghost use Rattle.std.specs.Prelude.{◌≡◌, ◌≤◌, length};
 ghost use Rattle.formats.specs.Stream.{job};
 ghost use Rattle.formats.specs.Printout.{job_text, printout as printed};

@@ -1,10 +1,12 @@
 // What the programs read: a file descriptor's bytes up to a list's room, and what the input may be when this much of it was read.
+#![tactic(auto)]
+
 ghost use Rattle.std.specs.Prelude.{◌≡◌, ◌-◌, ◌≤◌, length, take};
 ghost use Rattle.libc.specs.Io.{Moved};
 ghost use Rattle.program_input.specs.Input.{front_after_lem, Stopped};
 
 // Where reading stands: so many bytes were read and the end was not seen, the input ended after so many, or a read failed.
-#[derive(Drop)]
+#[derive(Clone, Copy)]
 pub enum Front {
     Open(usize),
     Ended(usize),

@@ -1,4 +1,6 @@
 // The breadth-first queue of domains: what a turn of its loop writes to the lent lists. The loop's laws are in proofs/.
+#![tactic(auto)]
+
 ghost use Rattle.std.specs.Prelude.{◌≡◌, ◌+◌, ◌*◌, ◌^◌, ◌≤◌, ◌<◌, [], ◌∷◌, length};
 ghost use Rattle.lists.specs.Lists.{put};
 ghost use Rattle.definition.specs.Packed.{row_numbers};

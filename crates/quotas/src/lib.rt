@@ -1,4 +1,6 @@
 // The leaves' quotas: how many of its rows each leaf sends up to the next level, by largest remainder.
+#![tactic(auto)]
+
 ghost use Rattle.std.specs.Prelude.{◌≡◌, length, take, eqb, ℕ, ◌+◌, ◌-◌, ◌*◌, ◌≤◌, ◌<◌, min, max};
 ghost use Rattle.lists.specs.Lists.{one_if, total};
 ghost use Rattle.definition.specs.Quotas.{size_at, nonempty, leftover, quotas_for};
@@ -13,7 +15,7 @@ use rows::MOST_POINTS;
 
 // The leaves that got a quota and the seats handed out in all, or why there are none. `quota_report_lem` gives document 01's
 // number of each refusal.
-#[derive(Drop)]
+#[derive(Clone, Copy)]
 pub enum QuotaAnswer {
     Seated { leaves: usize, seats: usize },
     TooManyPoints,

@@ -1,4 +1,6 @@
 // The refusals of the build that cuts depth first: those of a build, in its order, with the two lists of the record among the lists.
+#![tactic(auto)]
+
 ghost use Rattle.std.specs.Prelude.{◌≡◌, ◌||◌, ◌≤◌};
 ghost use Rattle.definition.specs.Packed.{build_stated};
 ghost use Rattle.definition.specs.Refusals.{most_points, most_neighbours, build_short};
@@ -16,7 +18,7 @@ use config::DDMParams;
 const NODES: usize = 12;
 
 // The lengths of the two lists that take the records.
-#[derive(Drop)]
+#[derive(Clone, Copy)]
 pub struct RecordSizes {
     pub cuts: usize,
     pub planes: usize,

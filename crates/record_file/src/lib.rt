@@ -1,8 +1,10 @@
 // A file of stored calls, read record by record: a length of 4 bytes, and as many bytes.
+#![tactic(auto)]
+
 ghost use Rattle.std.specs.Prelude.{◌≤◌, length};
 
 // Whether the file has a further record, whether it is whole, and how many bytes it has.
-#[derive(Drop)]
+#[derive(Clone, Copy)]
 pub struct Next {
     pub found: bool,
     pub whole: bool,

@@ -1,5 +1,7 @@
 // What is printed for a job stream and the file of a stored tree, as a function on lists: the tree that is loaded, as the tree of a build
 // is printed, or a refusal.
+#![tactic(auto)]
+
 ghost use Rattle.std.specs.Prelude.{◌≡◌, ◌≤◌, length};
 ghost use Rattle.formats.specs.Stream.{job};
 ghost use Rattle.stored.specs.Programs.{reloaded_for, reloaded};

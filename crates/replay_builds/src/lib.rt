@@ -1,4 +1,6 @@
 // A call of the build over slots on the table that a record gives, in lists of the given lengths that hold 9, and its outcome.
+#![tactic(auto)]
+
 ghost use Rattle.std.specs.Prelude.{◌≡◌, true, ◌^◌, ◌≤◌};
 ghost use Rattle.replay_builds.specs.Room.{Fitting};
 

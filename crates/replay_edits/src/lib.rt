@@ -1,4 +1,6 @@
 // A call of add or retire on the table that a record gives, and its outcome.
+#![tactic(auto)]
+
 ghost use Rattle.std.specs.Prelude.{◌^◌, ◌≤◌};
 
 use table_edits::EditAnswer;

@@ -1,4 +1,6 @@
 // The call of a load: five lists of the given lengths that hold 9, and their outcome.
+#![tactic(auto)]
+
 ghost use Rattle.std.specs.Prelude.{◌^◌, ◌≤◌, length};
 ghost use Rattle.call_records.specs.Room.{Fitting};
 

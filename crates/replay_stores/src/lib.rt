@@ -1,4 +1,6 @@
 // The call of a store: five lists of the given lengths with their fronts, a file list that holds 9, and the outcome.
+#![tactic(auto)]
+
 ghost use Rattle.std.specs.Prelude.{◌+◌, ◌^◌, ◌≤◌};
 ghost use Rattle.call_records.specs.Room.{Fitting};
 

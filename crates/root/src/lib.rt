@@ -1,4 +1,6 @@
 // Numbers: the square root of an f64, rounded to the nearest value as IEEE 754 asks.
+#![tactic(auto)]
+
 ghost use Rattle.std.specs.Prelude.{◌≡◌, ◌+◌, ◌*◌, ◌/◌, ◌^◌, ◌≤◌, ◌<◌, leb};
 ghost use Rattle.definition.specs.Number.{square_root_lem};
 ghost use Rattle.definition.specs.Outcome.{root_answer};
@@ -6,14 +8,14 @@ ghost use Rattle.root_laws.specs.Steps.{Leading, NearRoot, RootBits};
 ghost use Rattle.root.specs.Answers.{root_report};
 
 // What a call of the root answers: the root, or that it is refused (number 15).
-#[derive(Drop)]
+#[derive(Clone, Copy)]
 pub enum RootAnswer {
     Value(f64),
     Refused,
 }
 
 // A significand m with its leading digit at bit 52, and an exponent.
-#[derive(Drop)]
+#[derive(Clone, Copy)]
 struct Lead {
     m: u64,
     e: u64,

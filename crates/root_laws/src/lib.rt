@@ -1,1 +1,2 @@
 // Laws of the square root of the definition; there is no code of its own.
+#![tactic(auto)]

@@ -1,5 +1,6 @@
 // The limits of a build: how many points, neighbours and leaves it may have, and how large a row may be. The facts about rows stand
 // in specs and proofs.
+#![tactic(auto)]
 
 // A build takes at most this many points (the definition's most_points).
 pub const MOST_POINTS: usize = 1_048_576;

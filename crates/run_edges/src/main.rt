@@ -1,5 +1,7 @@
 // Runs document 01's edges of the level arithmetic, the quotas, sampling and the build, and prints what each call answers and leaves
 // in its lists.
+#![tactic(auto)]
+
 mod build_edges;
 mod level_edges;
 mod quota_edges;

@@ -1,6 +1,8 @@
 // Replays stored job streams: reads the file that the first argument names, prints each stream there, and says how many printouts
 // are not the stored ones. A record of the file is the stream's length and the answer's length (2 bytes each, the lowest first), the
 // stream, and the answer. tools/make_job_streams.py makes the file.
+#![tactic(auto)]
+
 ghost use Rattle.std.specs.Prelude.{◌≡◌, ◌+◌, ◌≤◌, ◌<◌, length};
 ghost use Rattle.stream_laws.specs.Sizes.{most_bytes};
 
@@ -22,7 +24,7 @@ fn text_room() -> [u8; TEXT]
 }
 
 // How many streams were printed, and how many of the printouts are not the stored ones.
-#[derive(Drop)]
+#[derive(Clone, Copy)]
 struct Tally {
     streams: u64,
     differ: u64,

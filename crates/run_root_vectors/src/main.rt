@@ -1,6 +1,8 @@
 // Replays stored vectors of the square root: reads the file that the first argument names, takes the root of each value
 // there, and says how many of them are not the stored ones. A line has two patterns of 16 hexadecimal digits, a value
 // and its root, with a space between them; no root is the pattern of NaN. tools/make_root_vectors.py makes the file.
+#![tactic(auto)]
+
 ghost use Rattle.std.specs.Prelude.{◌≡◌, ◌+◌, ◌≤◌, length};
 ghost use Rattle.std.specs.Float.{binary64};
 ghost use Rattle.std.specs.Float.Ieee.{nan_bits};

@@ -1,6 +1,7 @@
 // Replays stored calls of the loader and the writer: reads the file that the first argument names, makes each call there, and says how
 // many of the calls differ from their stored outcomes, in their answers or in an entry of a list. tools/make_stored_calls.py makes the
 // file, and its head says the form of a record.
+#![tactic(auto)]
 
 // More records than this are not replayed.
 const MOST: u64 = 100000;
@@ -11,7 +12,7 @@ const LOAD: usize = 1;
 const STORE: usize = 2;
 
 // How many calls were made, and how many of them differ.
-#[derive(Drop)]
+#[derive(Clone, Copy)]
 struct Tally {
     calls: u64,
     differ: u64,

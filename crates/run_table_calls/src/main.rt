@@ -1,6 +1,8 @@
 // Replays stored calls of add, retire and the build over slots: reads the file that the first argument names, makes each call there, and
 // says how many of the calls differ from their stored outcomes, in their answers, in the head or in an entry of a list, and which differs
 // first. tools/make_table_calls.py makes the file, and its head says the form of a record.
+#![tactic(auto)]
+
 ghost use Rattle.std.specs.Prelude.{◌^◌, ◌≤◌};
 
 // More records than this are not replayed.
@@ -19,7 +21,7 @@ const FLAGS: usize = 40;
 const COORDINATES: usize = 130;
 
 // How many calls were made, how many of them differ, and the first of those, counted from 1.
-#[derive(Drop)]
+#[derive(Clone, Copy)]
 struct Tally {
     calls: u64,
     differ: u64,

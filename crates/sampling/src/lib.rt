@@ -1,4 +1,6 @@
 // The public call of sampling: its refusals, and the sampling of all rows of a point list.
+#![tactic(auto)]
+
 ghost use Rattle.std.specs.Prelude.{◌≡◌, ◌||◌, ◌≤◌, eqb, ltb, leb};
 ghost use Rattle.definition.specs.Packed.{sample_stated};
 ghost use Rattle.definition.specs.Refusals.{wrong_dimension_lem, most_points, sample_short, sample_verdict};
@@ -9,14 +11,14 @@ use distances::LocalIdx;
 use rows::MOST_POINTS;
 
 // What a sampling answers: the count of rows written and their cover, or a refusal's number and place.
-#[derive(Drop)]
+#[derive(Clone, Copy)]
 pub enum SampleAnswer {
     Sampled { rows: usize, cover: f64 },
     Refused(u8, usize),
 }
 
 // What the tests of a call find: no refusal, or its number and place.
-#[derive(Drop)]
+#[derive(Clone, Copy)]
 enum SampleTests {
     Passed,
     Failed(u8, usize),

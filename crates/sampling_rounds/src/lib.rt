@@ -1,5 +1,7 @@
 // The sampling of a list of rows. In a round each row's least squared distance to the chosen rows is brought up to date,
 // and the farthest row is chosen. -1 stands for the square of a chosen row: it is below every squared distance.
+#![tactic(auto)]
+
 ghost use Rattle.std.specs.Prelude.{◌≡◌, true, false, ℕ, ◌+◌, ◌<◌, ◌≤◌, length, get_or};
 ghost use Rattle.std.specs.Float.{nan, inf};
 ghost use Rattle.lists.specs.Lists.{put};
@@ -11,7 +13,7 @@ ghost use Rattle.sampling_rounds.specs.Rounds.{lesser, lessened, KeptSquare, Pea
 use distances::{GlobalIdx, LocalIdx};
 
 // The greatest square of a round, its first place, and a bound of the squares at the places before it.
-#[derive(Drop)]
+#[derive(Clone, Copy)]
 struct Peak {
     place: usize,
     most: f64,

@@ -1,4 +1,6 @@
 // The seed of a leaf's sampling: the first row nearest the centroid of its rows.
+#![tactic(auto)]
+
 ghost use Rattle.std.specs.Prelude.{◌≡◌, ℕ, ◌<◌, ◌≤◌, length, get_or};
 ghost use Rattle.std.specs.Float.{nan};
 ghost use Rattle.definition.specs.Sampling.{centroid, seed_of};

@@ -1,4 +1,6 @@
 // The settings record of a job stream, and of a stored tree: read, written and compared.
+#![tactic(auto)]
+
 ghost use Rattle.std.specs.Prelude.{◌≡◌, ◌++◌, ◌+◌, ◌-◌, ◌≤◌, ◌<◌, length};
 ghost use Rattle.lists.specs.Lists.{part, put};
 ghost use Rattle.definition.specs.Levels.{policy_from};
@@ -27,14 +29,14 @@ const THRESHOLD: usize = POLICY + 1;
 pub const SIZE: usize = THRESHOLD + bytes_in::NUMBER;
 
 // The number of axes, and the settings of the build.
-#[derive(Drop)]
+#[derive(Clone, Copy)]
 pub struct Settings {
     pub dimensions: usize,
     pub params: DDMParams,
 }
 
 // A policy as the record has it: its number, and its threshold, which is 0 for Auto.
-#[derive(Drop)]
+#[derive(Clone, Copy)]
 struct PolicyFields {
     kind: usize,
     threshold: u32,

@@ -1,4 +1,6 @@
 // What the exported functions write to their result slots, and return: one small function for each kind of answer.
+#![tactic(auto)]
+
 ghost use Rattle.std.specs.Prelude.{◌≡◌, ◌∷◌, ◌++◌, ℕ, ◌≤◌, length};
 ghost use Rattle.lists.specs.Lists.{put};
 ghost use Rattle.root.specs.Answers as root-answers;
@@ -74,7 +76,7 @@ pub fn size_value(size: LevelSize) -> usize
 }
 
 // What a call with a slot of two entries returns and writes there.
-#[derive(Drop)]
+#[derive(Clone, Copy)]
 pub struct Report {
     pub number: usize,
     pub first: usize,

@@ -1,4 +1,6 @@
 // The refusals of a build over the live slots of a table, tried in their order before anything is written.
+#![tactic(auto)]
+
 ghost use Rattle.std.specs.Prelude.{◌≡◌, false, ◌||◌, [], ◌∷◌, ◌++◌, ◌*◌, ◌≤◌, ltb, length};
 ghost use Rattle.lists.specs.Lists.{keep, from};
 ghost use Rattle.definition.specs.Packed.{build_stated};

@@ -1,5 +1,7 @@
 // The depth-first cut of a domain: its halves are cut by the function itself, the left one completely before the right one. The nodes of
 // the record are written in that order, and the leaves, from left to right, to a table and a list of boxes.
+#![tactic(auto)]
+
 ghost use Rattle.std.specs.Prelude.{◌≡◌, ◌+◌, ◌-◌, ◌/◌, ◌^◌, ◌≤◌, ◌<◌, length};
 ghost use Rattle.definition.specs.Points.{box_width_lem};
 ghost use Rattle.rows.specs.Rows.{GoodRows};

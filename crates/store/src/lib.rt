@@ -1,4 +1,6 @@
 // The writer: the tree that a caller's lists and counts hold, written as the bytes of a file to a list that the caller lends.
+#![tactic(auto)]
+
 ghost use Rattle.std.specs.Prelude.{◌≡◌};
 ghost use Rattle.definition.specs.Refusals.{accepted, verdict};
 ghost use Rattle.config.specs.Params.{settings_of_lem};
@@ -23,7 +25,7 @@ const COUNTS: usize = bytes_in::MARK + 2 * bytes_in::NUMBER;
 const END: usize = bytes_in::FLOAT + bytes_in::NUMBER;
 
 // The number of a refusal (0 for none) and its place, and how many bytes were written.
-#[derive(Drop)]
+#[derive(Clone, Copy)]
 pub struct StoreAnswer {
     pub number: usize,
     pub place: usize,

@@ -1,5 +1,7 @@
 // The bytes of a stored tree, from the points, the counts and the packed lists: records one after the other, written to a lent list of
 // bytes. Each function answers with the offset after what it wrote.
+#![tactic(auto)]
+
 ghost use Rattle.std.specs.Prelude.{◌≡◌, ℕ, ◌+◌, ◌*◌, ◌≤◌, ◌<◌, map, length};
 ghost use Rattle.lists.specs.Lists.{joined, from, part, put};
 ghost use Rattle.config.specs.Params.{settings_of_lem};

@@ -1,5 +1,7 @@
 // The records of a stored tree, each written to a lent list of bytes from an offset on. Each function answers with the offset after
 // what it wrote.
+#![tactic(auto)]
+
 ghost use Rattle.std.specs.Prelude.{◌+◌, ◌*◌, ◌≤◌, ◌<◌, length};
 ghost use Rattle.lists.specs.Lists.{part};
 ghost use Rattle.definition.specs.Packed.{row_floats_lem};

@@ -1,1 +1,2 @@
 // Laws of the stored tree; there is no code of its own.
+#![tactic(auto)]

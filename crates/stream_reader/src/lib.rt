@@ -1,4 +1,6 @@
 // The job stream: settings and points from a list of bytes.
+#![tactic(auto)]
+
 ghost use Rattle.std.specs.Prelude.{◌≡◌, ◌&&◌, ◌*◌, ◌≤◌, length};
 ghost use Rattle.formats.specs.Bytes.{whole};
 ghost use Rattle.formats.specs.Stream.{settings_mark, settings_size, policy_fits_lem, stream_points, job_in};
@@ -12,7 +14,7 @@ pub const MOST_POINTS: usize = 32;
 pub const MOST_NEIGHBOURS: u32 = 16;
 
 // A whole job with the number of its points, or a refusal with its number and place.
-#[derive(Drop)]
+#[derive(Clone, Copy)]
 pub enum Read {
     Whole(Settings, usize),
     Broken(usize, usize),

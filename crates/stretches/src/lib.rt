@@ -1,4 +1,6 @@
 // Whole numbers written to a stretch of a list: copied, as a pair, or counted up.
+#![tactic(auto)]
+
 ghost use Rattle.std.specs.Prelude.{◌≡◌, [], ◌∷◌, ◌+◌, ◌≤◌, length};
 ghost use Rattle.lists.specs.Lists.{put, part, from};
 

@@ -1,4 +1,6 @@
 // The table of wells with its head: thin functions over those on plain numbers and lists.
+#![tactic(auto)]
+
 ghost use Rattle.std.specs.Prelude.{◌≡◌};
 ghost use Rattle.table_checks.specs.Tables.{table_of};
 ghost use Rattle.table_edits.specs.Edits.{edit_answer, Added, Retired};
@@ -7,7 +9,7 @@ use table_edits::EditAnswer;
 
 // The table's head: its slot count and its live count.
 #[repr(C)]
-#[derive(Drop)]
+#[derive(Clone, Copy)]
 pub struct Head {
     pub slots: usize,
     pub live: usize,

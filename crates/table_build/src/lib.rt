@@ -1,4 +1,6 @@
 // The build over the live slots of a table of wells.
+#![tactic(auto)]
+
 ghost use Rattle.config.specs.Params.{settings_of_lem};
 ghost use Rattle.tree_answer.specs.Answers.{tree_answer_lem, lists_of};
 ghost use Rattle.table_checks.specs.Tables.{table_of};

@@ -1,4 +1,6 @@
 // What a pass over the flags of a table of wells says: its live slots, its lowest retired one, and whether its head fits them.
+#![tactic(auto)]
+
 ghost use Rattle.std.specs.Prelude.{◌≡◌, false, not, ◌≤◌, min, length};
 ghost use Rattle.lists.specs.Lists.{keep, least, from};
 ghost use Rattle.definition.specs.Refusals.{most_points};
@@ -18,7 +20,7 @@ pub fn capacity(flags_len: usize) -> usize
 }
 
 // How many of the slots below the slot count are live, and the lowest that is not; the slot count where all are.
-#[derive(Drop)]
+#[derive(Clone, Copy)]
 pub struct Found {
     pub live: usize,
     pub next: usize,
@@ -48,7 +50,7 @@ pub fn survey(flags: &[u8], slots: usize) -> Found
 }
 
 // Whether 27 refuses a table; and where it does not, the slot that an add takes.
-#[derive(Drop)]
+#[derive(Clone, Copy)]
 pub struct Sounded {
     pub unsound: bool,
     pub next: usize,

@@ -1,4 +1,6 @@
 // Adding a well to a table and retiring one, on plain numbers and lists.
+#![tactic(auto)]
+
 ghost use Rattle.std.specs.Prelude.{◌≡◌, ◌&&◌, cond, suc, ◌+◌, ◌≤◌, max, eqb, length};
 ghost use Rattle.lists.specs.Lists.{put};
 ghost use Rattle.definition.specs.Refusals.{most_points, verdict};
@@ -8,7 +10,7 @@ ghost use Rattle.table_checks.specs.Tables.{head_of, table_of};
 ghost use Rattle.table_edits.specs.Edits.{edit_answer, head_after, refusal, Added, Retired};
 
 // What an edit answers: the number of a refusal (0 for none), its place, and the slot; and the head's counters after it.
-#[derive(Drop)]
+#[derive(Clone, Copy)]
 pub struct EditAnswer {
     pub number: usize,
     pub place: usize,
@@ -18,7 +20,7 @@ pub struct EditAnswer {
 }
 
 // The number of a refusal, or 0; and, where it is 0, the slot that an add takes.
-#[derive(Drop)]
+#[derive(Clone, Copy)]
 pub struct Fault {
     pub number: usize,
     pub next: usize,

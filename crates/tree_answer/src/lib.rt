@@ -1,10 +1,12 @@
 // What a build or a load answers, and the counts of a tree by themselves.
+#![tactic(auto)]
+
 ghost use Rattle.std.specs.Prelude.{◌≡◌};
 ghost use Rattle.definition.specs.Outcome.{zero_counts};
 ghost use Rattle.tree_answer.specs.Answers.{tree_answer_lem};
 
 // The number of a refusal (0 for none) and its place; how many levels the tree has, and how many rows and domains each of them has.
-#[derive(Drop)]
+#[derive(Clone, Copy)]
 pub struct DDMTree {
     pub number: usize,
     pub place: usize,
@@ -14,7 +16,7 @@ pub struct DDMTree {
 }
 
 // The counts alone, as a caller hands them back.
-#[derive(Drop)]
+#[derive(Clone, Copy)]
 pub struct TreeCounts {
     pub levels: usize,
     pub rows: [usize; 4],

@@ -1,4 +1,6 @@
 // The build's own refusals for a call that is lent the five lists of a tree and no working room: those of the loader and the writer.
+#![tactic(auto)]
+
 ghost use Rattle.std.specs.Prelude.{◌≡◌};
 ghost use Rattle.definition.specs.Refusals.{verdict};
 ghost use Rattle.definition.specs.Outcome.{TreeLists};
@@ -15,7 +17,7 @@ use config::DDMParams;
 const ANY: usize = 0xffff_ffff_ffff_ffff;
 
 // The lengths of the five lists.
-#[derive(Drop)]
+#[derive(Clone, Copy)]
 pub struct TreeSizes {
     pub level_points: usize,
     pub internals: usize,
