@@ -37,8 +37,8 @@ row_at domains j =
 
 -- ---- what it names: the leaf's own rows, the rows that it borrows, and its floats on d axes, which are its box and its cover
 
-abbrev pub field_own : List ℕ → List ℕ → ℕ → List ℕ
-field_own internals domains j = part internals (own_start domains j) (own_count domains j)
+abbrev pub own_at : List ℕ → List ℕ → ℕ → List ℕ
+own_at internals domains j = part internals (own_start domains j) (own_count domains j)
 
 abbrev pub borrowed_at : List ℕ → List ℕ → ℕ → List ℕ
 borrowed_at borrowed domains j = part borrowed (borrowed_start domains j) (borrowed_count domains j)
@@ -51,7 +51,7 @@ cover_at d boxes j = get_or boxes (row_floats_lem d * j + box_width_lem d) plus_
 
 -- the own rows of the m leaves from the domain row number `first` on
 unfoldable pub read_own : List ℕ → List ℕ → ℕ → ℕ → List (List ℕ)
-read_own internals domains first m = map (λ l. field_own internals domains (first + l)) (from 0 m)
+read_own internals domains first m = map (λ l. own_at internals domains (first + l)) (from 0 m)
 
 -- ---- leaves
 
@@ -71,7 +71,7 @@ packed internals domains boxes borrowed d =
 unfoldable pub read_leaf : Packed → ℕ → Leaf
 read_leaf p j =
     record {
-      own = field_own p.internals p.domains j;
+      own = own_at p.internals p.domains j;
       borrowed = borrowed_at p.borrowed p.domains j;
       box = box_at_lem p.dimension p.boxes j;
       cover = cover_at p.dimension p.boxes j;

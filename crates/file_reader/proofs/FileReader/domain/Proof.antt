@@ -30,7 +30,7 @@ use denote.Slice.{slice_val, ShrSlice}
 use denote.Steps.{owned, peeks, heard, nothing}
 use denote.Struct.Declared.{Declared}
 use denote.Struct.Laws as LL
-use denote.Struct.Rest.{all_own, field_own, rest, own_open, own_out}
+use denote.Struct.Rest.{all_own, own_at, rest, own_open, own_out}
 use denote.Struct.Values.{Values}
 use denote.Triple.Statement.{Contract, Triple}
 use denote.Triple.Call.{calls_at}
@@ -123,7 +123,7 @@ module _ {M : Type 1} {𝓤 : Ura M} (𝓛 : Logic 𝓤) (mem : Memory → SProp
       move ! (1 ∷ []) $ fsplit ! $ use1 𝓛 (‵ Whole ⊛ ‵ Whole) ((LL.copy shape (T'.the_copy (named_lft 1 0 tt (κ, tt))) 𝓛).twice d (passed-reader ∷ [])) $ split ! $
       -- one is left
       move ! (0 ∷ 2 ∷ []) $ fjoin ! $ move ! (1 ∷ []) $
-      use1 𝓛 (given (passed-reader ∷ [] ≡ passed-reader ∷ []) (‵ (all_own shape.parts laws values))) (own_open 𝓛 shape laws values passed-reader) $ learn ! (λ _. use1 𝓛 (‵ (field_own shape.parts laws 0 d.bytes) ⊛ ‵ (rest shape.parts laws 0 values)) (own_out 𝓛 shape.parts laws 0 values) $ split ! $
+      use1 𝓛 (given (passed-reader ∷ [] ≡ passed-reader ∷ []) (‵ (all_own shape.parts laws values))) (own_open 𝓛 shape laws values passed-reader) $ learn ! (λ _. use1 𝓛 (‵ (own_at shape.parts laws 0 d.bytes) ⊛ ‵ (rest shape.parts laws 0 values)) (own_out 𝓛 shape.parts laws 0 values) $ split ! $
       -- of the other the slice goes on, and the two numbers are made anew
       move ! (1 ∷ []) $ drop ! $ nothing ! $ owned ! usize (Is usize) (uint_Makes 𝓛 w64) t _ (refl, tail-fits) $ fjoin ! $
       owned ! usize (Is usize) (uint_Makes 𝓛 w64) d.at _ (refl, fits) $ fjoin ! $ move ! (1 ∷ 0 ∷ []) $ fjoin ! $

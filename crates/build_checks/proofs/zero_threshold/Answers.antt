@@ -1,0 +1,6 @@
+use borrow.Author.Rules.{rules}
+use Rattle.build_checks.proofs.zero_threshold.Goals as goal
+
+-- src/lib.rt:37:1
+pub returns-in-Fixed : goal.returns-in-Fixed
+returns-in-Fixed c = rw c.policy-1.given.1

@@ -1,0 +1,35 @@
+-- `bytes_in::bits_below` meets its contract. Assumes nothing.
+use Rattle.bytes_in.proofs.Turns.{none-tested, none_more, one_found}
+use mathlib.Core.Path.{◌≡◌, sym, ap, ◌∙◌}
+use mathlib.Core.Bool.{Bool, false, not}
+use Prim.Native.Nat.{ℕ, ◌+◌, ◌*◌, ◌-◌, ◌%◌, ◌≤◌}
+use mathlib.Core.List.{List}
+use lib.Dec.{leb}
+use borrow.Author.Tests.{le-leb, lt-leb}
+use Rattle.lists.specs.Lists.{any_of, from}
+use Rattle.formats.specs.Bytes.{field, float_size}
+use borrow.Author.Rules.{rules}
+use Rattle.bytes_in.proofs.bits_below.Goals as goal
+
+-- the bits of the float number i reach the limit, the sign apart
+abbrev above : ℕ → List ℕ → ℕ → ℕ → Bool
+above limit input at i = leb limit (field float_size (at + float_size * i) input % 0x8000_0000_0000_0000)
+
+pub loop-i-init : goal.loop-i-init
+loop-i-init c = (search rules, none-tested _)
+
+pub returns-then-limit-bits : goal.returns-then-limit-bits
+returns-then-limit-bits c = let a = c.args in
+    let turn = c.loop-i in
+    let here = ap (λ (b : ℕ). leb a.limit (b % 0x8000_0000_0000_0000)) (sym c.bits_at-bits.ensures) ∙ le-leb a.limit _ c.if-limit-bits.true in
+    sym (ap not (one_found (above a.limit a.input.now a.at) a.count turn.i (search rules) here))
+
+pub loop-i-preserved : goal.loop-i-preserved
+loop-i-preserved c = let a = c.args in
+    let turn = c.loop-i in
+    let here = ap (λ (b : ℕ). leb a.limit (b % 0x8000_0000_0000_0000)) (sym c.bits_at-bits.ensures) ∙ lt-leb a.limit _ c.if-limit-bits.false in
+    (search rules, none_more (above a.limit a.input.now a.at) turn.i turn.invariant.1 here)
+
+pub returns : goal.returns
+returns c = let e : c.loop-i.i ≡ c.args.count = search rules in
+    rw (← e) (sym (ap not c.loop-i.invariant.1))

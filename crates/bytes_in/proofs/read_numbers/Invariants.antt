@@ -1,0 +1,14 @@
+use Rattle.bytes_in.proofs.Turns.{stored-none, stored_more}
+use mathlib.Core.Path.{◌≡◌}
+use Prim.Native.Nat.{◌+◌, ◌*◌, ◌-◌, ◌≤◌}
+use lib.ListN.{length, length-set}
+use Rattle.lists.specs.Lists.{put}
+use Rattle.formats.specs.Bytes.{number_at, numbers_at, number_size}
+use borrow.Author.Rules.{rules}
+use Rattle.bytes_in.proofs.read_numbers.Given as goal
+
+abbrev pub invariant-loop-i : goal.invariant-loop-i
+invariant-loop-i l = (l.i ≤ l.count) × (length l.out ≡ length l.initial.out) × (l.out ≡ put l.initial.out l.k (numbers_at l.i l.at l.input))
+
+abbrev pub decreases-loop-i : goal.decreases-loop-i
+decreases-loop-i l = l.count - l.i

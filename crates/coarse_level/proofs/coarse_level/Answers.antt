@@ -1,0 +1,9 @@
+-- `coarse_level::coarse_level` meets its contract. Assumes nothing.
+use borrow.Author.Rules.{rules}
+use Rattle.coarse_level.proofs.coarse_level.Goals as goal
+
+pub returns : goal.returns
+returns c = let zeros = c.put_zeros.ensures in
+    let width = c.row_floats.ensures in
+    let start = c.floats_before.ensures in
+    (c.copy_rows.ensures, (c.put_row.ensures, rw (start, width) at zeros))

@@ -1,0 +1,16 @@
+use mathlib.Core.Path.{◌≡◌, refl, ap, ◌∙◌}
+use mathlib.Core.List.{◌++◌, map}
+use Prim.Native.Nat.{ℕ, ◌+◌, ◌-◌, ◌≤◌}
+use native.Mathlib.Omega.{arith}
+use lib.ListN.{length, take, drop, length-set}
+use lib.Seq.{take_at}
+use Rattle.lists.specs.Lists.{from}
+use Rattle.lists.proofs.From.{map-from-nil, front-below-suc, length-map-from}
+use Rattle.packed.specs.Reading.{own_count}
+use Rattle.coarse_points.proofs.copy_sizes.Given as goal
+
+abbrev pub invariant-loop-l : goal.invariant-loop-l
+invariant-loop-l l = (l.l ≤ l.m) × (length l.wholes ≡ length l.initial.wholes) × (l.wholes ≡ map (λ l.l. own_count l.domains (l.first + l.l)) (from 0 l.l) ++ drop l.l l.initial.wholes)
+
+abbrev pub decreases-loop-l : goal.decreases-loop-l
+decreases-loop-l l = l.m - l.l

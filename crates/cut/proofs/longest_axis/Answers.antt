@@ -1,0 +1,32 @@
+-- `cut::longest_axis` meets its contract. The loop's invariant: `longest` is the first axis below `axis` with the longest extent, and
+-- `e` is its extent. Assumes nothing.
+use mathlib.Core.Path.{◌≡◌, ◌∙◌}
+use mathlib.Core.Bool.{Bool}
+use mathlib.Core.Logic.{⊎_elim}
+use Prim.Native.Nat.{ℕ, ◌-◌, ◌≤◌}
+use native.Mathlib.Omega.{arith}
+use lib.Ieee.{lt}
+use borrow.Author.Rules.{rules}
+use Rattle.lists.specs.Lists.{best, from}
+use Rattle.lists.proofs.Best.{best-below-first, best-below-yes, best-below-no}
+use Rattle.definition.specs.Points.{extent}
+use Rattle.definition.specs.Cut.{longest_axis_lem}
+use Rattle.cut.proofs.longest_axis.Goals as goal
+
+pub loop-axis-init : goal.loop-axis-init
+loop-axis-init c = (search rules, search rules, best-below-first _, c.extent_on-e.ensures)
+
+pub loop-axis-preserved : goal.loop-axis-preserved
+loop-axis-preserved c = let s = c in
+    let a = s.args in
+    let better : ℕ → ℕ → Bool = λ y z. lt (extent a.dimensions a.points.now a.rows.now z) (extent a.dimensions a.points.now a.rows.now y) in
+    let i = s.loop-axis.invariant in
+    let v = c.extent_on-v.ensures in
+    ⊎_elim
+    (λ w. (omega arith, omega arith, w.1 ∙ best-below-yes better s.loop-axis.axis s.loop-axis.longest i.0 i.2 (rw (v, i.3) at w.0.taken), w.2 ∙ v ∙ rw w.1))
+    (λ w. (omega arith, omega arith, w.1 ∙ best-below-no better s.loop-axis.axis s.loop-axis.longest i.0 i.2 (rw (v, i.3) at w.0.left), w.2 ∙ i.3 ∙ rw w.1))
+    c.if-e-v.branch
+
+pub returns : goal.returns
+unfolding longest_axis_lem
+returns c = let e : c.loop-axis.axis ≡ c.args.dimensions = omega arith in rw e at c.loop-axis.invariant.2

@@ -1,0 +1,19 @@
+use mathlib.Core.Path.{◌≡◌, ◌∙◌}
+use mathlib.Core.Bool.{Bool}
+use mathlib.Core.Logic.{⊎_elim}
+use Prim.Native.Nat.{ℕ, ◌-◌, ◌≤◌}
+use native.Mathlib.Omega.{arith}
+use lib.Ieee.{lt}
+use borrow.Author.Rules.{rules}
+use Rattle.lists.specs.Lists.{best, from}
+use Rattle.lists.proofs.Best.{best-below-first, best-below-yes, best-below-no}
+use Rattle.definition.specs.Points.{extent}
+use Rattle.definition.specs.Cut.{longest_axis_lem}
+use Rattle.cut.proofs.longest_axis.Given as goal
+
+abbrev pub invariant-loop-axis : goal.invariant-loop-axis
+invariant-loop-axis l = (1 ≤ l.axis) × (l.axis ≤ l.dimensions)
+    × (l.longest ≡ best (λ a b. lt (extent l.dimensions l.points l.rows b) (extent l.dimensions l.points l.rows a)) 0 (from 1 (l.axis - 1))) × (l.e ≡ extent l.dimensions l.points l.rows l.longest)
+
+abbrev pub decreases-loop-axis : goal.decreases-loop-axis
+decreases-loop-axis l = l.dimensions - l.axis

@@ -1,0 +1,22 @@
+-- `cut_nodes::cut_node` meets its contract. Assumes nothing.
+use mathlib.Core.Path.{ap, sym, ◌∙◌}
+use native.Mathlib.Omega.{arith}
+use borrow.Author.Rules.{rules}
+use lib.ListN.{length, set}
+use lib.Seq.{length-take-le, drop_at}
+use Rattle.cut_nodes.proofs.cut_node.Goals as goal
+
+pub slice_bounds-cut_stretch-end-2 : goal.slice_bounds-cut_stretch-end-2
+slice_bounds-cut_stretch-end-2 c = sym (length-take-le _ _ (omega (arith, c.requires.3)))
+
+pub cut_stretch-at-requires : goal.cut_stretch-at-requires
+cut_stretch-at-requires c = let p = c.requires in
+    (p.0, p.1, p.2, length-take-le _ _ (omega (arith, p.3)))
+
+pub returns : goal.returns
+returns c = let a = c in
+    let p = a.requires in
+    let k = c.cut_stretch-at in
+    let e = k.ensures in
+    let w = c.write_node.ensures in
+    (e.plane, (e.rows, (drop_at k.new.room.0 _ (length a.args.rows.now) (e.room ∙ length-take-le (length a.args.rows.now) a.args.wholes.now (omega (arith, p.3))), (w.cuts ∙ ap (set a.args.cuts.now a.args.place) e.plane.0, w.planes ∙ ap (set a.args.planes.now a.args.place) e.plane.1))))

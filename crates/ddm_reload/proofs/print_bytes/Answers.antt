@@ -1,0 +1,12 @@
+-- `ddm_reload::print_bytes` meets its contract. Assumes nothing.
+use Rattle.stored.specs.Programs.{reloaded}
+use Rattle.job_room.proofs.Printing.{text-fits, text-printed}
+use borrow.Author.Rules.{rules}
+use Rattle.ddm_reload.proofs.print_bytes.Goals as goal
+
+pub returns : goal.returns
+returns c = let start = c in
+    let printed = reloaded start.args.stream.now start.args.file.now in
+    let text = start.args.text.now in
+    let call = c.reload-printed in
+    (text-fits printed text _ call.ensures.answer start.requires _ call.ensures.output, text-printed printed text _ call.ensures.answer start.requires _ call.ensures.output)

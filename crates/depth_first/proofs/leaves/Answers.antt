@@ -1,0 +1,25 @@
+-- `depth_first::leaves` meets its contract. Assumes nothing.
+use mathlib.Core.Path.{ap, ◌∙◌}
+use native.Mathlib.Omega.{arith}
+use borrow.Author.Rules.{rules}
+use lib.ListN.{length}
+use Rattle.lists.specs.Lists.{put}
+use Rattle.leaves.proofs.Place.{place-lent, place-back}
+use Rattle.depth_first.proofs.leaves.Goals as goal
+
+pub cut_leaves-requires : goal.cut_leaves-requires
+cut_leaves-requires c = let a = c in
+    let p = a.requires in
+    let copied = c.copy_rows.ensures in
+    let lent = place-lent a.args.internals.now a.args.active.now _ a.args.at p.active_in_bounds_2.0 copied in
+    rw lent (p.dimensions_nonzero, (p.active_in_bounds, ((omega (arith, p.active_in_bounds_2.0, a.well-formed.1.1.1.1.0.0), p.active_in_bounds_2.1, p.active_in_bounds_2.2), p.active_in_bounds_3)))
+
+pub returns : goal.returns
+returns c = let a = c in
+    let p = a.requires in
+    let copied = c.copy_rows.ensures in
+    let lent = place-lent a.args.internals.now a.args.active.now _ a.args.at p.active_in_bounds_2.0 copied in
+    let cut = c.cut_leaves in
+    let f = rw lent at cut.ensures in
+    let back = place-back a.args.internals.now a.args.active.now _ a.args.at p.active_in_bounds_2.0 copied cut.new.rows (cut.auto.1.1.1.0 ∙ ap length lent) in
+    (f.0, (f.1.0, (back ∙ ap (put a.args.internals.now a.args.at) f.1.1.0, f.1.1.1)))

@@ -1,0 +1,19 @@
+use mathlib.Core.Path.{◌≡◌, ◌∙◌}
+use mathlib.Core.Logic.{⊎_elim}
+use mathlib.Core.List.{List}
+use Prim.Native.Nat.{ℕ, ◌-◌, ◌≤◌}
+use native.Mathlib.Omega.{arith}
+use borrow.Author.Rules.{rules}
+use lib.ListN.{length}
+use lib.Ieee.{Float}
+use Rattle.definition.specs.Points.{coordinate}
+use Rattle.extents.specs.Sides.{beyond}
+use Rattle.rows.proofs.Good.{row_fits}
+use Rattle.extents.proofs.Firsts.{best_in, bound-first, bound-yes, bound-no, bound-end}
+use Rattle.extents.proofs.bounds.bound.Given as goal
+
+abbrev pub invariant-loop-t : goal.invariant-loop-t
+invariant-loop-t l = (1 ≤ l.t) × (l.t ≤ length l.rows) × (l.best ≡ best_in (beyond l.upper) (along l.dimensions l.points l.axis) l.rows l.t)
+
+abbrev pub decreases-loop-t : goal.decreases-loop-t
+decreases-loop-t l = length l.rows - l.t

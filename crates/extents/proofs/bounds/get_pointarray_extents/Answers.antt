@@ -1,0 +1,19 @@
+-- `extents::get_pointarray_extents` meets its contract. Assumes nothing.
+use mathlib.Core.Path.{refl}
+use Prim.Native.Nat.{◌-◌}
+use native.Mathlib.Omega.{arith}
+use borrow.Author.Rules.{rules}
+use Rattle.boxes.proofs.Boxed.{Filled, filled_none, filled_more, filled-all}
+use Rattle.extents.proofs.bounds.get_pointarray_extents.Goals as goal
+
+pub loop-axis-init : goal.loop-axis-init
+loop-axis-init c = filled_none _ _ _ _ _ refl refl
+
+pub loop-axis-preserved : goal.loop-axis-preserved
+loop-axis-preserved c = let turn = c in
+    let s = turn in
+    filled_more turn.loop-axis.invariant c.lower_bound.result c.upper_bound.result turn.loop-axis-test.true s.requires.0
+    c.lower_bound.ensures c.upper_bound.ensures
+
+pub returns : goal.returns
+returns c = (refl, filled-all c.loop-axis.invariant c.loop-axis-test.false)

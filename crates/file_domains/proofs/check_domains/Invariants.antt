@@ -1,0 +1,13 @@
+use mathlib.Core.Path.{refl}
+use Prim.Native.Nat.{◌-◌, ◌≤◌}
+use native.Mathlib.Omega.{arith}
+use borrow.Author.Tests.{not-true, not-false}
+use Rattle.file_domains.proofs.DomainsInTurn.{Tested, tested-start, tested-enough, tested-fits, tested-next, tested-bad, tested-left, tested-end}
+use borrow.Author.Rules.{rules}
+use Rattle.file_domains.proofs.check_domains.Given as goal
+
+abbrev pub invariant-loop-i : goal.invariant-loop-i
+invariant-loop-i l = (l.i ≤ l.m) × Tested l.bytes l.at l.m l.dimensions l.coarse l.rows l.initial.left l.initial.listed l.left l.listed l.next l.remaining l.borrowed l.least l.i
+
+abbrev pub decreases-loop-i : goal.decreases-loop-i
+decreases-loop-i l = l.m - l.i

@@ -1,0 +1,74 @@
+-- `file_reader::domain_at` meets its contract: each way out has its law. Assumes nothing.
+use mathlib.Core.Path.{refl, sym, ◌∙◌}
+use native.Mathlib.Omega.{arith}
+use lib.ListN.{drop, length-drop}
+use borrow.Author.Tests.{not-true, not-false}
+use Rattle.file_reader.proofs.Fetches.{counts-room, number-here, not-marked, too_short, is_whole}
+use borrow.Author.Rules.{rules}
+use Rattle.file_reader.proofs.domain_at.Goals as goal
+
+pub returns-then-not-counts_stand : goal.returns-then-not-counts_stand
+returns-then-not-counts_stand c = let e = c in
+    not-marked _ _ _ _ c.nothing.ensures (sym e.counts_stand.ensures ∙ not-true _ c.if-not-counts_stand.true)
+
+pub overflow_add-at : goal.overflow_add-at
+overflow_add-at c = let e = c in
+    let a = e.args in
+    let marked = sym e.counts_stand.ensures ∙ not-false _ e.if-not-counts_stand.false in
+    omega (arith, counts-room a.at a.bytes.now marked)
+
+pub number_at-own-requires : goal.number_at-own-requires
+number_at-own-requires c = let e = c in
+    let a = e.args in
+    let marked = sym e.counts_stand.ensures ∙ not-false _ e.if-not-counts_stand.false in
+    omega (arith, counts-room a.at a.bytes.now marked)
+
+pub overflow_add-at-2 : goal.overflow_add-at-2
+overflow_add-at-2 c = let e = c in
+    let a = e.args in
+    let marked = sym e.counts_stand.ensures ∙ not-false _ e.if-not-counts_stand.false in
+    omega (arith, counts-room a.at a.bytes.now marked)
+
+pub number_at-borrowed-requires : goal.number_at-borrowed-requires
+number_at-borrowed-requires c = let e = c in
+    let a = e.args in
+    let marked = sym e.counts_stand.ensures ∙ not-false _ e.if-not-counts_stand.false in
+    omega (arith, counts-room a.at a.bytes.now marked)
+
+pub overflow_sub-left : goal.overflow_sub-left
+overflow_sub-left c = let e = c in
+    let a = e.args in
+    let marked = sym e.counts_stand.ensures ∙ not-false _ e.if-not-counts_stand.false in
+    omega (arith, counts-room a.at a.bytes.now marked)
+
+pub returns-then-left-place : goal.returns-then-left-place
+returns-then-left-place c = let n = c in
+    let e = n in
+    let a = e.args in
+    let marked = sym e.counts_stand.ensures ∙ not-false _ e.if-not-counts_stand.false in
+    let bs = drop a.at a.bytes.now in
+    let own = n.number_at-own.ensures.0 ∙ number-here a.at a.bytes.now 2 in
+    let borrowed = n.number_at-borrowed.ensures.0 ∙ number-here a.at a.bytes.now 6 in
+    too_short bs a.at a.tail _ c.nothing-then-left-place.ensures (omega (arith, length-drop a.at a.bytes.now))
+
+pub returns-then-left-place-2 : goal.returns-then-left-place-2
+returns-then-left-place-2 c = let n = c in
+    let e = n in
+    let a = e.args in
+    let marked = sym e.counts_stand.ensures ∙ not-false _ e.if-not-counts_stand.false in
+    let bs = drop a.at a.bytes.now in
+    let own = n.number_at-own.ensures.0 ∙ number-here a.at a.bytes.now 2 in
+    let borrowed = n.number_at-borrowed.ensures.0 ∙ number-here a.at a.bytes.now 6 in
+    too_short bs a.at a.tail _ c.nothing-then-left-place-2.ensures (omega (arith, length-drop a.at a.bytes.now))
+
+pub returns : goal.returns
+returns c = let n = c in
+    let e = n in
+    let a = e.args in
+    let marked = sym e.counts_stand.ensures ∙ not-false _ e.if-not-counts_stand.false in
+    let bs = drop a.at a.bytes.now in
+    let own = n.number_at-own.ensures.0 ∙ number-here a.at a.bytes.now 2 in
+    let borrowed = n.number_at-borrowed.ensures.0 ∙ number-here a.at a.bytes.now 6 in
+    let room = counts-room a.at a.bytes.now marked in
+    is_whole bs a.at a.tail _ marked (omega (arith, length-drop a.at a.bytes.now)) refl
+    record { own = own; borrowed = borrowed; own_at = refl; borrowed_at = omega arith; bounds_at = omega arith; depth_at = omega arith; next = omega arith }

@@ -1,0 +1,80 @@
+-- `fine_level::fine_level` meets its contract. Assumes nothing.
+use mathlib.Core.Path.{◌≡◌, refl, sym, ap, ◌∙◌}
+use mathlib.Core.List.{List}
+use Prim.Native.Nat.{ℕ, ◌+◌, ◌*◌, ◌≤◌}
+use native.Mathlib.Omega.{arith}
+use native.Mathlib.Nat.{mul-add, mul-le-mul_left}
+use borrow.Author.Rules.{rules}
+use lib.ListN.{length}
+use Rattle.lists.specs.Lists.{part, put, joined}
+use Rattle.lists.proofs.Put.{length_part, part-lent}
+use Rattle.fine_level.proofs.Stages.{level-number, level-next, number-most, packed-read, packed-sends}
+use Rattle.fine_level.proofs.Sent.{sent-own, sent-borrowed, sent-number, sent-stretches, floats-are}
+use Rattle.definition.specs.Packed.{row_numbers, row_floats_lem}
+use Rattle.definition.specs.Cut.{leaves_of}
+use Rattle.fine_level.proofs.fine_level.Goals as goal
+
+pub divide-parts-requires : goal.divide-parts-requires
+divide-parts-requires c = let p = c.requires in
+    let P = c.args in
+    let n : length (part P.level_points.now P.place.from P.place.a) ≡ P.place.a = length_part P.level_points.now P.place.from P.place.a (omega (arith, p.a_in_bounds.0)) in
+    rw (part-lent P.level_points.now P.place.from P.place.a, n) (p.a_in_bounds.2, (p.fits_at, p.1.1))
+
+pub send_up-next-requires : goal.send_up-next-requires
+send_up-next-requires c = let p = c.requires in
+    let P = c.args in
+    let d = P.plan.dimensions in
+    let cs = P.points.now in
+    let q = P.plan.neighbours in
+    let active = part P.level_points.now P.place.from P.place.a in
+    let g = p.a_in_bounds.2 in
+    let n : length active ≡ P.place.a = length_part P.level_points.now P.place.from P.place.a (omega (arith, p.a_in_bounds.0)) in
+    let v = rw (part-lent P.level_points.now P.place.from P.place.a) at c.divide-parts.ensures in
+    let many = v.0.0 ∙ level-number d cs P.plan.leaf q active in
+    let few = number-most d cs P.plan.leaf q active g in
+    let sends = packed-sends d cs P.plan.leaf q active g _ _ _ _ _ (rw n p.fits_at.internals) (rw n p.fits_at.domains) _ _ v.1.0 v.1.1.0 in
+    let rows : row_floats_lem d * (P.place.first + length (leaves_of d cs P.plan.leaf active)) ≤ row_floats_lem d * (P.place.first + 2 * P.place.a) =
+    mul-le-mul_left (row_floats_lem d) (omega (arith, few, n)) in (
+      rw many sends,
+      (
+        omega (arith, p.a_in_bounds.1),
+        omega (arith, p.a_in_bounds.0, p.a_in_bounds.1),
+        omega (arith, few, many, n, p.room.wholes),
+        omega (arith, few, many, n, p.room.floats),
+        rw many (omega (arith, rows, p.fits_at.boxes)),
+      ),
+    )
+
+pub returns : goal.returns
+returns c = let p = c.requires in
+    let P = c.args in
+    let d = P.plan.dimensions in
+    let cs = P.points.now in
+    let q = P.plan.neighbours in
+    let active = part P.level_points.now P.place.from P.place.a in
+    let g = p.a_in_bounds.2 in
+    let n : length active ≡ P.place.a = length_part P.level_points.now P.place.from P.place.a (omega (arith, p.a_in_bounds.0)) in
+    let v = rw (part-lent P.level_points.now P.place.from P.place.a) at c.divide-parts.ensures in
+    let many = v.0.0 ∙ level-number d cs P.plan.leaf q active in
+    let leaf = P.plan.leaf in
+    let size = P.size in
+    let few = number-most d cs leaf q active g in
+    let rows : row_floats_lem d * (P.place.first + length (leaves_of d cs leaf active)) ≤ row_floats_lem d * (P.place.first + 2 * P.place.a) =
+    mul-le-mul_left (row_floats_lem d) (omega (arith, few, n)) in
+    let read = rw (← many) at (packed-read d cs leaf q active g _ _ _ _ _ (rw n p.fits_at.internals) (rw n p.fits_at.domains) _ _ v.1.0 v.1.1.0) in
+    let up = rw (read, level-next d cs leaf q active size) at c.send_up-next.ensures in
+    let fits : row_floats_lem d * P.place.first + row_floats_lem d * length (leaves_of d cs leaf active) ≤ length P.boxes.now =
+    omega (arith, rows, p.fits_at.boxes, mul-add (row_floats_lem d) P.place.first (length (leaves_of d cs leaf active))) in
+    let own = v.1.0 ∙ ap (λ (x : List (List ℕ)). put P.internals.now P.place.from (joined x)) (sym (sent-own d cs leaf q size active)) in
+    let domains = v.1.1.0 ∙ ap (put P.domains.now (row_numbers * P.place.first)) (sym (sent-stretches d cs leaf q size active P.place.from P.place.bat)) in
+    let floats = floats-are d cs leaf q size active P.boxes.now _ _ (row_floats_lem d * P.place.first) _ fits v.1.1.1.0 refl up.1.1 in
+    let borrowed = v.1.1.1.1.0 ∙ ap (λ (x : List (List ℕ)). put P.borrowed.now P.place.bat (joined x)) (sym (sent-borrowed d cs leaf q size active)) in (
+      (
+        v.0.0 ∙ sym (sent-number d cs leaf q size active),
+        v.0.1 ∙ ap (λ (x : List (List ℕ)). length (joined x)) (sym (sent-borrowed d cs leaf q size active)),
+        up.0.0,
+        v.0.2,
+        rw n at v.0.3,
+      ),
+      (up.1.0, (own, (domains, (floats, (borrowed, v.1.1.1.1.1))))),
+    )

@@ -1,0 +1,69 @@
+-- `grow::grow` meets its contract. Assumes nothing.
+use mathlib.Core.Path.{◌≡◌, refl, ap, ◌∙◌}
+use mathlib.Core.List.{List}
+use Prim.Native.Nat.{◌/◌}
+use native.Mathlib.Omega.{arith}
+use borrow.Author.Rules.{rules}
+use lib.ListN.{length}
+use Rattle.lists.specs.Lists.{put, part, from}
+use Rattle.lists.proofs.Put.{part-put-same, length-put}
+use Rattle.lists.proofs.From.{length_from}
+use Rattle.definition.specs.Tree.{Level}
+use Rattle.definition.specs.Packed.{packed_level_points}
+use Rattle.definition_laws.proofs.Accepted.{build-accepted}
+use Rattle.config.specs.Params.{settings_of_lem}
+use Rattle.tree_answer.specs.Answers.{lists_of}
+use Rattle.grow_over.proofs.Over.{points-whole}
+use Rattle.grow.proofs.Grown.{all_rows, all-space, over-all}
+use Rattle.grow.proofs.grow.Goals as goal
+
+pub nonzero_div-n : goal.nonzero_div-n
+nonzero_div-n c = let P = c.args in
+    let s = settings_of_lem P.dimensions P.params in
+    let cs = P.points.now in
+    let old = lists_of P.level_points.now P.internals.now P.domains.now P.boxes.now P.borrowed.now in
+    let acc = build-accepted s cs _ c.requires.wholes_value in
+    omega (arith, acc.passes-all.axes)
+
+pub number_rows-requires : goal.number_rows-requires
+number_rows-requires c = let P = c.args in
+    let s = settings_of_lem P.dimensions P.params in
+    let cs = P.points.now in
+    let old = lists_of P.level_points.now P.internals.now P.domains.now P.boxes.now P.borrowed.now in
+    let acc = build-accepted s cs _ c.requires.wholes_value in
+    omega (arith, (all-space s cs old P.floats.now P.wholes.now acc P.level_points.now refl).level_points)
+
+pub grow_over-requires : goal.grow_over-requires
+grow_over-requires c = let P = c.args in
+    let s = settings_of_lem P.dimensions P.params in
+    let cs = P.points.now in
+    let old = lists_of P.level_points.now P.internals.now P.domains.now P.boxes.now P.borrowed.now in
+    let acc = build-accepted s cs _ c.requires.wholes_value in
+    let n = length cs / P.dimensions in
+    let first = c.number_rows.ensures in
+    let space = all-space s cs old P.floats.now P.wholes.now acc P.level_points.now refl in
+    let read : part (put P.level_points.now 0 (from 0 n)) 0 n ≡ from 0 n = part-put-same P.level_points.now 0 (from 0 n) n (omega arith) (length_from 0 n) in
+    let long = ap length first ∙ length-put P.level_points.now 0 (from 0 n) (omega (arith, length_from 0 n, space.level_points)) in (
+      (acc.passes-all.coarse-some, acc.passes-all.reaches, rw (first, read) (all_rows s cs old P.floats.now P.wholes.now acc)),
+      (all-space s cs old P.floats.now P.wholes.now acc _ long, c.requires.record_room),
+    )
+
+pub returns : goal.returns
+returns c = let P = c.args in
+    let s = settings_of_lem P.dimensions P.params in
+    let cs = P.points.now in
+    let old = lists_of P.level_points.now P.internals.now P.domains.now P.boxes.now P.borrowed.now in
+    let acc = build-accepted s cs _ c.requires.wholes_value in
+    let n = length cs / P.dimensions in
+    let first = c.number_rows.ensures in
+    let space = all-space s cs old P.floats.now P.wholes.now acc P.level_points.now refl in
+    let read : part (put P.level_points.now 0 (from 0 n)) 0 n ≡ from 0 n = part-put-same P.level_points.now 0 (from 0 n) n (omega arith) (length_from 0 n) in
+    let w = rw (first, read) at c.grow_over.ensures in
+    let v = rw (over-all s cs) at w in (
+      v.0,
+      (
+        points-whole s cs (from 0 n) P.level_points.now _ _ (omega (arith, length_from 0 n, space.level_points)) refl w.1.0
+            ∙ ap (λ (ls : List Level). put P.level_points.now 0 (packed_level_points ls)) (over-all s cs),
+        v.1.1,
+      ),
+    )

@@ -1,0 +1,12 @@
+-- `leaf_rows::rows_of` meets its contract. Assumes nothing.
+use Rattle.definition.specs.Outcome.{rows_asked, asked_verdict}
+use borrow.Author.Rules.{rules}
+use Rattle.leaf_rows.proofs.rows_of.Goals as goal
+
+pub returns-in-Own : goal.returns-in-Own
+unfolding rows_asked asked_verdict
+returns-in-Own c = rw c.enum_told-1.given.1 c.stretch_of.ensures
+
+pub returns-in-Borrowed : goal.returns-in-Borrowed
+unfolding rows_asked asked_verdict
+returns-in-Borrowed c = rw c.enum_told-in-Borrowed-1.given.1 c.stretch_of-in-Borrowed.ensures

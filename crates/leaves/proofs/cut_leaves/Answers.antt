@@ -1,0 +1,297 @@
+-- `leaves::cut_leaves` meets its contract. The loop's invariant is `Run`, and that the lists keep their lengths; each turn brings down the
+-- number of cuts that are left. Assumes nothing.
+use mathlib.Core.Path.{◌≡◌, refl, sym, ap, ◌∙◌}
+use Prim.Native.Nat.{ℕ, ◌-◌, ◌*◌}
+use native.Mathlib.Omega.{arith}
+use lib.ListN.{length}
+use borrow.Author.Rules.{rules}
+use Rattle.lists.proofs.Put.{put_whole}
+use Rattle.rows.proofs.Good.{good-inside}
+use Rattle.queue.proofs.Loop.{cuts_left}
+use Rattle.queue.proofs.View.{room_in, packed-length}
+use Rattle.definition.specs.Points.{box_width_lem}
+use Rattle.boxes.specs.Boxes.{floats_of}
+use Rattle.leaves.proofs.Turns.{Run, KeptLengths, kept_next, run-first, run_end, found_all, front, known}
+use Rattle.leaves.proofs.Turns.{lent-good, lent-some, spare-length, lent-room, rows-kept, room-kept, wait, wait-less, next-leaves, next-leaves-less, width-most, axis-fit}
+use Rattle.leaves.proofs.cut_leaves.Goals as goal
+
+pub put_root-requires : goal.put_root-requires
+put_root-requires c = let a = c in
+    let p = a.requires in
+    ((p.dimensions_nonzero.1, p.dimensions_nonzero.3, good-inside _ p.dimensions_nonzero.4), (omega (arith, p.dimensions_nonzero.3, p.rows_in_bounds.0), omega (arith, width-most a.args.dimensions (length a.args.rows.now) p.dimensions_nonzero.3, p.rows_in_bounds.1)))
+
+pub loop-head-init : goal.loop-head-init
+loop-head-init c = let r = c in
+    let a = c in
+    let p = a.requires in (
+      run-first _ _ p.dimensions_nonzero.0 p.dimensions_nonzero.1 _ p.dimensions_nonzero.2 _ p.dimensions_nonzero.3 p.dimensions_nonzero.4 a.args.wholes.now _ a.args.floats.now _ p.rows_in_bounds.0 p.rows_in_bounds.1
+          r.put_root.ensures.wholes r.put_root.ensures.floats _ _ _ _ p.rows_bound.1 p.rows_bound.2,
+      record {
+        same_w = refl;
+        same-O = refl;
+        same-floats = refl;
+        same-B = refl;
+        cap-w = omega (arith, r.put_root.auto.1.1.1.1.0, a.well-formed.1.1.1.1.1.1.1.1.1.0.0);
+        cap-O = omega (arith, a.well-formed.1.1.1.1.1.0.0);
+        cap-floats = omega (arith, r.put_root.auto.1.1.1.0, a.well-formed.1.1.1.1.1.1.1.1.0.0);
+        cap-B = omega (arith, a.well-formed.1.1.1.1.1.1.1.0.0);
+      },
+      c.box_width-stride.ensures,
+    )
+
+pub overflow_add-below-in-loop-head : goal.overflow_add-below-in-loop-head
+overflow_add-below-in-loop-head c = let t = c in
+    let i = t.loop-head.invariant in
+    let x = front i.0 t.loop-head-test.true in
+    let u = known x in
+    omega (arith, u.shallow, u.fit-w, i.1.same_w, i.1.cap-w)
+
+pub overflow_add-end : goal.overflow_add-end
+overflow_add-end c = let t = c in
+    let i = t.loop-head.invariant in
+    let x = front i.0 t.loop-head-test.true in
+    let u = known x in
+    omega (arith, u.inside, u.fit-w, i.1.same_w, i.1.cap-w)
+
+pub overflow_mul-stride : goal.overflow_mul-stride
+overflow_mul-stride c = let t = c in
+    let i = t.loop-head.invariant in
+    let x = front i.0 t.loop-head-test.true in
+    let u = known x in
+    omega (arith, u.read-fit, u.floats-all, i.1.same-floats, i.1.cap-floats, ap (λ (f : ℕ). f * t.loop-head.head) i.2)
+
+pub read_box-whole-requires : goal.read_box-whole-requires
+read_box-whole-requires c = let t = c in
+    let i = t.loop-head.invariant in
+    let x = front i.0 t.loop-head-test.true in
+    let u = known x in
+    (omega (arith, u.read-fit, u.floats-all, ap (λ (f : ℕ). f * t.loop-head.head) i.2), i.0.few)
+
+pub offset_bounds-rows-start : goal.offset_bounds-rows-start
+offset_bounds-rows-start c = let t = c in
+    let i = t.loop-head.invariant in
+    let x = front i.0 t.loop-head-test.true in
+    let u = known x in
+    omega (arith, u.inside, u.same, c.well-formed.1.1.1.0.0)
+
+pub slice_bounds-cut_stretch-end : goal.slice_bounds-cut_stretch-end
+slice_bounds-cut_stretch-end c = let t = c in
+    let i = t.loop-head.invariant in
+    let x = front i.0 t.loop-head-test.true in
+    let u = known x in
+    omega (arith, u.inside, u.same)
+
+pub slice_bounds-cut_stretch-end-in-loop-head : goal.slice_bounds-cut_stretch-end-in-loop-head
+slice_bounds-cut_stretch-end-in-loop-head c = let t = c in
+    let i = t.loop-head.invariant in
+    let x = front i.0 t.loop-head-test.true in
+    let u = known x in
+    omega (arith, u.inside, u.fit-w)
+
+pub slice_bounds-cut_stretch-end-in-loop-head-2 : goal.slice_bounds-cut_stretch-end-in-loop-head-2
+slice_bounds-cut_stretch-end-in-loop-head-2 c = let t = c in
+    let i = t.loop-head.invariant in
+    let x = front i.0 t.loop-head-test.true in
+    sym (spare-length x)
+
+pub cut_stretch-plane-requires : goal.cut_stretch-plane-requires
+cut_stretch-plane-requires c = let t = c in
+    let i = t.loop-head.invariant in
+    let x = front i.0 t.loop-head-test.true in
+    (i.0.pos, lent-some x, lent-good x, lent-room x)
+
+pub overflow_mul-tail : goal.overflow_mul-tail
+overflow_mul-tail c = let t = c in
+    let i = t.loop-head.invariant in
+    let x = front i.0 t.loop-head-test.true in
+    let u = known x in
+    omega (arith, u.room-fit c.if-leaf-count.true, u.fit-w, i.1.same_w, i.1.cap-w)
+
+pub overflow_add-base : goal.overflow_add-base
+overflow_add-base c = let t = c in
+    let i = t.loop-head.invariant in
+    let x = front i.0 t.loop-head-test.true in
+    let u = known x in
+    omega (arith, u.room-fit c.if-leaf-count.true, u.fit-w, i.1.same_w, i.1.cap-w)
+
+pub put_halves-requires : goal.put_halves-requires
+put_halves-requires c = let cut = c in
+    let t = c in
+    let i = t.loop-head.invariant in
+    let x = front i.0 t.loop-head-test.true in
+    let u = known x in
+    let m = room-kept x cut.cut_stretch-plane.new.room.0 cut.cut_stretch-plane.auto.1.1.1.0 in
+    (omega (arith, u.room-fit c.if-leaf-count.true, m, u.fit-w), omega (arith, u.inside, u.fit-w, i.1.same_w, i.1.cap-w))
+
+pub overflow_mul-stride-then-leaf-count : goal.overflow_mul-stride-then-leaf-count
+overflow_mul-stride-then-leaf-count c = let t = c in
+    let i = t.loop-head.invariant in
+    let x = front i.0 t.loop-head-test.true in
+    let u = known x in
+    omega (arith, u.floats-all, i.1.same-floats, i.1.cap-floats, ap (λ (f : ℕ). f * t.loop-head.tail) i.2)
+
+pub write_halves-requires : goal.write_halves-requires
+write_halves-requires c = let cut = c in
+    let read = c in
+    let t = c in
+    let i = t.loop-head.invariant in
+    let x = front i.0 t.loop-head-test.true in
+    let u = known x in
+    let e = read.read_box-whole.ensures.0 in
+    (rw e (axis-fit x _ cut.cut_stretch-plane.ensures.plane.0), rw e i.0.few, rw (i.2, e) (u.floats_fit c.if-leaf-count.true))
+
+pub overflow_add-tail : goal.overflow_add-tail
+overflow_add-tail c = let t = c in
+    let i = t.loop-head.invariant in
+    let x = front i.0 t.loop-head-test.true in
+    let u = known x in
+    omega (arith, u.room-fit c.if-leaf-count.true, u.fit-w, i.1.same_w, i.1.cap-w)
+
+pub loop-head-smaller-then-leaf-count : goal.loop-head-smaller-then-leaf-count
+loop-head-smaller-then-leaf-count c = let cut = c in
+    let read = c in
+    let t = c in
+    let i = t.loop-head.invariant in
+    let x = front i.0 t.loop-head-test.true in
+    wait-less x cut.cut_stretch-plane.new.rows cut.cut_stretch-plane.new.room.0 cut.cut_stretch-plane.ensures.rows cut.cut_stretch-plane.auto.1.1.1.0
+    cut.cut_stretch-plane.result.axis cut.cut_stretch-plane.result.value (floats_of read.read_box-whole.result) read.read_box-whole.result.dimensions
+    cut.cut_stretch-plane.ensures.plane.0 cut.cut_stretch-plane.ensures.plane.1 (rw i.2 at read.read_box-whole.ensures.1) read.read_box-whole.ensures.0
+    c.if-leaf-count.true _ c.put_halves.ensures
+
+pub loop-head-preserved-then-leaf-count : goal.loop-head-preserved-then-leaf-count
+loop-head-preserved-then-leaf-count c = let wrote = c in
+    let put = c in
+    let cut = c in
+    let read = c in
+    let t = c in
+    let i = t.loop-head.invariant in
+    let x = front i.0 t.loop-head-test.true in
+    let u = known x in
+    let m = room-kept x cut.cut_stretch-plane.new.room.0 cut.cut_stretch-plane.auto.1.1.1.0 in (
+      wait x cut.cut_stretch-plane.new.rows cut.cut_stretch-plane.new.room.0 cut.cut_stretch-plane.ensures.rows cut.cut_stretch-plane.auto.1.1.1.0
+          cut.cut_stretch-plane.result.axis cut.cut_stretch-plane.result.value (floats_of read.read_box-whole.result) read.read_box-whole.result.dimensions
+          cut.cut_stretch-plane.ensures.plane.0 cut.cut_stretch-plane.ensures.plane.1 (rw i.2 at read.read_box-whole.ensures.1) read.read_box-whole.ensures.0
+          c.if-leaf-count.true _ put.put_halves.ensures _ (rw i.2 at wrote.write_halves.ensures),
+      kept_next i.1 (put.put_halves.auto.0 ∙ m) refl wrote.write_halves.auto.1.1.1.0 refl,
+      i.2,
+    )
+
+pub overflow_add-n : goal.overflow_add-n
+overflow_add-n c = let t = c in
+    let i = t.loop-head.invariant in
+    let x = front i.0 t.loop-head-test.true in
+    let u = known x in
+    omega (arith, u.rows_fit, u.fit-w, i.1.same_w, i.1.cap-w)
+
+pub copy_rows-requires : goal.copy_rows-requires
+copy_rows-requires c = let cut = c in
+    let t = c in
+    let i = t.loop-head.invariant in
+    let x = front i.0 t.loop-head-test.true in
+    let u = known x in
+    let m = room-kept x cut.cut_stretch-plane.new.room.0 cut.cut_stretch-plane.auto.1.1.1.0 in
+    let r = rows-kept x cut.cut_stretch-plane.new.rows cut.cut_stretch-plane.auto.1.1.0 in
+    (omega (arith, r, u.inside, u.same), omega (arith, m, u.rows_fit, u.fit-w))
+
+pub overflow_add-at : goal.overflow_add-at
+overflow_add-at c = let t = c in
+    let i = t.loop-head.invariant in
+    let x = front i.0 t.loop-head-test.true in
+    let u = known x in
+    let p = c.requires.rows_bound.0 in
+    omega (arith, u.rows_fit, p)
+
+pub put_leaves-requires : goal.put_leaves-requires
+put_leaves-requires c = let t = c in
+    let i = t.loop-head.invariant in
+    let x = front i.0 t.loop-head-test.true in
+    let u = known x in
+    let p = c.requires.rows_bound.0 in
+    (u.leaves-fit, omega (arith, u.rows_fit, p))
+
+pub overflow_mul-stride-else-leaf-count : goal.overflow_mul-stride-else-leaf-count
+overflow_mul-stride-else-leaf-count c = let t = c in
+    let i = t.loop-head.invariant in
+    let x = front i.0 t.loop-head-test.true in
+    let u = known x in
+    omega (arith, u.boxes_fit, i.1.same-B, i.1.cap-B, ap (λ (f : ℕ). f * t.loop-head.k) i.2)
+
+pub write_halves-requires-else-leaf-count : goal.write_halves-requires-else-leaf-count
+write_halves-requires-else-leaf-count c = let cut = c in
+    let read = c in
+    let t = c in
+    let i = t.loop-head.invariant in
+    let x = front i.0 t.loop-head-test.true in
+    let u = known x in
+    let e = read.read_box-whole.ensures.0 in
+    (rw e (axis-fit x _ cut.cut_stretch-plane.ensures.plane.0), rw e i.0.few, rw (i.2, e) u.boxes_fit)
+
+pub overflow_add-done : goal.overflow_add-done
+overflow_add-done c = let t = c in
+    let i = t.loop-head.invariant in
+    let x = front i.0 t.loop-head-test.true in
+    let u = known x in
+    omega (arith, u.rows_fit, u.fit-w, i.1.same_w, i.1.cap-w)
+
+pub overflow_add-k : goal.overflow_add-k
+overflow_add-k c = let t = c in
+    let i = t.loop-head.invariant in
+    let x = front i.0 t.loop-head-test.true in
+    let u = known x in
+    omega (arith, u.leaves-fit, i.1.same-O, i.1.cap-O)
+
+pub loop-head-smaller : goal.loop-head-smaller
+loop-head-smaller c = let cut = c in
+    let read = c in
+    let t = c in
+    let i = t.loop-head.invariant in
+    let x = front i.0 t.loop-head-test.true in
+    next-leaves-less x cut.cut_stretch-plane.new.rows cut.cut_stretch-plane.new.room.0 cut.cut_stretch-plane.ensures.rows cut.cut_stretch-plane.auto.1.1.1.0
+    cut.cut_stretch-plane.result.axis cut.cut_stretch-plane.result.value (floats_of read.read_box-whole.result) read.read_box-whole.result.dimensions
+    cut.cut_stretch-plane.ensures.plane.0 cut.cut_stretch-plane.ensures.plane.1 (rw i.2 at read.read_box-whole.ensures.1) read.read_box-whole.ensures.0
+    c.if-leaf-count.false _ c.copy_rows.ensures
+
+pub loop-head-preserved : goal.loop-head-preserved
+loop-head-preserved c = let wrote = c in
+    let named = c in
+    let packed = c in
+    let cut = c in
+    let read = c in
+    let t = c in
+    let i = t.loop-head.invariant in
+    let x = front i.0 t.loop-head-test.true in
+    let u = known x in
+    let m = room-kept x cut.cut_stretch-plane.new.room.0 cut.cut_stretch-plane.auto.1.1.1.0 in (
+      next-leaves x cut.cut_stretch-plane.new.rows cut.cut_stretch-plane.new.room.0 cut.cut_stretch-plane.ensures.rows cut.cut_stretch-plane.auto.1.1.1.0
+          cut.cut_stretch-plane.result.axis cut.cut_stretch-plane.result.value (floats_of read.read_box-whole.result) read.read_box-whole.result.dimensions
+          cut.cut_stretch-plane.ensures.plane.0 cut.cut_stretch-plane.ensures.plane.1 (rw i.2 at read.read_box-whole.ensures.1) read.read_box-whole.ensures.0
+          c.if-leaf-count.false _ packed.copy_rows.ensures _ _ named.put_leaves.ensures (rw i.2 at wrote.write_halves-else-leaf-count.ensures),
+      kept_next i.1 (packed.copy_rows.auto.1.1.1.0 ∙ m) named.put_leaves.auto.0 refl wrote.write_halves-else-leaf-count.auto.1.1.1.0,
+      i.2,
+    )
+
+pub copy_rows-requires-2 : goal.copy_rows-requires-2
+copy_rows-requires-2 c = let r = c.loop-head.invariant.0 in
+    (omega (arith, r.fit-w), omega (arith, r.same))
+
+pub overflow_sub-result : goal.overflow_sub-result
+overflow_sub-result c = c.loop-head.invariant.0.inv.up
+
+pub returns : goal.returns
+returns c = let a = c in
+    let p = a.requires in
+    let root = c.put_root.ensures in
+    let l = c.loop-head in
+    let r = l.invariant.0 in
+    let en = run_end r c.loop-head-test.false in
+    let e : l.k - a.args.first - 1 ≡ l.tail = omega (arith, en.4) in
+    let found =
+    found_all _ _ p.dimensions_nonzero.0 p.dimensions_nonzero.1 _ p.dimensions_nonzero.2 _ p.dimensions_nonzero.3 p.dimensions_nonzero.4 a.args.wholes.now _ a.args.floats.now _ p.rows_in_bounds.0 p.rows_in_bounds.1
+    root.wholes root.floats _ _ l.tail r.begun r.found-w r.found-floats in
+    let back = c.copy_rows-2 in (
+      omega (arith, en.0),
+      (
+        back.ensures ∙ put_whole l.rows _ (omega (arith, r.same, packed-length (length a.args.rows.now) l.wholes r.fit-w)) ∙ en.1,
+        (en.2, (en.3, (rw e found.1, rw e found.0))),
+      ),
+    )

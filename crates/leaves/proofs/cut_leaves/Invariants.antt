@@ -1,0 +1,21 @@
+use mathlib.Core.Path.{◌≡◌, refl, sym, ap, ◌∙◌}
+use Prim.Native.Nat.{ℕ, ◌-◌, ◌*◌}
+use native.Mathlib.Omega.{arith}
+use lib.ListN.{length}
+use borrow.Author.Rules.{rules}
+use Rattle.lists.proofs.Put.{put_whole}
+use Rattle.rows.proofs.Good.{good-inside}
+use Rattle.queue.proofs.Loop.{cuts_left}
+use Rattle.queue.proofs.View.{room_in, packed-length}
+use Rattle.definition.specs.Points.{box_width_lem}
+use Rattle.boxes.specs.Boxes.{floats_of}
+use Rattle.leaves.proofs.Turns.{Run, KeptLengths, kept_next, run-first, run_end, found_all, front, known}
+use Rattle.leaves.proofs.Turns.{lent-good, lent-some, spare-length, lent-room, rows-kept, room-kept, wait, wait-less, next-leaves, next-leaves-less, width-most, axis-fit}
+use Rattle.leaves.proofs.cut_leaves.Given as goal
+
+abbrev pub invariant-loop-head : goal.invariant-loop-head
+invariant-loop-head l = Run l.dimensions l.points l.leaf l.initial.rows l.initial.domains l.initial.boxes l.initial.wholes l.initial.floats l.at l.first l.rows l.wholes l.domains l.floats l.boxes l.head l.tail l.done l.k
+    × KeptLengths l.initial.wholes l.initial.domains l.initial.floats l.initial.boxes l.wholes l.domains l.floats l.boxes × (l.stride ≡ box_width_lem l.dimensions)
+
+abbrev pub decreases-loop-head : goal.decreases-loop-head
+decreases-loop-head l = cuts_left (room_in (length l.initial.rows) l.wholes) l.head l.tail

@@ -1,0 +1,14 @@
+use mathlib.Core.Path.{refl}
+use Prim.Native.Nat.{◌-◌}
+use native.Mathlib.Omega.{arith}
+use borrow.Author.Rules.{rules}
+use borrow.Author.Tests.{not-true, not-false}
+use Rattle.packed.specs.Reading.{packed}
+use Rattle.list_domains.proofs.Between.{Between, between_start, between-end, row-ready, between-out, own-most, borrowed-most, between_next}
+use Rattle.list_domains.proofs.check_domains.Given as goal
+
+abbrev pub invariant-loop-i : goal.invariant-loop-i
+invariant-loop-i l = Between l.coarse (packed l.internals l.domains l.boxes l.borrowed l.dimensions) l.borrowed_most l.first l.own_at l.borrowed_at l.rows l.count l.initial.left l.initial.listed l.left l.listed l.i l.own l.end l.remaining l.least
+
+abbrev pub decreases-loop-i : goal.decreases-loop-i
+decreases-loop-i l = l.count - l.i

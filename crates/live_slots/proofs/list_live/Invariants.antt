@@ -1,0 +1,14 @@
+use mathlib.Core.Path.{◌≡◌, refl, ap, ◌∙◌}
+use mathlib.Core.Logic.{⊎_elim}
+use Prim.Native.Nat.{◌≤◌, ◌-◌}
+use native.Mathlib.Omega.{arith}
+use borrow.Author.Rules.{rules}
+use lib.ListN.{length, length-set}
+use Rattle.live_slots.proofs.Listed.{Listing, starts, turn-fits, turn-live, turn-retired, ends}
+use Rattle.live_slots.proofs.list_live.Given as goal
+
+abbrev pub invariant-loop-i : goal.invariant-loop-i
+invariant-loop-i l = (l.i ≤ l.slots) × (l.n ≤ l.i) × (length l.rows ≡ length l.initial.rows) × Listing l.flags l.initial.rows l.rows l.i l.n
+
+abbrev pub decreases-loop-i : goal.decreases-loop-i
+decreases-loop-i l = l.slots - l.i

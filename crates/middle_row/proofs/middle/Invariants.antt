@@ -1,0 +1,19 @@
+use borrow.Author.Rules.{rules}
+use mathlib.Core.Path.{◌≡◌, refl, sym}
+use Prim.Native.Nat.{◌+◌, ◌*◌, ◌/◌, ◌≤◌}
+use native.Mathlib.Nat.{mod-lt}
+use native.Mathlib.Omega.{arith}
+use borrow.Author.Tests.{leb-true}
+use lib.ListN.{length}
+use Rattle.middle_row.specs.Middle.{Narrows}
+use Rattle.definition.specs.Refusals.{most_points}
+use Rattle.middle_row.proofs.Rounds.{search-first, search-more, end-asks, end-front, end-inside, end-middle}
+use Rattle.middle_row.proofs.middle.Given as goal
+
+abbrev pub invariant-loop-m : goal.invariant-loop-m
+invariant-loop-m l = Narrows l.d l.points l.axis l.initial.rows (length l.initial.rows) (length l.initial.rows / 2) l.rows l.m l.k × (length l.rows ≡ length l.initial.rows)
+    × (32 * l.round + l.left ≤ 8 * length l.initial.rows)
+    × (length l.initial.rows ≤ most_points)
+
+abbrev pub decreases-loop-m : goal.decreases-loop-m
+decreases-loop-m l = l.left

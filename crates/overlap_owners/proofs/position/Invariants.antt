@@ -1,0 +1,12 @@
+use Prim.Native.Nat.{◌+◌, ◌/◌}
+use Prim.Native.Nat.{◌-◌}
+use Rattle.overlap_owners.proofs.Bisect.{Between, between-all, between-low, between-high, between-one}
+use borrow.Author.Rules.{rules}
+use native.Mathlib.Omega.{arith}
+use Rattle.overlap_owners.proofs.position.Given as goal
+
+abbrev pub invariant-loop-low : goal.invariant-loop-low
+invariant-loop-low l = Between l.active l.row l.low l.high
+
+abbrev pub decreases-loop-low : goal.decreases-loop-low
+decreases-loop-low l = l.high - l.low

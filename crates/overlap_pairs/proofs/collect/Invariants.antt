@@ -1,0 +1,15 @@
+use Prim.Native.Nat.{ℕ, ◌+◌, ◌-◌, ◌*◌, ◌≤◌}
+use mathlib.Core.Path.{◌≡◌, refl, ◌∙◌, subst}
+use lib.ListN.{length}
+use Rattle.overlap_pairs.specs.Pairs.{Collected}
+use Rattle.overlap_pairs.proofs.Collects.{collect-none, collect-room, collect-owners, collect-long, collect-more}
+use borrow.Author.Rules.{rules}
+use native.Mathlib.Omega.{arith}
+use Rattle.overlap_pairs.proofs.collect.Given as goal
+
+
+abbrev pub invariant-loop-p : goal.invariant-loop-p
+invariant-loop-p l = (l.p ≤ length l.active) × (length l.wholes ≡ length l.initial.wholes) × Collected l.dimensions l.points l.neighbours l.active l.initial.wholes l.p l.wholes l.n
+
+abbrev pub decreases-loop-p : goal.decreases-loop-p
+decreases-loop-p l = length l.active - l.p

@@ -1,0 +1,14 @@
+use Prim.Native.Nat.{◌-◌}
+use mathlib.Core.Path.{◌≡◌, refl}
+use lib.ListN.{length, get_or, length-set}
+use Rattle.overlap_pairs.proofs.Sends.{Sent, send-none, send-small, send-skip, send-pair, send-end}
+use borrow.Author.Rules.{rules}
+use native.Mathlib.Omega.{arith}
+use Rattle.overlap_pairs.proofs.send.Given as goal
+
+
+abbrev pub invariant-loop-k : goal.invariant-loop-k
+invariant-loop-k l = (l.mine ≡ get_or l.initial.wholes l.p 0) × Sent l.near l.p l.initial.wholes l.n l.wholes l.w l.k
+
+abbrev pub decreases-loop-k : goal.decreases-loop-k
+decreases-loop-k l = length l.near - l.k

@@ -1,0 +1,87 @@
+-- `overlaps::overlaps` meets its contract. The owners, the pairs, and what they lend: `Stages`. Assumes nothing.
+use Prim.Native.Nat.{◌+◌, ◌*◌, ◌≤◌}
+use mathlib.Core.Path.{◌≡◌}
+use lib.ListN.{length}
+use Rattle.lists.specs.Lists.{part}
+use Rattle.overlaps.proofs.Stages.{sent-fits, stage-owners, stage-length, stage-inside, stage-encoded, stage-number, stage-borrowed, stage-domains}
+use Rattle.overlaps.proofs.Borrows.{positions_of}
+use Rattle.packed.specs.Reading.{read_own}
+use native.Mathlib.Omega.{arith}
+use borrow.Author.Rules.{rules}
+use Rattle.overlaps.proofs.overlaps.Goals as goal
+
+pub collect-end-requires : goal.collect-end-requires
+unfolding part
+collect-end-requires c = let s = c in
+    let a = s.args in
+    let f = c.owners in
+    let W = f.new.wholes.0 in
+    let e : length W ≡ length a.wholes.now = c.wholes-1.given in (
+      s.requires.stage.rows,
+      s.requires.stage.near,
+      stage-owners a.dimensions a.points.now a.neighbours a.active.now a.internals.now a.domains.now a.first a.m s.requires.stage W f.ensures (omega (arith, s.requires.neighbours_in_bounds.0)),
+      omega (
+        arith,
+        e,
+        s.requires.neighbours_in_bounds.0,
+        sent-fits (length a.active.now)
+            a.neighbours,
+      ),
+    )
+
+pub lend-requires : goal.lend-requires
+unfolding part
+lend-requires c = let s = c in
+    let a = s.args in
+    let f = c.owners in
+    let W = f.new.wholes.0 in
+    let e : length W ≡ length a.wholes.now = c.wholes-1.given in
+    let g = c.collect-end in
+    let U = g.new.wholes.0 in
+    let k : length U ≡ length W = c.wholes-2-1.given in
+    let h : length a.active.now ≤ length W = omega (arith, s.pre.1.0) in
+    let r : length a.active.now + 2 * length a.active.now * (a.neighbours + 1) ≤ length U = omega (arith, e, k, s.pre.1.0) in (
+      s.pre.0.few,
+      s.pre.0.leaf_few,
+      s.pre.0.leaves.rows,
+      omega (
+        arith,
+        stage-length a.dimensions a.points.now a.neighbours
+            a.active.now a.internals.now a.domains.now a.first a.m s.pre.0 W f.ensures h U g.result g.ensures r,
+        s.pre.1.1,
+      ),
+      stage-inside a.dimensions a.points.now a.neighbours a.active.now a.internals.now a.domains.now a.first a.m s.pre.0
+          W f.ensures h U g.result g.ensures r,
+    )
+
+pub returns : goal.returns
+unfolding part
+returns c = let s = c in
+    let a = s.args in
+    let f = c.owners
+    in
+    let W = f.last.1.1.1.1.1.0 in
+    let e : length W ≡ length a.wholes.now = c.wholes-1.given in
+    let g = c.collect-end in
+    let U = g.new.wholes.0 in
+    let k : length U ≡ length W = c.wholes-2-1.given in
+    let h : length a.active.now ≤ length W = omega (arith, s.pre.1.0) in
+    let r : length a.active.now + 2 * length a.active.now * (a.neighbours + 1) ≤ length U = omega (arith, e, k, s.pre.1.0) in
+    let ls = positions_of a.dimensions a.points.now a.neighbours a.active.now (read_own a.internals.now a.domains.now a.first
+    a.m) in
+    let l = c.lend in
+    let H = stage-encoded a.dimensions a.points.now a.neighbours a.active.now a.internals.now a.domains.now a.first a.m s.pre.0 W f.ensures h U g.result g.ensures r in (
+      stage-number a.dimensions a.points.now a.neighbours a.active.now a.internals.now a.domains.now a.first a.m s.pre.0 W f.ensures h U g.result g.ensures r l.result (l.ensures.number ls H),
+      (
+        stage-borrowed a.dimensions a.points.now a.neighbours a.active.now a.internals.now a.domains.now a.first a.m s.pre.0 W f.ensures h U g.result g.ensures r a.borrowed.now l.new.borrowed a.bat (l.ensures.rows ls H),
+        (
+          stage-domains a.dimensions a.points.now a.neighbours a.active.now a.internals.now a.domains.now a.first a.m s.pre.0 W f.ensures h U g.result g.ensures r l.new.domains
+              a.bat (l.ensures.columns ls H),
+          omega (
+            arith,
+            l.ensures.most,
+            stage-length a.dimensions a.points.now a.neighbours a.active.now a.internals.now a.domains.now a.first a.m s.pre.0 W f.ensures h U g.result g.ensures r,
+          ),
+        ),
+      ),
+    )

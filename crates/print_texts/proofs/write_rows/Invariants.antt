@@ -1,0 +1,16 @@
+use Rattle.print_texts.proofs.Each.{row_text, rows-dash, rows-listed, each_none, each_all, each_more, more_room}
+use Rattle.bytes_out.specs.Wrote.{Wrote}
+use Rattle.bytes_out.proofs.Wrote.{spelt, room-spelt, wrote_none}
+use Rattle.lists.specs.Lists.{joined}
+use lib.ListN.{length, take}
+use Prim.Native.Nat.{◌-◌, ◌≤◌}
+use mathlib.Core.List.{map}
+use mathlib.Core.Path.{◌≡◌, sym, ◌∙◌}
+use borrow.Author.Rules.{rules}
+use Rattle.print_texts.proofs.write_rows.Given as goal
+
+abbrev pub invariant-loop-i : goal.invariant-loop-i
+invariant-loop-i l = Wrote l.initial.out l.at (joined (map row_text (take l.i l.rows))) l.next l.out × (l.i ≤ length l.rows) × (length l.out ≡ length l.initial.out)
+
+abbrev pub decreases-loop-i : goal.decreases-loop-i
+decreases-loop-i l = length l.rows - l.i

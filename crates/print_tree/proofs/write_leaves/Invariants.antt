@@ -1,0 +1,18 @@
+use Rattle.print_tree.proofs.Grow.{fine_text, fine-none, fine-grows, grown-room, grown}
+use Rattle.packed.specs.Reading.{packed}
+use Rattle.print_tree.specs.Unpack.{leaf_line}
+use Rattle.bytes_out.specs.Wrote.{Wrote}
+use Rattle.bytes_out.proofs.Wrote.{spelt, wrote_none}
+use lib.ListN.{length}
+use Prim.Native.Nat.{◌+◌, ◌-◌, ◌≤◌}
+use mathlib.Core.Bool.{true}
+use mathlib.Core.Path.{◌≡◌, sym, ap}
+use native.Mathlib.Omega.{arith}
+use borrow.Author.Rules.{rules}
+use Rattle.print_tree.proofs.write_leaves.Given as goal
+
+abbrev pub invariant-loop-i : goal.invariant-loop-i
+invariant-loop-i l = Wrote l.initial.out l.at (fine_text (packed l.internals l.domains l.boxes l.borrowed l.dimensions) l.j l.i) l.next l.out × (l.i ≤ l.m) × (length l.out ≡ length l.initial.out)
+
+abbrev pub decreases-loop-i : goal.decreases-loop-i
+decreases-loop-i l = l.m - l.i

@@ -1,0 +1,16 @@
+-- `printout::printout` meets its contract. Assumes nothing.
+use Rattle.job_room.proofs.Printing.{answer-short, output-short, answer-long, output-long}
+use Rattle.formats.specs.Printout.{printout as printed}
+use native.Mathlib.Omega.{arith}
+use borrow.Author.Rules.{rules}
+use Rattle.printout.proofs.printout.Goals as goal
+
+pub returns-then-output-lt-TEXT : goal.returns-then-output-lt-TEXT
+returns-then-output-lt-TEXT c = let a = c.args in
+    (answer-short (printed a.input.now) a.output.now (omega (arith, c.if-output-lt-TEXT.true)), output-short (printed a.input.now) a.output.now (omega (arith, c.if-output-lt-TEXT.true)))
+
+pub returns : goal.returns
+returns c = let a = c.args in
+    let long = c.if-output-lt-TEXT.false in
+    let w = c.write_printout-count.ensures in
+    (answer-long (printed a.input.now) a.output.now long _ _ w, output-long (printed a.input.now) a.output.now long _ _ w)

@@ -1,0 +1,28 @@
+-- `quotas::share_in_place` meets its contract: what was done to the front is written back. Assumes nothing.
+use mathlib.Core.Path.{◌≡◌, sym, ap, ◌∙◌}
+use mathlib.Core.List.{List, ◌++◌}
+use Prim.Native.Nat.{ℕ, ◌≤◌}
+use lib.ListN.{length, take, drop}
+use lib.Seq.{length-take-le}
+use Rattle.lists.specs.Lists.{total}
+use Rattle.definition.specs.Quotas.{quotas_for}
+use Rattle.definition.specs.Outcome.{written}
+use Rattle.definition.proofs.Fairness.{quotas-length}
+use borrow.Author.Rules.{rules}
+use native.Mathlib.Omega.{arith}
+use Rattle.quotas.proofs.share_in_place.Goals as goal
+
+-- the quotas in the place of the front
+front-shared : (l : List ℕ) (m s : ℕ) (new : List ℕ) → m ≤ length l → s ≤ total (take m l) → new ≡ quotas_for (take m l) s → new ++ drop m l ≡ written (quotas_for (take m l) s) l
+unfolding written
+front-shared l m s new h g e =
+    let k : length (quotas_for (take m l) s) ≡ m = quotas-length (take m l) s g ∙ length-take-le m l h in
+    rw e (ap (λ (n : ℕ). quotas_for (take m l) s ++ drop n l) (sym k))
+
+pub slice_bounds-share-end-2 : goal.slice_bounds-share-end-2
+slice_bounds-share-end-2 c = let a = c.args in
+    sym (length-take-le a.m a.list.now c.requires.0)
+
+pub returns : goal.returns
+returns c = let s = c in
+    front-shared s.args.list.now s.args.m s.args.s _ s.requires.0 (omega (arith, s.requires.1, s.requires.3)) c.share.ensures

@@ -1,0 +1,15 @@
+use mathlib.Core.Path.{◌≡◌, ap}
+use Prim.Native.Nat.{◌+◌, ◌-◌, ◌≤◌}
+use native.Mathlib.Omega.{arith}
+use lib.ListN.{length, take}
+use lib.Seq.{take_all}
+use Rattle.lists.specs.Lists.{total}
+use Rattle.lists.proofs.Sums.{total-nil, total-step, total-front}
+use Rattle.definition.specs.Refusals.{most_points}
+use Rattle.quotas.proofs.total_size.Given as goal
+
+abbrev pub invariant-loop-i : goal.invariant-loop-i
+invariant-loop-i l = (l.i ≤ length l.sizes) × (l.sum ≡ total (take l.i l.sizes)) × (l.sum ≤ most_points)
+
+abbrev pub decreases-loop-i : goal.decreases-loop-i
+decreases-loop-i l = length l.sizes - l.i

@@ -1,0 +1,19 @@
+-- `reload::reload` meets its contract. Assumes nothing.
+use native.Mathlib.Omega.{arith}
+use Rattle.stored.specs.Programs.{reloaded}
+use Rattle.job_room.proofs.Printing.{answer-short, output-short, answer-long, output-long}
+use borrow.Author.Rules.{rules}
+use Rattle.reload.proofs.reload.Goals as goal
+
+pub returns-then-output-lt-TEXT : goal.returns-then-output-lt-TEXT
+returns-then-output-lt-TEXT c = let a = c.args in
+    let text = reloaded a.stream.now a.file.now in
+    let short = c.if-output-lt-TEXT.true in
+    (answer-short text a.output.now (omega (arith, short)), output-short text a.output.now (omega (arith, short)))
+
+pub returns : goal.returns
+returns c = let a = c.args in
+    let text = reloaded a.stream.now a.file.now in
+    let long = c.if-output-lt-TEXT.false in
+    let w = c.write_reloaded-count.ensures in
+    (answer-long text a.output.now long _ _ w, output-long text a.output.now long _ _ w)

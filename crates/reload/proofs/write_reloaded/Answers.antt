@@ -1,0 +1,48 @@
+-- `reload::write_reloaded` meets its contract. Assumes nothing.
+use mathlib.Core.Path.{sym}
+use native.Mathlib.Omega.{arith}
+use lib.Seq.{length-take-le}
+use Rattle.bytes_out.proofs.Wrote.{spelt}
+use Rattle.job_room.proofs.JobRead.{limits-read, coordinates-read}
+use Rattle.job_room.proofs.Printing.{refusal-room}
+use Rattle.reload.proofs.Reloads.{broken-reloaded, whole-reloaded}
+use borrow.Author.Rules.{rules}
+use Rattle.reload.proofs.write_reloaded.Goals as goal
+
+pub write_refusal-requires : goal.write_refusal-requires
+write_refusal-requires c = refusal-room _ _ _ c.requires
+
+pub overflow_mul-k : goal.overflow_mul-k
+overflow_mul-k c = let start = c in
+    let told = c.read-in-Whole-1.given.1 in
+    let job = c.read_job-read in
+    let few = coordinates-read _ _ start.args.stream.now job.ensures.same _ _ told job.ensures.within in
+    omega (arith, few)
+
+pub slice_bounds-points-end : goal.slice_bounds-points-end
+slice_bounds-points-end c = let start = c in
+    let told = c.read-in-Whole-1.given.1 in
+    let job = c.read_job-read in
+    let few = coordinates-read _ _ start.args.stream.now job.ensures.same _ _ told job.ensures.within in
+    omega (arith, few, job.auto)
+
+pub slice_bounds-write_job-end : goal.slice_bounds-write_job-end
+slice_bounds-write_job-end c = let start = c in
+    let told = c.read-in-Whole-1.given.1 in
+    let job = c.read_job-read in
+    let few = coordinates-read _ _ start.args.stream.now job.ensures.same _ _ told job.ensures.within in
+    sym (length-take-le _ _ (omega (arith, few, job.auto)))
+
+pub write_job-requires : goal.write_job-requires
+write_job-requires c = let start = c in
+    (limits-read _ _ start.args.stream.now c.read_job-read.ensures.same _ _ c.read-in-Whole-1.given.1, start.requires)
+
+pub returns-in-Broken : goal.returns-in-Broken
+returns-in-Broken c = let start = c in
+    let same = c.read_job-read.ensures.same in
+    spelt (broken-reloaded _ _ start.args.stream.now start.args.file.now same _ _ c.read-1.given.1) c.write_refusal.ensures
+
+pub returns-in-Whole : goal.returns-in-Whole
+returns-in-Whole c = let start = c in
+    let same = c.read_job-read.ensures.same in
+    spelt (whole-reloaded _ _ start.args.stream.now start.args.file.now same _ _ c.read-in-Whole-1.given.1) c.write_job.ensures

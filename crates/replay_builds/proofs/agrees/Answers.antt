@@ -1,0 +1,7 @@
+-- `replay_builds::agrees` meets its contract. Assumes nothing.
+use borrow.Author.Tests.{not-false}
+use borrow.Author.Rules.{rules}
+use Rattle.replay_builds.proofs.agrees.Goals as goal
+
+pub nines_agree-requires : goal.nines_agree-requires
+nines_agree-requires c = c.fit.ensures (not-false _ c.if-not-fit.false)

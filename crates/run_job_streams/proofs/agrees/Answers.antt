@@ -1,0 +1,14 @@
+-- `run_job_streams::agrees` meets its contract. Assumes nothing.
+use mathlib.Core.Path.{sym}
+use native.Mathlib.Omega.{arith}
+use lib.Seq.{length-take-le}
+use Rattle.stream_laws.proofs.Long.{printout-long}
+use Rattle.job_room.proofs.Printing.{count_fits}
+use borrow.Author.Rules.{rules}
+use Rattle.run_job_streams.proofs.agrees.Goals as goal
+
+pub slice_bounds-same-end : goal.slice_bounds-same-end
+slice_bounds-same-end c = omega (arith, count_fits _ _ _ c.printout-printed.ensures.answer (printout-long _), c.printout-printed.auto)
+
+pub slice_bounds-same-end-2 : goal.slice_bounds-same-end-2
+slice_bounds-same-end-2 c = sym (length-take-le _ _ (omega (arith, count_fits _ _ _ c.printout-printed.ensures.answer (printout-long _), c.printout-printed.auto)))

@@ -1,0 +1,10 @@
+-- `run_stored_calls::replay` meets its contract. Assumes nothing.
+use mathlib.Core.Path.{◌≡◌, sym}
+use lib.Seq.{length-take-le}
+use borrow.Author.Rules.{rules}
+use Prim.Native.Nat.{◌≤◌, ◌-◌}
+use lib.ListN.{length}
+use Rattle.run_stored_calls.proofs.replay.Goals as goal
+
+pub slice_bounds-agrees-end-in-loop-calls : goal.slice_bounds-agrees-end-in-loop-calls
+slice_bounds-agrees-end-in-loop-calls c = sym (length-take-le _ _ (search rules))

@@ -1,0 +1,72 @@
+-- `sampling_rounds::lessen` meets its contract. The loop's invariant: the squares passed are lessened (`PassedTo`), and `most`
+-- is the greatest of them (`Seen`). Assumes nothing.
+use mathlib.Core.Path.{◌≡◌, subst}
+use mathlib.Core.Logic.{⊎_elim}
+use Prim.Native.Nat.{ℕ, ◌≤◌, ◌-◌}
+use native.Mathlib.Nat.{le_antisymm}
+use native.Mathlib.Omega.{arith}
+use borrow.Author.Rules.{rules}
+use lib.ListN.{length}
+use Rattle.sampling_rounds.specs.Rounds.{lessened}
+use Rattle.rows.proofs.Good.{good-at}
+use Rattle.sampling_rounds.proofs.Passes.{PassedTo, Seen, passed_none, passed-more, seen_none, seen-greater, seen_other, seen_all, lessened-at, lessened-kept}
+use Rattle.sampling_rounds.proofs.lessen.Goals as goal
+
+pub loop-i-init : goal.loop-i-init
+loop-i-init c = let s = c in
+    (omega arith, (s.requires.room.1, (passed_none _ _, seen_none _)))
+
+pub distance_sq-square-requires : goal.distance_sq-square-requires
+distance_sq-square-requires c = let s = c in
+    let at = good-at s.args.rows.now s.requires.rows in
+    ((at s.args.last.0 s.requires.room.0).inside, (at c.loop-i.i c.loop-i-test.true).inside)
+
+pub loop-i-preserved : goal.loop-i-preserved
+loop-i-preserved c = let s = c in
+    let a = s.args in
+    let l = c.loop-i in
+    let h = c.loop-i-test.true in
+    let p = l.invariant.1.1.0 in
+    let v = lessened a.dimensions a.points.now a.rows.now a.last.0 a.floats.now in
+    let k = lessened-kept _ _ _ _ a.floats.now s.requires.rows s.requires.room.0 s.requires.kept in
+    let e : c.lesser_of-value.result ≡ v l.i =
+    lessened-at _ _ _ _ _ l.i _ _ _ c.distance_sq-square.ensures (p.left l.i (omega arith)) c.lesser_of-value.ensures in
+    let q = passed-more v a.floats.now l.floats l.i c.lesser_of-value.result p (omega (arith, h, l.invariant, p.same)) e in
+    ⊎_elim
+    (λ w. (
+      omega (arith, h),
+      (
+        l.invariant.1.0,
+        (
+          q,
+          rw (w.1, w.2, w.3)
+              (seen-greater v l.i l.place l.most l.second l.invariant.1.1.1 c.lesser_of-value.result e (λ j b. k j (omega (arith, h))) w.0.taken),
+        ),
+      ),
+    ))
+    (λ w. (
+      omega (arith, h),
+      (
+        l.invariant.1.0,
+        (
+          q,
+          rw (w.1, w.2, w.3)
+              (seen_other v l.i l.place l.most l.second l.invariant.1.1.1 c.lesser_of-value.result e w.0.left),
+        ),
+      ),
+    ))
+    c.if-most-value.branch
+
+pub shape_of-floats : goal.shape_of-floats
+shape_of-floats c = c.loop-i.invariant.1.1.0.same
+
+pub returns : goal.returns
+returns c = let s = c in
+    let a = s.args in
+    let l = c.loop-i in
+    let v = lessened a.dimensions a.points.now a.rows.now a.last.0 a.floats.now in
+    let e : l.i ≡ length a.rows.now = le_antisymm l.invariant.0 c.loop-i-test.false in (
+      (λ i h. l.invariant.1.1.0.done i (omega (arith, e))),
+      seen_all v _ _ _ _ (subst (λ (n : ℕ). Seen v n l.place l.most l.second) e l.invariant.1.1.1) (omega (arith, s.requires.room))
+          (lessened-kept _ _ _ _ a.floats.now s.requires.rows s.requires.room.0 s.requires.kept),
+    )

@@ -1,0 +1,62 @@
+-- `sampling_rounds::look_back` meets its contract. The loop's invariant: `Looked`. Assumes nothing.
+use mathlib.Core.Logic.{⊎_elim}
+use mathlib.Core.List.{List}
+use Prim.Native.Nat.{ℕ, ◌+◌, ◌≤◌, ◌-◌, ◌<◌}
+use native.Mathlib.Nat.{le_antisymm}
+use native.Mathlib.Omega.{arith}
+use borrow.Author.Rules.{rules}
+use lib.ListN.{length, get_or}
+use lib.Ieee.{Float, nan}
+use Rattle.definition.specs.Number.{square_root_lem}
+use Rattle.root_laws.proofs.Values.{root-good}
+use Rattle.sampling_rounds.proofs.Orders.{near-good, kept-good}
+use Rattle.sampling_rounds.proofs.Roots.{Looked, looked-none, looked-near, looked-low, looked-less, looked-here, looked-all}
+use Rattle.sampling_rounds.proofs.look_back.Goals as goal
+
+abbrev value : List Float → ℕ → Float
+value floats i = get_or floats i nan
+
+here : {i b : ℕ} → i < b → i + 1 ≤ b
+here h = omega arith
+
+pub loop-i-init : goal.loop-i-init
+loop-i-init c = let s = c in
+    let g = s.requires.nan_value in
+    let t = c.root-top.ensures in
+    ⊎_elim
+    (λ w. (omega arith, (s.requires.best_in_bounds, rw w.1 (looked-near _ _ _ (root-good _ g) (near-good _ g) (rw (← c.root.ensures, ← t) w.0.taken)))))
+    (λ w. (omega arith, (s.requires.best_in_bounds, rw w.1 (looked-none _ _))))
+    c.if-root-top.branch
+
+pub returns-else-root-top-2 : goal.returns-else-root-top-2
+returns-else-root-top-2 c = let s = c in
+    let l = c.loop-i in
+    let v = value s.args.floats.now in
+    let h = c.loop-i-test.true in
+    looked-here v s.args.best l.i l.low l.invariant.1.1 l.invariant.0
+    (kept-good l.low (v l.i) l.invariant.1.1.kept (s.requires.by_index l.i h) c.if-low-value.true)
+    (rw (← c.root-then-low-value.ensures, ← c.root-top.ensures) c.if-root-top-2.false)
+
+pub loop-i-preserved : goal.loop-i-preserved
+loop-i-preserved c = let s = c in
+    let l = c.loop-i in
+    let v = value s.args.floats.now in
+    let h = c.loop-i-test.true in
+    let r = square_root_lem (v s.args.best) in
+    let q = l.invariant.1.1 in
+    ⊎_elim
+    (λ w. (
+      here h,
+      (
+        l.invariant.1.0,
+        rw w.3 (looked-less v r l.low l.i q (root-good _ s.requires.nan_value)
+            (kept-good l.low (v l.i) q.kept (s.requires.by_index l.i h) w.0.taken) (rw (← w.1.ensures, ← c.root-top.ensures) w.2.taken)),
+      ),
+    ))
+    (λ w. (here h, (l.invariant.1.0, rw w.1 (looked-low v r l.low l.i q w.0.left))))
+    c.if-low-value.branch
+
+pub returns : goal.returns
+returns c = let s = c in
+    let l = c.loop-i in
+    looked-all (value s.args.floats.now) s.args.best s.requires.nan_value l.i l.low l.invariant.1.1 (le_antisymm l.invariant.0 c.loop-i-test.false)

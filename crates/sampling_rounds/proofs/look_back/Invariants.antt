@@ -1,0 +1,19 @@
+use mathlib.Core.Logic.{⊎_elim}
+use mathlib.Core.List.{List}
+use Prim.Native.Nat.{ℕ, ◌+◌, ◌≤◌, ◌-◌, ◌<◌}
+use native.Mathlib.Nat.{le_antisymm}
+use native.Mathlib.Omega.{arith}
+use borrow.Author.Rules.{rules}
+use lib.ListN.{length, get_or}
+use lib.Ieee.{Float, nan}
+use Rattle.definition.specs.Number.{square_root_lem}
+use Rattle.root_laws.proofs.Values.{root-good}
+use Rattle.sampling_rounds.proofs.Orders.{near-good, kept-good}
+use Rattle.sampling_rounds.proofs.Roots.{Looked, looked-none, looked-near, looked-low, looked-less, looked-here, looked-all}
+use Rattle.sampling_rounds.proofs.look_back.Given as goal
+
+abbrev pub invariant-loop-i : goal.invariant-loop-i
+invariant-loop-i l = (l.i ≤ l.best) × ((l.best < length l.floats) × Looked (value l.floats) (square_root_lem (value l.floats l.best)) l.low l.i)
+
+abbrev pub decreases-loop-i : goal.decreases-loop-i
+decreases-loop-i l = l.best - l.i

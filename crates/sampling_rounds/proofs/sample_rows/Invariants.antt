@@ -1,0 +1,17 @@
+use mathlib.Core.Path.{◌≡◌, refl, sym, ◌∙◌}
+use Prim.Native.Nat.{ℕ, ◌+◌, ◌≤◌, ◌<◌, ◌-◌}
+use native.Mathlib.Nat.{le_antisymm}
+use native.Mathlib.Omega.{arith}
+use lib.ListN.{length, get_or, set, length-set}
+use lib.Seq.{get_or-set_same, get_or-set_other}
+use lib.Ieee.{nan}
+use Rattle.sampling_rounds.specs.Rounds.{minus_one}
+use Rattle.sampling_rounds.proofs.Choosing.{Choosing, choosing-start, choosing-kept, choosing-open, choosing-more, choosing-end, choosing-all, choosing-worst}
+use Rattle.sampling_rounds.proofs.sample_rows.Given as goal
+
+abbrev pub invariant-loop-k : goal.invariant-loop-k
+invariant-loop-k l = (l.k ≤ l.wanted) × (Sizes (length l.out) (length l.floats) (length l.initial.out) (length l.initial.floats) (l.at + l.wanted) (length l.rows)
+    × Choosing l.dimensions l.points l.rows l.wanted (get_or l.rows l.first 0) l.initial.out l.out l.at l.floats l.last.0 l.k)
+
+abbrev pub decreases-loop-k : goal.decreases-loop-k
+decreases-loop-k l = l.wanted - l.k

@@ -1,0 +1,79 @@
+-- `sampling_seed::sampling_seed` meets its contract. The loop's invariant: `Nearest`. Assumes nothing.
+use mathlib.Core.Path.{◌≡◌}
+use mathlib.Core.Bool.{true}
+use mathlib.Core.Logic.{⊎_elim}
+use Prim.Native.Nat.{ℕ, ◌≤◌, ◌-◌}
+use native.Mathlib.Nat.{le_antisymm}
+use native.Mathlib.Omega.{arith}
+use borrow.Author.Rules.{rules}
+use lib.ListN.{length}
+use Rattle.root_laws.specs.Sorts.{good}
+use Rattle.rows.proofs.Good.{good-at}
+use Rattle.sampling_seed.proofs.Nearest.{from_center, center-square, center-good, Nearest, nearest-start, nearest-far, nearest-tie, nearest-less, nearest-end}
+use Rattle.sampling_seed.proofs.sampling_seed.Goals as goal
+
+pub get_centroid-center-requires : goal.get_centroid-center-requires
+get_centroid-center-requires c = let p = c.requires in (p.0, p.1)
+
+pub bounds-rows-0 : goal.bounds-rows-0
+bounds-rows-0 c = c.requires.2
+
+pub overflow_mul-first : goal.overflow_mul-first
+overflow_mul-first c = let s = c in
+    omega (
+      arith,
+      s.well-formed,
+      (good-at s.args.rows.now s.requires.0 0 s.requires.2).inside,
+    )
+
+pub distance_sq_at-low-requires : goal.distance_sq_at-low-requires
+distance_sq_at-low-requires c = let s = c in (
+  omega (arith, s.requires.1, c.get_centroid-center.type-inv),
+  (good-at s.args.rows.now s.requires.0 0 s.requires.2).inside,
+)
+
+pub loop-i-init : goal.loop-i-init
+loop-i-init c = let s = c in
+    let a = s.args in
+    let m = c.get_centroid-center in
+    let v = from_center a.dimensions a.points.now a.rows.now in
+    let g = center-good a.dimensions a.points.now a.rows.now s.requires.0 s.requires.2 in (
+      s.requires.2,
+      nearest-start v _ _ (g 0 s.requires.2) (center-square _ _ _ m.result 0 _ m.ensures c.distance_sq_at-low.ensures) c.root-near.ensures,
+    )
+
+pub overflow_mul-row : goal.overflow_mul-row
+overflow_mul-row c = let s = c in
+    omega (
+      arith,
+      s.well-formed,
+      (good-at s.args.rows.now s.requires.0 c.loop-i.i c.loop-i-test.true).inside,
+    )
+
+pub distance_sq_at-square-requires : goal.distance_sq_at-square-requires
+distance_sq_at-square-requires c = let s = c in (
+  omega (arith, s.requires.1, c.get_centroid-center.type-inv),
+  (good-at s.args.rows.now s.requires.0 c.loop-i.i c.loop-i-test.true).inside,
+)
+
+pub loop-i-preserved : goal.loop-i-preserved
+loop-i-preserved c = let s = c in
+    let a = s.args in
+    let m = c.get_centroid-center in
+    let v = from_center a.dimensions a.points.now a.rows.now in
+    let g = center-good a.dimensions a.points.now a.rows.now s.requires.0 s.requires.2 in
+    let l = c.loop-i in
+    let h = c.loop-i-test.true in
+    let q = c.distance_sq_at-square in
+    let e : q.result ≡ v l.i = center-square _ _ _ m.result l.i _ m.ensures q.ensures in
+    let good-to : (j : ℕ) → j ≤ l.i → good (v j) ≡ true = λ j b. g j (omega (arith, h)) in
+    ⊎_elim
+    (λ w. (omega (arith, h), rw (w.3, w.4, w.5) (nearest-less v l.best l.near l.low l.i q.result l.invariant.1 e good-to w.1.result w.1.ensures w.2.taken)))
+    (⊎_elim
+    (λ w. (omega (arith, h), rw (w.3, w.4, w.5) (nearest-tie v l.best l.near l.low l.i q.result l.invariant.1 e good-to w.1.result w.1.ensures w.2.left)))
+    (λ w. (omega (arith, h), rw (w.1, w.2, w.3) (nearest-far v l.best l.near l.low l.i q.result l.invariant.1 e good-to w.0.left))))
+    c.if-square-low.branch
+
+pub returns : goal.returns
+returns c = let l = c.loop-i in
+    nearest-end _ _ _ _ _ _ _ l.invariant.1 (le_antisymm l.invariant.0 c.loop-i-test.false)

@@ -1,0 +1,9 @@
+-- `settings_record::fields_of` meets its contract. Assumes nothing.
+use borrow.Author.Rules.{rules}
+use Rattle.settings_record.proofs.fields_of.Goals as goal
+
+pub returns-in-Auto : goal.returns-in-Auto
+returns-in-Auto c = (rw c.enum_told-1.given.1, search rules)
+
+pub returns-in-Fixed : goal.returns-in-Fixed
+returns-in-Fixed c = (rw c.policy-1.given.1, search rules)

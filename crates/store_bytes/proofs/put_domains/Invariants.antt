@@ -1,0 +1,20 @@
+use Rattle.store_records.proofs.Remains.{Remains, begin, restated, room-now, part-written, done}
+use Rattle.store_bytes.proofs.Turns.{turn, no-turn}
+use Rattle.store_bytes.proofs.Runs.{domain_at_lem, domain-run}
+use Rattle.lists.specs.Lists.{joined, from}
+use Rattle.packed.specs.Reading.{packed, read_leaves}
+use Rattle.store_bytes.specs.Runs.{domain_records}
+use lib.ListN.{length}
+use Prim.Native.Nat.{◌+◌, ◌-◌, ◌≤◌}
+use mathlib.Core.Path.{◌≡◌, ap}
+use mathlib.Core.List.{[], map}
+use native.Mathlib.Omega.{arith}
+use borrow.Author.Rules.{rules}
+use Rattle.store_bytes.proofs.put_domains.Given as goal
+
+abbrev pub invariant-loop-i : goal.invariant-loop-i
+invariant-loop-i l = let p = packed l.internals l.domains l.boxes l.borrowed l.dimensions in
+    Remains l.initial.out l.at (domain_records l.coarse (read_leaves p l.j l.m)) l.out l.next (map (domain_at_lem l.coarse p) (from (l.j + l.i) (l.m - l.i))) × (l.i ≤ l.m) × (length l.out ≡ length l.initial.out)
+
+abbrev pub decreases-loop-i : goal.decreases-loop-i
+decreases-loop-i l = l.m - l.i

@@ -1,0 +1,39 @@
+-- `store_bytes::put_file` meets its contract. Assumes nothing.
+use Rattle.store_records.proofs.Remains.{begin, room-now, part-written, done}
+use Rattle.store_bytes.proofs.Runs.{file-run, front-room}
+use Rattle.config.specs.Params.{settings_of_lem}
+use Rattle.tree_answer.specs.Answers.{counts_given, lists_of}
+use native.Mathlib.Nat.{zero-add}
+use mathlib.Core.Path.{◌∙◌}
+use borrow.Author.Rules.{rules}
+use Rattle.store_bytes.proofs.put_file.Goals as goal
+
+pub put_front-next-requires : goal.put_front-next-requires
+put_front-next-requires c = let start = c in
+    let a = start.args in
+    let s = settings_of_lem a.dimensions a.params in
+    let l = lists_of a.level_points.now a.internals.now a.domains.now a.boxes.now a.borrowed.now in
+    let e = file-run s a.points.now (counts_given a.counts) l in
+    let w0 = begin _ e (front-room a.out.now _ start.requires.borrowed_in_bounds) in
+    (start.requires.le_dimensions, room-now w0)
+
+pub put_levels-requires : goal.put_levels-requires
+put_levels-requires c = let start = c in
+    let a = start.args in
+    let s = settings_of_lem a.dimensions a.params in
+    let l = lists_of a.level_points.now a.internals.now a.domains.now a.boxes.now a.borrowed.now in
+    let e = file-run s a.points.now (counts_given a.counts) l in
+    let w0 = begin _ e (front-room a.out.now _ start.requires.borrowed_in_bounds) in
+    let w1 = part-written w0 c.put_front-next.ensures in
+    (start.requires.stands, room-now w1)
+
+pub returns : goal.returns
+returns c = let start = c in
+    let a = start.args in
+    let s = settings_of_lem a.dimensions a.params in
+    let l = lists_of a.level_points.now a.internals.now a.domains.now a.boxes.now a.borrowed.now in
+    let e = file-run s a.points.now (counts_given a.counts) l in
+    let w0 = begin _ e (front-room a.out.now _ start.requires.borrowed_in_bounds) in
+    let w1 = part-written w0 c.put_front-next.ensures in
+    let w2 = done (part-written w1 c.put_levels.ensures) in
+    (w2.place ∙ zero-add _, w2.same)

@@ -1,0 +1,76 @@
+-- `store_bytes::put_levels` meets its contract. Assumes nothing.
+use Rattle.store_records.proofs.Remains.{Remains, begin, restated, room-now, part-written, done}
+use Rattle.store_bytes.proofs.Levels.{no-level, levels-all, turn-here}
+use Rattle.lists.specs.Lists.{joined, total, from}
+use Rattle.lists.proofs.Sums.{total-nil, total-step}
+use Rattle.packed.specs.Reading.{packed, read_level, read_levels}
+use Rattle.packed.proofs.Standing.{rows_inside, row_fits, domains-inside}
+use Rattle.stored.specs.File.{tree_records}
+use lib.ListN.{length, get_or, take}
+use Prim.Native.Nat.{ℕ, ◌+◌, ◌-◌, ◌≤◌}
+use mathlib.Core.Path.{◌≡◌, refl, sym, ap, ◌∙◌}
+use mathlib.Core.List.{[], map}
+use native.Mathlib.Omega.{arith}
+use borrow.Author.Rules.{rules}
+use Rattle.store_bytes.proofs.put_levels.Goals as goal
+
+pub loop-t-init : goal.loop-t-init
+loop-t-init c = let start = c in
+    let a = start.args in
+    let p = packed a.internals.now a.domains.now a.boxes.now a.borrowed.now a.dimensions in (
+      sym total-nil,
+      sym total-nil,
+      begin _ (levels-all p a.level_points.now a.rows.now a.counts.now a.levels) start.requires.room_for,
+      search rules,
+      refl,
+    )
+
+pub bounds-rows-t : goal.bounds-rows-t
+bounds-rows-t c = omega (arith, c.requires.stands.rowed)
+
+pub bounds-counts-t : goal.bounds-counts-t
+bounds-counts-t c = omega (arith, c.requires.stands.counted)
+
+pub put_whole_level-next-requires : goal.put_whole_level-next-requires
+put_whole_level-next-requires c = let start = c in
+    let a = start.args in
+    let p = packed a.internals.now a.domains.now a.boxes.now a.borrowed.now a.dimensions in
+    let v = c.loop-t in
+    let w = restated _ (turn-here p a.level_points.now a.rows.now a.counts.now v.t v.a v.j v.invariant.0 v.invariant.1 a.levels start.requires.stands c.loop-t-test.true) v.invariant.2 in (
+      rows_inside p a.level_points.now a.rows.now a.counts.now v.t v.a v.j v.invariant.0 v.invariant.1 a.levels start.requires.stands c.loop-t-test.true,
+      (row_fits p a.level_points.now a.rows.now a.counts.now v.t v.a v.j v.invariant.0 v.invariant.1 a.levels start.requires.stands c.loop-t-test.true, room-now w),
+    )
+
+pub overflow_add-a : goal.overflow_add-a
+overflow_add-a c = let start = c in
+    let a = start.args in
+    let p = packed a.internals.now a.domains.now a.boxes.now a.borrowed.now a.dimensions in
+    let v = c.loop-t in
+    omega (arith, rows_inside p a.level_points.now a.rows.now a.counts.now v.t v.a v.j v.invariant.0 v.invariant.1 a.levels start.requires.stands c.loop-t-test.true, start.well-formed)
+
+pub overflow_add-j : goal.overflow_add-j
+overflow_add-j c = let start = c in
+    let a = start.args in
+    let p = packed a.internals.now a.domains.now a.boxes.now a.borrowed.now a.dimensions in
+    let v = c.loop-t in
+    omega (arith, domains-inside p a.level_points.now a.rows.now a.counts.now v.t v.a v.j v.invariant.0 v.invariant.1 a.levels start.requires.stands c.loop-t-test.true, start.well-formed)
+
+pub loop-t-preserved : goal.loop-t-preserved
+loop-t-preserved c = let start = c in
+    let a = start.args in
+    let p = packed a.internals.now a.domains.now a.boxes.now a.borrowed.now a.dimensions in
+    let v = c.loop-t in
+    let w = restated _ (turn-here p a.level_points.now a.rows.now a.counts.now v.t v.a v.j v.invariant.0 v.invariant.1 a.levels start.requires.stands c.loop-t-test.true) v.invariant.2 in (
+      ap (λ (k : ℕ). k + get_or a.rows.now v.t 0) v.invariant.0 ∙ sym (total-step a.rows.now v.t),
+      ap (λ (k : ℕ). k + get_or a.counts.now v.t 0) v.invariant.1 ∙ sym (total-step a.counts.now v.t),
+      part-written w c.put_whole_level-next.ensures,
+      search rules,
+      search rules,
+    )
+
+pub returns : goal.returns
+returns c = let start = c in
+    let a = start.args in
+    let p = packed a.internals.now a.domains.now a.boxes.now a.borrowed.now a.dimensions in
+    let v = c.loop-t in
+    done (restated [] (no-level (read_level p a.level_points.now a.rows.now a.counts.now) v.t a.levels (search rules)) v.invariant.2)

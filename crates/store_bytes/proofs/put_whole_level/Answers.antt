@@ -1,0 +1,36 @@
+-- `store_bytes::put_whole_level` meets its contract. Assumes nothing.
+use Rattle.store_records.proofs.Remains.{begin, room-now, part-written, done}
+use Rattle.store_bytes.proofs.Runs.{level-run}
+use Rattle.lists.specs.Lists.{part}
+use Rattle.packed.specs.Reading.{packed, read_leaves}
+use Rattle.store_records.specs.Records.{level_record}
+use Rattle.store_bytes.specs.Runs.{domain_records}
+use mathlib.Core.List.{[], ◌∷◌}
+use borrow.Author.Rules.{rules}
+use Rattle.store_bytes.proofs.put_whole_level.Goals as goal
+
+pub put_level-next-requires : goal.put_level-next-requires
+put_level-next-requires c = let start = c in
+    let a = start.args in
+    let p = packed a.internals.now a.domains.now a.boxes.now a.borrowed.now a.dimensions in
+    let rows = part a.level_points.now a.start a.count in
+    let w0 = begin (level_record rows a.m ∷ domain_records a.coarse (read_leaves p a.j a.m) ∷ []) (level-run a.coarse p rows a.j a.m) start.requires.room_for in
+    (start.requires.count_in_bounds, room-now w0)
+
+pub put_domains-requires : goal.put_domains-requires
+put_domains-requires c = let start = c in
+    let a = start.args in
+    let p = packed a.internals.now a.domains.now a.boxes.now a.borrowed.now a.dimensions in
+    let rows = part a.level_points.now a.start a.count in
+    let w0 = begin (level_record rows a.m ∷ domain_records a.coarse (read_leaves p a.j a.m) ∷ []) (level-run a.coarse p rows a.j a.m) start.requires.room_for in
+    let w1 = part-written w0 c.put_level-next.ensures in
+    (start.requires.by_index, room-now w1)
+
+pub returns : goal.returns
+returns c = let start = c in
+    let a = start.args in
+    let p = packed a.internals.now a.domains.now a.boxes.now a.borrowed.now a.dimensions in
+    let rows = part a.level_points.now a.start a.count in
+    let w0 = begin (level_record rows a.m ∷ domain_records a.coarse (read_leaves p a.j a.m) ∷ []) (level-run a.coarse p rows a.j a.m) start.requires.room_for in
+    let w1 = part-written w0 c.put_level-next.ensures in
+    done (part-written w1 c.put_domains.ensures)

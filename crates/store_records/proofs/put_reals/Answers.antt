@@ -1,0 +1,25 @@
+-- `store_records::put_reals` meets its contract. Assumes nothing.
+use Rattle.store_records.proofs.Fields.{floats-long}
+use mathlib.Core.Path.{sym, ap}
+use Prim.Native.Nat.{ℕ, ◌+◌}
+use native.Mathlib.Omega.{arith}
+use borrow.Author.Rules.{rules}
+use Rattle.store_records.proofs.put_reals.Goals as goal
+
+pub put_floats-requires : goal.put_floats-requires
+put_floats-requires c = let start = c in
+    let long = floats-long start.args.xs.now start.args.start start.args.count start.requires.count_in_bounds in
+    (start.requires.count_in_bounds, omega (arith, long, start.requires.room_for.fits))
+
+pub overflow_mul-result : goal.overflow_mul-result
+overflow_mul-result c = let start = c in
+    omega (arith, floats-long start.args.xs.now start.args.start start.args.count start.requires.count_in_bounds, start.requires.room_for.fits, start.well-formed)
+
+pub overflow_add-result : goal.overflow_add-result
+overflow_add-result c = let start = c in
+    omega (arith, floats-long start.args.xs.now start.args.start start.args.count start.requires.count_in_bounds, start.requires.room_for.fits, start.well-formed)
+
+pub returns : goal.returns
+returns c = let start = c in
+    let long = floats-long start.args.xs.now start.args.start start.args.count start.requires.count_in_bounds in
+    record { place = sym (ap (λ (k : ℕ). start.args.at + k) long); same = c.put_floats.ensures }

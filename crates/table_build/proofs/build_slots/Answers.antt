@@ -1,0 +1,68 @@
+-- `table_build::build_slots` meets its contract. Assumes nothing.
+use mathlib.Core.Path.{◌≡◌, refl, sym, ap, ◌∙◌}
+use native.Mathlib.Omega.{arith}
+use borrow.Author.Rules.{rules}
+use lib.ListN.{length}
+use Rattle.lists.specs.Lists.{put, part}
+use Rattle.lists.proofs.Put.{part-put-same, length-put}
+use Rattle.definition.specs.Outcome.{lent_sizes}
+use Rattle.definition.specs.Slots.{rows_of, slots_call, slot_levels}
+use Rattle.config.specs.Params.{settings_of_lem}
+use Rattle.build_checks.specs.Verdicts.{verdict_of}
+use Rattle.tree_answer.specs.Answers.{lists_of}
+use Rattle.grow_over.proofs.Over.{lent-space, points-whole}
+use Rattle.grow.proofs.Outcomes.{room-refused, room-accepted, answer-refused, lists-refused, answer-accepted, lists-accepted, whole-lists}
+use Rattle.table_checks.specs.Tables.{table_of}
+use Rattle.table_laws.proofs.Slots.{slots-accepted}
+use Rattle.table_build.proofs.Outcomes.{slots-given, slots-fit, slots-long, slots-listed, over-slots, built-slots}
+use Rattle.table_build.proofs.build_slots.Goals as goal
+
+pub list_live-requires : goal.list_live-requires
+list_live-requires c = let P = c.args in
+    let s = settings_of_lem P.dimensions P.params in
+    let t = table_of P.head.slots P.head.live P.flags.now P.coordinates.now in
+    let old = lists_of P.level_points.now P.internals.now P.domains.now P.boxes.now P.borrowed.now in
+    let a = slots-accepted s t (lent_sizes old P.floats.now P.wholes.now) (sym c.check_slots-checked.ensures ∙ ap verdict_of c.enum_told-1.given.1) in
+    (slots-fit s t old P.floats.now P.wholes.now a, rw (slots-listed t) (slots-long s t old P.floats.now P.wholes.now a))
+
+pub grow_over-requires : goal.grow_over-requires
+grow_over-requires c = let P = c.args in
+    let s = settings_of_lem P.dimensions P.params in
+    let t = table_of P.head.slots P.head.live P.flags.now P.coordinates.now in
+    let old = lists_of P.level_points.now P.internals.now P.domains.now P.boxes.now P.borrowed.now in
+    let a = slots-accepted s t (lent_sizes old P.floats.now P.wholes.now) (sym c.check_slots-checked.ensures ∙ ap verdict_of c.enum_told-1.given.1) in
+    let rows = rows_of t in
+    let first : _ ≡ put P.level_points.now 0 rows = c.list_live.ensures ∙ ap (put P.level_points.now 0) (slots-listed t) in
+    let fits = slots-long s t old P.floats.now P.wholes.now a in
+    let read : part (put P.level_points.now 0 rows) 0 P.head.live ≡ rows = part-put-same P.level_points.now 0 rows P.head.live (omega arith) a.many in
+    let long = ap length first ∙ length-put P.level_points.now 0 rows (omega (arith, fits)) in (
+      (a.passes-all.coarse-some, a.passes-all.reaches, rw (first, read) (slots-given s t old P.floats.now P.wholes.now a)),
+      (lent-space s.dimension s.neighbours P.head.live old P.floats.now P.wholes.now a.enough _ long, (omega arith, omega arith)),
+    )
+
+pub returns-in-Refused : goal.returns-in-Refused
+returns-in-Refused c = let P = c.args in
+    let s = settings_of_lem P.dimensions P.params in
+    let t = table_of P.head.slots P.head.live P.flags.now P.coordinates.now in
+    let old = lists_of P.level_points.now P.internals.now P.domains.now P.boxes.now P.borrowed.now in
+    let v = slots_call s t old P.floats.now P.wholes.now in
+    let e = sym c.check_slots-checked.ensures ∙ ap verdict_of c.checked-1.given.1 in
+    built-slots s t old P.floats.now P.wholes.now (c.refusal.ensures ∙ answer-refused v (slot_levels s t) old _ e) (lists-refused v (slot_levels s t) old _ e)
+    (room-refused v _ P.floats.now e) (room-refused v _ P.wholes.now e)
+
+pub returns-in-Accepted : goal.returns-in-Accepted
+returns-in-Accepted c = let P = c.args in
+    let s = settings_of_lem P.dimensions P.params in
+    let t = table_of P.head.slots P.head.live P.flags.now P.coordinates.now in
+    let old = lists_of P.level_points.now P.internals.now P.domains.now P.boxes.now P.borrowed.now in
+    let v = slots_call s t old P.floats.now P.wholes.now in
+    let e = sym c.check_slots-checked.ensures ∙ ap verdict_of c.enum_told-1.given.1 in
+    let a = slots-accepted s t (lent_sizes old P.floats.now P.wholes.now) e in
+    let rows = rows_of t in
+    let first : _ ≡ put P.level_points.now 0 rows = c.list_live.ensures ∙ ap (put P.level_points.now 0) (slots-listed t) in
+    let read : part (put P.level_points.now 0 rows) 0 P.head.live ≡ rows = part-put-same P.level_points.now 0 rows P.head.live (omega arith) a.many in
+    let w = rw (first, read) at c.grow_over.ensures in
+    let points = points-whole s t.coordinates rows P.level_points.now _ _ (slots-long s t old P.floats.now P.wholes.now a) refl w.1.0 in
+    let lists = whole-lists points w.1.1.0 w.1.1.1.0 w.1.1.1.1.0 w.1.1.1.1.1.0 in
+    built-slots s t old P.floats.now P.wholes.now (rw (← over-slots s t) at w.0 ∙ answer-accepted v (slot_levels s t) old e) (rw (← over-slots s t) at lists ∙ lists-accepted v (slot_levels s t) old e)
+    (room-accepted v _ _ e (search rules)) (room-accepted v _ _ e (search rules))
