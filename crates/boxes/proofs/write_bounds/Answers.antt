@@ -16,7 +16,7 @@ loop-k-preserved c = let s = c.loop-k in
     let t = c in (
       omega arith,
       simp length-set s.invariant.1,
-      write-turn t.args.out.now t.args.t1 s.out t.args.at s.k t.well-formed.0.1.0.1 (omega arith) (omega arith) s.invariant.2,
+      write-turn t.args.out.now t.args.bounds s.out t.args.at s.k t.well_formed.0.1.0.1 (omega arith) (omega arith) s.invariant.2,
     )
 
 pub shape_of-out : goal.shape_of-out
@@ -25,4 +25,4 @@ shape_of-out c = c.loop-k.invariant.1
 pub returns : goal.returns
 returns c = let s = c.loop-k in
     let a = c.args in
-    all-written a.out.now a.t1 s.out a.at s.k a.count s.invariant.0 c.loop-k-test.false s.invariant.2
+    all-written a.out.now a.bounds s.out a.at s.k a.count s.invariant.0 c.loop-k-test.false s.invariant.2

@@ -9,5 +9,5 @@ returns c = let second = c in
     let first = second in
     let s = first in
     let b = s.args.b in
-    box-written s.args.out.now _ _ b s.args.at (three b.lower s.well-formed.0.1.1.0.1.0.1) s.requires.1 (omega (arith, s.requires.0))
+    box-written s.args.out.now _ _ b s.args.at (three b.lower s.well_formed.0.1.1.0.1.0.1) s.requires.1 (omega (arith, s.requires.0))
     first.write_bounds.ensures second.write_bounds-2.ensures

@@ -6,4 +6,8 @@ pub returns : goal.returns
 returns c = let zeros = c.put_zeros.ensures in
     let width = c.row_floats.ensures in
     let start = c.floats_before.ensures in
-    (c.copy_rows.ensures, (c.put_row.ensures, rw (start, width) at zeros))
+    record {
+    internals = c.copy_rows.ensures;
+    domains = c.put_row.ensures;
+    boxes = rw (start, width) at zeros;
+  }

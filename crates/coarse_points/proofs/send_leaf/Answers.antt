@@ -11,10 +11,11 @@ sample_leaf-requires c = let s = c in
     let f = s.requires.leaf in
     let row = c.read_row-row in
     let e = own-lent a.internals.now a.domains.now a.r row.result row.ensures in
-    let n = lent_length _ _ _ _ _ _ _ f _ e in (
-      lent-good _ _ _ _ _ _ _ f _ e,
-      ((f.axes, omega (arith, n, f.within)), (s.requires.room, omega (arith, n, f.floats))),
-    )
+    let n = lent_length _ _ _ _ _ _ _ f _ e in record {
+    rows = lent-good _ _ _ _ _ _ _ f _ e;
+    few = (f.axes, omega (arith, n, f.within));
+    room = (s.requires.room, omega (arith, n, f.floats));
+  }
 
 pub returns : goal.returns
 returns c = let a = c.args in

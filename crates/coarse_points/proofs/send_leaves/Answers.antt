@@ -46,10 +46,10 @@ send_leaf-cover-requires c = let s = c in
     let i = c.loop-l in
     let f = s.requires.leaves.each i.l (omega arith) in
     let n = length-take-le a.a i.floats (omega (arith, s.requires.room, i.invariant.2)) in
-    let r = leaf_room _ _ _ _ _ _ _ _ _ _ s.requires.leaves i.l (omega arith) in (
-      subst (λ (k : ℕ). LeafFits a.dimensions a.points.now a.internals.now a.domains.now (a.first + i.l) (get_or a.shares.now i.l 0) k) (sym n) f,
-      omega (arith, r, i.invariant.1, i.invariant.3),
-    )
+    let r = leaf_room _ _ _ _ _ _ _ _ _ _ s.requires.leaves i.l (omega arith) in record {
+    leaf = subst (λ (k : ℕ). LeafFits a.dimensions a.points.now a.internals.now a.domains.now (a.first + i.l) (get_or a.shares.now i.l 0) k) (sym n) f;
+    room = omega (arith, r, i.invariant.1, i.invariant.3);
+  }
 
 pub overflow_add-floats : goal.overflow_add-floats
 overflow_add-floats c = omega (arith, c.requires.room)
@@ -86,7 +86,7 @@ pub returns : goal.returns
 returns c = let a = c.args in
     let i = c.loop-l in
     let e : i.l ≡ a.m = omega arith in
-    let q = ap (sent_at a.dimensions a.points.now a.internals.now a.domains.now a.first a.shares.now) e in (
-      (i.invariant.3 ∙ ap (λ (z : List ℕ). a.at + length z) q, i.invariant.4 ∙ ap (put a.level_points.now a.at) q),
-      ap (part i.floats a.a) (sym e) ∙ i.invariant.5 ∙ ap (covers_at a.dimensions a.points.now a.internals.now a.domains.now a.first a.shares.now) e,
-    )
+    let q = ap (sent_at a.dimensions a.points.now a.internals.now a.domains.now a.first a.shares.now) e in record {
+    sent = (i.invariant.3 ∙ ap (λ (z : List ℕ). a.at + length z) q, i.invariant.4 ∙ ap (put a.level_points.now a.at) q);
+    covers = ap (part i.floats a.a) (sym e) ∙ i.invariant.5 ∙ ap (covers_at a.dimensions a.points.now a.internals.now a.domains.now a.first a.shares.now) e;
+  }

@@ -37,4 +37,8 @@ returns c = let h = c in
     let p = h.requires in
     let x = h.longest_axis-axis.ensures in
     let e = h.halves-row.ensures in
-    (rw x at e.rows, (e.room, (x, plane-value p.0 p.2 x e.row)))
+    record {
+    rows = rw x at e.rows;
+    room = e.room;
+    plane = (x, plane-value p.0 p.2 x e.row);
+  }

@@ -13,7 +13,7 @@ use Rattle.ddm.proofs.build.Goals as goal
 
 pub grow-requires : goal.grow-requires
 grow-requires c = record {
-    wholes_value = sym c.check_build-checked.ensures ∙ ap verdict_of c.enum_told-1.given.1;
+    wholes_value = sym c.check_build-checked.ensures ∙ ap verdict_of c.in-Accepted.is;
     record_room = (omega arith, omega arith);
   }
 
@@ -22,7 +22,7 @@ returns-in-Refused c = let P = c.args in
     let s = settings_of_lem P.dimensions P.params in
     let cs = P.points.now in
     let old = lists_of P.level_points.now P.internals.now P.domains.now P.boxes.now P.borrowed.now in
-    let e = sym c.check_build-checked.ensures ∙ ap verdict_of c.checked-1.given.1 in
+    let e = sym c.check_build-checked.ensures ∙ ap verdict_of c.in-Refused.is in
     let l = lists-refused (build_call s cs old P.floats.now P.wholes.now) (levels s cs) old _ e in
     let answer = c.refusal.ensures ∙ answer-refused (build_call s cs old P.floats.now P.wholes.now) (levels s cs) old _ e in
     built s cs old P.floats.now P.wholes.now answer l (room-refused _ _ P.floats.now e) (room-refused _ _ P.wholes.now e)
@@ -32,7 +32,7 @@ returns-in-Accepted c = let P = c.args in
     let s = settings_of_lem P.dimensions P.params in
     let cs = P.points.now in
     let old = lists_of P.level_points.now P.internals.now P.domains.now P.boxes.now P.borrowed.now in
-    let e = sym c.check_build-checked.ensures ∙ ap verdict_of c.enum_told-1.given.1 in
+    let e = sym c.check_build-checked.ensures ∙ ap verdict_of c.in-Accepted.is in
     let l = lists-accepted (build_call s cs old P.floats.now P.wholes.now) (levels s cs) old e in
     let w = c.grow.ensures in
     let answer = w.counts ∙ answer-accepted (build_call s cs old P.floats.now P.wholes.now) (levels s cs) old e in

@@ -7,15 +7,15 @@ use borrow.Author.Rules.{rules}
 use Rattle.ddm_keep.proofs.reply_to.Goals as goal
 
 pub slice_bounds-keep_bytes-end : goal.slice_bounds-keep_bytes-end
-slice_bounds-keep_bytes-end c = sym (length-take-le _ _ (open-within _ _ _ c.front-1.given.1 c.requires.0))
+slice_bounds-keep_bytes-end c = sym (length-take-le _ _ (open-within _ _ _ c.in-Open.is c.requires.0))
 
 pub slice_bounds-keep_bytes-end-in-Ended : goal.slice_bounds-keep_bytes-end-in-Ended
-slice_bounds-keep_bytes-end-in-Ended c = sym (length-take-le _ _ (ended-within _ _ _ c.front-in-Ended-1.given.1 c.requires.0))
+slice_bounds-keep_bytes-end-in-Ended c = sym (length-take-le _ _ (ended-within _ _ _ c.in-Ended.is c.requires.0))
 
 pub returns-in-Open : goal.returns-in-Open
 returns-in-Open c = let start = c in
-    open-replies _ _ start.args.input.now _ c.keep_bytes.result c.front-1.given.1 start.requires.0 start.requires.1 c.keep_bytes.ensures
+    open-replies _ _ start.args.input.now _ c.keep_bytes.result c.in-Open.is start.requires.0 start.requires.1 c.keep_bytes.ensures
 
 pub returns-in-Ended : goal.returns-in-Ended
 returns-in-Ended c = let start = c in
-    ended-replies _ _ start.args.input.now _ c.keep_bytes-in-Ended.result c.front-in-Ended-1.given.1 c.keep_bytes-in-Ended.ensures
+    ended-replies _ _ start.args.input.now _ c.keep_bytes-in-Ended.result c.in-Ended.is c.keep_bytes-in-Ended.ensures

@@ -9,4 +9,7 @@ returns c = let start = c in
     let printed = reloaded start.args.stream.now start.args.file.now in
     let text = start.args.text.now in
     let call = c.reload-printed in
-    (text-fits printed text _ call.ensures.answer start.requires _ call.ensures.output, text-printed printed text _ call.ensures.answer start.requires _ call.ensures.output)
+    record {
+    fits = text-fits printed text _ call.ensures.answer start.requires _ call.ensures.output;
+    same = text-printed printed text _ call.ensures.answer start.requires _ call.ensures.output;
+  }

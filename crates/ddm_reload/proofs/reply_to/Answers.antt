@@ -25,4 +25,7 @@ returns c = let start = c in
     let same =
     print.ensures.same
     ∙ ap₂ (λ xs ys. reloaded xs ys) (ap (λ n. take n a.stream.now) c.count_read-n.ensures) (ap (λ n. take n a.file.now) c.count_read-m.ensures) in
-    (print.ensures.fits, both-decide a.job a.stream.now job.0 job.1 job.2 a.tree a.file.now tree.0 tree.1 tree.2 _ same)
+    record {
+    fits = print.ensures.fits;
+    same = both-decide a.job a.stream.now job.0 job.1 job.2 a.tree a.file.now tree.0 tree.1 tree.2 _ same;
+  }

@@ -10,12 +10,12 @@ pub reply_to-reply-requires : goal.reply_to-reply-requires
 reply_to-reply-requires c = (search rules, omega arith, omega arith)
 
 pub slice_bounds-text-end : goal.slice_bounds-text-end
-slice_bounds-text-end c = omega (arith, (reply-text _ _ _ _ _ c.reply-1.given.1 c.reply_to-reply.ensures).0)
+slice_bounds-text-end c = omega (arith, (reply-text _ _ _ _ _ c.in-Text.is c.reply_to-reply.ensures).0)
 
 pub slice_bounds-write_reply-end-in-Text : goal.slice_bounds-write_reply-end-in-Text
 slice_bounds-write_reply-end-in-Text c = sym
     (length-take-le _ _
-    (omega (arith, (reply-text _ _ _ _ _ c.reply-1.given.1 c.reply_to-reply.ensures).0)))
+    (omega (arith, (reply-text _ _ _ _ _ c.in-Text.is c.reply_to-reply.ensures).0)))
 
 pub write_reply-requires : goal.write_reply-requires
-write_reply-requires c = (reply-text _ _ _ _ _ c.reply-1.given.1 c.reply_to-reply.ensures).1
+write_reply-requires c = (reply-text _ _ _ _ _ c.in-Text.is c.reply_to-reply.ensures).1

@@ -9,4 +9,7 @@ returns c = let start = c in
     let printed = printout start.args.bytes.now in
     let text = start.args.text.now in
     let job = c.printout-printed in
-    (text-fits printed text _ job.ensures.answer start.requires _ job.ensures.output, text-printed printed text _ job.ensures.answer start.requires _ job.ensures.output)
+    record {
+    fits = text-fits printed text _ job.ensures.answer start.requires _ job.ensures.output;
+    same = text-printed printed text _ job.ensures.answer start.requires _ job.ensures.output;
+  }

@@ -19,8 +19,11 @@ grow-requires c = let P = c.args in
     let cs = P.points.now in
     let old = lists_of P.level_points.now P.internals.now P.domains.now P.boxes.now P.borrowed.now in
     let records = records_of P.cuts.now P.planes.now in
-    let e = sym c.check_depth_first-checked.ensures ∙ ap verdict_of c.enum_told-1.given.1 in
-    (both-accepted s cs (lent_sizes old P.floats.now P.wholes.now) (lent_records records) e, records-room s cs old P.floats.now P.wholes.now records e)
+    let e = sym c.check_depth_first-checked.ensures ∙ ap verdict_of c.in-Accepted.is in
+    record {
+    wholes_value = both-accepted s cs (lent_sizes old P.floats.now P.wholes.now) (lent_records records) e;
+    record_room = records-room s cs old P.floats.now P.wholes.now records e;
+  }
 
 pub returns-in-Refused : goal.returns-in-Refused
 returns-in-Refused c = let P = c.args in
@@ -29,7 +32,7 @@ returns-in-Refused c = let P = c.args in
     let old = lists_of P.level_points.now P.internals.now P.domains.now P.boxes.now P.borrowed.now in
     let records = records_of P.cuts.now P.planes.now in
     let v = depth_first_call s cs old P.floats.now P.wholes.now records in
-    let e = sym c.check_depth_first-checked.ensures ∙ ap verdict_of c.checked-1.given.1 in
+    let e = sym c.check_depth_first-checked.ensures ∙ ap verdict_of c.in-Refused.is in
     built-depth-first s cs old P.floats.now P.wholes.now records (c.refusal.ensures ∙ answer-refused v (levels s cs) old _ e) (lists-refused v (levels s cs) old _ e)
     (records-refused v s cs (levels s cs) records _ e) (room-refused v _ P.floats.now e) (room-refused v _ P.wholes.now e)
 
@@ -40,7 +43,7 @@ returns-in-Accepted c = let P = c.args in
     let old = lists_of P.level_points.now P.internals.now P.domains.now P.boxes.now P.borrowed.now in
     let records = records_of P.cuts.now P.planes.now in
     let v = depth_first_call s cs old P.floats.now P.wholes.now records in
-    let e = sym c.check_depth_first-checked.ensures ∙ ap verdict_of c.enum_told-1.given.1 in
+    let e = sym c.check_depth_first-checked.ensures ∙ ap verdict_of c.in-Accepted.is in
     let w = c.grow.ensures in
     let lists = whole-lists w.level_points w.internals w.domains w.boxes w.borrowed ∙ lists-accepted v (levels s cs) old e in
     let taken = whole-records w.cuts w.planes ∙ records-accepted v s cs (levels s cs) records e in

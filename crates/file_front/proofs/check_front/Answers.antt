@@ -18,65 +18,77 @@ use Rattle.file_front.proofs.check_front.Goals as goal
 
 pub returns-then-not-record_at : goal.returns-then-not-record_at
 returns-then-not-record_at c = let bs = c.args.bytes.now in
-    let stands : whole head_mark head_size bs ≡ false = sym c.record_at.ensures ∙ not-true _ c.if-not-record_at.true in
-    (c.no_front.ensures ∙ head-broken bs stands, λ t. clash t c.no_front.ensures)
+    let stands : whole head_mark head_size bs ≡ false = sym c.record_at.ensures ∙ c.if-not-record_at.true in
+    record {
+    good = c.no_front.ensures ∙ head-broken bs stands;
+    read = λ t. clash t c.no_front.ensures;
+  }
 
 pub policy_fits-requires : goal.policy_fits-requires
 policy_fits-requires c = let bs = c.args.bytes.now in
-    let stands : whole head_mark head_size bs ≡ true = sym c.record_at.ensures ∙ not-false _ c.if-not-record_at.false in
+    let stands : whole head_mark head_size bs ≡ true = sym c.record_at.ensures ∙ c.if-not-record_at.false in
     omega (arith, head-inside bs stands)
 
 pub returns-then-not-policy_fits : goal.returns-then-not-policy_fits
 returns-then-not-policy_fits c = let bs = c.args.bytes.now in
-    let stands : whole head_mark head_size bs ≡ true = sym c.record_at.ensures ∙ not-false _ c.if-not-record_at.false in
-    let fits : policy_fits_lem bs ≡ false = sym c.policy_fits.ensures ∙ not-true _ c.if-not-policy_fits.true in
-    (c.no_front-then-not-policy_fits.ensures ∙ policy-broken bs stands fits, λ t. clash t c.no_front-then-not-policy_fits.ensures)
+    let stands : whole head_mark head_size bs ≡ true = sym c.record_at.ensures ∙ c.if-not-record_at.false in
+    let fits : policy_fits_lem bs ≡ false = sym c.policy_fits.ensures ∙ c.if-not-policy_fits.true in
+    record {
+    good = c.no_front-then-not-policy_fits.ensures ∙ policy-broken bs stands fits;
+    read = λ t. clash t c.no_front-then-not-policy_fits.ensures;
+  }
 
 pub settings_of-settings-requires : goal.settings_of-settings-requires
 settings_of-settings-requires c = let bs = c.args.bytes.now in
-    let stands : whole head_mark head_size bs ≡ true = sym c.record_at.ensures ∙ not-false _ c.if-not-record_at.false in
+    let stands : whole head_mark head_size bs ≡ true = sym c.record_at.ensures ∙ c.if-not-record_at.false in
     omega (arith, head-inside bs stands)
 
 pub number_at-n-requires : goal.number_at-n-requires
 number_at-n-requires c = let bs = c.args.bytes.now in
-    let stands : whole head_mark head_size bs ≡ true = sym c.record_at.ensures ∙ not-false _ c.if-not-record_at.false in
+    let stands : whole head_mark head_size bs ≡ true = sym c.record_at.ensures ∙ c.if-not-record_at.false in
     omega (arith, head-inside bs stands)
 
 pub returns-then-not-head_passes : goal.returns-then-not-head_passes
 returns-then-not-head_passes c = let bs = c.args.bytes.now in
-    let stands : whole head_mark head_size bs ≡ true = sym c.record_at.ensures ∙ not-false _ c.if-not-record_at.false in
-    let fits : policy_fits_lem bs ≡ true = sym c.policy_fits.ensures ∙ not-false _ c.if-not-policy_fits.false in
+    let stands : whole head_mark head_size bs ≡ true = sym c.record_at.ensures ∙ c.if-not-record_at.false in
+    let fits : policy_fits_lem bs ≡ true = sym c.policy_fits.ensures ∙ c.if-not-policy_fits.false in
     let settings = c.settings_of-settings in
     let n = c.number_at-n in
-    let refused = sym c.head_passes.ensures ∙ not-true _ c.if-not-head_passes.true in
-    (c.no_front-then-not-head_passes.ensures ∙ head-refused bs stands fits (settings_are settings.result) n.result settings.ensures n.ensures.0 refused, λ t. clash t c.no_front-then-not-head_passes.ensures)
+    let refused = sym c.head_passes.ensures ∙ c.if-not-head_passes.true in
+    record {
+    good = c.no_front-then-not-head_passes.ensures ∙ head-refused bs stands fits (settings_are settings.result) n.result settings.ensures n.ensures.0 refused;
+    read = λ t. clash t c.no_front-then-not-head_passes.ensures;
+  }
 
 pub points_pass-good-requires : goal.points_pass-good-requires
 points_pass-good-requires c = let bs = c.args.bytes.now in
-    let stands : whole head_mark head_size bs ≡ true = sym c.record_at.ensures ∙ not-false _ c.if-not-record_at.false in
-    let axes = head-axes (settings_are c.settings_of-settings.result) c.number_at-n.result (sym c.head_passes.ensures ∙ not-false _ c.if-not-head_passes.false) in
+    let stands : whole head_mark head_size bs ≡ true = sym c.record_at.ensures ∙ c.if-not-record_at.false in
+    let axes = head-axes (settings_are c.settings_of-settings.result) c.number_at-n.result (sym c.head_passes.ensures ∙ c.if-not-head_passes.false) in
     (head-inside bs stands, axes.1, c.number_at-n.ensures.1)
 
 pub point_size-requires : goal.point_size-requires
-point_size-requires c = (head-axes (settings_are c.settings_of-settings.result) c.number_at-n.result (sym c.head_passes.ensures ∙ not-false _ c.if-not-head_passes.false)).1
+point_size-requires c = (head-axes (settings_are c.settings_of-settings.result) c.number_at-n.result (sym c.head_passes.ensures ∙ c.if-not-head_passes.false)).1
 
 pub overflow_mul-next : goal.overflow_mul-next
-overflow_mul-next c = let axes = head-axes (settings_are c.settings_of-settings.result) c.number_at-n.result (sym c.head_passes.ensures ∙ not-false _ c.if-not-head_passes.false) in
+overflow_mul-next c = let axes = head-axes (settings_are c.settings_of-settings.result) c.number_at-n.result (sym c.head_passes.ensures ∙ c.if-not-head_passes.false) in
     let n = c.number_at-n.result in
     omega (arith, mul-le-mul_left n axes.1, ap (λ (k : ℕ). n * k) c.point_size.ensures)
 
 pub overflow_add-next : goal.overflow_add-next
-overflow_add-next c = let axes = head-axes (settings_are c.settings_of-settings.result) c.number_at-n.result (sym c.head_passes.ensures ∙ not-false _ c.if-not-head_passes.false) in
+overflow_add-next c = let axes = head-axes (settings_are c.settings_of-settings.result) c.number_at-n.result (sym c.head_passes.ensures ∙ c.if-not-head_passes.false) in
     let n = c.number_at-n.result in
     omega (arith, mul-le-mul_left n axes.1, ap (λ (k : ℕ). n * k) c.point_size.ensures)
 
 pub returns : goal.returns
 returns c = let bs = c.args.bytes.now in
-    let stands : whole head_mark head_size bs ≡ true = sym c.record_at.ensures ∙ not-false _ c.if-not-record_at.false in
-    let fits : policy_fits_lem bs ≡ true = sym c.policy_fits.ensures ∙ not-false _ c.if-not-policy_fits.false in
+    let stands : whole head_mark head_size bs ≡ true = sym c.record_at.ensures ∙ c.if-not-record_at.false in
+    let fits : policy_fits_lem bs ≡ true = sym c.policy_fits.ensures ∙ c.if-not-policy_fits.false in
     let settings = c.settings_of-settings in
     let n = c.number_at-n in
     let points = c.points_pass-good in
-    let takes = sym c.head_passes.ensures ∙ not-false _ c.if-not-head_passes.false in
+    let takes = sym c.head_passes.ensures ∙ c.if-not-head_passes.false in
     let good = points-decide bs stands fits (settings_are settings.result) n.result settings.ensures n.ensures.0 takes points.result points.ensures in
-    (good, λ t. front_read points.result settings.result n.result c.point_size.result bs settings.ensures n.ensures.0 c.point_size.ensures (sym t ∙ good))
+    record {
+    good = good;
+    read = λ t. front_read points.result settings.result n.result c.point_size.result bs settings.ensures n.ensures.0 c.point_size.ensures (sym t ∙ good);
+  }

@@ -13,20 +13,20 @@ pub returns-then-not-record_at : goal.returns-then-not-record_at
 returns-then-not-record_at c = let at-loop = c in
     let size = at-loop.point_size-size in
     let stands = c.record_at in
-    passing-broken at-loop.loop-i.invariant.1 size.result size.ensures stands.result stands.ensures _ (search rules) (not-true _ c.if-not-record_at.true)
+    passing-broken at-loop.loop-i.invariant.1 size.result size.ensures stands.result stands.ensures _ (search rules) c.if-not-record_at.true
 
 pub overflow_add-at : goal.overflow_add-at
 overflow_add-at c = let at-loop = c in
     let size = at-loop.point_size-size in
     let stands = c.record_at in
-    let inside = passing-inside at-loop.loop-i.invariant.1 size.result size.ensures stands.result stands.ensures (not-false _ c.if-not-record_at.false) in
+    let inside = passing-inside at-loop.loop-i.invariant.1 size.result size.ensures stands.result stands.ensures c.if-not-record_at.false in
     search rules
 
 pub finite_at-requires : goal.finite_at-requires
 finite_at-requires c = let at-loop = c in
     let size = at-loop.point_size-size in
     let stands = c.record_at in
-    let inside = passing-inside at-loop.loop-i.invariant.1 size.result size.ensures stands.result stands.ensures (not-false _ c.if-not-record_at.false) in
+    let inside = passing-inside at-loop.loop-i.invariant.1 size.result size.ensures stands.result stands.ensures c.if-not-record_at.false in
     search rules
 
 pub returns-then-not-finite_at : goal.returns-then-not-finite_at
@@ -34,13 +34,13 @@ returns-then-not-finite_at c = let at-loop = c in
     let size = at-loop.point_size-size in
     let stands = c.record_at in
     let known = c.finite_at in
-    passing-bad at-loop.loop-i.invariant.1 size.result size.ensures stands.result stands.ensures (not-false _ c.if-not-record_at.false) known.result known.ensures _ (search rules) (not-true _ c.if-not-finite_at.true)
+    passing-bad at-loop.loop-i.invariant.1 size.result size.ensures stands.result stands.ensures c.if-not-record_at.false known.result known.ensures _ (search rules) c.if-not-finite_at.true
 
 pub overflow_add-at-in-loop-i : goal.overflow_add-at-in-loop-i
 overflow_add-at-in-loop-i c = let at-loop = c in
     let size = at-loop.point_size-size in
     let stands = c.record_at in
-    let inside = passing-inside at-loop.loop-i.invariant.1 size.result size.ensures stands.result stands.ensures (not-false _ c.if-not-record_at.false) in
+    let inside = passing-inside at-loop.loop-i.invariant.1 size.result size.ensures stands.result stands.ensures c.if-not-record_at.false in
     search rules
 
 pub loop-i-preserved : goal.loop-i-preserved
@@ -48,7 +48,7 @@ loop-i-preserved c = let at-loop = c in
     let size = at-loop.point_size-size in
     let stands = c.record_at in
     let known = c.finite_at in
-    (search rules, passing-next at-loop.loop-i.invariant.1 size.result size.ensures stands.result stands.ensures (not-false _ c.if-not-record_at.false) known.result known.ensures (not-false _ c.if-not-finite_at.false))
+    (search rules, passing-next at-loop.loop-i.invariant.1 size.result size.ensures stands.result stands.ensures c.if-not-record_at.false known.result known.ensures c.if-not-finite_at.false)
 
 pub returns : goal.returns
 returns c = passing-end c.loop-i.invariant.1 _ (search rules)

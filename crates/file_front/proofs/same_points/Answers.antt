@@ -39,7 +39,7 @@ floats_are-requires c = let at-loop = c in
 pub returns-then-not-floats_are : goal.returns-then-not-floats_are
 returns-then-not-floats_are c = let at-loop = c in
     let t = at-loop.loop-i.invariant.1 in
-    comparing-found t (search rules) c.floats_are.result c.floats_are.ensures (not-true _ c.if-not-floats_are.true)
+    comparing-found t (search rules) c.floats_are.result c.floats_are.ensures c.if-not-floats_are.true
 
 pub overflow_add-at-in-loop-i : goal.overflow_add-at-in-loop-i
 overflow_add-at-in-loop-i c = let at-loop = c in
@@ -49,7 +49,7 @@ overflow_add-at-in-loop-i c = let at-loop = c in
 pub loop-i-preserved : goal.loop-i-preserved
 loop-i-preserved c = let at-loop = c in
     let t = at-loop.loop-i.invariant.1 in
-    (search rules, comparing-next t (search rules) c.floats_are.result c.floats_are.ensures (not-false _ c.if-not-floats_are.false) at-loop.point_size-size.result at-loop.point_size-size.ensures)
+    (search rules, comparing-next t (search rules) c.floats_are.result c.floats_are.ensures c.if-not-floats_are.false at-loop.point_size-size.result at-loop.point_size-size.ensures)
 
 pub returns : goal.returns
 returns c = comparing-end c.loop-i.invariant.1 (search rules)

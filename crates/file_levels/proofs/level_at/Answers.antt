@@ -9,16 +9,16 @@ use borrow.Author.Rules.{rules}
 use Rattle.file_levels.proofs.level_at.Goals as goal
 
 pub returns-then-not-record_at : goal.returns-then-not-record_at
-returns-then-not-record_at c = no-level _ _ _ c.no_head.ensures (sym c.record_at.ensures ∙ not-true _ c.if-not-record_at.true)
+returns-then-not-record_at c = no-level _ _ _ c.no_head.ensures (sym c.record_at.ensures ∙ c.if-not-record_at.true)
 
 pub number_at-rows-requires : goal.number_at-rows-requires
 number_at-rows-requires c = let a = c.args in
-    let marked = sym c.record_at.ensures ∙ not-false _ c.if-not-record_at.false in
+    let marked = sym c.record_at.ensures ∙ c.if-not-record_at.false in
     omega (arith, head-room a.at a.bytes.now marked)
 
 pub number_at-domains-requires : goal.number_at-domains-requires
 number_at-domains-requires c = let a = c.args in
-    let marked = sym c.record_at.ensures ∙ not-false _ c.if-not-record_at.false in
+    let marked = sym c.record_at.ensures ∙ c.if-not-record_at.false in
     omega (arith, head-room a.at a.bytes.now marked)
 
 pub returns-then-bytes-at : goal.returns-then-bytes-at
@@ -28,7 +28,7 @@ returns-then-bytes-at c = let a = c.args in
 
 pub returns : goal.returns
 returns c = let a = c.args in
-    let marked = sym c.record_at.ensures ∙ not-false _ c.if-not-record_at.false in
+    let marked = sym c.record_at.ensures ∙ c.if-not-record_at.false in
     let rows = c.number_at-rows.ensures.0 ∙ number-here a.at a.bytes.now 2 in
     let domains = c.number_at-domains.ensures.0 ∙ number-here a.at a.bytes.now 6 in
     is-level (drop a.at a.bytes.now) a.at _ marked (omega (arith, length-drop a.at a.bytes.now)) refl

@@ -9,43 +9,43 @@ use Rattle.file_reader.proofs.domain_at.Goals as goal
 
 pub returns-then-not-counts_stand : goal.returns-then-not-counts_stand
 returns-then-not-counts_stand c = let e = c in
-    not-marked _ _ _ _ c.nothing.ensures (sym e.counts_stand.ensures ∙ not-true _ c.if-not-counts_stand.true)
+    not-marked _ _ _ _ c.nothing.ensures (sym e.counts_stand.ensures ∙ c.if-not-counts_stand.true)
 
 pub overflow_add-at : goal.overflow_add-at
 overflow_add-at c = let e = c in
     let a = e.args in
-    let marked = sym e.counts_stand.ensures ∙ not-false _ e.if-not-counts_stand.false in
+    let marked = sym e.counts_stand.ensures ∙ e.if-not-counts_stand.false in
     omega (arith, counts-room a.at a.bytes.now marked)
 
 pub number_at-own-requires : goal.number_at-own-requires
 number_at-own-requires c = let e = c in
     let a = e.args in
-    let marked = sym e.counts_stand.ensures ∙ not-false _ e.if-not-counts_stand.false in
+    let marked = sym e.counts_stand.ensures ∙ e.if-not-counts_stand.false in
     omega (arith, counts-room a.at a.bytes.now marked)
 
 pub overflow_add-at-2 : goal.overflow_add-at-2
 overflow_add-at-2 c = let e = c in
     let a = e.args in
-    let marked = sym e.counts_stand.ensures ∙ not-false _ e.if-not-counts_stand.false in
+    let marked = sym e.counts_stand.ensures ∙ e.if-not-counts_stand.false in
     omega (arith, counts-room a.at a.bytes.now marked)
 
 pub number_at-borrowed-requires : goal.number_at-borrowed-requires
 number_at-borrowed-requires c = let e = c in
     let a = e.args in
-    let marked = sym e.counts_stand.ensures ∙ not-false _ e.if-not-counts_stand.false in
+    let marked = sym e.counts_stand.ensures ∙ e.if-not-counts_stand.false in
     omega (arith, counts-room a.at a.bytes.now marked)
 
 pub overflow_sub-left : goal.overflow_sub-left
 overflow_sub-left c = let e = c in
     let a = e.args in
-    let marked = sym e.counts_stand.ensures ∙ not-false _ e.if-not-counts_stand.false in
+    let marked = sym e.counts_stand.ensures ∙ e.if-not-counts_stand.false in
     omega (arith, counts-room a.at a.bytes.now marked)
 
 pub returns-then-left-place : goal.returns-then-left-place
 returns-then-left-place c = let n = c in
     let e = n in
     let a = e.args in
-    let marked = sym e.counts_stand.ensures ∙ not-false _ e.if-not-counts_stand.false in
+    let marked = sym e.counts_stand.ensures ∙ e.if-not-counts_stand.false in
     let bs = drop a.at a.bytes.now in
     let own = n.number_at-own.ensures.0 ∙ number-here a.at a.bytes.now 2 in
     let borrowed = n.number_at-borrowed.ensures.0 ∙ number-here a.at a.bytes.now 6 in
@@ -55,7 +55,7 @@ pub returns-then-left-place-2 : goal.returns-then-left-place-2
 returns-then-left-place-2 c = let n = c in
     let e = n in
     let a = e.args in
-    let marked = sym e.counts_stand.ensures ∙ not-false _ e.if-not-counts_stand.false in
+    let marked = sym e.counts_stand.ensures ∙ e.if-not-counts_stand.false in
     let bs = drop a.at a.bytes.now in
     let own = n.number_at-own.ensures.0 ∙ number-here a.at a.bytes.now 2 in
     let borrowed = n.number_at-borrowed.ensures.0 ∙ number-here a.at a.bytes.now 6 in
@@ -65,7 +65,7 @@ pub returns : goal.returns
 returns c = let n = c in
     let e = n in
     let a = e.args in
-    let marked = sym e.counts_stand.ensures ∙ not-false _ e.if-not-counts_stand.false in
+    let marked = sym e.counts_stand.ensures ∙ e.if-not-counts_stand.false in
     let bs = drop a.at a.bytes.now in
     let own = n.number_at-own.ensures.0 ∙ number-here a.at a.bytes.now 2 in
     let borrowed = n.number_at-borrowed.ensures.0 ∙ number-here a.at a.bytes.now 6 in

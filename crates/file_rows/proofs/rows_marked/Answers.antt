@@ -29,7 +29,7 @@ returns-then-not-is_marked c = let at-loop = c in
     let i = at-loop.loop-i.i in
     let here : i < length (numbers_at a.count a.at bs) = omega (arith, length-rows a.count a.at bs) in
     let read = c.number_at-row.ensures.0 ∙ row_at a.count a.at bs i (omega arith) in
-    asking-out at-loop.loop-i.invariant.1 _ here read _ c.is_marked.ensures (not-true _ c.if-not-is_marked.true)
+    asking-out at-loop.loop-i.invariant.1 _ here read _ c.is_marked.ensures c.if-not-is_marked.true
 
 pub loop-i-preserved : goal.loop-i-preserved
 loop-i-preserved c = let at-loop = c in
@@ -38,7 +38,7 @@ loop-i-preserved c = let at-loop = c in
     let i = at-loop.loop-i.i in
     let here : i < length (numbers_at a.count a.at bs) = omega (arith, length-rows a.count a.at bs) in
     let read = c.number_at-row.ensures.0 ∙ row_at a.count a.at bs i (omega arith) in
-    (omega arith, asking-next at-loop.loop-i.invariant.1 _ here read _ c.is_marked.ensures c.if-row-least.false (not-false _ c.if-not-is_marked.false))
+    (omega arith, asking-next at-loop.loop-i.invariant.1 _ here read _ c.is_marked.ensures c.if-row-least.false c.if-not-is_marked.false)
 
 pub returns : goal.returns
 returns c = let a = c.args in

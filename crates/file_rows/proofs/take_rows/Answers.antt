@@ -42,7 +42,7 @@ returns-then-not-take_out c = let at-loop = c in
     let here : i < length (numbers_at a.count a.at bs) = omega (arith, length-rows a.count a.at bs) in
     let read = c.number_at-row.ensures.0 ∙ row_at a.count a.at bs i (omega arith) in
     let t = c.take_out in
-    λ p q m n. (taking-out at-loop.loop-i.invariant.1 _ here read c.if-row-least.false _ _ _ t.ensures (not-true _ c.if-not-take_out.true) p m, λ f. clash f refl)
+    λ p q m n. (taking-out at-loop.loop-i.invariant.1 _ here read c.if-row-least.false _ _ _ t.ensures c.if-not-take_out.true p m, λ f. clash f refl)
 
 pub loop-i-preserved : goal.loop-i-preserved
 loop-i-preserved c = let at-loop = c in
@@ -52,7 +52,7 @@ loop-i-preserved c = let at-loop = c in
     let here : i < length (numbers_at a.count a.at bs) = omega (arith, length-rows a.count a.at bs) in
     let read = c.number_at-row.ensures.0 ∙ row_at a.count a.at bs i (omega arith) in
     let t = c.take_out in
-    (omega arith, taking-next at-loop.loop-i.invariant.1 _ here read c.if-row-least.false _ _ _ t.ensures (search rules) (search rules) (not-false _ c.if-not-take_out.false))
+    (omega arith, taking-next at-loop.loop-i.invariant.1 _ here read c.if-row-least.false _ _ _ t.ensures (search rules) (search rules) c.if-not-take_out.false)
 
 pub shape_of-left : goal.shape_of-left
 shape_of-left c = c.loop-i.invariant.1.left-length

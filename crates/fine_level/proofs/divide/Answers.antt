@@ -12,20 +12,22 @@ use Rattle.fine_level.proofs.divide.Goals as goal
 
 pub cut_level-cut-requires : goal.cut_level-cut-requires
 cut_level-cut-requires c = let p = c.requires in
-    let P = c.args in (
-      (p.given_by.axes, p.given_by.axes_few, p.given_by.leaf_some, p.given_by.rows_some, p.given_by.good),
-      (
-        (omega (arith, p.room.wholes), omega (arith, boxes-room P.plan.dimensions (length P.active.now) p.given_by.axes_few, p.room.floats)),
-        ((p.fits_at.internals, p.fits_at.domains, lent_fits _ _ _ _ _ p.given_by P.boxes.now P.place.first p.fits_at.boxes), p.record_fits),
-      ),
-    )
+    let P = c.args in record {
+    dimensions_nonzero = (p.given_by.axes, p.given_by.axes_few, p.given_by.leaf_some, p.given_by.rows_some, p.given_by.good);
+    active_in_bounds = (omega (arith, p.room.wholes), omega (arith, boxes-room P.plan.dimensions (length P.active.now) p.given_by.axes_few, p.room.floats));
+    active_in_bounds_2 = (p.fits_at.internals, p.fits_at.domains, lent_fits _ _ _ _ _ p.given_by P.boxes.now P.place.first p.fits_at.boxes);
+    active_in_bounds_3 = p.record_fits;
+  }
 
 pub overlaps-b-requires : goal.overlaps-b-requires
 overlaps-b-requires c = let p = c.requires in
     let P = c.args in
     let l = c.cut_level-cut.ensures in
     let ready = overlaps-ready _ _ _ _ _ p.given_by _ _ _ _ p.fits_at.internals p.fits_at.domains _ _ l.internals l.domains in
-    (rw l.counts.0 ready, (omega (arith, codes-room (length P.active.now) P.plan.neighbours, p.room.wholes), p.fits_at.borrowed))
+    record {
+    stage = rw l.counts.0 ready;
+    neighbours_in_bounds = (omega (arith, codes-room (length P.active.now) P.plan.neighbours, p.room.wholes), p.fits_at.borrowed);
+  }
 
 pub returns : goal.returns
 returns c = let p = c.requires in

@@ -34,16 +34,16 @@ send_up-next-requires c = let p = c.requires in
     let few = number-most d cs P.plan.leaf q active g in
     let sends = packed-sends d cs P.plan.leaf q active g _ _ _ _ _ (rw n p.fits_at.internals) (rw n p.fits_at.domains) _ _ v.1.0 v.1.1.0 in
     let rows : row_floats_lem d * (P.place.first + length (leaves_of d cs P.plan.leaf active)) ≤ row_floats_lem d * (P.place.first + 2 * P.place.a) =
-    mul-le-mul_left (row_floats_lem d) (omega (arith, few, n)) in (
-      rw many sends,
-      (
+    mul-le-mul_left (row_floats_lem d) (omega (arith, few, n)) in record {
+    sends_up = rw many sends;
+    size_le_a = (
         omega (arith, p.a_in_bounds.1),
         omega (arith, p.a_in_bounds.0, p.a_in_bounds.1),
         omega (arith, few, many, n, p.room.wholes),
         omega (arith, few, many, n, p.room.floats),
         rw many (omega (arith, rows, p.fits_at.boxes)),
-      ),
-    )
+      );
+  }
 
 pub returns : goal.returns
 returns c = let p = c.requires in

@@ -18,4 +18,8 @@ pub returns : goal.returns
 returns c = let P = c.args in
     let up = c.coarse_points-next.ensures in
     let moved = c.put_covers.ensures in
-    (up.number, (up.list, (rw (part-lent c.coarse_points-next.new.floats P.a P.m, up.covers) at moved)))
+    record {
+    number = up.number;
+    list = up.list;
+    boxes = (rw (part-lent c.coarse_points-next.new.floats P.a P.m, up.covers) at moved);
+  }

@@ -15,13 +15,13 @@ pub loop-i-init : goal.loop-i-init
 loop-i-init c = (omega arith, refl)
 
 pub returns-then-not-is_finite : goal.returns-then-not-is_finite
-returns-then-not-is_finite c = bad-here _ _ _ (omega arith) (sym c.is_finite.ensures ∙ not-true _ c.if-not-is_finite.true)
+returns-then-not-is_finite c = bad-here _ _ _ (omega arith) (sym c.is_finite.ensures ∙ c.if-not-is_finite.true)
     c.loop-i.invariant.1
 
 pub loop-i-preserved : goal.loop-i-preserved
 loop-i-preserved c = (
   omega arith,
-  bad-later _ _ _ (omega arith) (sym c.is_finite.ensures ∙ not-false _ c.if-not-is_finite.false)
+  bad-later _ _ _ (omega arith) (sym c.is_finite.ensures ∙ c.if-not-is_finite.false)
       c.loop-i.invariant.1,
 )
 

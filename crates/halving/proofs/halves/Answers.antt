@@ -30,7 +30,8 @@ returns c = let p = c.requires in
     let m = c.middle_of-m in
     let f = c.part_rows-lo in
     let e = f.ensures in
-    let k = m.auto.1.1.1.1.0 in (
-      rows_cut m.ensures p.0 p.2 _ (k ∙ p.3) e.number e.rows e.room c.copy_rows.ensures,
-      (f.auto.1.1.1.1.1.0 ∙ k, m.ensures),
-    )
+    let k = m.auto.1.1.1.1.0 in record {
+    rows = rows_cut m.ensures p.0 p.2 _ (k ∙ p.3) e.number e.rows e.room c.copy_rows.ensures;
+    room = f.auto.1.1.1.1.1.0 ∙ k;
+    row = m.ensures;
+  }

@@ -12,25 +12,28 @@ use Rattle.keep.proofs.keep.Goals as goal
 pub returns-then-file-lt-MOST_FILE_BYTES : goal.returns-then-file-lt-MOST_FILE_BYTES
 returns-then-file-lt-MOST_FILE_BYTES c = let a = c.args in
     let short = c.if-file-lt-MOST_FILE_BYTES.true in
-    (answer-short (kept a.stream.now) a.file.now (omega (arith, short)), output-short (kept a.stream.now) a.file.now (omega (arith, short)))
+    record {
+    answer = answer-short (kept a.stream.now) a.file.now (omega (arith, short));
+    output = output-short (kept a.stream.now) a.file.now (omega (arith, short));
+  }
 
 pub overflow_mul-k : goal.overflow_mul-k
 overflow_mul-k c = let start = c in
-    let told = c.read-in-Whole-1.given.1 in
+    let told = c.in-Whole.is in
     let job = c.read_job-read in
     let few = coordinates-read _ _ start.args.stream.now job.ensures.same _ _ told job.ensures.within in
     omega (arith, few)
 
 pub slice_bounds-points-end : goal.slice_bounds-points-end
 slice_bounds-points-end c = let start = c in
-    let told = c.read-in-Whole-1.given.1 in
+    let told = c.in-Whole.is in
     let job = c.read_job-read in
     let few = coordinates-read _ _ start.args.stream.now job.ensures.same _ _ told job.ensures.within in
     omega (arith, few, job.auto)
 
 pub slice_bounds-keep_job-end : goal.slice_bounds-keep_job-end
 slice_bounds-keep_job-end c = let start = c in
-    let told = c.read-in-Whole-1.given.1 in
+    let told = c.in-Whole.is in
     let job = c.read_job-read in
     let few = coordinates-read _ _ start.args.stream.now job.ensures.same _ _ told job.ensures.within in
     sym (length-take-le _ _ (omega (arith, few, job.auto)))
@@ -38,18 +41,24 @@ slice_bounds-keep_job-end c = let start = c in
 pub keep_job-requires : goal.keep_job-requires
 keep_job-requires c = let start = c in
     let same = c.read_job-read.ensures.same in
-    (limits-read _ _ start.args.stream.now same _ _ c.read-in-Whole-1.given.1, omega (arith, c.if-file-lt-MOST_FILE_BYTES.false))
+    (limits-read _ _ start.args.stream.now same _ _ c.in-Whole.is, omega (arith, c.if-file-lt-MOST_FILE_BYTES.false))
 
 pub returns-in-Broken : goal.returns-in-Broken
 returns-in-Broken c = let a = c.args in
     let same = c.read_job-read.ensures.same in
-    let told = c.read-1.given.1 in
+    let told = c.in-Broken.is in
     let long = c.if-file-lt-MOST_FILE_BYTES.false in
-    (broken-answer _ _ a.stream.now same a.file.now _ _ told (omega (arith, long)), broken-output _ _ a.stream.now same a.file.now _ _ told (omega (arith, long)))
+    record {
+    answer = broken-answer _ _ a.stream.now same a.file.now _ _ told (omega (arith, long));
+    output = broken-output _ _ a.stream.now same a.file.now _ _ told (omega (arith, long));
+  }
 
 pub returns-in-Whole : goal.returns-in-Whole
 returns-in-Whole c = let a = c.args in
     let same = c.read_job-read.ensures.same in
-    let told = c.read-in-Whole-1.given.1 in
+    let told = c.in-Whole.is in
     let w = c.keep_job.ensures in
-    (whole-answer _ _ a.stream.now same a.file.now _ _ told _ w.answer, whole-output _ _ a.stream.now same a.file.now _ _ told _ w.output)
+    record {
+    answer = whole-answer _ _ a.stream.now same a.file.now _ _ told _ w.answer;
+    output = whole-output _ _ a.stream.now same a.file.now _ _ told _ w.output;
+  }

@@ -12,7 +12,10 @@ returns-then-tree-gt0 c = let start = c in
     let lent = start.args.file.now in
     let w = c.build-tree.ensures in
     let t = c.if-tree-gt0.true in
-    (refused-answer s cs start.requires.0 lent start.requires.1 _ w.answers (omega (arith, t)), refused-output s cs start.requires.0 lent start.requires.1 _ w.answers (omega (arith, t)))
+    record {
+    answer = refused-answer s cs start.requires.0 lent start.requires.1 _ w.answers (omega (arith, t));
+    output = refused-output s cs start.requires.0 lent start.requires.1 _ w.answers (omega (arith, t));
+  }
 
 pub returns : goal.returns
 returns c = let start = c in
@@ -21,7 +24,7 @@ returns c = let start = c in
     let lent = start.args.file.now in
     let w = c.build-tree.ensures in
     let t = c.if-tree-gt0.false in
-    let stored = c.store_tree-stored.ensures in (
-      stored_answer s cs start.requires.0 lent start.requires.1 _ w.answers (omega (arith, t)) _ w.lists _ _ stored,
-      stored-output s cs start.requires.0 lent start.requires.1 _ w.answers (omega (arith, t)) _ w.lists _ _ stored,
-    )
+    let stored = c.store_tree-stored.ensures in record {
+    answer = stored_answer s cs start.requires.0 lent start.requires.1 _ w.answers (omega (arith, t)) _ w.lists _ _ stored;
+    output = stored-output s cs start.requires.0 lent start.requires.1 _ w.answers (omega (arith, t)) _ w.lists _ _ stored;
+  }

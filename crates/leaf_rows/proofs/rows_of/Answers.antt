@@ -5,8 +5,8 @@ use Rattle.leaf_rows.proofs.rows_of.Goals as goal
 
 pub returns-in-Own : goal.returns-in-Own
 unfolding rows_asked asked_verdict
-returns-in-Own c = rw c.enum_told-1.given.1 c.stretch_of.ensures
+returns-in-Own c = rw c.in-Own.is c.stretch_of.ensures
 
 pub returns-in-Borrowed : goal.returns-in-Borrowed
 unfolding rows_asked asked_verdict
-returns-in-Borrowed c = rw c.enum_told-in-Borrowed-1.given.1 c.stretch_of-in-Borrowed.ensures
+returns-in-Borrowed c = rw c.in-Borrowed.is c.stretch_of-in-Borrowed.ensures

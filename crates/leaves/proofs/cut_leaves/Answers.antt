@@ -18,7 +18,10 @@ use Rattle.leaves.proofs.cut_leaves.Goals as goal
 pub put_root-requires : goal.put_root-requires
 put_root-requires c = let a = c in
     let p = a.requires in
-    ((p.dimensions_nonzero.1, p.dimensions_nonzero.3, good-inside _ p.dimensions_nonzero.4), (omega (arith, p.dimensions_nonzero.3, p.rows_in_bounds.0), omega (arith, width-most a.args.dimensions (length a.args.rows.now) p.dimensions_nonzero.3, p.rows_in_bounds.1)))
+    record {
+    dimensions_bound = (p.dimensions_nonzero.1, p.dimensions_nonzero.3, good-inside _ p.dimensions_nonzero.4);
+    waiting_width_in_bounds = (omega (arith, p.dimensions_nonzero.3, p.rows_in_bounds.0), omega (arith, width-most a.args.dimensions (length a.args.rows.now) p.dimensions_nonzero.3, p.rows_in_bounds.1));
+  }
 
 pub loop-head-init : goal.loop-head-init
 loop-head-init c = let r = c in
@@ -31,10 +34,10 @@ loop-head-init c = let r = c in
         same-O = refl;
         same-floats = refl;
         same-B = refl;
-        cap-w = omega (arith, r.put_root.auto.1.1.1.1.0, a.well-formed.1.1.1.1.1.1.1.1.1.0.0);
-        cap-O = omega (arith, a.well-formed.1.1.1.1.1.0.0);
-        cap-floats = omega (arith, r.put_root.auto.1.1.1.0, a.well-formed.1.1.1.1.1.1.1.1.0.0);
-        cap-B = omega (arith, a.well-formed.1.1.1.1.1.1.1.0.0);
+        cap-w = omega (arith, r.put_root.auto.1.1.1.1.0, a.well_formed.1.1.1.1.1.1.1.1.1.0.0);
+        cap-O = omega (arith, a.well_formed.1.1.1.1.1.0.0);
+        cap-floats = omega (arith, r.put_root.auto.1.1.1.0, a.well_formed.1.1.1.1.1.1.1.1.0.0);
+        cap-B = omega (arith, a.well_formed.1.1.1.1.1.1.1.0.0);
       },
       c.box_width-stride.ensures,
     )
@@ -72,7 +75,7 @@ offset_bounds-rows-start c = let t = c in
     let i = t.loop-head.invariant in
     let x = front i.0 t.loop-head-test.true in
     let u = known x in
-    omega (arith, u.inside, u.same, c.well-formed.1.1.1.0.0)
+    omega (arith, u.inside, u.same, c.well_formed.1.1.1.0.0)
 
 pub slice_bounds-cut_stretch-end : goal.slice_bounds-cut_stretch-end
 slice_bounds-cut_stretch-end c = let t = c in
@@ -288,10 +291,11 @@ returns c = let a = c in
     let found =
     found_all _ _ p.dimensions_nonzero.0 p.dimensions_nonzero.1 _ p.dimensions_nonzero.2 _ p.dimensions_nonzero.3 p.dimensions_nonzero.4 a.args.wholes.now _ a.args.floats.now _ p.rows_in_bounds.0 p.rows_in_bounds.1
     root.wholes root.floats _ _ l.tail r.begun r.found-w r.found-floats in
-    let back = c.copy_rows-2 in (
-      omega (arith, en.0),
-      (
-        back.ensures ∙ put_whole l.rows _ (omega (arith, r.same, packed-length (length a.args.rows.now) l.wholes r.fit-w)) ∙ en.1,
-        (en.2, (en.3, (rw e found.1, rw e found.0))),
-      ),
-    )
+    let back = c.copy_rows-2 in record {
+    number = omega (arith, en.0);
+    rows = back.ensures ∙ put_whole l.rows _ (omega (arith, r.same, packed-length (length a.args.rows.now) l.wholes r.fit-w)) ∙ en.1;
+    domains = en.2;
+    boxes = en.3;
+    floats = rw e found.1;
+    wholes = rw e found.0;
+  }

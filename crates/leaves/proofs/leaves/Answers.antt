@@ -11,7 +11,7 @@ pub cut_leaves-requires : goal.cut_leaves-requires
 cut_leaves-requires c = let a = c in
     let p = a.requires in
     let lent = place-lent a.args.internals.now a.args.active.now _ a.args.at p.active_in_bounds_2.0 c.copy_rows.ensures in
-    rw lent (p.dimensions_nonzero, (p.active_in_bounds, (omega (arith, p.active_in_bounds_2.0, a.well-formed.1.1.1.1.0.0), p.active_in_bounds_2.1, p.active_in_bounds_2.2)))
+    rw lent (p.dimensions_nonzero, (p.active_in_bounds, (omega (arith, p.active_in_bounds_2.0, a.well_formed.1.1.1.1.0.0), p.active_in_bounds_2.1, p.active_in_bounds_2.2)))
 
 pub returns : goal.returns
 returns c = let a = c in

@@ -6,4 +6,7 @@ pub returns : goal.returns
 returns c = let boxed = c in
     let measured = boxed in
     let second = measured in
-    (rw measured.get_pointarray_extents.ensures.1 at boxed.write_box.ensures, second.put_waiting.ensures)
+    record {
+    floats = rw measured.get_pointarray_extents.ensures.1 at boxed.write_box.ensures;
+    wholes = second.put_waiting.ensures;
+  }

@@ -22,7 +22,12 @@ pub fine_level-level-requires : goal.fine_level-level-requires
 fine_level-level-requires c = let v = c.loop-engine.invariant.0 in
     let yes = sym c.is_fine.ensures ∙ c.loop-engine-test.true in
     let some = c.requires.le_c.0 in
-    ((level_points_fit _ _ v yes some, size_few _ _ v yes some c.next_size-size.ensures, v.given), (level-fits _ _ v yes some, (level-room _ _ v yes some, noted-fits c.loop-engine.invariant.1 (levels-left _ _ v yes some))))
+    record {
+    a_in_bounds = (level_points_fit _ _ v yes some, size_few _ _ v yes some c.next_size-size.ensures, v.given);
+    fits_at = level-fits _ _ v yes some;
+    room = level-room _ _ v yes some;
+    record_fits = noted-fits c.loop-engine.invariant.1 (levels-left _ _ v yes some);
+  }
 
 pub offset_bounds-rows-built : goal.offset_bounds-rows-built
 offset_bounds-rows-built c = omega (arith, c.loop-engine.invariant.0.few)
@@ -37,20 +42,20 @@ pub bounds-counts-built : goal.bounds-counts-built
 bounds-counts-built c = omega (arith, c.loop-engine.invariant.0.few, c.loop-engine.invariant.0.slots-too)
 
 pub overflow_add-from : goal.overflow_add-from
-overflow_add-from c = let good = c.well-formed in omega (arith, (coarse-fits c.loop-engine.invariant.0.space).0, c.loop-engine.invariant.0.long.level_points)
+overflow_add-from c = let good = c.well_formed in omega (arith, (coarse-fits c.loop-engine.invariant.0.space).0, c.loop-engine.invariant.0.long.level_points)
 
 pub overflow_add-first : goal.overflow_add-first
 overflow_add-first c = let v = c.loop-engine.invariant.0 in
     let yes = sym c.is_fine.ensures ∙ c.loop-engine-test.true in
     let some = c.requires.le_c.0 in
-    let good = c.well-formed in
+    let good = c.well_formed in
     omega (arith, v.long.domains, first_fits _ _ v yes some _ c.fine_level-level.ensures.counts.0)
 
 pub overflow_add-bat : goal.overflow_add-bat
 overflow_add-bat c = let v = c.loop-engine.invariant.0 in
     let yes = sym c.is_fine.ensures ∙ c.loop-engine-test.true in
     let some = c.requires.le_c.0 in
-    let good = c.well-formed in
+    let good = c.well_formed in
     omega (arith, v.long.borrowed, bat-fits _ _ v yes some _ c.fine_level-level.ensures.counts.1)
 
 pub overflow_add-node : goal.overflow_add-node
@@ -58,7 +63,7 @@ overflow_add-node c = let v = c.loop-engine.invariant.0 in
     let o = c.loop-engine.invariant.1 in
     let yes = sym c.is_fine.ensures ∙ c.loop-engine-test.true in
     let some = c.requires.le_c.0 in
-    let good = c.well-formed in
+    let good = c.well_formed in
     omega (arith, o.cuts.long, (noted-fits o (levels-left _ _ v yes some)).0, c.fine_level-level.ensures.counts.4)
 
 pub overflow_add-built : goal.overflow_add-built

@@ -22,7 +22,7 @@ returns-then-not-bound_fits c = let at-loop = c in
     let xs = part a.boxes.now a.at a.count in
     let here : at-loop.loop-bound.bound < length xs = omega (arith, length_part a.boxes.now a.at a.count at-loop.requires) in
     let read = sym (get_d_part a.boxes.now a.at a.count at-loop.loop-bound.bound nan (omega arith)) in
-    each-out (bound_fits_lem a.coarse) xs at-loop.loop-bound.bound _ at-loop.loop-bound.invariant.1 nan _ here read (sym c.bound_fits.ensures ∙ not-true _ c.if-not-bound_fits.true)
+    each-out (bound_fits_lem a.coarse) xs at-loop.loop-bound.bound _ at-loop.loop-bound.invariant.1 nan _ here read (sym c.bound_fits.ensures ∙ c.if-not-bound_fits.true)
 
 pub loop-bound-preserved : goal.loop-bound-preserved
 loop-bound-preserved c = let at-loop = c in
@@ -30,7 +30,7 @@ loop-bound-preserved c = let at-loop = c in
     let xs = part a.boxes.now a.at a.count in
     let here : at-loop.loop-bound.bound < length xs = omega (arith, length_part a.boxes.now a.at a.count at-loop.requires) in
     let read = sym (get_d_part a.boxes.now a.at a.count at-loop.loop-bound.bound nan (omega arith)) in
-    (omega arith, each_next (bound_fits_lem a.coarse) xs at-loop.loop-bound.bound _ at-loop.loop-bound.invariant.1 nan _ here read (sym c.bound_fits.ensures ∙ not-false _ c.if-not-bound_fits.false))
+    (omega arith, each_next (bound_fits_lem a.coarse) xs at-loop.loop-bound.bound _ at-loop.loop-bound.invariant.1 nan _ here read (sym c.bound_fits.ensures ∙ c.if-not-bound_fits.false))
 
 pub returns : goal.returns
 returns c = let start = c in

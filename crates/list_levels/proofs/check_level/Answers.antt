@@ -7,13 +7,13 @@ use borrow.Author.Rules.{rules}
 use Rattle.list_levels.proofs.check_level.Goals as goal
 
 pub returns-then-not-rows_marked : goal.returns-then-not-rows_marked
-returns-then-not-rows_marked c = level_out _ _ _ _ _ c.rows_marked.ensures _ 0 (not-true _ c.if-not-rows_marked.true)
+returns-then-not-rows_marked c = level_out _ _ _ _ _ c.rows_marked.ensures _ 0 c.if-not-rows_marked.true
 
 pub set_rows-requires : goal.set_rows-requires
 set_rows-requires c = let start = c in
     let a = start.args in
     let said = c.rows_marked.ensures in
-    let good = not-false _ c.if-not-rows_marked.false in (
+    let good = c.if-not-rows_marked.false in (
       start.requires.points,
       points-ascend a.level_points.now a.own_at a.rows a.listed.now _ said good,
       points-within a.level_points.now a.own_at a.rows a.listed.now _ said good _ (sym start.requires.same_length),
@@ -24,7 +24,7 @@ set_rows-requires-2 c = let asked = c in
     let start = asked in
     let a = start.args in
     let said = asked.rows_marked.ensures in
-    let good = not-false _ c.if-not-rows_marked.false in (
+    let good = c.if-not-rows_marked.false in (
       start.requires.points,
       points-ascend a.level_points.now a.own_at a.rows a.listed.now _ said good,
       points-within a.level_points.now a.own_at a.rows a.listed.now _ said good _ refl,
@@ -46,6 +46,6 @@ returns c = let asked = c in
     let called = c.check_domains in
     let first = c.set_rows in
     let second = c.set_rows-2 in
-    level-tell a.level_points.now a.own_at a.rows a.listed.now _ asked.rows_marked.ensures _ _ first.ensures second.ensures (not-false _ c.if-not-rows_marked.false) a.coarse
+    level-tell a.level_points.now a.own_at a.rows a.listed.now _ asked.rows_marked.ensures _ _ first.ensures second.ensures c.if-not-rows_marked.false a.coarse
     (packed a.internals.now a.domains.now a.boxes.now a.borrowed.now a.dimensions) a.borrowed-most a.first a.borrowed_at a.count called.new.listed.0 called.result
     called.ensures

@@ -11,7 +11,7 @@ pub returns-then-levels-gt4 : goal.returns-then-levels-gt4
 returns-then-levels-gt4 c = many-levels _ c.if-levels-gt4.true
 
 pub returns-then-not-none_beyond : goal.returns-then-not-none_beyond
-returns-then-not-none_beyond c = rows-beyond _ _ c.none_beyond.ensures (not-true _ c.if-not-none_beyond.true)
+returns-then-not-none_beyond c = rows-beyond _ _ c.none_beyond.ensures c.if-not-none_beyond.true
 
 pub returns : goal.returns
-returns c = counts-tell _ _ _ c.if-levels-eq0.false c.if-levels-gt4.false c.none_beyond.ensures (not-false _ c.if-not-none_beyond.false) c.none_beyond-2.ensures
+returns c = counts-tell _ _ _ c.if-levels-eq0.false c.if-levels-gt4.false c.none_beyond.ensures c.if-not-none_beyond.false c.none_beyond-2.ensures

@@ -23,7 +23,7 @@ returns-then-not-follows c = let at-loop = c in
     let i = at-loop.loop-i.i in
     let here : i < length (part list a.at a.count) = omega (arith, length_part list a.at a.count at-loop.requires) in
     let read = sym (get_d_part list a.at a.count i 0 (omega arith)) in
-    asking-low at-loop.loop-i.invariant.1 _ here read (too-low (least_after i at-loop.loop-i.last) (get_or list (a.at + i) 0) _ c.follows.ensures (not-true _ c.if-not-follows.true))
+    asking-low at-loop.loop-i.invariant.1 _ here read (too-low (least_after i at-loop.loop-i.last) (get_or list (a.at + i) 0) _ c.follows.ensures c.if-not-follows.true)
 
 pub returns-then-not-is_marked : goal.returns-then-not-is_marked
 returns-then-not-is_marked c = let at-loop = c in
@@ -32,7 +32,7 @@ returns-then-not-is_marked c = let at-loop = c in
     let i = at-loop.loop-i.i in
     let here : i < length (part list a.at a.count) = omega (arith, length_part list a.at a.count at-loop.requires) in
     let read = sym (get_d_part list a.at a.count i 0 (omega arith)) in
-    asking-out at-loop.loop-i.invariant.1 _ here read _ c.is_marked.ensures (not-true _ c.if-not-is_marked.true)
+    asking-out at-loop.loop-i.invariant.1 _ here read _ c.is_marked.ensures c.if-not-is_marked.true
 
 pub loop-i-preserved : goal.loop-i-preserved
 loop-i-preserved c = let at-loop = c in
@@ -41,8 +41,8 @@ loop-i-preserved c = let at-loop = c in
     let i = at-loop.loop-i.i in
     let here : i < length (part list a.at a.count) = omega (arith, length_part list a.at a.count at-loop.requires) in
     let read = sym (get_d_part list a.at a.count i 0 (omega arith)) in
-    let up = not_low (least_after i at-loop.loop-i.last) (get_or list (a.at + i) 0) _ c.follows.ensures (not-false _ c.if-not-follows.false) in
-    (omega arith, asking-after i (get_or list (a.at + i) 0) (asking-next at-loop.loop-i.invariant.1 _ here read _ c.is_marked.ensures up (not-false _ c.if-not-is_marked.false)))
+    let up = not_low (least_after i at-loop.loop-i.last) (get_or list (a.at + i) 0) _ c.follows.ensures c.if-not-follows.false in
+    (omega arith, asking-after i (get_or list (a.at + i) 0) (asking-next at-loop.loop-i.invariant.1 _ here read _ c.is_marked.ensures up c.if-not-is_marked.false))
 
 pub returns : goal.returns
 returns c = let start = c in

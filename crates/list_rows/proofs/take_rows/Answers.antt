@@ -30,7 +30,7 @@ returns-then-not-follows c = let at-loop = c in
     let i = at-loop.loop-i.i in
     let here : i < length (part list a.at a.count) = omega (arith, length_part list a.at a.count at-loop.requires.0) in
     let read = sym (get_d_part list a.at a.count i 0 (omega arith)) in
-    let down = too-low (least_after i at-loop.loop-i.last) (get_or list (a.at + i) 0) _ c.follows.ensures (not-true _ c.if-not-follows.true) in
+    let down = too-low (least_after i at-loop.loop-i.last) (get_or list (a.at + i) 0) _ c.follows.ensures c.if-not-follows.true in
     λ p q m n. (taking-low at-loop.loop-i.invariant.1 _ here read down p m, λ t. clash t refl)
 
 pub take_out-requires : goal.take_out-requires
@@ -45,8 +45,8 @@ returns-then-not-take_out c = let at-loop = c in
     let i = at-loop.loop-i.i in
     let here : i < length (part list a.at a.count) = omega (arith, length_part list a.at a.count at-loop.requires.0) in
     let read = sym (get_d_part list a.at a.count i 0 (omega arith)) in
-    let up = not_low (least_after i at-loop.loop-i.last) (get_or list (a.at + i) 0) _ c.follows.ensures (not-false _ c.if-not-follows.false) in
-    λ p q m n. (taking-out at-loop.loop-i.invariant.1 _ here read up _ _ _ c.take_out.ensures (not-true _ c.if-not-take_out.true) p m, λ f. clash f refl)
+    let up = not_low (least_after i at-loop.loop-i.last) (get_or list (a.at + i) 0) _ c.follows.ensures c.if-not-follows.false in
+    λ p q m n. (taking-out at-loop.loop-i.invariant.1 _ here read up _ _ _ c.take_out.ensures c.if-not-take_out.true p m, λ f. clash f refl)
 
 pub loop-i-preserved : goal.loop-i-preserved
 loop-i-preserved c = let at-loop = c in
@@ -55,8 +55,8 @@ loop-i-preserved c = let at-loop = c in
     let i = at-loop.loop-i.i in
     let here : i < length (part list a.at a.count) = omega (arith, length_part list a.at a.count at-loop.requires.0) in
     let read = sym (get_d_part list a.at a.count i 0 (omega arith)) in
-    let up = not_low (least_after i at-loop.loop-i.last) (get_or list (a.at + i) 0) _ c.follows.ensures (not-false _ c.if-not-follows.false) in
-    let next = taking-next at-loop.loop-i.invariant.1 _ here read up _ _ _ c.take_out.ensures (search rules) (search rules) (not-false _ c.if-not-take_out.false) in
+    let up = not_low (least_after i at-loop.loop-i.last) (get_or list (a.at + i) 0) _ c.follows.ensures c.if-not-follows.false in
+    let next = taking-next at-loop.loop-i.invariant.1 _ here read up _ _ _ c.take_out.ensures (search rules) (search rules) c.if-not-take_out.false in
     (omega arith, taking-after i (get_or list (a.at + i) 0) next)
 
 pub shape_of-left : goal.shape_of-left

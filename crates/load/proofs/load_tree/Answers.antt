@@ -9,7 +9,7 @@ use Rattle.load.proofs.load_tree.Goals as goal
 
 pub load_file-requires : goal.load_file-requires
 load_file-requires c = sym (c.check_tree-checked.ensures _ (record { level_points = refl; internals = refl; domains = refl; boxes = refl; borrowed = refl }))
-    ∙ ap verdict_of c.enum_told-1.given.1
+    ∙ ap verdict_of c.in-Accepted.is
 
 pub returns-in-Refused : goal.returns-in-Refused
 returns-in-Refused c = let start = c in
@@ -17,5 +17,5 @@ returns-in-Refused c = let start = c in
     let cs = start.args.points.now in
     let bs = start.args.bytes.now in
     let old = lists_of start.args.level_points.now start.args.internals.now start.args.domains.now start.args.boxes.now start.args.borrowed.now in
-    let e = sym (c.check_tree-checked.ensures old (record { level_points = refl; internals = refl; domains = refl; boxes = refl; borrowed = refl })) ∙ ap verdict_of c.checked-1.given.1 in
+    let e = sym (c.check_tree-checked.ensures old (record { level_points = refl; internals = refl; domains = refl; boxes = refl; borrowed = refl })) ∙ ap verdict_of c.in-Refused.is in
     loaded-refused s cs bs old _ (own-refused s cs bs old _ e) c.refusal.ensures

@@ -16,7 +16,10 @@ pub put_domain-next-requires : goal.put_domain-next-requires
 put_domain-next-requires c = let s = c in
     let v = c.loop-left.invariant in
     let some = c.loop-left-test.true in
-    ((s.requires.dimensions_bound.0, domain-stands v refl refl s.requires.room some), domain-room v refl refl s.requires.room some)
+    record {
+    dimensions_bound = (s.requires.dimensions_bound.0, domain-stands v refl refl s.requires.room some);
+    room = domain-room v refl refl s.requires.room some;
+  }
 
 pub loop-left-preserved : goal.loop-left-preserved
 loop-left-preserved c = let s = c in
@@ -40,4 +43,7 @@ shape_of-borrowed c = (domains-long c.loop-left.invariant refl c.requires.room).
 pub returns : goal.returns
 returns c = let v = c.loop-left.invariant in
     let none : c.loop-left.left ≡ 0 = omega (arith, c.loop-left-test.false) in
-    (domains-end v none, domains-written v none)
+    record {
+    next = domains-end v none;
+    written = domains-written v none;
+  }

@@ -9,7 +9,7 @@ use Rattle.marks.proofs.take_out.Goals as goal
 
 pub returns-then-not-is_marked : goal.returns-then-not-is_marked
 returns-then-not-is_marked c = λ p q m n.
-    let e = sym (not-true _ c.if-not-is_marked.true) ∙ c.is_marked.ensures p m in
+    let e = sym c.if-not-is_marked.true ∙ c.is_marked.ensures p m in
     record { was = e; left_out = λ t. clash t refl; listed_out = λ t. clash t refl; left_as_was = λ _. m; listed_as_was = λ _. n }
 
 pub unmark-requires : goal.unmark-requires
@@ -29,7 +29,7 @@ returns c = λ p q m n.
     let u = c in
     let v = u in
     let e = v in
-    let was = sym (not-false _ e.if-not-is_marked.false) ∙ e.is_marked.ensures p m in
+    let was = sym e.if-not-is_marked.false ∙ e.is_marked.ensures p m in
     record {
       was = was;
       left_out = λ _. v.unmark.ensures.1 p m;

@@ -9,16 +9,16 @@ use borrow.Author.Rules.{rules}
 use Rattle.node.proofs.write_node.Goals as goal
 
 pub overflow_add-cuts : goal.overflow_add-cuts
-overflow_add-cuts c = omega (arith, ap (λ (n : Node). whole_of (as_node n)) c.node-in-Leaf-1.given.1)
+overflow_add-cuts c = omega (arith, ap (λ (n : Node). whole_of (as_node n)) c.in-Leaf.is)
 
 pub returns-in-Cut : goal.returns-in-Cut
-returns-in-Cut c = let a = c.args in (
-      ap (λ (n : Node). set a.cuts.now a.at (whole_of (as_node n))) (sym c.node-1.given.1),
-      ap (λ (n : Node). set a.planes.now a.at (float_of (as_node n))) (sym c.node-1.given.1),
-    )
+returns-in-Cut c = let a = c.args in record {
+    cuts = ap (λ (n : Node). set a.cuts.now a.at (whole_of (as_node n))) (sym c.in-Cut.is);
+    planes = ap (λ (n : Node). set a.planes.now a.at (float_of (as_node n))) (sym c.in-Cut.is);
+  }
 
 pub returns-in-Leaf : goal.returns-in-Leaf
-returns-in-Leaf c = let a = c.args in (
-      ap (λ (n : Node). set a.cuts.now a.at (whole_of (as_node n))) (sym c.node-in-Leaf-1.given.1),
-      ap (λ (n : Node). set a.planes.now a.at (float_of (as_node n))) (sym c.node-in-Leaf-1.given.1),
-    )
+returns-in-Leaf c = let a = c.args in record {
+    cuts = ap (λ (n : Node). set a.cuts.now a.at (whole_of (as_node n))) (sym c.in-Leaf.is);
+    planes = ap (λ (n : Node). set a.planes.now a.at (float_of (as_node n))) (sym c.in-Leaf.is);
+  }

@@ -34,15 +34,11 @@ returns c = let s = c in
       arith,
       f.ensures.0,
       c.codes-1.given,
-    )) in (
-      λ ls H. sym e ∙ distinct-length a.m (length a.active.now) s.pre.0 a.codes.now ls H N f.ensures.1,
-      (
-        λ ls H. c.write_rows.ensures ∙ ap (put a.borrowed.now a.bat) (distinct-rows a.m (length
-            a.active.now) s.pre.0 a.codes.now ls H N f.ensures.1 a.active.now),
-        (
-          λ ls H. c.write_columns.ensures ls
-              (small-lists a.m (length a.active.now) s.pre.0 a.codes.now ls H) (distinct-codes a.m (length a.active.now) s.pre.0 a.codes.now ls H N f.ensures.1),
-          f.ensures.0,
-        ),
-      ),
-    )
+    )) in record {
+    number = λ ls H. sym e ∙ distinct-length a.m (length a.active.now) s.pre.0 a.codes.now ls H N f.ensures.1;
+    rows = λ ls H. c.write_rows.ensures ∙ ap (put a.borrowed.now a.bat) (distinct-rows a.m (length
+            a.active.now) s.pre.0 a.codes.now ls H N f.ensures.1 a.active.now);
+    columns = λ ls H. c.write_columns.ensures ls
+              (small-lists a.m (length a.active.now) s.pre.0 a.codes.now ls H) (distinct-codes a.m (length a.active.now) s.pre.0 a.codes.now ls H N f.ensures.1);
+    most = f.ensures.0;
+  }

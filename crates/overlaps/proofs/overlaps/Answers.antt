@@ -70,18 +70,14 @@ returns c = let s = c in
     let ls = positions_of a.dimensions a.points.now a.neighbours a.active.now (read_own a.internals.now a.domains.now a.first
     a.m) in
     let l = c.lend in
-    let H = stage-encoded a.dimensions a.points.now a.neighbours a.active.now a.internals.now a.domains.now a.first a.m s.pre.0 W f.ensures h U g.result g.ensures r in (
-      stage-number a.dimensions a.points.now a.neighbours a.active.now a.internals.now a.domains.now a.first a.m s.pre.0 W f.ensures h U g.result g.ensures r l.result (l.ensures.number ls H),
-      (
-        stage-borrowed a.dimensions a.points.now a.neighbours a.active.now a.internals.now a.domains.now a.first a.m s.pre.0 W f.ensures h U g.result g.ensures r a.borrowed.now l.new.borrowed a.bat (l.ensures.rows ls H),
-        (
-          stage-domains a.dimensions a.points.now a.neighbours a.active.now a.internals.now a.domains.now a.first a.m s.pre.0 W f.ensures h U g.result g.ensures r l.new.domains
-              a.bat (l.ensures.columns ls H),
-          omega (
+    let H = stage-encoded a.dimensions a.points.now a.neighbours a.active.now a.internals.now a.domains.now a.first a.m s.pre.0 W f.ensures h U g.result g.ensures r in record {
+    number = stage-number a.dimensions a.points.now a.neighbours a.active.now a.internals.now a.domains.now a.first a.m s.pre.0 W f.ensures h U g.result g.ensures r l.result (l.ensures.number ls H);
+    borrowed = stage-borrowed a.dimensions a.points.now a.neighbours a.active.now a.internals.now a.domains.now a.first a.m s.pre.0 W f.ensures h U g.result g.ensures r a.borrowed.now l.new.borrowed a.bat (l.ensures.rows ls H);
+    domains = stage-domains a.dimensions a.points.now a.neighbours a.active.now a.internals.now a.domains.now a.first a.m s.pre.0 W f.ensures h U g.result g.ensures r l.new.domains
+              a.bat (l.ensures.columns ls H);
+    most = omega (
             arith,
             l.ensures.most,
             stage-length a.dimensions a.points.now a.neighbours a.active.now a.internals.now a.domains.now a.first a.m s.pre.0 W f.ensures h U g.result g.ensures r,
-          ),
-        ),
-      ),
-    )
+          );
+  }

@@ -11,7 +11,10 @@ write_level-next-requires c = room-first _ _ c.requires.room_for
 pub write_leaf-requires : goal.write_leaf-requires
 unfolding coarse_level_text
 write_leaf-requires c = let start = c in
-    (start.requires.row_fits, room_next _ c.write_level-next.ensures start.requires.room_for)
+    record {
+    row_fits = start.requires.row_fits;
+    room_for = room_next _ c.write_level-next.ensures start.requires.room_for;
+  }
 
 pub returns : goal.returns
 unfolding coarse_level_text

@@ -11,7 +11,10 @@ write_level-next-requires c = room-first _ _ c.requires.room_for
 pub write_leaves-requires : goal.write_leaves-requires
 unfolding fine_level_text
 write_leaves-requires c = let start = c in
-    (start.requires.by_index, room_next _ c.write_level-next.ensures start.requires.room_for)
+    record {
+    by_index = start.requires.by_index;
+    room_for = room_next _ c.write_level-next.ensures start.requires.room_for;
+  }
 
 pub returns : goal.returns
 unfolding fine_level_text

@@ -45,7 +45,7 @@ overflow_add-e c = let start = c in
       arith,
       rows_inside p a.level_points.now a.rows.now a.counts.now v.t v.a v.j v.invariant.0 v.invariant.1 a.levels s
           (omega (arith, s.some, v.invariant.3)),
-      start.well-formed,
+      start.well_formed,
     )
 
 pub bounds-counts-t : goal.bounds-counts-t
@@ -61,7 +61,7 @@ offset_bounds-level_points-a c = let start = c in
       arith,
       rows_inside p a.level_points.now a.rows.now a.counts.now v.t v.a v.j v.invariant.0 v.invariant.1 a.levels s
           (omega (arith, s.some, v.invariant.3)),
-      start.well-formed,
+      start.well_formed,
     )
 
 pub slice_bounds-write_fine-end : goal.slice_bounds-write_fine-end
@@ -80,12 +80,12 @@ write_fine-next-requires c = let start = c in
     let v = c.loop-t in
     let r = room-first _ _ (room-spelt (levels-whole p a.level_points.now a.rows.now a.counts.now a.levels (a.levels - 1) s refl) start.requires.room_for) in
     let g = grown-room (front_text p a.level_points.now a.rows.now a.counts.now) (fine_at p a.level_points.now a.rows.now a.counts.now)
-    (front-grows p a.level_points.now a.rows.now a.counts.now) (a.levels - 1) v.t (omega arith) r v.invariant.2 in (
-      row_fits p a.level_points.now a.rows.now a.counts.now v.t v.a v.j v.invariant.0 v.invariant.1 a.levels s
-          (omega (arith, s.some, v.invariant.3)),
-      room-spelt
-          (fine-here p a.level_points.now a.rows.now a.counts.now v.t v.a v.j v.invariant.0 v.invariant.1) g,
-    )
+    (front-grows p a.level_points.now a.rows.now a.counts.now) (a.levels - 1) v.t (omega arith) r v.invariant.2 in record {
+    by_index = row_fits p a.level_points.now a.rows.now a.counts.now v.t v.a v.j v.invariant.0 v.invariant.1 a.levels s
+          (omega (arith, s.some, v.invariant.3));
+    room_for = room-spelt
+          (fine-here p a.level_points.now a.rows.now a.counts.now v.t v.a v.j v.invariant.0 v.invariant.1) g;
+  }
 
 pub overflow_add-j : goal.overflow_add-j
 overflow_add-j c = let start = c in
@@ -97,7 +97,7 @@ overflow_add-j c = let start = c in
       arith,
       domains-inside p a.level_points.now a.rows.now a.counts.now v.t v.a v.j v.invariant.0 v.invariant.1 a.levels s
           (omega (arith, s.some, v.invariant.3)),
-      start.well-formed,
+      start.well_formed,
     )
 
 pub loop-t-preserved : goal.loop-t-preserved
@@ -133,7 +133,7 @@ overflow_add-e-2 c = let start = c in
     let e : v.t ≡ a.levels - 1 = omega (arith, v.invariant.3, c.loop-t-test.false) in
     let ea : v.a ≡ total (take (a.levels - 1) a.rows.now) = v.invariant.0 ∙ ap (λ (k : ℕ). total (take k a.rows.now)) e in
     let ej : v.j ≡ total (take (a.levels - 1) a.counts.now) = v.invariant.1 ∙ ap (λ (k : ℕ). total (take k a.counts.now)) e in
-    omega (arith, rows_inside p a.level_points.now a.rows.now a.counts.now (a.levels - 1) v.a v.j ea ej a.levels s (omega (arith, s.some)), start.well-formed)
+    omega (arith, rows_inside p a.level_points.now a.rows.now a.counts.now (a.levels - 1) v.a v.j ea ej a.levels s (omega (arith, s.some)), start.well_formed)
 
 pub offset_bounds-level_points-a-2 : goal.offset_bounds-level_points-a-2
 offset_bounds-level_points-a-2 c = let start = c in
@@ -144,7 +144,7 @@ offset_bounds-level_points-a-2 c = let start = c in
     let e : v.t ≡ a.levels - 1 = omega (arith, v.invariant.3, c.loop-t-test.false) in
     let ea : v.a ≡ total (take (a.levels - 1) a.rows.now) = v.invariant.0 ∙ ap (λ (k : ℕ). total (take k a.rows.now)) e in
     let ej : v.j ≡ total (take (a.levels - 1) a.counts.now) = v.invariant.1 ∙ ap (λ (k : ℕ). total (take k a.counts.now)) e in
-    omega (arith, rows_inside p a.level_points.now a.rows.now a.counts.now (a.levels - 1) v.a v.j ea ej a.levels s (omega (arith, s.some)), start.well-formed)
+    omega (arith, rows_inside p a.level_points.now a.rows.now a.counts.now (a.levels - 1) v.a v.j ea ej a.levels s (omega (arith, s.some)), start.well_formed)
 
 pub slice_bounds-write_coarse-end : goal.slice_bounds-write_coarse-end
 slice_bounds-write_coarse-end c = let start = c in
@@ -167,12 +167,12 @@ write_coarse-requires c = let start = c in
     let ea : v.a ≡ total (take (a.levels - 1) a.rows.now) = v.invariant.0 ∙ ap (λ (k : ℕ). total (take k a.rows.now)) e in
     let ej : v.j ≡ total (take (a.levels - 1) a.counts.now) = v.invariant.1 ∙ ap (λ (k : ℕ). total (take k a.counts.now)) e in
     let w = spelt (ap (front_text p a.level_points.now a.rows.now a.counts.now) e) v.invariant.2 in
-    let r = room_next _ w (room-spelt (levels-whole p a.level_points.now a.rows.now a.counts.now a.levels (a.levels - 1) s refl) start.requires.room_for) in (
-      rw add-zero at (row_fits p a.level_points.now a.rows.now a.counts.now (a.levels - 1) v.a v.j ea ej a.levels s
-          (omega (arith, s.some)) 0 (omega (arith, s.coarse))),
-      room-spelt (coarse-here p a.level_points.now a.rows.now a.counts.now (a.levels - 1)
-          v.a v.j ea ej) r,
-    )
+    let r = room_next _ w (room-spelt (levels-whole p a.level_points.now a.rows.now a.counts.now a.levels (a.levels - 1) s refl) start.requires.room_for) in record {
+    row_fits = rw add-zero at (row_fits p a.level_points.now a.rows.now a.counts.now (a.levels - 1) v.a v.j ea ej a.levels s
+          (omega (arith, s.some)) 0 (omega (arith, s.coarse)));
+    room_for = room-spelt (coarse-here p a.level_points.now a.rows.now a.counts.now (a.levels - 1)
+          v.a v.j ea ej) r;
+  }
 
 pub returns : goal.returns
 returns c = let start = c in

@@ -38,7 +38,10 @@ write_levels-requires c = let start = c in
     let w0 = begin (tree_texts a.levels ls) e start.requires.room_for in
     let w1 = text-added w0 tt c.write_numbered-said.ensures in
     let w2 = text-added w1 tt c.write_byte-next.ensures in
-    (start.requires.stands, text-room w2 tt)
+    record {
+    stands = start.requires.stands;
+    room_for = text-room w2 tt;
+  }
 
 pub returns : goal.returns
 unfolding ascii

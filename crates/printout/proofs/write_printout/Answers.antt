@@ -14,7 +14,7 @@ write_refusal-requires c = refusal-room _ _ _ c.requires
 
 pub overflow_mul-k : goal.overflow_mul-k
 overflow_mul-k c = let start = c in
-    let told = c.read-in-Whole-1.given.1 in
+    let told = c.in-Whole.is in
     let job = c.read_job-read in
     let same = job.ensures.same in
     let few = coordinates-read _ _ start.args.input.now same _ _ told job.ensures.within in
@@ -22,7 +22,7 @@ overflow_mul-k c = let start = c in
 
 pub slice_bounds-points-end : goal.slice_bounds-points-end
 slice_bounds-points-end c = let start = c in
-    let told = c.read-in-Whole-1.given.1 in
+    let told = c.in-Whole.is in
     let job = c.read_job-read in
     let same = job.ensures.same in
     let few = coordinates-read _ _ start.args.input.now same _ _ told job.ensures.within in
@@ -30,7 +30,7 @@ slice_bounds-points-end c = let start = c in
 
 pub slice_bounds-write_job-end : goal.slice_bounds-write_job-end
 slice_bounds-write_job-end c = let start = c in
-    let told = c.read-in-Whole-1.given.1 in
+    let told = c.in-Whole.is in
     let job = c.read_job-read in
     let same = job.ensures.same in
     let few = coordinates-read _ _ start.args.input.now same _ _ told job.ensures.within in
@@ -38,17 +38,17 @@ slice_bounds-write_job-end c = let start = c in
 
 pub write_job-requires : goal.write_job-requires
 write_job-requires c = let start = c in
-    let told = c.read-in-Whole-1.given.1 in
+    let told = c.in-Whole.is in
     let same = c.read_job-read.ensures.same in
     (limits-read _ _ start.args.input.now same _ _ told, start.requires)
 
 pub returns-in-Broken : goal.returns-in-Broken
 returns-in-Broken c = let start = c in
     let same = c.read_job-read.ensures.same in
-    spelt (broken-printed _ _ start.args.input.now same _ _ c.read-1.given.1) c.write_refusal.ensures
+    spelt (broken-printed _ _ start.args.input.now same _ _ c.in-Broken.is) c.write_refusal.ensures
 
 pub returns-in-Whole : goal.returns-in-Whole
 returns-in-Whole c = let start = c in
     let same = c.read_job-read.ensures.same in
-    spelt (whole-printed _ _ start.args.input.now same _ _ c.read-in-Whole-1.given.1)
+    spelt (whole-printed _ _ start.args.input.now same _ _ c.in-Whole.is)
     c.write_job.ensures

@@ -26,7 +26,7 @@ loop-done-smaller c = let after = c.front_after-front in
     let done = c.loop-done.done in
     let z = to_z w64 (of_z w64 lump.result) in
     let moved = moved_back _ (length lump.new.input - done) lump.result (record { sfits = lump.type-inv }) (search rules) lump.ensures.moved in
-    let more = goes_on after.result done (length lump.new.input) z after.ensures (search rules) _ c.front-1.given.1 moved in
+    let more = goes_on after.result done (length lump.new.input) z after.ensures (search rules) _ c.in-Open.is moved in
     omega (arith, more)
 
 pub loop-done-preserved : goal.loop-done-preserved
@@ -35,5 +35,5 @@ loop-done-preserved c = let after = c.front_after-front in
     let done = c.loop-done.done in
     let z = to_z w64 (of_z w64 lump.result) in
     let moved = moved_back _ (length lump.new.input - done) lump.result (record { sfits = lump.type-inv }) (search rules) lump.ensures.moved in
-    let more = goes_on after.result done (length lump.new.input) z after.ensures (search rules) _ c.front-1.given.1 moved in
+    let more = goes_on after.result done (length lump.new.input) z after.ensures (search rules) _ c.in-Open.is moved in
     (more.1, search rules)

@@ -9,7 +9,7 @@ use Rattle.program_input.proofs.read_lump.Goals as goal
 pub returns : goal.returns
 returns c = let start = c in
     let read = c.read in
-    let input = start.args.input.now in (
-      moved_back _ _ read.result (record { sfits = read.type-inv }) (room-from input start.args.done) read.ensures,
-      take_put start.args.done (length input - start.args.done) input read.new.buf.0 start.requires,
-    )
+    let input = start.args.input.now in record {
+    moved = moved_back _ _ read.result (record { sfits = read.type-inv }) (room-from input start.args.done) read.ensures;
+    stays = take_put start.args.done (length input - start.args.done) input read.new.buf.0 start.requires;
+  }

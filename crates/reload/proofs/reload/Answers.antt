@@ -9,11 +9,17 @@ pub returns-then-output-lt-TEXT : goal.returns-then-output-lt-TEXT
 returns-then-output-lt-TEXT c = let a = c.args in
     let text = reloaded a.stream.now a.file.now in
     let short = c.if-output-lt-TEXT.true in
-    (answer-short text a.output.now (omega (arith, short)), output-short text a.output.now (omega (arith, short)))
+    record {
+    answer = answer-short text a.output.now (omega (arith, short));
+    output = output-short text a.output.now (omega (arith, short));
+  }
 
 pub returns : goal.returns
 returns c = let a = c.args in
     let text = reloaded a.stream.now a.file.now in
     let long = c.if-output-lt-TEXT.false in
     let w = c.write_reloaded-count.ensures in
-    (answer-long text a.output.now long _ _ w, output-long text a.output.now long _ _ w)
+    record {
+    answer = answer-long text a.output.now long _ _ w;
+    output = output-long text a.output.now long _ _ w;
+  }

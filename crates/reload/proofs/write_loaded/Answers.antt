@@ -32,7 +32,10 @@ write_tree-requires c = let start = c in
     let bs = start.args.file.now in
     let w = c.load_tree-tree.ensures in
     let t = c.if-number-gt0.false in
-    (loaded-stands s cs bs start.requires.0 _ _ w (omega (arith, t)), room-spelt (load-tree-text s cs bs start.requires.0 _ _ w (omega (arith, t))) start.requires.1)
+    record {
+    stands = loaded-stands s cs bs start.requires.0 _ _ w (omega (arith, t));
+    room_for = room-spelt (load-tree-text s cs bs start.requires.0 _ _ w (omega (arith, t))) start.requires.1;
+  }
 
 pub returns : goal.returns
 returns c = let start = c in

@@ -7,10 +7,10 @@ use borrow.Author.Tests.{not-false}
 use Rattle.replay_stores.proofs.agrees.Goals as goal
 
 pub slice_bounds-points-end : goal.slice_bounds-points-end
-slice_bounds-points-end c = let f = (c.fit.ensures (not-false _ c.if-not-fit.false)) in omega (arith, f.1)
+slice_bounds-points-end c = let f = (c.fit.ensures c.if-not-fit.false) in omega (arith, f.1)
 
 pub slice_bounds-nines_agree-end : goal.slice_bounds-nines_agree-end
-slice_bounds-nines_agree-end c = let f = (c.fit.ensures (not-false _ c.if-not-fit.false)) in sym (length-take-le _ _ (omega (arith, f.1)))
+slice_bounds-nines_agree-end c = let f = (c.fit.ensures c.if-not-fit.false) in sym (length-take-le _ _ (omega (arith, f.1)))
 
 pub nines_agree-requires : goal.nines_agree-requires
-nines_agree-requires c = let f = (c.fit.ensures (not-false _ c.if-not-fit.false)) in (search rules, search rules, search rules, f.0)
+nines_agree-requires c = let f = (c.fit.ensures c.if-not-fit.false) in (search rules, search rules, search rules, f.0)

@@ -25,7 +25,7 @@ float_from_bits-top c = tt
 
 -- what owning an `f64` tells: the format holds it
 held : (c : goal.Then-x-top) → T (fits binary64 c.args.x)
-held c = subst T (sym c.well-formed.0.1) tt
+held c = subst T (sym c.well_formed.0.1) tt
 
 left : (c : goal.Then-x-top) → FiniteCase c.args.x
 unfolding of_bits

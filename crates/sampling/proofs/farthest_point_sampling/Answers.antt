@@ -14,7 +14,7 @@ nonzero_div-rows c = let s = c in
     let g = s.args in
     let v =
     accepted-call g.dimensions g.points.now g.wanted g.seed (length g.out.now) (length g.floats.now)
-    (length g.wholes.now) _ c.sampling_verdict-tests.ensures c.enum_told-1.given.1 in
+    (length g.wholes.now) _ c.sampling_verdict-tests.ensures c.in-Passed.is in
     v.1.axes.0
 
 pub number_rows-requires : goal.number_rows-requires
@@ -22,7 +22,7 @@ number_rows-requires c = let s = c in
     let g = s.args in
     let v =
     accepted-call g.dimensions g.points.now g.wanted g.seed (length g.out.now) (length g.floats.now)
-    (length g.wholes.now) _ c.sampling_verdict-tests.ensures c.enum_told-1.given.1 in
+    (length g.wholes.now) _ c.sampling_verdict-tests.ensures c.in-Passed.is in
     v.1.wholes
 
 pub slice_bounds-sample_rows-end : goal.slice_bounds-sample_rows-end
@@ -30,7 +30,7 @@ slice_bounds-sample_rows-end c = let s = c in
     let g = s.args in
     let v =
     accepted-call g.dimensions g.points.now g.wanted g.seed (length g.out.now) (length g.floats.now)
-    (length g.wholes.now) _ c.sampling_verdict-tests.ensures c.enum_told-1.given.1 in
+    (length g.wholes.now) _ c.sampling_verdict-tests.ensures c.in-Passed.is in
     omega (arith, v.1.wholes, c.number_rows.auto.0)
 
 pub slice_bounds-sample_rows-end-in-Passed : goal.slice_bounds-sample_rows-end-in-Passed
@@ -43,18 +43,18 @@ sample_rows-cover-requires c = let s = c in
     let g = s.args in
     let v =
     accepted-call g.dimensions g.points.now g.wanted g.seed (length g.out.now) (length g.floats.now)
-    (length g.wholes.now) _ c.sampling_verdict-tests.ensures c.enum_told-1.given.1 in
+    (length g.wholes.now) _ c.sampling_verdict-tests.ensures c.in-Passed.is in
     call-ready _ _ _ _ _ _ _ v.1 _ (rows-numbered _ _ _ c.number_rows.ensures)
 
 pub returns-in-Failed : goal.returns-in-Failed
-returns-in-Failed c = call-refused _ _ _ _ _ _ _ _ _ (sym c.sampling_verdict-tests.ensures ∙ c.tests-1.given.1)
+returns-in-Failed c = call-refused _ _ _ _ _ _ _ _ _ (sym c.sampling_verdict-tests.ensures ∙ c.in-Failed.is)
 
 pub returns-in-Passed : goal.returns-in-Passed
 returns-in-Passed c = let s = c in
     let g = s.args in
     let v =
     accepted-call g.dimensions g.points.now g.wanted g.seed (length g.out.now) (length g.floats.now)
-    (length g.wholes.now) _ c.sampling_verdict-tests.ensures c.enum_told-1.given.1 in
+    (length g.wholes.now) _ c.sampling_verdict-tests.ensures c.in-Passed.is in
     let nr = c.number_rows in
     let sr = c.sample_rows-cover in
     let n = rows-numbered _ _ _ nr.ensures in

@@ -19,4 +19,8 @@ returns-then-root c = let s = c in
 
 pub look_back-requires : goal.look_back-requires
 look_back-requires c = let s = c in
-    (s.requires.place_in_bounds.0, ((subst (λ (x : Float). good x ≡ true) s.requires.place_in_bounds.1 s.requires.most_value), s.requires.by_index))
+    record {
+    best_in_bounds = s.requires.place_in_bounds.0;
+    nan_value = (subst (λ (x : Float). good x ≡ true) s.requires.place_in_bounds.1 s.requires.most_value);
+    by_index = s.requires.by_index;
+  }

@@ -65,8 +65,8 @@ returns c = let s = c in
     let a = s.args in
     let l = c.loop-i in
     let v = lessened a.dimensions a.points.now a.rows.now a.last.0 a.floats.now in
-    let e : l.i ≡ length a.rows.now = le_antisymm l.invariant.0 c.loop-i-test.false in (
-      (λ i h. l.invariant.1.1.0.done i (omega (arith, e))),
-      seen_all v _ _ _ _ (subst (λ (n : ℕ). Seen v n l.place l.most l.second) e l.invariant.1.1.1) (omega (arith, s.requires.room))
-          (lessened-kept _ _ _ _ a.floats.now s.requires.rows s.requires.room.0 s.requires.kept),
-    )
+    let e : l.i ≡ length a.rows.now = le_antisymm l.invariant.0 c.loop-i-test.false in record {
+    values = (λ i h. l.invariant.1.1.0.done i (omega (arith, e)));
+    peak = seen_all v _ _ _ _ (subst (λ (n : ℕ). Seen v n l.place l.most l.second) e l.invariant.1.1.1) (omega (arith, s.requires.room))
+          (lessened-kept _ _ _ _ a.floats.now s.requires.rows s.requires.room.0 s.requires.kept);
+  }

@@ -21,13 +21,12 @@ first_farthest-place-requires c = let s = c in
     let good-best = greatest-good v _ _ _ _ le.ensures.peak kept left.0 left.1.0
     (lessened-good _ _ _ _ a.floats.now s.requires.rows room.0 left.0 left.1.0 left.1.1) in
     let new = le.new.floats.0 in
-    let p = peaked-in v new _ _ _ _ le.ensures.values le.ensures.peak in (
-      (omega (arith, p.inside, room, le.auto.1.1.1.1.0), p.here),
-      (
-        rw le.ensures.peak.here good-best,
-        ((λ i h. let b = ltrans h p.inside in rw (le.ensures.values i b) (kept i b)), p.earlier),
-      ),
-    )
+    let p = peaked-in v new _ _ _ _ le.ensures.values le.ensures.peak in record {
+    place_in_bounds = (omega (arith, p.inside, room, le.auto.1.1.1.1.0), p.here);
+    most_value = rw le.ensures.peak.here good-best;
+    by_index = (λ i h. let b = ltrans h p.inside in rw (le.ensures.values i b) (kept i b));
+    held = p.earlier;
+  }
 
 pub returns : goal.returns
 returns c = let s = c in

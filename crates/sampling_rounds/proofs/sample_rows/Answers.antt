@@ -36,7 +36,12 @@ next_place-last-requires c = let s = c in
     let l = c.loop-k in
     let t = choosing-kept _ _ _ s.requires.rows _ _ _ _ _ _ _ _ l.invariant.1.1 in
     let o = choosing-open _ _ _ s.requires.rows _ _ _ _ _ _ _ _ l.invariant.1.1 (omega (arith, s.requires, c.loop-k-test.true)) in
-    (s.requires.rows, ((l.invariant.1.1.within, l.invariant.1.0.1.1), (t, o)))
+    record {
+    rows = s.requires.rows;
+    room = (l.invariant.1.1.within, l.invariant.1.0.1.1);
+    kept = t;
+    open = o;
+  }
 
 pub bounds-out-at-in-loop-k : goal.bounds-out-at-in-loop-k
 bounds-out-at-in-loop-k c = omega (arith, c.loop-k.invariant.1.0, c.loop-k-test.true)
@@ -64,17 +69,22 @@ shape_of-floats-then-wanted-rows c = c.loop-k.invariant.1.0.0.1 ∙ simp length-
 pub returns-then-wanted-rows : goal.returns-then-wanted-rows
 returns-then-wanted-rows c = let s = c in
     let l = c.loop-k in
-    let w = le_antisymm c.loop-k-test.false l.invariant.0 in (
-      choosing-end _ _ _ s.requires.rows _ _ _ _ _ _ _ _ l.invariant.1.1 s.args.out.now _ refl w,
-      choosing-all _ _ _ s.requires.rows _ _ _ _ _ _ _ _ l.invariant.1.1 w (sym w ∙ c.if-wanted-rows.true),
-    )
+    let w = le_antisymm c.loop-k-test.false l.invariant.0 in record {
+    sampled = choosing-end _ _ _ s.requires.rows _ _ _ _ _ _ _ _ l.invariant.1.1 s.args.out.now _ refl w;
+    cover = choosing-all _ _ _ s.requires.rows _ _ _ _ _ _ _ _ l.invariant.1.1 w (sym w ∙ c.if-wanted-rows.true);
+  }
 
 pub worst_distance-requires : goal.worst_distance-requires
 worst_distance-requires c = let s = c in
     let l = c.loop-k in
     let t = choosing-kept _ _ _ s.requires.rows _ _ _ _ _ _ _ _ l.invariant.1.1 in
     let o = choosing-open _ _ _ s.requires.rows _ _ _ _ _ _ _ _ l.invariant.1.1 (omega (arith, s.requires, l.invariant.0, c.loop-k-test.false, c.if-wanted-rows.false)) in
-    (s.requires.rows, ((omega (arith, s.requires, l.invariant.1.1.within), l.invariant.1.0.1.1), (t, o)))
+    record {
+    rows = s.requires.rows;
+    room = (omega (arith, s.requires, l.invariant.1.1.within), l.invariant.1.0.1.1);
+    kept = t;
+    open = o;
+  }
 
 pub shape_of-out : goal.shape_of-out
 shape_of-out c = c.loop-k.invariant.1.0.0.0 ∙ simp length-set
@@ -88,7 +98,7 @@ pub returns : goal.returns
 returns c = let s = c in
     let l = c.loop-k in
     let d = c.worst_distance in
-    let w = le_antisymm c.loop-k-test.false l.invariant.0 in (
-      choosing-end _ _ _ s.requires.rows _ _ _ _ _ _ _ _ l.invariant.1.1 s.args.out.now _ refl w,
-      choosing-worst _ _ _ s.requires.rows _ _ _ _ _ _ _ _ l.invariant.1.1 d.result w d.ensures,
-    )
+    let w = le_antisymm c.loop-k-test.false l.invariant.0 in record {
+    sampled = choosing-end _ _ _ s.requires.rows _ _ _ _ _ _ _ _ l.invariant.1.1 s.args.out.now _ refl w;
+    cover = choosing-worst _ _ _ s.requires.rows _ _ _ _ _ _ _ _ l.invariant.1.1 d.result w d.ensures;
+  }

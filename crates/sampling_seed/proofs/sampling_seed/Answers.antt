@@ -22,7 +22,7 @@ pub overflow_mul-first : goal.overflow_mul-first
 overflow_mul-first c = let s = c in
     omega (
       arith,
-      s.well-formed,
+      s.well_formed,
       (good-at s.args.rows.now s.requires.0 0 s.requires.2).inside,
     )
 
@@ -46,7 +46,7 @@ pub overflow_mul-row : goal.overflow_mul-row
 overflow_mul-row c = let s = c in
     omega (
       arith,
-      s.well-formed,
+      s.well_formed,
       (good-at s.args.rows.now s.requires.0 c.loop-i.i c.loop-i-test.true).inside,
     )
 

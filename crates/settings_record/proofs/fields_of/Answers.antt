@@ -3,7 +3,7 @@ use borrow.Author.Rules.{rules}
 use Rattle.settings_record.proofs.fields_of.Goals as goal
 
 pub returns-in-Auto : goal.returns-in-Auto
-returns-in-Auto c = (rw c.enum_told-1.given.1, search rules)
+returns-in-Auto c = (rw c.in-Auto.is, search rules)
 
 pub returns-in-Fixed : goal.returns-in-Fixed
-returns-in-Fixed c = (rw c.policy-1.given.1, search rules)
+returns-in-Fixed c = (rw c.in-Fixed.is, search rules)

@@ -15,7 +15,10 @@ put_front-next-requires c = let start = c in
     let l = lists_of a.level_points.now a.internals.now a.domains.now a.boxes.now a.borrowed.now in
     let e = file-run s a.points.now (counts_given a.counts) l in
     let w0 = begin _ e (front-room a.out.now _ start.requires.borrowed_in_bounds) in
-    (start.requires.le_dimensions, room-now w0)
+    record {
+    le_dimensions = start.requires.le_dimensions;
+    room_for = room-now w0;
+  }
 
 pub put_levels-requires : goal.put_levels-requires
 put_levels-requires c = let start = c in
@@ -25,7 +28,10 @@ put_levels-requires c = let start = c in
     let e = file-run s a.points.now (counts_given a.counts) l in
     let w0 = begin _ e (front-room a.out.now _ start.requires.borrowed_in_bounds) in
     let w1 = part-written w0 c.put_front-next.ensures in
-    (start.requires.stands, room-now w1)
+    record {
+    stands = start.requires.stands;
+    room_for = room-now w1;
+  }
 
 pub returns : goal.returns
 returns c = let start = c in
@@ -36,4 +42,7 @@ returns c = let start = c in
     let w0 = begin _ e (front-room a.out.now _ start.requires.borrowed_in_bounds) in
     let w1 = part-written w0 c.put_front-next.ensures in
     let w2 = done (part-written w1 c.put_levels.ensures) in
-    (w2.place ∙ zero-add _, w2.same)
+    record {
+    answer = w2.place ∙ zero-add _;
+    file = w2.same;
+  }

@@ -19,7 +19,10 @@ put_head-next-requires c = let start = c in
     let n = length a.points.now / a.dimensions in
     let points = joined (map (point_bytes a.dimensions a.points.now) (from 0 n)) in
     let w0 = begin (head_bytes_lem s n ∷ points ∷ []) (front-run s a.points.now) start.requires.room_for in
-    (omega (arith, start.requires.le_dimensions), room-now w0)
+    record {
+    dimensions_bound = omega (arith, start.requires.le_dimensions);
+    room_for = room-now w0;
+  }
 
 pub put_points-requires : goal.put_points-requires
 put_points-requires c = let start = c in
@@ -29,7 +32,10 @@ put_points-requires c = let start = c in
     let points = joined (map (point_bytes a.dimensions a.points.now) (from 0 n)) in
     let w0 = begin (head_bytes_lem s n ∷ points ∷ []) (front-run s a.points.now) start.requires.room_for in
     let w1 = part-written w0 c.put_head-next.ensures in
-    (div-mul-le_self (length a.points.now) a.dimensions, room-now w1)
+    record {
+    dimensions_in_bounds = div-mul-le_self (length a.points.now) a.dimensions;
+    room_for = room-now w1;
+  }
 
 pub returns : goal.returns
 returns c = let start = c in

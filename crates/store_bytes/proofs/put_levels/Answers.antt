@@ -36,24 +36,25 @@ put_whole_level-next-requires c = let start = c in
     let a = start.args in
     let p = packed a.internals.now a.domains.now a.boxes.now a.borrowed.now a.dimensions in
     let v = c.loop-t in
-    let w = restated _ (turn-here p a.level_points.now a.rows.now a.counts.now v.t v.a v.j v.invariant.0 v.invariant.1 a.levels start.requires.stands c.loop-t-test.true) v.invariant.2 in (
-      rows_inside p a.level_points.now a.rows.now a.counts.now v.t v.a v.j v.invariant.0 v.invariant.1 a.levels start.requires.stands c.loop-t-test.true,
-      (row_fits p a.level_points.now a.rows.now a.counts.now v.t v.a v.j v.invariant.0 v.invariant.1 a.levels start.requires.stands c.loop-t-test.true, room-now w),
-    )
+    let w = restated _ (turn-here p a.level_points.now a.rows.now a.counts.now v.t v.a v.j v.invariant.0 v.invariant.1 a.levels start.requires.stands c.loop-t-test.true) v.invariant.2 in record {
+    count_in_bounds = rows_inside p a.level_points.now a.rows.now a.counts.now v.t v.a v.j v.invariant.0 v.invariant.1 a.levels start.requires.stands c.loop-t-test.true;
+    by_index = row_fits p a.level_points.now a.rows.now a.counts.now v.t v.a v.j v.invariant.0 v.invariant.1 a.levels start.requires.stands c.loop-t-test.true;
+    room_for = room-now w;
+  }
 
 pub overflow_add-a : goal.overflow_add-a
 overflow_add-a c = let start = c in
     let a = start.args in
     let p = packed a.internals.now a.domains.now a.boxes.now a.borrowed.now a.dimensions in
     let v = c.loop-t in
-    omega (arith, rows_inside p a.level_points.now a.rows.now a.counts.now v.t v.a v.j v.invariant.0 v.invariant.1 a.levels start.requires.stands c.loop-t-test.true, start.well-formed)
+    omega (arith, rows_inside p a.level_points.now a.rows.now a.counts.now v.t v.a v.j v.invariant.0 v.invariant.1 a.levels start.requires.stands c.loop-t-test.true, start.well_formed)
 
 pub overflow_add-j : goal.overflow_add-j
 overflow_add-j c = let start = c in
     let a = start.args in
     let p = packed a.internals.now a.domains.now a.boxes.now a.borrowed.now a.dimensions in
     let v = c.loop-t in
-    omega (arith, domains-inside p a.level_points.now a.rows.now a.counts.now v.t v.a v.j v.invariant.0 v.invariant.1 a.levels start.requires.stands c.loop-t-test.true, start.well-formed)
+    omega (arith, domains-inside p a.level_points.now a.rows.now a.counts.now v.t v.a v.j v.invariant.0 v.invariant.1 a.levels start.requires.stands c.loop-t-test.true, start.well_formed)
 
 pub loop-t-preserved : goal.loop-t-preserved
 loop-t-preserved c = let start = c in

@@ -24,7 +24,10 @@ put_rows-requires c = let start = c in
     let w0 = begin (counts_bytes level_mark a.count a.domain-count ∷ numbers_bytes rows ∷ [])
     (level-parts a.level_points.now a.start a.count a.domain-count start.requires.count_in_bounds) start.requires.room_for in
     let w1 = part-written w0 c.put_counts-listed.ensures in
-    (start.requires.count_in_bounds, room-now w1)
+    record {
+    count_in_bounds = start.requires.count_in_bounds;
+    room_for = room-now w1;
+  }
 
 pub returns : goal.returns
 returns c = let start = c in

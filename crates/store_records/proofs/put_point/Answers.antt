@@ -23,7 +23,10 @@ put_reals-requires c = let start = c in
     let w0 = begin (mark_bytes file_point_mark ∷ floats_bytes (part a.points.now (a.i * a.dimensions) a.dimensions) ∷ [])
     (point-parts a.dimensions a.points.now a.i start.requires.dimensions_in_bounds) start.requires.room_for in
     let w1 = part-written w0 (mark-wrote c.put_mark.ensures) in
-    (start.requires.dimensions_in_bounds, room-now w1)
+    record {
+    count_in_bounds = start.requires.dimensions_in_bounds;
+    room_for = room-now w1;
+  }
 
 pub returns : goal.returns
 returns c = let start = c in

@@ -13,11 +13,11 @@ put_floats-requires c = let start = c in
 
 pub overflow_mul-result : goal.overflow_mul-result
 overflow_mul-result c = let start = c in
-    omega (arith, floats-long start.args.xs.now start.args.start start.args.count start.requires.count_in_bounds, start.requires.room_for.fits, start.well-formed)
+    omega (arith, floats-long start.args.xs.now start.args.start start.args.count start.requires.count_in_bounds, start.requires.room_for.fits, start.well_formed)
 
 pub overflow_add-result : goal.overflow_add-result
 overflow_add-result c = let start = c in
-    omega (arith, floats-long start.args.xs.now start.args.start start.args.count start.requires.count_in_bounds, start.requires.room_for.fits, start.well-formed)
+    omega (arith, floats-long start.args.xs.now start.args.start start.args.count start.requires.count_in_bounds, start.requires.room_for.fits, start.well_formed)
 
 pub returns : goal.returns
 returns c = let start = c in

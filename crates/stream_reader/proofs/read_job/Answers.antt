@@ -13,31 +13,31 @@ use Rattle.stream_reader.proofs.read_job.Goals as goal
 
 pub returns-then-not-settings_whole : goal.returns-then-not-settings_whole
 returns-then-not-settings_whole c = record {
-    same = job-broken c.args.input.now (sym c.settings_whole.ensures ∙ not-true _ c.if-not-settings_whole.true);
+    same = job-broken c.args.input.now (sym c.settings_whole.ensures ∙ c.if-not-settings_whole.true);
     within = tt;
   }
 
 pub settings_of-s-requires : goal.settings_of-s-requires
-settings_of-s-requires c = whole_long c.args.input.now (sym c.settings_whole.ensures ∙ not-false _ c.if-not-settings_whole.false)
+settings_of-s-requires c = whole_long c.args.input.now (sym c.settings_whole.ensures ∙ c.if-not-settings_whole.false)
 
 pub returns-then-d-eq0 : goal.returns-then-d-eq0
 returns-then-d-eq0 c = record {
     same = job-low c.args.input.now
-      (sym c.settings_whole.ensures ∙ not-false _ c.if-not-settings_whole.false) _ c.settings_of-s.ensures c.if-d-eq0.true;
+      (sym c.settings_whole.ensures ∙ c.if-not-settings_whole.false) _ c.settings_of-s.ensures c.if-d-eq0.true;
     within = tt;
   }
 
 pub returns-then-d-gt3 : goal.returns-then-d-gt3
 returns-then-d-gt3 c = record {
     same = job-high c.args.input.now
-      (sym c.settings_whole.ensures ∙ not-false _ c.if-not-settings_whole.false) _ c.settings_of-s.ensures c.if-d-gt3.true;
+      (sym c.settings_whole.ensures ∙ c.if-not-settings_whole.false) _ c.settings_of-s.ensures c.if-d-gt3.true;
     within = tt;
   }
 
 pub loop-at-init : goal.loop-at-init
 loop-at-init c = let start = c in (
       begun _ start.args.input.now _
-          (sym c.settings_whole.ensures ∙ not-false _ c.if-not-settings_whole.false)
+          (sym c.settings_whole.ensures ∙ c.if-not-settings_whole.false)
           c.settings_of-s.ensures c.if-d-eq0.false c.if-d-gt3.false start.requires,
       refl,
     )
@@ -48,14 +48,14 @@ record_at-requires c = (c.loop-at.invariant.0.within, search rules)
 pub returns-then-not-record_at : goal.returns-then-not-record_at
 returns-then-not-record_at c = record {
     same = reading-cut c.loop-at.invariant.0 c.loop-at-test.true
-      (sym c.record_at.ensures ∙ not-true _ c.if-not-record_at.true);
+      (sym c.record_at.ensures ∙ c.if-not-record_at.true);
     within = tt;
   }
 
 pub returns-then-n-eq-MOST_POINTS : goal.returns-then-n-eq-MOST_POINTS
 returns-then-n-eq-MOST_POINTS c = record {
     same = reading-full c.loop-at.invariant.0 c.loop-at-test.true
-      (sym c.record_at.ensures ∙ not-false _ c.if-not-record_at.false) c.if-n-eq-MOST_POINTS.true;
+      (sym c.record_at.ensures ∙ c.if-not-record_at.false) c.if-n-eq-MOST_POINTS.true;
     within = tt;
   }
 
@@ -70,7 +70,7 @@ read_floats-requires c = let turn = c.loop-at in
     let d = c.settings_of-s.result.dimensions in
     let room = spot turn.n d (omega (arith, r.few, c.if-n-eq-MOST_POINTS.false)) r.flat in
     let long = record-room point_mark (point_size_lem d) turn.at c.args.input.now
-    r.within (sym c.record_at.ensures ∙ not-false _ c.if-not-record_at.false) in
+    r.within (sym c.record_at.ensures ∙ c.if-not-record_at.false) in
     (omega arith, omega (arith, r.room))
 
 pub overflow_add-at-in-loop-at : goal.overflow_add-at-in-loop-at
@@ -78,8 +78,8 @@ overflow_add-at-in-loop-at c = let start = c in
     let turn = c.loop-at in
     let d = c.settings_of-s.result.dimensions in
     let long = record-room point_mark (point_size_lem d) turn.at start.args.input.now turn.invariant.0.within
-    (sym c.record_at.ensures ∙ not-false _ c.if-not-record_at.false) in
-    omega (arith, start.well-formed)
+    (sym c.record_at.ensures ∙ c.if-not-record_at.false) in
+    omega (arith, start.well_formed)
 
 pub overflow_add-n : goal.overflow_add-n
 overflow_add-n c = omega (arith, c.loop-at.invariant.0.few)
@@ -90,7 +90,7 @@ loop-at-smaller c = omega (arith, c.loop-at-test.true)
 pub loop-at-preserved : goal.loop-at-preserved
 loop-at-preserved c = let turn = c.loop-at in (
       reading-more turn.invariant.0 c.loop-at-test.true
-          (sym c.record_at.ensures ∙ not-false _ c.if-not-record_at.false)
+          (sym c.record_at.ensures ∙ c.if-not-record_at.false)
           c.if-n-eq-MOST_POINTS.false _ c.read_floats.ensures (search rules),
       search rules,
     )

@@ -22,7 +22,7 @@ list_live-requires c = let P = c.args in
     let s = settings_of_lem P.dimensions P.params in
     let t = table_of P.head.slots P.head.live P.flags.now P.coordinates.now in
     let old = lists_of P.level_points.now P.internals.now P.domains.now P.boxes.now P.borrowed.now in
-    let a = slots-accepted s t (lent_sizes old P.floats.now P.wholes.now) (sym c.check_slots-checked.ensures ∙ ap verdict_of c.enum_told-1.given.1) in
+    let a = slots-accepted s t (lent_sizes old P.floats.now P.wholes.now) (sym c.check_slots-checked.ensures ∙ ap verdict_of c.in-Accepted.is) in
     (slots-fit s t old P.floats.now P.wholes.now a, rw (slots-listed t) (slots-long s t old P.floats.now P.wholes.now a))
 
 pub grow_over-requires : goal.grow_over-requires
@@ -30,15 +30,16 @@ grow_over-requires c = let P = c.args in
     let s = settings_of_lem P.dimensions P.params in
     let t = table_of P.head.slots P.head.live P.flags.now P.coordinates.now in
     let old = lists_of P.level_points.now P.internals.now P.domains.now P.boxes.now P.borrowed.now in
-    let a = slots-accepted s t (lent_sizes old P.floats.now P.wholes.now) (sym c.check_slots-checked.ensures ∙ ap verdict_of c.enum_told-1.given.1) in
+    let a = slots-accepted s t (lent_sizes old P.floats.now P.wholes.now) (sym c.check_slots-checked.ensures ∙ ap verdict_of c.in-Accepted.is) in
     let rows = rows_of t in
     let first : _ ≡ put P.level_points.now 0 rows = c.list_live.ensures ∙ ap (put P.level_points.now 0) (slots-listed t) in
     let fits = slots-long s t old P.floats.now P.wholes.now a in
     let read : part (put P.level_points.now 0 rows) 0 P.head.live ≡ rows = part-put-same P.level_points.now 0 rows P.head.live (omega arith) a.many in
-    let long = ap length first ∙ length-put P.level_points.now 0 rows (omega (arith, fits)) in (
-      (a.passes-all.coarse-some, a.passes-all.reaches, rw (first, read) (slots-given s t old P.floats.now P.wholes.now a)),
-      (lent-space s.dimension s.neighbours P.head.live old P.floats.now P.wholes.now a.enough _ long, (omega arith, omega arith)),
-    )
+    let long = ap length first ∙ length-put P.level_points.now 0 rows (omega (arith, fits)) in record {
+    bound = (a.passes-all.coarse-some, a.passes-all.reaches, rw (first, read) (slots-given s t old P.floats.now P.wholes.now a));
+    space = lent-space s.dimension s.neighbours P.head.live old P.floats.now P.wholes.now a.enough _ long;
+    record_room = (omega arith, omega arith);
+  }
 
 pub returns-in-Refused : goal.returns-in-Refused
 returns-in-Refused c = let P = c.args in
@@ -46,7 +47,7 @@ returns-in-Refused c = let P = c.args in
     let t = table_of P.head.slots P.head.live P.flags.now P.coordinates.now in
     let old = lists_of P.level_points.now P.internals.now P.domains.now P.boxes.now P.borrowed.now in
     let v = slots_call s t old P.floats.now P.wholes.now in
-    let e = sym c.check_slots-checked.ensures ∙ ap verdict_of c.checked-1.given.1 in
+    let e = sym c.check_slots-checked.ensures ∙ ap verdict_of c.in-Refused.is in
     built-slots s t old P.floats.now P.wholes.now (c.refusal.ensures ∙ answer-refused v (slot_levels s t) old _ e) (lists-refused v (slot_levels s t) old _ e)
     (room-refused v _ P.floats.now e) (room-refused v _ P.wholes.now e)
 
@@ -56,7 +57,7 @@ returns-in-Accepted c = let P = c.args in
     let t = table_of P.head.slots P.head.live P.flags.now P.coordinates.now in
     let old = lists_of P.level_points.now P.internals.now P.domains.now P.boxes.now P.borrowed.now in
     let v = slots_call s t old P.floats.now P.wholes.now in
-    let e = sym c.check_slots-checked.ensures ∙ ap verdict_of c.enum_told-1.given.1 in
+    let e = sym c.check_slots-checked.ensures ∙ ap verdict_of c.in-Accepted.is in
     let a = slots-accepted s t (lent_sizes old P.floats.now P.wholes.now) e in
     let rows = rows_of t in
     let first : _ ≡ put P.level_points.now 0 rows = c.list_live.ensures ∙ ap (put P.level_points.now 0) (slots-listed t) in

@@ -29,4 +29,7 @@ returns c = let l = c.loop-i in
     let a = c.args in
     let e : l.i ≡ a.slots = omega arith in
     let p = rw e at l.invariant.1 in
-    (ends-live a.flags.now a.slots _ _ p, ends_next a.flags.now a.slots _ _ p)
+    record {
+    live = ends-live a.flags.now a.slots _ _ p;
+    next = ends_next a.flags.now a.slots _ _ p;
+  }

@@ -5,6 +5,6 @@ use Rattle.boxes.proofs.Boxed.{three, upper-changed}
 use Rattle.boxes.proofs.Extents.with_upper.Goals as goal
 
 pub returns : goal.returns
-returns c = let s = c.args.t1 in
-    let e = three s.lower c.well-formed.0.1.1.0.1.0.1 in
+returns c = let s = c.args.self in
+    let e = three s.lower c.well_formed.0.1.1.0.1.0.1 in
     (refl, upper-changed s.lower s.upper s.dimensions c.args.axis c.args.v e c.requires.0 c.requires.1)
