@@ -12,7 +12,7 @@ use Rattle.program_input.proofs.read_input.Goals as goal
 
 pub front_after-front-requires : goal.front_after-front-requires
 front_after-front-requires c = let lump = c.read_lump-got in
-    (search rules, moved_back _ _ lump.result (record { sfits = lump.type-inv }) (search rules) lump.ensures.moved)
+    (search rules, moved_back _ _ lump.result (record { sfits = lump.type_inv }) (search rules) lump.ensures.moved)
 
 pub returns-in_default : goal.returns-in_default
 returns-in_default c = let after = c.front_after-front in
@@ -25,7 +25,7 @@ loop-done-smaller c = let after = c.front_after-front in
     let lump = c.read_lump-got in
     let done = c.loop-done.done in
     let z = to_z w64 (of_z w64 lump.result) in
-    let moved = moved_back _ (length lump.new.input - done) lump.result (record { sfits = lump.type-inv }) (search rules) lump.ensures.moved in
+    let moved = moved_back _ (length lump.new.input - done) lump.result (record { sfits = lump.type_inv }) (search rules) lump.ensures.moved in
     let more = goes_on after.result done (length lump.new.input) z after.ensures (search rules) _ c.in-Open.is moved in
     omega (arith, more)
 
@@ -34,6 +34,6 @@ loop-done-preserved c = let after = c.front_after-front in
     let lump = c.read_lump-got in
     let done = c.loop-done.done in
     let z = to_z w64 (of_z w64 lump.result) in
-    let moved = moved_back _ (length lump.new.input - done) lump.result (record { sfits = lump.type-inv }) (search rules) lump.ensures.moved in
+    let moved = moved_back _ (length lump.new.input - done) lump.result (record { sfits = lump.type_inv }) (search rules) lump.ensures.moved in
     let more = goes_on after.result done (length lump.new.input) z after.ensures (search rules) _ c.in-Open.is moved in
     (more.1, search rules)

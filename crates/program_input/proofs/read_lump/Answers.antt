@@ -10,6 +10,6 @@ pub returns : goal.returns
 returns c = let start = c in
     let read = c.read in
     let input = start.args.input.now in record {
-    moved = moved_back _ _ read.result (record { sfits = read.type-inv }) (room-from input start.args.done) read.ensures;
+    moved = moved_back _ _ read.result (record { sfits = read.type_inv }) (room-from input start.args.done) read.ensures;
     stays = take_put start.args.done (length input - start.args.done) input read.new.buf.0 start.requires;
   }

@@ -28,7 +28,7 @@ overflow_mul-first c = let s = c in
 
 pub distance_sq_at-low-requires : goal.distance_sq_at-low-requires
 distance_sq_at-low-requires c = let s = c in (
-  omega (arith, s.requires.1, c.get_centroid-center.type-inv),
+  omega (arith, s.requires.1, c.get_centroid-center.type_inv),
   (good-at s.args.rows.now s.requires.0 0 s.requires.2).inside,
 )
 
@@ -52,7 +52,7 @@ overflow_mul-row c = let s = c in
 
 pub distance_sq_at-square-requires : goal.distance_sq_at-square-requires
 distance_sq_at-square-requires c = let s = c in (
-  omega (arith, s.requires.1, c.get_centroid-center.type-inv),
+  omega (arith, s.requires.1, c.get_centroid-center.type_inv),
   (good-at s.args.rows.now s.requires.0 c.loop-i.i c.loop-i-test.true).inside,
 )
 
