@@ -1,7 +1,7 @@
 -- `boxes::write_box` meets its contract. Assumes nothing.
 use native.Mathlib.Omega.{arith}
 use borrow.Author.Rules.{rules}
-use Rattle.boxes.proofs.Boxed.{three, box-written}
+use Rattle.boxes.proofs.Boxed.{box-written}
 use Rattle.boxes.proofs.write_box.Goals as goal
 
 pub returns : goal.returns
@@ -9,5 +9,5 @@ returns c = let second = c in
     let first = second in
     let s = first in
     let b = s.args.b in
-    box-written s.args.out.now _ _ b s.args.at (three b.lower s.well_formed.0.1.1.0.1.0.1) s.requires.1 (omega (arith, s.requires.0))
+    box-written s.args.out.now _ _ b s.args.at s.well_formed.0.1.1.0.1.0.1 s.requires.1 (omega (arith, s.requires.0))
     first.write_bounds.ensures second.write_bounds-2.ensures

@@ -3,7 +3,6 @@ use Prim.Native.Nat.{◌+◌}
 use native.Mathlib.Omega.{arith}
 use borrow.Author.Rules.{rules}
 use Rattle.boxes.specs.Boxes.{floats_of}
-use Rattle.boxes.proofs.Boxed.{three}
 use Rattle.boxes.proofs.Halves.{length-floats, two-boxes}
 use Rattle.boxes.proofs.write_halves.Goals as goal
 
@@ -15,6 +14,6 @@ returns c = let second = c in
     let s = upper in
     let b = s.args.whole in
     let g = s.well_formed.0.1.1 in
-    let w = length-floats b (three b.lower g.0.1.0.1) (three b.upper g.1.0.1.0.1) s.requires.1 in
+    let w = length-floats b g.0.1.0.1 g.1.0.1.0.1 s.requires.1 in
     two-boxes s.args.out.now _ _ (floats_of b) _ _ _ b.dimensions (b.dimensions + s.args.axis) s.args.axis s.args.plane w (omega (arith, s.requires.2)) upper.with_upper.ensures.1 lower.with_lower.ensures.1
     first.write_box.ensures (rw c.box_width.ensures at second.write_box-2.ensures)
