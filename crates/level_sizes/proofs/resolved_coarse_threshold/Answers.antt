@@ -3,5 +3,6 @@ use borrow.Author.Rules.{rules}
 use Rattle.definition.specs.Levels.{threshold}
 use Rattle.level_sizes.proofs.resolved_coarse_threshold.Goals as goal
 
-pub returns-in-Auto : goal.returns-in-Auto
-returns-in-Auto c = cc
+pub returns-in-Fixed : goal.returns-in-Fixed
+unfolding threshold
+returns-in-Fixed c = search rules
