@@ -1,8 +1,6 @@
 -- `marks::clear` meets its contract: before word i the words before it are 0. Assumes nothing.
-use mathlib.Core.Path.{◌≡◌, refl}
-use Prim.Native.Nat.{ℕ, ◌-◌, ◌≤◌, ◌<◌}
+use mathlib.Core.Path.{refl}
 use native.Mathlib.Omega.{arith}
-use lib.ListN.{length, get_or}
 use borrow.Author.Rules.{rules}
 use Rattle.lists.proofs.From.{noted_more}
 use Rattle.marks.proofs.Marks.{marked-none}

@@ -3,7 +3,6 @@ use mathlib.Core.Path.{sym}
 use native.Mathlib.Omega.{arith}
 use Rattle.marks.specs.Bits.{bit_at}
 use Rattle.marks.proofs.Marks.{bit-tells}
-use borrow.Author.Rules.{rules}
 use Rattle.marks.proofs.is_marked.Goals as goal
 
 pub returns-then-words-at : goal.returns-then-words-at

@@ -6,7 +6,6 @@ use lib.ListN.{get_or, set}
 use Rattle.marks.specs.Bits.{bit_at, marking}
 use Rattle.marks.proofs.Words.{one_shl, fits-64}
 use Rattle.marks.proofs.Marks.{mark-adds}
-use borrow.Author.Rules.{rules}
 use Rattle.marks.proofs.mark.Goals as goal
 
 pub overflow_add-words : goal.overflow_add-words

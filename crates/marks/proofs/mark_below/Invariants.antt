@@ -1,11 +1,8 @@
 use mathlib.Core.Path.{◌≡◌}
 use Prim.Native.Nat.{◌-◌, ◌≤◌}
-use native.Mathlib.Omega.{arith}
 use lib.Dec.{ltb}
 use lib.ListN.{length}
-use borrow.Author.Rules.{rules}
 use Rattle.marks.specs.Bits.{Marked}
-use Rattle.marks.proofs.Marks.{below-clear, below-start, below-marked, below_end}
 use Rattle.marks.proofs.mark_below.Given as goal
 
 abbrev pub invariant-loop-row : goal.invariant-loop-row

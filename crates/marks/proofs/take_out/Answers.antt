@@ -1,10 +1,8 @@
 -- `marks::take_out` meets its contract. Assumes nothing.
 use mathlib.Core.Path.{refl, sym, ◌∙◌}
 use native.Mathlib.Omega.{arith}
-use borrow.Author.Tests.{not-true, not-false}
 use Rattle.lists.proofs.Tests.{clash}
 use Rattle.marks.proofs.Marks.{asked-bit, asked-within}
-use borrow.Author.Rules.{rules}
 use Rattle.marks.proofs.take_out.Goals as goal
 
 pub returns-then-not-is_marked : goal.returns-then-not-is_marked
@@ -14,14 +12,14 @@ returns-then-not-is_marked c = λ p q m n.
 
 pub unmark-requires : goal.unmark-requires
 unmark-requires c = let asked = c.is_marked in
-    let yes = not-false asked.result c.if-not-is_marked.false in
+    let yes = c.if-not-is_marked.false in
     (asked-within _ _ _ asked.ensures yes, asked-bit _ _ _ asked.ensures yes)
 
 pub unmark-requires-2 : goal.unmark-requires-2
 unmark-requires-2 c = let e = c in
     let start = e in
     let asked = e.is_marked in
-    let yes = not-false asked.result e.if-not-is_marked.false in
+    let yes = e.if-not-is_marked.false in
     (omega (arith, asked-within _ _ _ asked.ensures yes, start.requires.0), start.requires.1 _ (asked-bit _ _ _ asked.ensures yes))
 
 pub returns : goal.returns

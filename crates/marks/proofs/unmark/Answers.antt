@@ -6,7 +6,6 @@ use lib.ListN.{get_or, set}
 use Rattle.marks.specs.Bits.{bit_at, unmarking}
 use Rattle.marks.proofs.Words.{one_shl, bit-there}
 use Rattle.marks.proofs.Marks.{unmark-takes}
-use borrow.Author.Rules.{rules}
 use Rattle.marks.proofs.unmark.Goals as goal
 
 pub overflow_sub-words : goal.overflow_sub-words
