@@ -1,6 +1,5 @@
 -- `root::guess` is safe. Its contract says nothing of the result. Assumes nothing.
 use native.Mathlib.Omega.{arith}
-use borrow.Author.Rules.{rules}
 use Prim.Native.Nat.{◌-◌, ◌/◌}
 use Rattle.root.proofs.Steps.{equal_no_nan}
 use Rattle.root_laws.proofs.Patterns.{no_nan}

@@ -2,7 +2,6 @@
 use Prim.Native.Nat.{◌*◌}
 use Rattle.root_laws.proofs.Scaling.{odd-split, even-split}
 use Rattle.root.proofs.Whole.{whole-rooted}
-use borrow.Author.Rules.{rules}
 use Rattle.root.proofs.root_bits.Goals as goal
 
 pub returns-then-e-eq1 : goal.returns-then-e-eq1

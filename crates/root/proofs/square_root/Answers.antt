@@ -1,16 +1,14 @@
 -- `root::square_root` meets its contract: its test is the refusal's. Assumes nothing.
-use mathlib.Core.Logic.{inl, inr}
-use borrow.Author.Rules.{rules}
 use Rattle.root.proofs.Outcomes.{nan-refused, negative-refused, value-given}
+use Rattle.root.proofs.square_root.Goals.{then-x-via-then-x, then-x-via-else-x+then-x-2}
 use Rattle.root.proofs.square_root.Goals as goal
 
 pub returns-then-x : goal.returns-then-x
-returns-then-x c = let x = c.args.x in
+returns-then-x c =
     elim c.then-x.branch [
-      | inl w ↦ nan-refused x w.taken
-      | inr w ↦ negative-refused x w.1.taken
+      | then-x-via-then-x w ↦ nan-refused c.args.x w.if-x.true
+      | then-x-via-else-x+then-x-2 w ↦ negative-refused c.args.x w.if-x-2.true
     ]
 
 pub returns : goal.returns
-returns c = let x = c.args.x in
-    value-given x c.root.result c.root.ensures c.then-x.false c.if-x-2.false
+returns c = value-given c.args.x c.root.result c.root.ensures c.if-x.false c.if-x-2.false
