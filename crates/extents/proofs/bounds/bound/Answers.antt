@@ -11,10 +11,9 @@ use Rattle.definition.specs.Points.{coordinate}
 use Rattle.extents.specs.Sides.{beyond}
 use Rattle.rows.proofs.Good.{row_fits}
 use Rattle.extents.proofs.Firsts.{best_in, bound-first, bound-yes, bound-no, bound-end}
+use Rattle.extents.proofs.bounds.bound.Invariants.{along}
+use Rattle.extents.proofs.bounds.bound.Goals.{then-is_beyond, else-is_beyond}
 use Rattle.extents.proofs.bounds.bound.Goals as goal
-
-abbrev along : ℕ → List Float → ℕ → ℕ → Float
-along d cs a i = coordinate d cs i a
 
 pub overflow_mul-best : goal.overflow_mul-best
 overflow_mul-best c = let s = c in
@@ -59,10 +58,10 @@ loop-t-preserved c = let s = c in
     let h = c.loop-t-test.true in
     let e = s.loop-t.invariant.2 in
     let r = c.is_beyond.ensures in
-    ⊎_elim
-    (λ w. (omega arith, omega arith, w.1 ∙ bound-yes (beyond a.upper) f a.rows.now s.loop-t.t s.loop-t.best h e (rw r at w.0.taken)))
-    (λ w. (omega arith, omega arith, w.1 ∙ bound-no (beyond a.upper) f a.rows.now s.loop-t.t s.loop-t.best h e (rw r at w.0.left)))
-    c.if-is_beyond.branch
+    elim c.if-is_beyond.branch [
+      | then-is_beyond w ↦ (omega arith, omega arith, w.best-is ∙ bound-yes (beyond a.upper) f a.rows.now s.loop-t.t s.loop-t.best h e (rw r at w.if-is_beyond.true))
+      | else-is_beyond w ↦ (omega arith, omega arith, w.best-is ∙ bound-no (beyond a.upper) f a.rows.now s.loop-t.t s.loop-t.best h e (rw r at w.if-is_beyond.false))
+    ]
 
 pub returns : goal.returns
 returns c = let s = c in

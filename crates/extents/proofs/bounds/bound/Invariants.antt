@@ -12,6 +12,9 @@ use Rattle.rows.proofs.Good.{row_fits}
 use Rattle.extents.proofs.Firsts.{best_in, bound-first, bound-yes, bound-no, bound-end}
 use Rattle.extents.proofs.bounds.bound.Given as goal
 
+abbrev pub along : ℕ → List Float → ℕ → ℕ → Float
+along d cs a i = coordinate d cs i a
+
 abbrev pub invariant-loop-t : goal.invariant-loop-t
 invariant-loop-t l = (1 ≤ l.t) × (l.t ≤ length l.rows) × (l.best ≡ best_in (beyond l.upper) (along l.dimensions l.points l.axis) l.rows l.t)
 
