@@ -1,7 +1,6 @@
 -- `quotas::count_above` meets its contract: `many` is the count over the leaves passed. Assumes nothing.
 use mathlib.Core.Path.{◌≡◌, ap}
 use mathlib.Core.Bool.{Bool}
-use mathlib.Core.Logic.{⊎_elim}
 use Prim.Native.Nat.{ℕ, ◌-◌, ◌≤◌}
 use native.Mathlib.Omega.{arith}
 use lib.ListN.{length}
@@ -13,6 +12,7 @@ use Rattle.definition.specs.SeatCut.{above}
 use Rattle.quotas.specs.Sharing.{capacities}
 use Rattle.quotas.proofs.OneLeaf.{same-leaves, remainder_is}
 use Rattle.quotas.proofs.count_above.Goals as goal
+use Rattle.quotas.proofs.count_above.Goals.{then-t-p, else-t-p}
 
 pub loop-i-init : goal.loop-i-init
 loop-i-init c = let a = c.args in
@@ -34,10 +34,10 @@ loop-i-preserved c = let p = c in
     let r = remainder_at (capacities a.sizes.now a.first) a.rest in
     let q : ℕ → Bool = λ j. ltb a.t (r j) in
     let e = remainder_is a.sizes.now a.first a.rest a.pool s.requires i _ p.product-p.ensures in
-    ⊎_elim
-    (λ w. omega (arith, count-below-yes q i (lt-ltb a.t (r i) (rw (← e) w.0.taken))))
-    (λ w. omega (arith, count-below-no q i (le-ltb a.t (r i) (rw (← e) w.0.left))))
-    c.if-t-p.branch
+    elim c.if-t-p.branch [
+      | then-t-p w ↦ omega (arith, count-below-yes q i (lt-ltb a.t (r i) (rw (← e) w.if-t-p.true)))
+      | else-t-p w ↦ omega (arith, count-below-no q i (le-ltb a.t (r i) (rw (← e) w.if-t-p.false)))
+    ]
 
 pub returns : goal.returns
 returns c = let a = c.args in

@@ -14,6 +14,15 @@ use Rattle.quotas.proofs.Verdicts.{refused-8, refused-11-out, refused-11-wholes,
 use borrow.Author.Rules.{rules}
 use Rattle.quotas.proofs.get_domain_coarse_quotas.Goals as goal
 
+-- the sizes stand at the front of the output, and then their quotas
+module _ (sizes old mid : List ℕ) where
+  copied : mid ≡ written sizes old → take (length sizes) mid ≡ sizes
+  copied e = ap (take (length sizes)) e ∙ take-written sizes old (length sizes) refl
+
+  shared : (new : List ℕ) (s : ℕ) → mid ≡ written sizes old → s ≤ total sizes → new ≡ written (quotas_for (take (length sizes) mid) s) mid → new ≡ written (quotas_for sizes s) old
+  shared new s e h g =
+      g ∙ ap (λ (l : List ℕ). written (quotas_for l s) mid) (copied e) ∙ ap (written (quotas_for sizes s)) e ∙ written_over (quotas_for sizes s) sizes old (quotas-length sizes s h)
+
 pub returns-then-rows-gt-MOST_POINTS : goal.returns-then-rows-gt-MOST_POINTS
 returns-then-rows-gt-MOST_POINTS c = refused-8 _ _ _ _ (omega arith)
 

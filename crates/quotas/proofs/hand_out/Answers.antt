@@ -22,11 +22,11 @@ overflow_sub-at_cut c = let p = c.requires in
 
 pub loop-i-init : goal.loop-i-init
 loop-i-init c = let a = c.args in (
-      omega arith,
-      refl,
-      omega (arith, count-below-nil (λ j. eqb (remainder_at (capacities a.sizes.now a.first) a.rest j) a.cut)),
-      rw (map-from-nil (quota_at a.sizes.now a.first a.rest) 0),
-    )
+  omega arith,
+  refl,
+  omega (arith, count-below-nil (λ j. eqb (remainder_at (capacities a.sizes.now a.first) a.rest j) a.cut)),
+  rw (map-from-nil (quota_at a.sizes.now a.first a.rest) 0),
+)
 
 pub product-p-requires : goal.product-p-requires
 product-p-requires c = let s = c in
