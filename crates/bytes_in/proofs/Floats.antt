@@ -39,7 +39,7 @@ odd-finite d s (suc q) k l = refl
 
 fields-finite : (s : Bool) (x t : ℕ) → not (finite (of_fields binary64 s x t)) ≡ eqb x 2047
 unfolding of_fields
-fields-finite s zero t = ap not (odd-finite _ s t 0 _)
+fields-finite s zero t = ap not (odd-finite (prec binary64) s t 0 (low binary64))
 fields-finite s (suc x) t = go _ (eqb (suc x) 2047) (eqb t 0) (odd-finite (prec binary64) s (hid binary64 + t) x (low binary64))
   where
     go : (v : Float) (a b : Bool) → finite v ≡ true → not (finite (cond a (cond b (inf s) nan) v)) ≡ a

@@ -1,6 +1,5 @@
 -- `bytes_in::bits_at` meets its contract. Assumes nothing.
 use Rattle.bytes_in.proofs.Bytes.{two-halves}
-use borrow.Author.Rules.{rules}
 use native.Mathlib.Omega.{arith}
 use Rattle.bytes_in.proofs.bits_at.Goals as goal
 

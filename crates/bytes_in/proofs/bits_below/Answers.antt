@@ -1,19 +1,13 @@
 -- `bytes_in::bits_below` meets its contract. Assumes nothing.
 use Rattle.bytes_in.proofs.Turns.{none-tested, none_more, one_found}
 use mathlib.Core.Path.{◌≡◌, sym, ap, ◌∙◌}
-use mathlib.Core.Bool.{Bool, false, not}
-use Prim.Native.Nat.{ℕ, ◌+◌, ◌*◌, ◌-◌, ◌%◌, ◌≤◌}
-use mathlib.Core.List.{List}
+use mathlib.Core.Bool.{not}
+use Prim.Native.Nat.{ℕ, ◌%◌}
 use lib.Dec.{leb}
 use borrow.Author.Tests.{le-leb, lt-leb}
-use Rattle.lists.specs.Lists.{any_of, from}
-use Rattle.formats.specs.Bytes.{field, float_size}
 use borrow.Author.Rules.{rules}
+use Rattle.bytes_in.proofs.bits_below.Invariants.{above}
 use Rattle.bytes_in.proofs.bits_below.Goals as goal
-
--- the bits of the float number i reach the limit, the sign apart
-abbrev above : ℕ → List ℕ → ℕ → ℕ → Bool
-above limit input at i = leb limit (field float_size (at + float_size * i) input % 0x8000_0000_0000_0000)
 
 pub loop-i-init : goal.loop-i-init
 loop-i-init c = (search rules, none-tested _)

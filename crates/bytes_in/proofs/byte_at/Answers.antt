@@ -1,6 +1,5 @@
 -- `bytes_in::byte_at` meets its contract. Assumes nothing.
 use Rattle.bytes_in.proofs.Bytes.{byte-is}
-use borrow.Author.Rules.{rules}
 use native.Mathlib.Omega.{arith}
 use Rattle.bytes_in.proofs.byte_at.Goals as goal
 

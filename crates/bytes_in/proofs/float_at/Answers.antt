@@ -1,7 +1,6 @@
 -- `bytes_in::float_at` meets its contract. Assumes nothing.
 use mathlib.Core.Path.{ap, ◌∙◌}
 use lib.Ieee.{of_bits, binary64}
-use borrow.Author.Rules.{rules}
 use Rattle.bytes_in.proofs.float_at.Goals as goal
 
 pub returns : goal.returns

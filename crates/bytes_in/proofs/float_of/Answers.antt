@@ -1,6 +1,5 @@
 -- `bytes_in::float_of` meets its contract. Assumes nothing.
 use Rattle.bytes_in.proofs.Floats.{no_nan, the_nan}
-use borrow.Author.Rules.{rules}
 use Rattle.bytes_in.proofs.float_of.Goals as goal
 
 pub float_from_bits-result : goal.float_from_bits-result

@@ -7,7 +7,6 @@ use Prim.Native.Nat.{◌+◌, ◌*◌}
 use Rattle.lists.specs.Lists.{from}
 use Rattle.formats.specs.Bytes.{float_at, floats_at, float_size}
 use lib.Ieee.{is_nan}
-use borrow.Author.Rules.{rules}
 use Rattle.bytes_in.proofs.no_nan_at.Goals as goal
 
 pub returns : goal.returns

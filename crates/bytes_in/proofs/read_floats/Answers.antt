@@ -1,9 +1,8 @@
 -- `bytes_in::read_floats` meets its contract. Assumes nothing.
 use Rattle.bytes_in.proofs.Turns.{stored-none, stored_more}
 use mathlib.Core.Path.{◌≡◌}
-use Prim.Native.Nat.{◌+◌, ◌*◌, ◌-◌, ◌≤◌}
-use lib.ListN.{length, length-set}
-use Rattle.lists.specs.Lists.{put}
+use Prim.Native.Nat.{◌+◌, ◌*◌}
+use lib.ListN.{length-set}
 use Rattle.formats.specs.Bytes.{float_at, floats_at, float_size}
 use borrow.Author.Rules.{rules}
 use Rattle.bytes_in.proofs.read_floats.Goals as goal
@@ -19,7 +18,7 @@ loop-i-preserved c = let start = c in
     let a = start.args in (
       search rules,
       simp length-set (search rules),
-      stored_more (λ j. float_at (a.at + float_size * j) a.input.now) _ a.k _ turn.i _ turn.invariant.2 (search rules) c.Float-at.ensures,
+      stored_more (λ j. float_at (a.at + float_size * j) a.input.now) _ a.k _ turn.i _ turn.invariant.2 (search rules) c.float_at.ensures,
     )
 
 pub returns : goal.returns

@@ -1,9 +1,8 @@
 -- `bytes_in::read_numbers` meets its contract. Assumes nothing.
 use Rattle.bytes_in.proofs.Turns.{stored-none, stored_more}
 use mathlib.Core.Path.{◌≡◌}
-use Prim.Native.Nat.{◌+◌, ◌*◌, ◌-◌, ◌≤◌}
-use lib.ListN.{length, length-set}
-use Rattle.lists.specs.Lists.{put}
+use Prim.Native.Nat.{◌+◌, ◌*◌}
+use lib.ListN.{length-set}
 use Rattle.formats.specs.Bytes.{number_at, numbers_at, number_size}
 use borrow.Author.Rules.{rules}
 use Rattle.bytes_in.proofs.read_numbers.Goals as goal

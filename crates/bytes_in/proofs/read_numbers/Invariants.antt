@@ -1,10 +1,8 @@
-use Rattle.bytes_in.proofs.Turns.{stored-none, stored_more}
 use mathlib.Core.Path.{◌≡◌}
-use Prim.Native.Nat.{◌+◌, ◌*◌, ◌-◌, ◌≤◌}
-use lib.ListN.{length, length-set}
+use Prim.Native.Nat.{◌-◌, ◌≤◌}
+use lib.ListN.{length}
 use Rattle.lists.specs.Lists.{put}
-use Rattle.formats.specs.Bytes.{number_at, numbers_at, number_size}
-use borrow.Author.Rules.{rules}
+use Rattle.formats.specs.Bytes.{numbers_at}
 use Rattle.bytes_in.proofs.read_numbers.Given as goal
 
 abbrev pub invariant-loop-i : goal.invariant-loop-i

@@ -1,6 +1,5 @@
 -- `bytes_in::record_at` meets its contract. Assumes nothing.
 use Rattle.bytes_in.proofs.Bytes.{record-cut, record-first, record-other}
-use borrow.Author.Rules.{rules}
 use Rattle.bytes_in.proofs.record_at.Goals as goal
 
 pub returns-then-input-at : goal.returns-then-input-at
