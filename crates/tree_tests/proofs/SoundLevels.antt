@@ -78,20 +78,25 @@ sound-rows-ascend l h =
 
 -- ---- each level of a tree
 pub sound-rows-each : (d : ℕ) (ls : List Level) → sound_levels d ls ≡ true → (m : Level) → Memᴰ m ls → sound_rows m ≡ true
+sound-rows-each d [] h m x'' = elim x'' [ ]
 sound-rows-each d (l ∷ ls) h m (Memᴰ.head e) = rw e (sound-rows-first d l ls h)
 sound-rows-each d (l ∷ []) h m (Memᴰ.tail k) = absurd (Memᴰ.not-nil k)
 sound-rows-each d (l ∷ t ∷ ls) h m (Memᴰ.tail k) = sound-rows-each d (t ∷ ls) (fine-level d l t ls h).later m k
 
 pub sound-depths-each : (d : ℕ) (ls : List Level) → sound_levels d ls ≡ true → (m : Level) → Memᴰ m ls → sound_depths m ≡ true
+sound-depths-each d [] h m x'' = elim x'' [ ]
 sound-depths-each d (l ∷ []) h m (Memᴰ.head e) = rw e (coarse-level d l h).depths
 sound-depths-each d (l ∷ t ∷ ls) h m (Memᴰ.head e) = rw e (fine-level d l t ls h).depths
 sound-depths-each d (l ∷ []) h m (Memᴰ.tail k) = absurd (Memᴰ.not-nil k)
 sound-depths-each d (l ∷ t ∷ ls) h m (Memᴰ.tail k) = sound-depths-each d (t ∷ ls) (fine-level d l t ls h).later m k
 
 -- has no more rows than the first
-pub rows-most : (d : ℕ) (l : Level) (ls : List Level) → sound_levels d (l ∷ ls) ≡ true → (m : Level) → Memᴰ m (l ∷ ls) → length m.points ≤ length l.points
-rows-most d l ls h m (Memᴰ.head e) = rw e (le_refl (length l.points))
-rows-most d l [] h m (Memᴰ.tail k) = absurd (Memᴰ.not-nil k)
-rows-most d l (t ∷ ls) h m (Memᴰ.tail k) =
+rows-most-of : (d : ℕ) (m l : Level) (ls : List Level) → sound_levels d (l ∷ ls) ≡ true → Memᴰ m (l ∷ ls) → length m.points ≤ length l.points
+rows-most-of d m l ls h (Memᴰ.head e) = rw e (le_refl (length l.points))
+rows-most-of d m l [] h (Memᴰ.tail k) = absurd (Memᴰ.not-nil k)
+rows-most-of d m l (t ∷ ls) h (Memᴰ.tail k) =
     let g = fine-level d l t ls h in
-    omega (arith, g.fewer-rows, rows-most d t ls g.later m k)
+    omega (arith, g.fewer-rows, rows-most-of d m t ls g.later k)
+
+pub rows-most : (d : ℕ) (l : Level) (ls : List Level) → sound_levels d (l ∷ ls) ≡ true → (m : Level) → Memᴰ m (l ∷ ls) → length m.points ≤ length l.points
+rows-most d l ls h m k = rows-most-of d m l ls h k
