@@ -24,4 +24,4 @@ loop-t-preserved c = kept_out c.loop-t.invariant c.loop-t-test.true
     (sym c.beside.ensures ∙ c.if-beside.false)
 
 pub returns : goal.returns
-returns c = kept-end c.loop-t.invariant c.loop-t-test.false
+returns c = let e = kept-end c.loop-t.invariant c.loop-t-test.false in record { number = e.0; rows = e.1 }

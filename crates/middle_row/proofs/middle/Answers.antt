@@ -4,7 +4,6 @@ use mathlib.Core.Path.{◌≡◌, refl, sym}
 use Prim.Native.Nat.{◌+◌, ◌*◌, ◌/◌, ◌≤◌}
 use native.Mathlib.Nat.{mod-lt}
 use native.Mathlib.Omega.{arith}
-use borrow.Author.Tests.{leb-true}
 use lib.ListN.{length}
 use Rattle.middle_row.specs.Middle.{Narrows}
 use Rattle.definition.specs.Refusals.{most_points}
@@ -28,13 +27,13 @@ narrow-s-requires c = let v = c.loop-m.invariant.0 in
     }
 
 pub overflow_sub-left : goal.overflow_sub-left
-overflow_sub-left c = let h = leb-true c.loop-m.m c.loop-m.left c.if-m-left.true in omega arith
+overflow_sub-left c = let h = c.if-m-left.true in omega arith
 
 pub loop-m-smaller : goal.loop-m-smaller
-loop-m-smaller c = let h = leb-true c.loop-m.m c.loop-m.left c.if-m-left.true in omega arith
+loop-m-smaller c = let h = c.if-m-left.true in omega arith
 
 pub loop-m-preserved : goal.loop-m-preserved
-loop-m-preserved c = let h = leb-true c.loop-m.m c.loop-m.left c.if-m-left.true in
+loop-m-preserved c = let h = c.if-m-left.true in
     (search-more c.loop-m.invariant.0 c.narrow-s.ensures, search rules, omega arith, search rules)
 
 pub slice_bounds-argsort-end : goal.slice_bounds-argsort-end
