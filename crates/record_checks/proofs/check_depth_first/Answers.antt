@@ -10,7 +10,7 @@ use Rattle.record_checks.proofs.check_depth_first.Goals as goal
 
 pub returns-then-number-gt0 : goal.returns-then-number-gt0
 returns-then-number-gt0 c = let P = c.args in
-    stopped-first (settings_of_lem P.dimensions P.params) P.points.now (sizes_of P.lent) (record_sizes_of P.record-lent) _ c.first_fault-number.ensures.number c.if-number-gt0.true
+    stopped-first (settings_of_lem P.dimensions P.params) P.points.now (sizes_of P.lent) (record_sizes_of P.record_lent) _ c.first_fault-number.ensures.number c.if-number-gt0.true
 
 pub nonzero_div-n : goal.nonzero_div-n
 nonzero_div-n c = let f = c.first_fault-number.ensures.fine (omega (arith, c.if-number-gt0.false)) in omega (arith, f.0)
@@ -21,4 +21,4 @@ any_short-short-requires c = let f = c.first_fault-number.ensures.fine (omega (a
 pub returns : goal.returns
 returns c = let P = c.args in
     c.last_check.ensures
-    ∙ went_on (settings_of_lem P.dimensions P.params) P.points.now (sizes_of P.lent) (record_sizes_of P.record-lent) _ c.first_fault-number.ensures.number c.if-number-gt0.false _ c.any_short-short.ensures
+    ∙ went_on (settings_of_lem P.dimensions P.params) P.points.now (sizes_of P.lent) (record_sizes_of P.record_lent) _ c.first_fault-number.ensures.number c.if-number-gt0.false _ c.any_short-short.ensures
