@@ -20,10 +20,10 @@ put_leaf-requires c = let a = c in
     let f = a.args.from.leaves in
     let g : box_width_lem a.args.right.dimensions ≡ w = ap box_width_lem p.1 in (
       omega (arith, p.0, p.1),
-      omega (arith, p.3, n.1, k.auto.1.1.1.1.1.0),
-      rw (g, n.1) (omega (arith, p.4, k.auto.1.1.1.1.0)),
-      omega (arith, p.5, n.0, k.auto.1.1.1.1.1.1.0),
-      omega (arith, p.6, n.0, k.auto.1.1.1.1.1.1.1.0),
+      omega (arith, p.3, n.1, k.auto.wholes),
+      rw (g, n.1) (omega (arith, p.4, k.auto.floats)),
+      omega (arith, p.5, n.0, k.auto.cuts),
+      omega (arith, p.6, n.0, k.auto.planes),
     )
 
 pub returns : goal.returns

@@ -54,7 +54,7 @@ number_leaves-requires c = let a = c in
     let is = level.root_is d cs g.0 leaf g.2 R g.4 g.3 u.result u.ensures.1 in
     let w = written_of refl is x.ensures.written in
     let eR = x.ensures.rows ∙ ap rows_under is in
-    level.level-tabled d cs g.0 leaf g.2 R g.4 g.3 x.new.rows x.new.wholes x.new.floats x.new.cuts x.new.planes eR w x.auto.1.1.1.0 x.auto.1.1.1.1.1.1.1.1.0 x.auto.1.1.1.1.1.1.1.0 x.auto.1.1.1.1.1.1.1.1.1.0 room g.1 a.args.at a.args.first a.args.domains.now a.args.boxes.now p.rows_bound.0 p.rows_bound.1 p.rows_bound.2
+    level.level-tabled d cs g.0 leaf g.2 R g.4 g.3 x.new.rows x.new.wholes x.new.floats x.new.cuts x.new.planes eR w x.auto.rows x.auto.wholes x.auto.floats x.auto.cuts room g.1 a.args.at a.args.first a.args.domains.now a.args.boxes.now p.rows_bound.0 p.rows_bound.1 p.rows_bound.2
 
 pub returns : goal.returns
 returns c = let a = c in
@@ -71,14 +71,14 @@ returns c = let a = c in
     let w = written_of refl is x.ensures.written in
     let eR = x.ensures.rows ∙ ap rows_under is in
     let e = c.number_leaves.ensures in
-    let rows = level.level-rows d cs g.0 leaf g.2 R g.4 g.3 x.new.rows x.new.wholes x.new.floats x.new.cuts x.new.planes eR w x.auto.1.1.1.0 x.auto.1.1.1.1.1.1.1.1.0 x.auto.1.1.1.1.1.1.1.0 x.auto.1.1.1.1.1.1.1.1.1.0 room in
-    let own = level.level-own d cs g.0 leaf g.2 R g.4 g.3 x.new.rows x.new.wholes x.new.floats x.new.cuts x.new.planes eR w x.auto.1.1.1.0 x.auto.1.1.1.1.1.1.1.1.0 x.auto.1.1.1.1.1.1.1.0 x.auto.1.1.1.1.1.1.1.1.1.0 room in
-    let m = level.level-many d cs g.0 leaf g.2 R g.4 g.3 x.new.rows x.new.wholes x.new.floats x.new.cuts x.new.planes eR w x.auto.1.1.1.0 x.auto.1.1.1.1.1.1.1.1.0 x.auto.1.1.1.1.1.1.1.0 x.auto.1.1.1.1.1.1.1.1.1.0 room in record {
+    let rows = level.level-rows d cs g.0 leaf g.2 R g.4 g.3 x.new.rows x.new.wholes x.new.floats x.new.cuts x.new.planes eR w x.auto.rows x.auto.wholes x.auto.floats x.auto.cuts room in
+    let own = level.level-own d cs g.0 leaf g.2 R g.4 g.3 x.new.rows x.new.wholes x.new.floats x.new.cuts x.new.planes eR w x.auto.rows x.auto.wholes x.auto.floats x.auto.cuts room in
+    let m = level.level-many d cs g.0 leaf g.2 R g.4 g.3 x.new.rows x.new.wholes x.new.floats x.new.cuts x.new.planes eR w x.auto.rows x.auto.wholes x.auto.floats x.auto.cuts room in record {
     number = m;
     nodes = omega (arith, m, record-long d cs g.0 leaf g.2 R g.4 g.3);
     rows = e.rows ∙ ap joined rows;
     domains = e.domains ∙ ap (λ (z : List Own). with_own a.args.at z a.args.first a.args.domains.now) own;
-    boxes = e.boxes ∙ ap (λ (z : List (List Float)). put a.args.boxes.now (box_width_lem d * a.args.first) (joined z)) (level.level-boxes d cs g.0 leaf g.2 R g.4 g.3 x.new.rows x.new.wholes x.new.floats x.new.cuts x.new.planes eR w x.auto.1.1.1.0 x.auto.1.1.1.1.1.1.1.1.0 x.auto.1.1.1.1.1.1.1.0 x.auto.1.1.1.1.1.1.1.1.1.0 room);
-    cuts = e.cuts ∙ level.level-cuts-are d cs g.0 leaf g.2 R g.4 g.3 x.new.rows x.new.wholes x.new.floats x.new.cuts x.new.planes eR w x.auto.1.1.1.0 x.auto.1.1.1.1.1.1.1.1.0 x.auto.1.1.1.1.1.1.1.0 x.auto.1.1.1.1.1.1.1.1.1.0 room;
-    planes = level.level-planes d cs g.0 leaf g.2 R g.4 g.3 x.new.rows x.new.wholes x.new.floats x.new.cuts x.new.planes eR w x.auto.1.1.1.0 x.auto.1.1.1.1.1.1.1.1.0 x.auto.1.1.1.1.1.1.1.0 x.auto.1.1.1.1.1.1.1.1.1.0 room;
+    boxes = e.boxes ∙ ap (λ (z : List (List Float)). put a.args.boxes.now (box_width_lem d * a.args.first) (joined z)) (level.level-boxes d cs g.0 leaf g.2 R g.4 g.3 x.new.rows x.new.wholes x.new.floats x.new.cuts x.new.planes eR w x.auto.rows x.auto.wholes x.auto.floats x.auto.cuts room);
+    cuts = e.cuts ∙ level.level-cuts-are d cs g.0 leaf g.2 R g.4 g.3 x.new.rows x.new.wholes x.new.floats x.new.cuts x.new.planes eR w x.auto.rows x.auto.wholes x.auto.floats x.auto.cuts room;
+    planes = level.level-planes d cs g.0 leaf g.2 R g.4 g.3 x.new.rows x.new.wholes x.new.floats x.new.cuts x.new.planes eR w x.auto.rows x.auto.wholes x.auto.floats x.auto.cuts room;
   }

@@ -21,5 +21,5 @@ returns c = let a = c in
     let lent = place-lent a.args.internals.now a.args.active.now _ a.args.at p.active_in_bounds_2.0 copied in
     let cut = c.cut_leaves in
     let f = rw lent at cut.ensures in
-    let back = place-back a.args.internals.now a.args.active.now _ a.args.at p.active_in_bounds_2.0 copied cut.new.rows (cut.auto.1.1.1.0 ∙ ap length lent) in
+    let back = place-back a.args.internals.now a.args.active.now _ a.args.at p.active_in_bounds_2.0 copied cut.new.rows (cut.auto.rows ∙ ap length lent) in
     (f.0, (f.1.0, (back ∙ ap (put a.args.internals.now a.args.at) f.1.1.0, f.1.1.1)))

@@ -12,26 +12,26 @@ middle_of-m-requires c = let p = c.requires in (p.0, p.1, p.2, p.3)
 pub part_rows-lo-requires : goal.part_rows-lo-requires
 part_rows-lo-requires c = let p = c.requires in
     let m = c.middle_of-m in
-    (m.auto.1.1.1.1.0 ∙ p.3, good-finite _ p.2 _ p.0, middle-inside m.ensures p.0 p.2)
+    (m.auto.room ∙ p.3, good-finite _ p.2 _ p.0, middle-inside m.ensures p.0 p.2)
 
 pub overflow_sub-rows : goal.overflow_sub-rows
 overflow_sub-rows c = let f = c.part_rows-lo in
-    omega (arith, low-most c.middle_of-m.ensures f.ensures.number, f.auto.1.1.1.1.0)
+    omega (arith, low-most c.middle_of-m.ensures f.ensures.number, f.auto.rows)
 
 pub copy_rows-requires : goal.copy_rows-requires
 copy_rows-requires c = let p = c.requires in
     let m = c.middle_of-m in
     let f = c.part_rows-lo in
     let h = low-most m.ensures f.ensures.number in
-    (omega (arith, p.3, m.auto.1.1.1.1.0, f.auto.1.1.1.1.0, f.auto.1.1.1.1.1.0), omega (arith, f.auto.1.1.1.1.0))
+    (omega (arith, p.3, m.auto.room, f.auto.rows, f.auto.room), omega (arith, f.auto.rows))
 
 pub returns : goal.returns
 returns c = let p = c.requires in
     let m = c.middle_of-m in
     let f = c.part_rows-lo in
     let e = f.ensures in
-    let k = m.auto.1.1.1.1.0 in record {
-    rows = rows_cut m.ensures p.0 p.2 _ (k ∙ p.3) e.number e.rows e.room c.copy_rows.ensures;
-    room = f.auto.1.1.1.1.1.0 ∙ k;
-    row = m.ensures;
-  }
+    let k = m.auto.room in record {
+      rows = rows_cut m.ensures p.0 p.2 _ (k ∙ p.3) e.number e.rows e.room c.copy_rows.ensures;
+      room = f.auto.room ∙ k;
+      row = m.ensures;
+    }

@@ -31,4 +31,4 @@ loop-i-preserved c = parted-right c.loop-i.invariant c.loop-i-test.true
     (sym c.comes_before.ensures ∙ c.if-comes_before.false)
 
 pub returns : goal.returns
-returns c = let e = parted-end c.loop-i.invariant c.loop-i-test.false in record { number = e.0; rows = e.1; room = e.2 }
+returns c = let e = parted-end c.loop-i.invariant c.loop-i-test.false in record { number = e.0; rows = e.1.0; room = e.1.1 }

@@ -34,9 +34,9 @@ loop-head-init c = let r = c in
         same-O = refl;
         same-floats = refl;
         same-B = refl;
-        cap-w = omega (arith, r.put_root.auto.1.1.1.1.0, a.well_formed.1.1.1.1.1.1.1.1.1.0.0);
+        cap-w = omega (arith, r.put_root.auto.wholes, a.well_formed.1.1.1.1.1.1.1.1.1.0.0);
         cap-O = omega (arith, a.well_formed.1.1.1.1.1.0.0);
-        cap-floats = omega (arith, r.put_root.auto.1.1.1.0, a.well_formed.1.1.1.1.1.1.1.1.0.0);
+        cap-floats = omega (arith, r.put_root.auto.floats, a.well_formed.1.1.1.1.1.1.1.1.0.0);
         cap-B = omega (arith, a.well_formed.1.1.1.1.1.1.1.0.0);
       },
       c.box_width-stride.ensures,
@@ -123,7 +123,7 @@ put_halves-requires c = let cut = c in
     let i = t.loop-head.invariant in
     let x = front i.0 t.loop-head-test.true in
     let u = known x in
-    let m = room-kept x cut.cut_stretch-plane.new.room.0 cut.cut_stretch-plane.auto.1.1.1.0 in
+    let m = room-kept x cut.cut_stretch-plane.new.room.0 cut.cut_stretch-plane.auto.room in
     (omega (arith, u.room-fit c.if-leaf-count.true, m, u.fit-w), omega (arith, u.inside, u.fit-w, i.1.same_w, i.1.cap-w))
 
 pub overflow_mul-stride-then-leaf-count : goal.overflow_mul-stride-then-leaf-count
@@ -156,7 +156,7 @@ loop-head-smaller-then-leaf-count c = let cut = c in
     let t = c in
     let i = t.loop-head.invariant in
     let x = front i.0 t.loop-head-test.true in
-    wait-less x cut.cut_stretch-plane.new.rows cut.cut_stretch-plane.new.room.0 cut.cut_stretch-plane.ensures.rows cut.cut_stretch-plane.auto.1.1.1.0
+    wait-less x cut.cut_stretch-plane.new.rows cut.cut_stretch-plane.new.room.0 cut.cut_stretch-plane.ensures.rows cut.cut_stretch-plane.auto.room
     cut.cut_stretch-plane.result.axis cut.cut_stretch-plane.result.value (floats_of read.read_box-whole.result) read.read_box-whole.result.dimensions
     cut.cut_stretch-plane.ensures.plane.0 cut.cut_stretch-plane.ensures.plane.1 (rw i.2 at read.read_box-whole.ensures.1) read.read_box-whole.ensures.0
     c.if-leaf-count.true _ c.put_halves.ensures
@@ -170,12 +170,12 @@ loop-head-preserved-then-leaf-count c = let wrote = c in
     let i = t.loop-head.invariant in
     let x = front i.0 t.loop-head-test.true in
     let u = known x in
-    let m = room-kept x cut.cut_stretch-plane.new.room.0 cut.cut_stretch-plane.auto.1.1.1.0 in (
-      wait x cut.cut_stretch-plane.new.rows cut.cut_stretch-plane.new.room.0 cut.cut_stretch-plane.ensures.rows cut.cut_stretch-plane.auto.1.1.1.0
+    let m = room-kept x cut.cut_stretch-plane.new.room.0 cut.cut_stretch-plane.auto.room in (
+      wait x cut.cut_stretch-plane.new.rows cut.cut_stretch-plane.new.room.0 cut.cut_stretch-plane.ensures.rows cut.cut_stretch-plane.auto.room
           cut.cut_stretch-plane.result.axis cut.cut_stretch-plane.result.value (floats_of read.read_box-whole.result) read.read_box-whole.result.dimensions
           cut.cut_stretch-plane.ensures.plane.0 cut.cut_stretch-plane.ensures.plane.1 (rw i.2 at read.read_box-whole.ensures.1) read.read_box-whole.ensures.0
           c.if-leaf-count.true _ put.put_halves.ensures _ (rw i.2 at wrote.write_halves.ensures),
-      kept_next i.1 (put.put_halves.auto.0 ∙ m) refl wrote.write_halves.auto.1.1.1.0 refl,
+      kept_next i.1 (put.put_halves.auto.wholes ∙ m) refl wrote.write_halves.auto.out refl,
       i.2,
     )
 
@@ -192,8 +192,8 @@ copy_rows-requires c = let cut = c in
     let i = t.loop-head.invariant in
     let x = front i.0 t.loop-head-test.true in
     let u = known x in
-    let m = room-kept x cut.cut_stretch-plane.new.room.0 cut.cut_stretch-plane.auto.1.1.1.0 in
-    let r = rows-kept x cut.cut_stretch-plane.new.rows cut.cut_stretch-plane.auto.1.1.0 in
+    let m = room-kept x cut.cut_stretch-plane.new.room.0 cut.cut_stretch-plane.auto.room in
+    let r = rows-kept x cut.cut_stretch-plane.new.rows cut.cut_stretch-plane.auto.rows in
     (omega (arith, r, u.inside, u.same), omega (arith, m, u.rows_fit, u.fit-w))
 
 pub overflow_add-at : goal.overflow_add-at
@@ -249,7 +249,7 @@ loop-head-smaller c = let cut = c in
     let t = c in
     let i = t.loop-head.invariant in
     let x = front i.0 t.loop-head-test.true in
-    next-leaves-less x cut.cut_stretch-plane.new.rows cut.cut_stretch-plane.new.room.0 cut.cut_stretch-plane.ensures.rows cut.cut_stretch-plane.auto.1.1.1.0
+    next-leaves-less x cut.cut_stretch-plane.new.rows cut.cut_stretch-plane.new.room.0 cut.cut_stretch-plane.ensures.rows cut.cut_stretch-plane.auto.room
     cut.cut_stretch-plane.result.axis cut.cut_stretch-plane.result.value (floats_of read.read_box-whole.result) read.read_box-whole.result.dimensions
     cut.cut_stretch-plane.ensures.plane.0 cut.cut_stretch-plane.ensures.plane.1 (rw i.2 at read.read_box-whole.ensures.1) read.read_box-whole.ensures.0
     c.if-leaf-count.false _ c.copy_rows.ensures
@@ -264,12 +264,12 @@ loop-head-preserved c = let wrote = c in
     let i = t.loop-head.invariant in
     let x = front i.0 t.loop-head-test.true in
     let u = known x in
-    let m = room-kept x cut.cut_stretch-plane.new.room.0 cut.cut_stretch-plane.auto.1.1.1.0 in (
-      next-leaves x cut.cut_stretch-plane.new.rows cut.cut_stretch-plane.new.room.0 cut.cut_stretch-plane.ensures.rows cut.cut_stretch-plane.auto.1.1.1.0
+    let m = room-kept x cut.cut_stretch-plane.new.room.0 cut.cut_stretch-plane.auto.room in (
+      next-leaves x cut.cut_stretch-plane.new.rows cut.cut_stretch-plane.new.room.0 cut.cut_stretch-plane.ensures.rows cut.cut_stretch-plane.auto.room
           cut.cut_stretch-plane.result.axis cut.cut_stretch-plane.result.value (floats_of read.read_box-whole.result) read.read_box-whole.result.dimensions
           cut.cut_stretch-plane.ensures.plane.0 cut.cut_stretch-plane.ensures.plane.1 (rw i.2 at read.read_box-whole.ensures.1) read.read_box-whole.ensures.0
           c.if-leaf-count.false _ packed.copy_rows.ensures _ _ named.put_leaves.ensures (rw i.2 at wrote.write_halves-else-leaf-count.ensures),
-      kept_next i.1 (packed.copy_rows.auto.1.1.1.0 ∙ m) named.put_leaves.auto.0 refl wrote.write_halves-else-leaf-count.auto.1.1.1.0,
+      kept_next i.1 (packed.copy_rows.auto.out ∙ m) named.put_leaves.auto.domains refl wrote.write_halves-else-leaf-count.auto.out,
       i.2,
     )
 
