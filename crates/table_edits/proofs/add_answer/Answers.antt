@@ -15,7 +15,8 @@ returns-then-number-ne0 c = let a = c.args in
     let table = c.table_fault-fault in
     let first = c.point_fault-number in
     let number = point-number a.dimensions t a.point.now table.result.number first.result first.ensures table.ensures.number in
-    add-first a.dimensions t a.point.now first.result number c.if-number-ne0.true _ c.refusing.ensures
+    let x = add-first a.dimensions t a.point.now first.result number c.if-number-ne0.true _ c.refusing.ensures in
+    record { answer = x.0; head = x.1 }
 
 pub returns-then-bad-point : goal.returns-then-bad-point
 returns-then-bad-point c = let a = c.args in
@@ -23,7 +24,8 @@ returns-then-bad-point c = let a = c.args in
     let table = c.table_fault-fault in
     let first = c.point_fault-number in
     let number = point-number a.dimensions t a.point.now table.result.number first.result first.ensures table.ensures.number in
-    add-10 a.dimensions t a.point.now first.result number c.if-number-ne0.false _ c.first_not_finite-bad.ensures c.if-bad-point.true _ c.refusing-then-bad-point.ensures
+    let x = add-10 a.dimensions t a.point.now first.result number c.if-number-ne0.false _ c.first_not_finite-bad.ensures c.if-bad-point.true _ c.refusing-then-bad-point.ensures in
+    record { answer = x.0; head = x.1 }
 
 pub returns-then-is_full : goal.returns-then-is_full
 returns-then-is_full c = let a = c.args in
@@ -33,7 +35,8 @@ returns-then-is_full c = let a = c.args in
     let number = point-number a.dimensions t a.point.now table.result.number first.result first.ensures table.ensures.number in
     let next = table.ensures.next (point-none a.dimensions t a.point.now table.result.number first.result first.ensures c.if-number-ne0.false) in
     let is = full_is a.dimensions t a.point.now table.result.next c.capacity-room.result c.is_full.result next c.capacity-room.ensures c.is_full.ensures in
-    add-21 a.dimensions t a.point.now first.result number c.if-number-ne0.false (omega (arith, c.if-bad-point.false, c.first_not_finite-bad.ensures)) (sym is ∙ c.if-is_full.true) _ c.refusing-then-is_full.ensures
+    let x = add-21 a.dimensions t a.point.now first.result number c.if-number-ne0.false (omega (arith, c.if-bad-point.false, c.first_not_finite-bad.ensures)) (sym is ∙ c.if-is_full.true) _ c.refusing-then-is_full.ensures in
+    record { answer = x.0; head = x.1 }
 
 pub slots_after-requires : goal.slots_after-requires
 slots_after-requires c = let a = c.args in
@@ -62,5 +65,6 @@ returns c = let a = c.args in
     let number = point-number a.dimensions t a.point.now table.result.number first.result first.ensures table.ensures.number in
     let next = table.ensures.next (point-none a.dimensions t a.point.now table.result.number first.result first.ensures c.if-number-ne0.false) in
     let is = full_is a.dimensions t a.point.now table.result.next c.capacity-room.result c.is_full.result next c.capacity-room.ensures c.is_full.ensures in
-    add-fine a.dimensions t a.point.now first.result number c.if-number-ne0.false (omega (arith, c.if-bad-point.false, c.first_not_finite-bad.ensures)) (sym is ∙ c.if-is_full.false)
-    (record { number = 0; place = 0; slot = table.result.next; slots = c.slots_after.result; live = a.live + 1 }) refl refl next c.slots_after.ensures refl
+    let x = add-fine a.dimensions t a.point.now first.result number c.if-number-ne0.false (omega (arith, c.if-bad-point.false, c.first_not_finite-bad.ensures)) (sym is ∙ c.if-is_full.false)
+    (record { number = 0; place = 0; slot = table.result.next; slots = c.slots_after.result; live = a.live + 1 }) refl refl next c.slots_after.ensures refl in
+    record { answer = x.0; head = x.1 }
