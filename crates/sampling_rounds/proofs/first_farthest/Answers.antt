@@ -20,7 +20,7 @@ returns-then-root c = let s = c in
 pub look_back-requires : goal.look_back-requires
 look_back-requires c = let s = c in
     record {
-    best_in_bounds = s.requires.place_in_bounds.0;
-    nan_value = (subst (λ (x : Float). good x ≡ true) s.requires.place_in_bounds.1 s.requires.most_value);
-    by_index = s.requires.by_index;
-  }
+      best_in_bounds = s.requires.place_in_bounds.0;
+      nan_value = (subst (λ (x : Float). good x ≡ true) s.requires.place_in_bounds.1 s.requires.most_value);
+      by_index = s.requires.by_index;
+    }

@@ -10,6 +10,7 @@ use lib.ListN.{length}
 use Rattle.sampling_rounds.specs.Rounds.{lessened}
 use Rattle.rows.proofs.Good.{good-at}
 use Rattle.sampling_rounds.proofs.Passes.{PassedTo, Seen, passed_none, passed-more, seen_none, seen-greater, seen_other, seen_all, lessened-at, lessened-kept}
+use Rattle.sampling_rounds.proofs.lessen.Goals.{then-most-value, else-most-value}
 use Rattle.sampling_rounds.proofs.lessen.Goals as goal
 
 pub loop-i-init : goal.loop-i-init
@@ -32,30 +33,30 @@ loop-i-preserved c = let s = c in
     let e : c.lesser_of-value.result ≡ v l.i =
     lessened-at _ _ _ _ _ l.i _ _ _ c.distance_sq-square.ensures (p.left l.i (omega arith)) c.lesser_of-value.ensures in
     let q = passed-more v a.floats.now l.floats l.i c.lesser_of-value.result p (omega (arith, h, l.invariant, p.same)) e in
-    ⊎_elim
-    (λ w. (
-      omega (arith, h),
-      (
-        l.invariant.1.0,
+    elim c.if-most-value.branch [
+      | then-most-value w ↦ (
+        omega (arith, h),
         (
-          q,
-          rw (w.1, w.2, w.3)
-              (seen-greater v l.i l.place l.most l.second l.invariant.1.1.1 c.lesser_of-value.result e (λ j b. k j (omega (arith, h))) w.0.taken),
+          l.invariant.1.0,
+          (
+            q,
+            rw (w.place-is, w.most-is, w.second-is)
+                (seen-greater v l.i l.place l.most l.second l.invariant.1.1.1 c.lesser_of-value.result e (λ j b. k j (omega (arith, h))) w.if-most-value.true),
+          ),
         ),
-      ),
-    ))
-    (λ w. (
-      omega (arith, h),
-      (
-        l.invariant.1.0,
+      )
+      | else-most-value w ↦ (
+        omega (arith, h),
         (
-          q,
-          rw (w.1, w.2, w.3)
-              (seen_other v l.i l.place l.most l.second l.invariant.1.1.1 c.lesser_of-value.result e w.0.left),
+          l.invariant.1.0,
+          (
+            q,
+            rw (w.place-is, w.most-is, w.second-is)
+                (seen_other v l.i l.place l.most l.second l.invariant.1.1.1 c.lesser_of-value.result e w.if-most-value.false),
+          ),
         ),
-      ),
-    ))
-    c.if-most-value.branch
+      )
+    ]
 
 pub shape_of-floats : goal.shape_of-floats
 shape_of-floats c = c.loop-i.invariant.1.1.0.same
@@ -66,7 +67,7 @@ returns c = let s = c in
     let l = c.loop-i in
     let v = lessened a.dimensions a.points.now a.rows.now a.last.0 a.floats.now in
     let e : l.i ≡ length a.rows.now = le_antisymm l.invariant.0 c.loop-i-test.false in record {
-    values = (λ i h. l.invariant.1.1.0.done i (omega (arith, e)));
-    peak = seen_all v _ _ _ _ (subst (λ (n : ℕ). Seen v n l.place l.most l.second) e l.invariant.1.1.1) (omega (arith, s.requires.room))
+      values = (λ i h. l.invariant.1.1.0.done i (omega (arith, e)));
+      peak = seen_all v _ _ _ _ (subst (λ (n : ℕ). Seen v n l.place l.most l.second) e l.invariant.1.1.1) (omega (arith, s.requires.room))
           (lessened-kept _ _ _ _ a.floats.now s.requires.rows s.requires.room.0 s.requires.kept);
-  }
+    }

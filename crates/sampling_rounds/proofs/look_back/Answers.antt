@@ -11,6 +11,7 @@ use Rattle.definition.specs.Number.{square_root_lem}
 use Rattle.root_laws.proofs.Values.{root-good}
 use Rattle.sampling_rounds.proofs.Orders.{near-good, kept-good}
 use Rattle.sampling_rounds.proofs.Roots.{Looked, looked-none, looked-near, looked-low, looked-less, looked-here, looked-all}
+use Rattle.sampling_rounds.proofs.look_back.Goals.{then-root-top, else-root-top, then-low-value+then-root-top-2, else-low-value}
 use Rattle.sampling_rounds.proofs.look_back.Goals as goal
 
 abbrev value : List Float → ℕ → Float
@@ -23,10 +24,10 @@ pub loop-i-init : goal.loop-i-init
 loop-i-init c = let s = c in
     let g = s.requires.nan_value in
     let t = c.root-top.ensures in
-    ⊎_elim
-    (λ w. (omega arith, (s.requires.best_in_bounds, rw w.1 (looked-near _ _ _ (root-good _ g) (near-good _ g) (rw (← c.root.ensures, ← t) w.0.taken)))))
-    (λ w. (omega arith, (s.requires.best_in_bounds, rw w.1 (looked-none _ _))))
-    c.if-root-top.branch
+    elim c.if-root-top.branch [
+      | then-root-top w ↦ (omega arith, (s.requires.best_in_bounds, rw w.low-is (looked-near _ _ _ (root-good _ g) (near-good _ g) (rw (← c.root.ensures, ← t) w.if-root-top.true))))
+      | else-root-top w ↦ (omega arith, (s.requires.best_in_bounds, rw w.low-is (looked-none _ _)))
+    ]
 
 pub returns-else-root-top-2 : goal.returns-else-root-top-2
 returns-else-root-top-2 c = let s = c in
@@ -44,17 +45,17 @@ loop-i-preserved c = let s = c in
     let h = c.loop-i-test.true in
     let r = square_root_lem (v s.args.best) in
     let q = l.invariant.1.1 in
-    ⊎_elim
-    (λ w. (
-      here h,
-      (
-        l.invariant.1.0,
-        rw w.3 (looked-less v r l.low l.i q (root-good _ s.requires.nan_value)
-            (kept-good l.low (v l.i) q.kept (s.requires.by_index l.i h) w.0.taken) (rw (← w.1.ensures, ← c.root-top.ensures) w.2.taken)),
-      ),
-    ))
-    (λ w. (here h, (l.invariant.1.0, rw w.1 (looked-low v r l.low l.i q w.0.left))))
-    c.if-low-value.branch
+    elim c.if-low-value.branch [
+      | then-low-value+then-root-top-2 w ↦ (
+        here h,
+        (
+          l.invariant.1.0,
+          rw w.low-is (looked-less v r l.low l.i q (root-good _ s.requires.nan_value)
+              (kept-good l.low (v l.i) q.kept (s.requires.by_index l.i h) w.if-low-value.true) (rw (← w.root-then-low-value.ensures, ← c.root-top.ensures) w.if-root-top-2.true)),
+        ),
+      )
+      | else-low-value w ↦ (here h, (l.invariant.1.0, rw w.low-is (looked-low v r l.low l.i q w.if-low-value.false)))
+    ]
 
 pub returns : goal.returns
 returns c = let s = c in

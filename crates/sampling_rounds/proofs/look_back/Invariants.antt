@@ -12,6 +12,9 @@ use Rattle.sampling_rounds.proofs.Orders.{near-good, kept-good}
 use Rattle.sampling_rounds.proofs.Roots.{Looked, looked-none, looked-near, looked-low, looked-less, looked-here, looked-all}
 use Rattle.sampling_rounds.proofs.look_back.Given as goal
 
+abbrev value : List Float → ℕ → Float
+value floats i = get_or floats i nan
+
 abbrev pub invariant-loop-i : goal.invariant-loop-i
 invariant-loop-i l = (l.i ≤ l.best) × ((l.best < length l.floats) × Looked (value l.floats) (square_root_lem (value l.floats l.best)) l.low l.i)
 

@@ -15,27 +15,27 @@ first_farthest-place-requires c = let s = c in
     let le = c.lessen-peak in
     let a = s.args in
     let v = lessened a.dimensions a.points.now a.rows.now a.last.0 a.floats.now in
-    let left = s.requires.open in
+    let left = s.requires.«open» in
     let room = s.requires.room in
     let kept = lessened-kept _ _ _ _ a.floats.now s.requires.rows room.0 s.requires.kept in
     let good-best = greatest-good v _ _ _ _ le.ensures.peak kept left.0 left.1.0
     (lessened-good _ _ _ _ a.floats.now s.requires.rows room.0 left.0 left.1.0 left.1.1) in
-    let new = le.new.floats.0 in
+    let new = le.new.floats in
     let p = peaked-in v new _ _ _ _ le.ensures.values le.ensures.peak in record {
-    place_in_bounds = (omega (arith, p.inside, room, le.auto.1.1.1.1.0), p.here);
-    most_value = rw le.ensures.peak.here good-best;
-    by_index = (λ i h. let b = ltrans h p.inside in rw (le.ensures.values i b) (kept i b));
-    held = p.earlier;
-  }
+      place_in_bounds = (omega (arith, p.inside, room), p.here);
+      most_value = rw le.ensures.peak.here good-best;
+      by_index = (λ i h. let b = ltrans h p.inside in rw (le.ensures.values i b) (kept i b));
+      held = p.earlier;
+    }
 
 pub returns : goal.returns
 returns c = let s = c in
     let le = c.lessen-peak in
     let a = s.args in
     let v = lessened a.dimensions a.points.now a.rows.now a.last.0 a.floats.now in
-    let left = s.requires.open in
+    let left = s.requires.«open» in
     let room = s.requires.room in
     let kept = lessened-kept _ _ _ _ a.floats.now s.requires.rows room.0 s.requires.kept in
     let good-best = greatest-good v _ _ _ _ le.ensures.peak kept left.0 left.1.0
     (lessened-good _ _ _ _ a.floats.now s.requires.rows room.0 left.0 left.1.0 left.1.1) in
-    first-chosen v _ _ _ _ le.ensures.peak le.new.floats.0 _ le.ensures.values (omega (arith, room, le.auto.1.1.1.1.0)) good-best c.first_farthest-place.ensures
+    first-chosen v _ _ _ _ le.ensures.peak le.new.floats _ le.ensures.values (omega (arith, room)) good-best c.first_farthest-place.ensures

@@ -10,7 +10,7 @@ returns c = let s = c in
     let le = c.lessen-peak in
     let a = s.args in
     let v = lessened a.dimensions a.points.now a.rows.now a.last.0 a.floats.now in
-    let left = s.requires.open in
+    let left = s.requires.«open» in
     let room = s.requires.room in
     let kept = lessened-kept _ _ _ _ a.floats.now s.requires.rows room.0 s.requires.kept in
     peak-worst v _ _ _ _ le.ensures.peak _
