@@ -10,6 +10,7 @@ use lib.ListN.{length}
 use Rattle.root_laws.specs.Sorts.{good}
 use Rattle.rows.proofs.Good.{good-at}
 use Rattle.sampling_seed.proofs.Nearest.{from_center, center-square, center-good, Nearest, nearest-start, nearest-far, nearest-tie, nearest-less, nearest-end}
+use Rattle.sampling_seed.proofs.sampling_seed.Goals.{then-square-low+then-apart-near, then-square-low+else-apart-near, else-square-low}
 use Rattle.sampling_seed.proofs.sampling_seed.Goals as goal
 
 pub get_centroid-center-requires : goal.get_centroid-center-requires
@@ -67,12 +68,11 @@ loop-i-preserved c = let s = c in
     let q = c.distance_sq_at-square in
     let e : q.result ≡ v l.i = center-square _ _ _ m.result l.i _ m.ensures q.ensures in
     let good-to : (j : ℕ) → j ≤ l.i → good (v j) ≡ true = λ j b. g j (omega (arith, h)) in
-    ⊎_elim
-    (λ w. (omega (arith, h), rw (w.3, w.4, w.5) (nearest-less v l.best l.near l.low l.i q.result l.invariant.1 e good-to w.1.result w.1.ensures w.2.taken)))
-    (⊎_elim
-    (λ w. (omega (arith, h), rw (w.3, w.4, w.5) (nearest-tie v l.best l.near l.low l.i q.result l.invariant.1 e good-to w.1.result w.1.ensures w.2.left)))
-    (λ w. (omega (arith, h), rw (w.1, w.2, w.3) (nearest-far v l.best l.near l.low l.i q.result l.invariant.1 e good-to w.0.left))))
-    c.if-square-low.branch
+    elim c.if-square-low.branch [
+      | then-square-low+then-apart-near w ↦ (omega (arith, h), rw (w.best-is, w.low-is, w.near-is) (nearest-less v l.best l.near l.low l.i q.result l.invariant.1 e good-to w.root-apart.result w.root-apart.ensures w.if-apart-near.true))
+      | then-square-low+else-apart-near w ↦ (omega (arith, h), rw (w.best-is, w.low-is, w.near-is) (nearest-tie v l.best l.near l.low l.i q.result l.invariant.1 e good-to w.root-apart.result w.root-apart.ensures w.if-apart-near.false))
+      | else-square-low w ↦ (omega (arith, h), rw (w.best-is, w.low-is, w.near-is) (nearest-far v l.best l.near l.low l.i q.result l.invariant.1 e good-to w.if-square-low.false))
+    ]
 
 pub returns : goal.returns
 returns c = let l = c.loop-i in
