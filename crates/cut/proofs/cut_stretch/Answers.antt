@@ -38,7 +38,7 @@ returns c = let h = c in
     let x = h.longest_axis-axis.ensures in
     let e = h.halves-row.ensures in
     record {
-    rows = rw x at e.rows;
-    room = e.room;
-    plane = (x, plane-value p.0 p.2 x e.row);
-  }
+      rows = rw x at e.rows;
+      room = e.room;
+      plane = (x, plane-value p.0 p.2 x e.row);
+    }

@@ -11,6 +11,7 @@ use Rattle.lists.specs.Lists.{best, from}
 use Rattle.lists.proofs.Best.{best-below-first, best-below-yes, best-below-no}
 use Rattle.definition.specs.Points.{extent}
 use Rattle.definition.specs.Cut.{longest_axis_lem}
+use Rattle.cut.proofs.longest_axis.Goals.{then-e-v, else-e-v}
 use Rattle.cut.proofs.longest_axis.Goals as goal
 
 pub loop-axis-init : goal.loop-axis-init
@@ -22,10 +23,10 @@ loop-axis-preserved c = let s = c in
     let better : ℕ → ℕ → Bool = λ y z. lt (extent a.dimensions a.points.now a.rows.now z) (extent a.dimensions a.points.now a.rows.now y) in
     let i = s.loop-axis.invariant in
     let v = c.extent_on-v.ensures in
-    ⊎_elim
-    (λ w. (omega arith, omega arith, w.1 ∙ best-below-yes better s.loop-axis.axis s.loop-axis.longest i.0 i.2 (rw (v, i.3) at w.0.taken), w.2 ∙ v ∙ rw w.1))
-    (λ w. (omega arith, omega arith, w.1 ∙ best-below-no better s.loop-axis.axis s.loop-axis.longest i.0 i.2 (rw (v, i.3) at w.0.left), w.2 ∙ i.3 ∙ rw w.1))
-    c.if-e-v.branch
+    elim c.if-e-v.branch [
+      | then-e-v w ↦ (omega arith, omega arith, w.longest-is ∙ best-below-yes better s.loop-axis.axis s.loop-axis.longest i.0 i.2 (rw (v, i.3) at w.if-e-v.true), w.e-is ∙ v ∙ rw w.longest-is)
+      | else-e-v w ↦ (omega arith, omega arith, w.longest-is ∙ best-below-no better s.loop-axis.axis s.loop-axis.longest i.0 i.2 (rw (v, i.3) at w.if-e-v.false), w.e-is ∙ i.3 ∙ rw w.longest-is)
+    ]
 
 pub returns : goal.returns
 unfolding longest_axis_lem
