@@ -31,7 +31,7 @@ slice_bounds-sample_rows-end c = let s = c in
     let v =
     accepted-call g.dimensions g.points.now g.wanted g.seed (length g.out.now) (length g.floats.now)
     (length g.wholes.now) _ c.sampling_verdict-tests.ensures c.in-Passed.is in
-    omega (arith, v.1.wholes, c.number_rows.auto.0)
+    omega (arith, v.1.wholes, c.number_rows.auto.wholes)
 
 pub slice_bounds-sample_rows-end-in-Passed : goal.slice_bounds-sample_rows-end-in-Passed
 slice_bounds-sample_rows-end-in-Passed c = let s = c in
@@ -44,7 +44,8 @@ sample_rows-cover-requires c = let s = c in
     let v =
     accepted-call g.dimensions g.points.now g.wanted g.seed (length g.out.now) (length g.floats.now)
     (length g.wholes.now) _ c.sampling_verdict-tests.ensures c.in-Passed.is in
-    call-ready _ _ _ _ _ _ _ v.1 _ (rows-numbered _ _ _ c.number_rows.ensures)
+    let r = call-ready _ _ _ _ _ _ _ v.1 _ (rows-numbered _ _ _ c.number_rows.ensures) in
+    record { rows = r.0; wanted = r.1.0; room = r.1.1 }
 
 pub returns-in-Failed : goal.returns-in-Failed
 returns-in-Failed c = call-refused _ _ _ _ _ _ _ _ _ (sym c.sampling_verdict-tests.ensures ∙ c.in-Failed.is)
@@ -59,4 +60,4 @@ returns-in-Passed c = let s = c in
     let sr = c.sample_rows-cover in
     let n = rows-numbered _ _ _ nr.ensures in
     call-sampled _ _ _ _ _ _ _ sr.result v.0 (call-covered _ _ _ _ _ _ _ v.1 _ n sr.result sr.ensures.cover) _
-    (call-written _ _ _ _ _ _ _ v.1 _ n _ _ sr.ensures.sampled) _ sr.auto.1.1.1.1.1.1.1.0 _ nr.auto.0
+    (call-written _ _ _ _ _ _ _ v.1 _ n _ _ sr.ensures.sampled) _ sr.auto.floats _ nr.auto.wholes
