@@ -1,7 +1,6 @@
 -- `slots_checks::judge_slots` meets its contract. The invariant: of the live slots passed none has a coordinate that is not finite.
 -- Assumes nothing.
 use mathlib.Core.Path.{ap, ◌∙◌}
-use mathlib.Core.Logic.{⊎_elim}
 use Prim.Native.Nat.{ℕ, ◌+◌, ◌-◌, ◌*◌, ◌≤◌}
 use native.Mathlib.Omega.{arith}
 use borrow.Author.Rules.{rules}
@@ -11,6 +10,7 @@ use Rattle.definition.specs.Table.{flagged}
 use Rattle.slots_checks.proofs.Judged.{flag-live, flag-retired, None, none_first, none-same, none_more, judged-none, judged-here}
 use Rattle.slots_checks.proofs.Groups.{slots-times, slot-inside}
 use Rattle.slots_checks.proofs.judge_slots.Goals as goal
+use Rattle.slots_checks.proofs.judge_slots.Goals.{then-flags-i-ne0+else-bad-dimensions, else-flags-i-ne0}
 
 pub loop-i-init : goal.loop-i-init
 loop-i-init c = let P = c.args in (omega arith, none_first P.dimensions P.coordinates.now (flagged P.flags.now))
@@ -52,11 +52,11 @@ loop-i-preserved c = let P = c.args in
     let cs = P.coordinates.now in
     let flags = P.flags.now in (
       omega arith,
-      ⊎_elim
-          (λ w. none_more d cs (flagged flags) i (flag-live flags i w.0.taken) (omega (arith, slot-inside i P.slots d (omega arith)))
-          (omega (arith, w.2.ensures ∙ ap (first_bad 0) (part-lent cs (i * d) d), w.3.left)) none)
-          (λ w. none-same d cs (flagged flags) i (flag-retired flags i w.left) none)
-          c.if-flags-i-ne0.branch,
+      elim c.if-flags-i-ne0.branch [
+        | then-flags-i-ne0+else-bad-dimensions w ↦ none_more d cs (flagged flags) i (flag-live flags i w.if-flags-i-ne0.true) (omega (arith, slot-inside i P.slots d (omega arith)))
+            (omega (arith, w.first_not_finite-bad.ensures ∙ ap (first_bad 0) (part-lent cs (i * d) d), w.if-bad-dimensions.false)) none
+        | else-flags-i-ne0 w ↦ none-same d cs (flagged flags) i (flag-retired flags i w.if-flags-i-ne0.false) none
+      ],
     )
 
 pub returns : goal.returns

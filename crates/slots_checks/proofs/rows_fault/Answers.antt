@@ -10,9 +10,9 @@ use Rattle.slots_checks.proofs.rows_fault.Goals as goal
 pub returns-then-settings-gt0 : goal.returns-then-settings-gt0
 returns-then-settings-gt0 c = let P = c.args in
     record {
-    number = fault-first (settings_tests (settings_of_lem P.dimensions P.params)) _ _ c.settings_fault-settings.ensures.number c.if-settings-gt0.true;
-    fine = λ e. absurd (omega (arith, c.if-settings-gt0.true));
-  }
+      number = fault-first (settings_tests (settings_of_lem P.dimensions P.params)) _ _ c.settings_fault-settings.ensures.number c.if-settings-gt0.true;
+      fine = λ e. absurd (omega (arith, c.if-settings-gt0.true));
+    }
 
 pub overflow_mul-live : goal.overflow_mul-live
 overflow_mul-live c = let P = c.args in
@@ -26,6 +26,6 @@ pub returns : goal.returns
 returns c = let P = c.args in
     let s = settings_of_lem P.dimensions P.params in
     let f = c.settings_fault-settings.ensures.fine (omega (arith, c.if-settings-gt0.false)) in record {
-    number = fault-second (settings_tests s) _ _ c.settings_fault-settings.ensures.number c.if-settings-gt0.false c.points_fault.result (rows-tests s P.live c.points_fault.result f.0 c.points_fault.ensures.number);
-    fine = λ e. (f.0, f.1, f.3);
-  }
+      number = fault-second (settings_tests s) _ _ c.settings_fault-settings.ensures.number c.if-settings-gt0.false c.points_fault.result (rows-tests s P.live c.points_fault.result f.0 c.points_fault.ensures.number);
+      fine = λ e. (f.0, f.1, f.3);
+    }
