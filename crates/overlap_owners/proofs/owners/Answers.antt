@@ -34,7 +34,7 @@ loop-leaf-preserved c = let s = c in
     let own = row-own a.internals.now a.domains.now (a.first + l.leaf) row.result row.ensures in (
       omega arith,
       search rules,
-      leaf-more a.active.now a.internals.now a.domains.now a.first a.m s.requires.0 l.wholes f.new.wholes.0 l.leaf c.loop-leaf-test.true l.invariant.2 (rw own at f.ensures),
+      leaf-more a.active.now a.internals.now a.domains.now a.first a.m s.requires.0 l.wholes f.new.wholes l.leaf c.loop-leaf-test.true l.invariant.2 (rw own at f.ensures),
     )
 
 pub returns : goal.returns

@@ -7,7 +7,6 @@ use borrow.Author.Rules.{rules}
 use native.Mathlib.Omega.{arith}
 use Rattle.overlap_owners.proofs.owners.Given as goal
 
-
 abbrev pub invariant-loop-leaf : goal.invariant-loop-leaf
 invariant-loop-leaf l = (l.leaf ≤ l.m) × (length l.wholes ≡ length l.initial.wholes) × MarkedUpTo l.active l.internals l.domains l.first l.m l.leaf l.wholes
 
