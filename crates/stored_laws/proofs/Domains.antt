@@ -111,15 +111,15 @@ module _ (f : Leaf) (bounds : List Float) (bs rest : List ℕ) (k : Stowed f) (e
       ∙ numbers-back f.borrowed (counts_size + number_size * o) bs r4 k.borrowed-small at-borrowed
 
   -- the cover, and the depth behind it
-  abbrev at_bounds : ℕ
-  at_bounds = counts_size + number_size * (o + b)
+  abbrev bounds_begin : ℕ
+  bounds_begin = counts_size + number_size * (o + b)
 
-  at-cover : drop (at_bounds + float_size * length bounds) bs ≡ r5
-  at-cover = drop-on at_bounds (float_size * length bounds) bs (floats_bytes bounds) r5 (length-floats bounds) at_bounds
+  at-cover : drop (bounds_begin + float_size * length bounds) bs ≡ r5
+  at-cover = drop-on bounds_begin (float_size * length bounds) bs (floats_bytes bounds) r5 (length-floats bounds) at_bounds
 
   depth-back : number_at (bounds_place bs + float_size * length bounds + float_size) bs ≡ f.depth
   depth-back =
-      let at = at_bounds + float_size * length bounds in
+      let at = bounds_begin + float_size * length bounds in
       ap₂ (λ (n m : ℕ). number_at (counts_size + number_size * (n + m) + float_size * length bounds + float_size) bs) own_count borrowed_count
       ∙ field_back number_size f.depth (at + float_size) bs rest k.depth_small
       (drop-on at float_size bs (float_bytes f.cover) r6 (length-bytes float_size (to_bits binary64 f.cover)) at-cover)
@@ -128,13 +128,13 @@ module _ (f : Leaf) (bounds : List Float) (bs rest : List ℕ) (k : Stowed f) (e
     bounds-back : floats_at (length bounds) (bounds_place bs) bs ≡ bounds
     bounds-back =
         ap₂ (λ (n m : ℕ). floats_at (length bounds) (counts_size + number_size * (n + m)) bs) own_count borrowed_count
-        ∙ floats-back bounds at_bounds bs r5 (all_left FloatFits bounds (f.cover ∷ []) h) at_bounds
+        ∙ floats-back bounds bounds_begin bs r5 (all_left FloatFits bounds (f.cover ∷ []) h) at_bounds
 
     cover-back : float_at (bounds_place bs + float_size * length bounds) bs ≡ f.cover
     unfolding All
     cover-back =
         ap₂ (λ (n m : ℕ). float_at (counts_size + number_size * (n + m) + float_size * length bounds) bs) own_count borrowed_count
-        ∙ float_back f.cover (at_bounds + float_size * length bounds) bs r6 (all_right FloatFits bounds (f.cover ∷ []) h).0 at-cover
+        ∙ float_back f.cover (bounds_begin + float_size * length bounds) bs r6 (all_right FloatFits bounds (f.cover ∷ []) h).0 at-cover
 
   domain-size : bounds_place bs + float_size * length bounds + float_size + number_size ≡ length (domain_bytes bounds f)
   domain-size =
