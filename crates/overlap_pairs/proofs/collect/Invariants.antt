@@ -7,7 +7,6 @@ use borrow.Author.Rules.{rules}
 use native.Mathlib.Omega.{arith}
 use Rattle.overlap_pairs.proofs.collect.Given as goal
 
-
 abbrev pub invariant-loop-p : goal.invariant-loop-p
 invariant-loop-p l = (l.p ≤ length l.active) × (length l.wholes ≡ length l.initial.wholes) × Collected l.dimensions l.points l.neighbours l.active l.initial.wholes l.p l.wholes l.n
 

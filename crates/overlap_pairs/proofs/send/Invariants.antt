@@ -6,7 +6,6 @@ use borrow.Author.Rules.{rules}
 use native.Mathlib.Omega.{arith}
 use Rattle.overlap_pairs.proofs.send.Given as goal
 
-
 abbrev pub invariant-loop-k : goal.invariant-loop-k
 invariant-loop-k l = (l.mine ≡ get_or l.initial.wholes l.p 0) × Sent l.near l.p l.initial.wholes l.n l.wholes l.w l.k
 

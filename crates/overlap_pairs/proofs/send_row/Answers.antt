@@ -21,7 +21,7 @@ nearest-count-requires c = let s = c in
 pub slice_bounds-send-end : goal.slice_bounds-send-end
 slice_bounds-send-end c = let s = c in
     let f = c.nearest-count in
-    let g : length f.new.near ≡ most_neighbours = c.near-2-1.given in
+    let g : length f.new.near ≡ most_neighbours = omega arith in
     sym (length-take-le f.result f.new.near (omega arith))
 
 pub send-requires : goal.send-requires
@@ -29,20 +29,20 @@ send-requires c = let s = c in
     let a = s.args in
     let f = c.nearest-count in
     let N = f.new.near in
-    let g : length N ≡ most_neighbours = c.near-2-1.given in
+    let g : length N ≡ most_neighbours = omega arith in
     let k : length (take f.result N) ≡ f.result = length-take-le f.result N (omega (arith, f.ensures.0)) in
-    row_room a.dimensions a.points.now a.neighbours a.active.now (get_or a.active.now a.p 0) a.p a.wholes.now a.n (take f.result N) (take f.result f.new.far.0) s.requires.3 s.requires.4 s.requires.5 s.requires.2 (omega (arith, f.ensures.0)) f.ensures.1
+    row_room a.dimensions a.points.now a.neighbours a.active.now (get_or a.active.now a.p 0) a.p a.wholes.now a.n (take f.result N) (take f.result f.new.far) s.requires.3 s.requires.4 s.requires.5 s.requires.2 (omega (arith, f.ensures.0)) f.ensures.1
 
 pub returns : goal.returns
 returns c = let s = c in
     let a = s.args in
     let f = c.nearest-count in
     let N = f.new.near in
-    let g : length N ≡ most_neighbours = c.near-2-1.given in
+    let g : length N ≡ most_neighbours = omega arith in
     let k : length (take f.result N) ≡ f.result = length-take-le f.result N (omega (arith, f.ensures.0)) in
     record {
       near = take f.result N;
-      far = take f.result f.new.far.0;
+      far = take f.result f.new.far;
       found = f.ensures.1;
       few = omega (
         arith,
