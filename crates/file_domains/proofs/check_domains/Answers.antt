@@ -14,16 +14,16 @@ pub check_domain-f-requires : goal.check_domain-f-requires
 check_domain-f-requires c = (c.requires.0, c.loop-i.invariant.1.within, c.loop-i.invariant.1.inside)
 
 pub returns-then-not-f : goal.returns-then-not-f
-returns-then-not-f c = λ p q a b. tested-bad _ _ _ _ _ _ _ _ _ _ _ _ _ _ _ c.loop-i.invariant.1 (search rules) _ _ _ c.check_domain-f.ensures c.if-not-f.true p q _ a b c.not_passed.ensures
+returns-then-not-f c = λ p q a b. tested-bad _ _ _ _ _ _ _ _ _ _ _ _ _ _ _ c.loop-i.invariant.1 (search rules) _ _ _ c.check_domain-f.ensures (not-true _ c.if-not-f.true) p q _ a b c.not_passed.ensures
 
 pub overflow_sub-remaining : goal.overflow_sub-remaining
-overflow_sub-remaining c = tested-enough _ _ _ _ _ _ _ _ _ _ _ _ _ _ _ c.loop-i.invariant.1 (search rules) _ _ _ c.check_domain-f.ensures c.if-not-f.false
+overflow_sub-remaining c = tested-enough _ _ _ _ _ _ _ _ _ _ _ _ _ _ _ c.loop-i.invariant.1 (search rules) _ _ _ c.check_domain-f.ensures (not-false _ c.if-not-f.false)
 
 pub overflow_add-borrowed : goal.overflow_add-borrowed
-overflow_add-borrowed c = omega (arith, tested-fits _ _ _ _ _ _ _ _ _ _ _ _ _ _ _ c.loop-i.invariant.1 (search rules) _ _ _ c.check_domain-f.ensures c.if-not-f.false)
+overflow_add-borrowed c = omega (arith, tested-fits _ _ _ _ _ _ _ _ _ _ _ _ _ _ _ c.loop-i.invariant.1 (search rules) _ _ _ c.check_domain-f.ensures (not-false _ c.if-not-f.false))
 
 pub loop-i-preserved : goal.loop-i-preserved
-loop-i-preserved c = (omega arith, tested-next _ _ _ _ _ _ _ _ _ _ _ _ _ _ _ c.loop-i.invariant.1 (search rules) _ _ _ c.check_domain-f.ensures c.if-not-f.false (search rules) (search rules))
+loop-i-preserved c = (omega arith, tested-next _ _ _ _ _ _ _ _ _ _ _ _ _ _ _ c.loop-i.invariant.1 (search rules) _ _ _ c.check_domain-f.ensures (not-false _ c.if-not-f.false) (search rules) (search rules))
 
 pub shape_of-left-then-remaining-ne0 : goal.shape_of-left-then-remaining-ne0
 shape_of-left-then-remaining-ne0 c = c.loop-i.invariant.1.left-length
