@@ -67,5 +67,5 @@ module _ {D A : Type 0} {leaf : ℕ} {K : Kind D leaf} {box : D → List A} {w :
   -- where it ends
   pub boxes-end : tail ≤ head → (ds : List D) → Boxes K box w final held out ds head tail k → out ≡ final
   unfolding joined columns
-  boxes-end h [] b = sym (put-nil out (w * k)) ∙ (rw K.Leaves-none at b.due)
+  boxes-end h [] b = sym (put-nil out (w * k)) ∙ (rw K.leaves_none at b.due)
   boxes-end h (d ∷ ds) b = let e : tail - head ≡ 0 = omega arith in absurd (nil≢cons (rw e at b.waiting))

@@ -311,7 +311,7 @@ pub state-end : {D : Type 0} {leaf : ℕ} {K : Kind D leaf} {base n endI endK : 
     → State K base n endI endK finalI finalO finalK rows I O [] ds head at k → (k ≡ finalK) × (I ≡ finalI) × (O ≡ finalO)
 unfolding joined with_own Holds
 state-end {K} {I} [] {at} st =
-    let e = K.Leaves-none in (omega (arith, rw e at st.out-K), sym (put-nil I at) ∙ (rw e at st.out-I), rw e at st.out-O)
+    let e = K.leaves_none in (omega (arith, rw e at st.out-K), sym (put-nil I at) ∙ (rw e at st.out-I), rw e at st.out-O)
 state-end (d ∷ ds) st = absurd st.holds
 
 -- each waiting stretch is to be cut once at least

@@ -19,9 +19,9 @@ pub put_root-requires : goal.put_root-requires
 put_root-requires c = let a = c in
     let p = a.requires in
     record {
-    dimensions_bound = (p.dimensions_nonzero.1, p.dimensions_nonzero.3, good-inside _ p.dimensions_nonzero.4);
-    waiting_width_in_bounds = (omega (arith, p.dimensions_nonzero.3, p.rows_in_bounds.0), omega (arith, width-most a.args.dimensions (length a.args.rows.now) p.dimensions_nonzero.3, p.rows_in_bounds.1));
-  }
+      dimensions_bound = (p.dimensions_nonzero.1, p.dimensions_nonzero.3, good-inside _ p.dimensions_nonzero.4);
+      waiting_width_in_bounds = (omega (arith, p.dimensions_nonzero.3, p.rows_in_bounds.0), omega (arith, width-most a.args.dimensions (length a.args.rows.now) p.dimensions_nonzero.3, p.rows_in_bounds.1));
+    }
 
 pub loop-head-init : goal.loop-head-init
 loop-head-init c = let r = c in
@@ -123,7 +123,7 @@ put_halves-requires c = let cut = c in
     let i = t.loop-head.invariant in
     let x = front i.0 t.loop-head-test.true in
     let u = known x in
-    let m = room-kept x cut.cut_stretch-plane.new.room.0 cut.cut_stretch-plane.auto.room in
+    let m = room-kept x cut.cut_stretch-plane.new.room cut.cut_stretch-plane.auto.room in
     (omega (arith, u.room-fit c.if-leaf-count.true, m, u.fit-w), omega (arith, u.inside, u.fit-w, i.1.same_w, i.1.cap-w))
 
 pub overflow_mul-stride-then-leaf-count : goal.overflow_mul-stride-then-leaf-count
@@ -156,7 +156,7 @@ loop-head-smaller-then-leaf-count c = let cut = c in
     let t = c in
     let i = t.loop-head.invariant in
     let x = front i.0 t.loop-head-test.true in
-    wait-less x cut.cut_stretch-plane.new.rows cut.cut_stretch-plane.new.room.0 cut.cut_stretch-plane.ensures.rows cut.cut_stretch-plane.auto.room
+    wait-less x cut.cut_stretch-plane.new.rows cut.cut_stretch-plane.new.room cut.cut_stretch-plane.ensures.rows cut.cut_stretch-plane.auto.room
     cut.cut_stretch-plane.result.axis cut.cut_stretch-plane.result.value (floats_of read.read_box-whole.result) read.read_box-whole.result.dimensions
     cut.cut_stretch-plane.ensures.plane.0 cut.cut_stretch-plane.ensures.plane.1 (rw i.2 at read.read_box-whole.ensures.1) read.read_box-whole.ensures.0
     c.if-leaf-count.true _ c.put_halves.ensures
@@ -170,8 +170,8 @@ loop-head-preserved-then-leaf-count c = let wrote = c in
     let i = t.loop-head.invariant in
     let x = front i.0 t.loop-head-test.true in
     let u = known x in
-    let m = room-kept x cut.cut_stretch-plane.new.room.0 cut.cut_stretch-plane.auto.room in (
-      wait x cut.cut_stretch-plane.new.rows cut.cut_stretch-plane.new.room.0 cut.cut_stretch-plane.ensures.rows cut.cut_stretch-plane.auto.room
+    let m = room-kept x cut.cut_stretch-plane.new.room cut.cut_stretch-plane.auto.room in (
+      wait x cut.cut_stretch-plane.new.rows cut.cut_stretch-plane.new.room cut.cut_stretch-plane.ensures.rows cut.cut_stretch-plane.auto.room
           cut.cut_stretch-plane.result.axis cut.cut_stretch-plane.result.value (floats_of read.read_box-whole.result) read.read_box-whole.result.dimensions
           cut.cut_stretch-plane.ensures.plane.0 cut.cut_stretch-plane.ensures.plane.1 (rw i.2 at read.read_box-whole.ensures.1) read.read_box-whole.ensures.0
           c.if-leaf-count.true _ put.put_halves.ensures _ (rw i.2 at wrote.write_halves.ensures),
@@ -192,7 +192,7 @@ copy_rows-requires c = let cut = c in
     let i = t.loop-head.invariant in
     let x = front i.0 t.loop-head-test.true in
     let u = known x in
-    let m = room-kept x cut.cut_stretch-plane.new.room.0 cut.cut_stretch-plane.auto.room in
+    let m = room-kept x cut.cut_stretch-plane.new.room cut.cut_stretch-plane.auto.room in
     let r = rows-kept x cut.cut_stretch-plane.new.rows cut.cut_stretch-plane.auto.rows in
     (omega (arith, r, u.inside, u.same), omega (arith, m, u.rows_fit, u.fit-w))
 
@@ -249,7 +249,7 @@ loop-head-smaller c = let cut = c in
     let t = c in
     let i = t.loop-head.invariant in
     let x = front i.0 t.loop-head-test.true in
-    next-leaves-less x cut.cut_stretch-plane.new.rows cut.cut_stretch-plane.new.room.0 cut.cut_stretch-plane.ensures.rows cut.cut_stretch-plane.auto.room
+    next-leaves-less x cut.cut_stretch-plane.new.rows cut.cut_stretch-plane.new.room cut.cut_stretch-plane.ensures.rows cut.cut_stretch-plane.auto.room
     cut.cut_stretch-plane.result.axis cut.cut_stretch-plane.result.value (floats_of read.read_box-whole.result) read.read_box-whole.result.dimensions
     cut.cut_stretch-plane.ensures.plane.0 cut.cut_stretch-plane.ensures.plane.1 (rw i.2 at read.read_box-whole.ensures.1) read.read_box-whole.ensures.0
     c.if-leaf-count.false _ c.copy_rows.ensures
@@ -264,8 +264,8 @@ loop-head-preserved c = let wrote = c in
     let i = t.loop-head.invariant in
     let x = front i.0 t.loop-head-test.true in
     let u = known x in
-    let m = room-kept x cut.cut_stretch-plane.new.room.0 cut.cut_stretch-plane.auto.room in (
-      next-leaves x cut.cut_stretch-plane.new.rows cut.cut_stretch-plane.new.room.0 cut.cut_stretch-plane.ensures.rows cut.cut_stretch-plane.auto.room
+    let m = room-kept x cut.cut_stretch-plane.new.room cut.cut_stretch-plane.auto.room in (
+      next-leaves x cut.cut_stretch-plane.new.rows cut.cut_stretch-plane.new.room cut.cut_stretch-plane.ensures.rows cut.cut_stretch-plane.auto.room
           cut.cut_stretch-plane.result.axis cut.cut_stretch-plane.result.value (floats_of read.read_box-whole.result) read.read_box-whole.result.dimensions
           cut.cut_stretch-plane.ensures.plane.0 cut.cut_stretch-plane.ensures.plane.1 (rw i.2 at read.read_box-whole.ensures.1) read.read_box-whole.ensures.0
           c.if-leaf-count.false _ packed.copy_rows.ensures _ _ named.put_leaves.ensures (rw i.2 at wrote.write_halves-else-leaf-count.ensures),
@@ -292,10 +292,10 @@ returns c = let a = c in
     found_all _ _ p.dimensions_nonzero.0 p.dimensions_nonzero.1 _ p.dimensions_nonzero.2 _ p.dimensions_nonzero.3 p.dimensions_nonzero.4 a.args.wholes.now _ a.args.floats.now _ p.rows_in_bounds.0 p.rows_in_bounds.1
     root.wholes root.floats _ _ l.tail r.begun r.found-w r.found-floats in
     let back = c.copy_rows-2 in record {
-    number = omega (arith, en.0);
-    rows = back.ensures ∙ put_whole l.rows _ (omega (arith, r.same, packed-length (length a.args.rows.now) l.wholes r.fit-w)) ∙ en.1;
-    domains = en.2;
-    boxes = en.3;
-    floats = rw e found.1;
-    wholes = rw e found.0;
-  }
+      number = omega (arith, en.0);
+      rows = back.ensures ∙ put_whole l.rows _ (omega (arith, r.same, packed-length (length a.args.rows.now) l.wholes r.fit-w)) ∙ en.1;
+      domains = en.2;
+      boxes = en.3;
+      floats = rw e found.1;
+      wholes = rw e found.0;
+    }

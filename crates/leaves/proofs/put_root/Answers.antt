@@ -7,6 +7,6 @@ returns c = let boxed = c in
     let measured = boxed in
     let second = measured in
     record {
-    floats = rw measured.get_pointarray_extents.ensures.1 at boxed.write_box.ensures;
-    wholes = second.put_waiting.ensures;
-  }
+      floats = rw measured.get_pointarray_extents.ensures.1 at boxed.write_box.ensures;
+      wholes = second.put_waiting.ensures;
+    }
