@@ -1,0 +1,5 @@
+-- The number gets shorter. Assumes nothing.
+use Rattle.print_texts.proofs.+write_decimal.Given as goal
+
+abbrev pub decreases-write_decimal : goal.decreases-write_decimal
+decreases-write_decimal l = l.n
