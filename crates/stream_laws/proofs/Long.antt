@@ -152,7 +152,8 @@ module _ (d : ℕ) (cs : List Float) where
       ⊎_elim
       (λ (big : 2 * leaf ≤ length q.rows). rw (queue-wait d cs leaf fuel q qs big, next)
       (queue-deep leaf fuel (suc e) (qs ++ left_of d cs q ∷ right_of d cs q ∷ []) more))
-      (λ (small : length q.rows < 2 * leaf). rw (queue-done d cs leaf fuel q qs small, next) (omega arith, (omega arith, queue-deep leaf fuel (suc e) qs rest)))
+      (λ (small : length q.rows < 2 * leaf). rw (queue-done d cs leaf fuel q qs small)
+      (omega arith, (omega arith, all-imp (Within (suc e + fuel)) (Within (e + suc fuel)) (queue_leaves d cs leaf fuel qs) (λ q u. omega arith) (queue-deep leaf fuel (suc e) qs rest))))
       (le-or-lt (2 * leaf) (length q.rows))
 
   leaves-deep : (leaf : ℕ) (active : List ℕ) → length active ≤ stream_points → All (λ (q : Domain). q.depth < 100) (leaves_of d cs leaf active)
