@@ -10,35 +10,34 @@ use Rattle.overlaps.proofs.lend.Goals as goal
 
 pub slice_bounds-write_rows-end-2 : goal.slice_bounds-write_rows-end-2
 slice_bounds-write_rows-end-2 c = let f = c.order_once-count in
-    sym (length-take-le f.result f.new.codes.0 (omega (arith, f.ensures.0, c.codes-1.given)))
+    sym (length-take-le f.result f.new.codes (omega (arith, f.ensures.0)))
 
 pub write_rows-requires : goal.write_rows-requires
 write_rows-requires c = let s = c in
     let a = s.args in
     let f = c.order_once-count in (
       omega (arith, f.ensures.1.short, s.requires.3),
-      distinct-inside a.codes.now (take f.result f.new.codes.0) (length a.active.now) f.ensures.1 s.requires.4,
+      distinct-inside a.codes.now (take f.result f.new.codes) (length a.active.now) f.ensures.1 s.requires.4,
     )
 
 pub slice_bounds-write_columns-end-2 : goal.slice_bounds-write_columns-end-2
 slice_bounds-write_columns-end-2 c = let f = c.order_once-count in
-    sym (length-take-le f.result f.new.codes.0 (omega
-    (arith, f.ensures.0, c.codes-1.given)))
+    sym (length-take-le f.result f.new.codes (omega
+    (arith, f.ensures.0)))
 
 pub returns : goal.returns
 returns c = let s = c in
     let a = s.args in
     let f = c.order_once-count in
-    let N = take f.result f.new.codes.0 in
-    let e : length N ≡ f.result = length-take-le f.result f.new.codes.0 (omega (
+    let N = take f.result f.new.codes in
+    let e : length N ≡ f.result = length-take-le f.result f.new.codes (omega (
       arith,
       f.ensures.0,
-      c.codes-1.given,
     )) in record {
-    number = λ ls H. sym e ∙ distinct-length a.m (length a.active.now) s.pre.0 a.codes.now ls H N f.ensures.1;
-    rows = λ ls H. c.write_rows.ensures ∙ ap (put a.borrowed.now a.bat) (distinct-rows a.m (length
-            a.active.now) s.pre.0 a.codes.now ls H N f.ensures.1 a.active.now);
-    columns = λ ls H. c.write_columns.ensures ls
-              (small-lists a.m (length a.active.now) s.pre.0 a.codes.now ls H) (distinct-codes a.m (length a.active.now) s.pre.0 a.codes.now ls H N f.ensures.1);
-    most = f.ensures.0;
-  }
+      number = λ ls H. sym e ∙ distinct-length a.m (length a.active.now) s.requires.0 a.codes.now ls H N f.ensures.1;
+      rows = λ ls H. c.write_rows.ensures ∙ ap (put a.borrowed.now a.bat) (distinct-rows a.m (length
+          a.active.now) s.requires.0 a.codes.now ls H N f.ensures.1 a.active.now);
+      columns = λ ls H. c.write_columns.ensures ls
+          (small-lists a.m (length a.active.now) s.requires.0 a.codes.now ls H) (distinct-codes a.m (length a.active.now) s.requires.0 a.codes.now ls H N f.ensures.1);
+      most = f.ensures.0;
+    }

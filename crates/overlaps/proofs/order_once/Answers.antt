@@ -10,6 +10,6 @@ pub returns : goal.returns
 returns c = let old = c.args.codes.now in
     let f = c.drop_repeats in
     let g = c.sort in (
-      omega (arith, f.ensures.0, same_size g.new.list.0 old g.ensures.1),
-      same-distinct old g.new.list.0 (take f.result f.new.codes.0) g.ensures.1 f.ensures.1,
+      omega (arith, f.ensures.0, same_size g.new.list old g.ensures.1),
+      same-distinct old g.new.list (take f.result f.new.codes) g.ensures.1 f.ensures.1,
     )

@@ -15,8 +15,8 @@ unfolding part
 collect-end-requires c = let s = c in
     let a = s.args in
     let f = c.owners in
-    let W = f.new.wholes.0 in
-    let e : length W ≡ length a.wholes.now = c.wholes-1.given in (
+    let W = f.new.wholes in
+    let e : length W ≡ length a.wholes.now = omega arith in (
       s.requires.stage.rows,
       s.requires.stage.near,
       stage-owners a.dimensions a.points.now a.neighbours a.active.now a.internals.now a.domains.now a.first a.m s.requires.stage W f.ensures (omega (arith, s.requires.neighbours_in_bounds.0)),
@@ -34,23 +34,23 @@ unfolding part
 lend-requires c = let s = c in
     let a = s.args in
     let f = c.owners in
-    let W = f.new.wholes.0 in
-    let e : length W ≡ length a.wholes.now = c.wholes-1.given in
+    let W = f.new.wholes in
+    let e : length W ≡ length a.wholes.now = omega arith in
     let g = c.collect-end in
-    let U = g.new.wholes.0 in
-    let k : length U ≡ length W = c.wholes-2-1.given in
-    let h : length a.active.now ≤ length W = omega (arith, s.pre.1.0) in
-    let r : length a.active.now + 2 * length a.active.now * (a.neighbours + 1) ≤ length U = omega (arith, e, k, s.pre.1.0) in (
-      s.pre.0.few,
-      s.pre.0.leaf_few,
-      s.pre.0.leaves.rows,
+    let U = g.new.wholes in
+    let k : length U ≡ length W = omega arith in
+    let h : length a.active.now ≤ length W = omega (arith, s.requires.neighbours_in_bounds.0) in
+    let r : length a.active.now + 2 * length a.active.now * (a.neighbours + 1) ≤ length U = omega (arith, e, k, s.requires.neighbours_in_bounds.0) in (
+      s.requires.stage.few,
+      s.requires.stage.leaf_few,
+      s.requires.stage.leaves.rows,
       omega (
         arith,
         stage-length a.dimensions a.points.now a.neighbours
-            a.active.now a.internals.now a.domains.now a.first a.m s.pre.0 W f.ensures h U g.result g.ensures r,
-        s.pre.1.1,
+            a.active.now a.internals.now a.domains.now a.first a.m s.requires.stage W f.ensures h U g.result g.ensures r,
+        s.requires.neighbours_in_bounds.1,
       ),
-      stage-inside a.dimensions a.points.now a.neighbours a.active.now a.internals.now a.domains.now a.first a.m s.pre.0
+      stage-inside a.dimensions a.points.now a.neighbours a.active.now a.internals.now a.domains.now a.first a.m s.requires.stage
           W f.ensures h U g.result g.ensures r,
     )
 
@@ -60,24 +60,24 @@ returns c = let s = c in
     let a = s.args in
     let f = c.owners
     in
-    let W = f.last.1.1.1.1.1.0 in
-    let e : length W ≡ length a.wholes.now = c.wholes-1.given in
+    let W = f.new.wholes in
+    let e : length W ≡ length a.wholes.now = omega arith in
     let g = c.collect-end in
-    let U = g.new.wholes.0 in
-    let k : length U ≡ length W = c.wholes-2-1.given in
-    let h : length a.active.now ≤ length W = omega (arith, s.pre.1.0) in
-    let r : length a.active.now + 2 * length a.active.now * (a.neighbours + 1) ≤ length U = omega (arith, e, k, s.pre.1.0) in
+    let U = g.new.wholes in
+    let k : length U ≡ length W = omega arith in
+    let h : length a.active.now ≤ length W = omega (arith, s.requires.neighbours_in_bounds.0) in
+    let r : length a.active.now + 2 * length a.active.now * (a.neighbours + 1) ≤ length U = omega (arith, e, k, s.requires.neighbours_in_bounds.0) in
     let ls = positions_of a.dimensions a.points.now a.neighbours a.active.now (read_own a.internals.now a.domains.now a.first
     a.m) in
     let l = c.lend in
-    let H = stage-encoded a.dimensions a.points.now a.neighbours a.active.now a.internals.now a.domains.now a.first a.m s.pre.0 W f.ensures h U g.result g.ensures r in record {
-    number = stage-number a.dimensions a.points.now a.neighbours a.active.now a.internals.now a.domains.now a.first a.m s.pre.0 W f.ensures h U g.result g.ensures r l.result (l.ensures.number ls H);
-    borrowed = stage-borrowed a.dimensions a.points.now a.neighbours a.active.now a.internals.now a.domains.now a.first a.m s.pre.0 W f.ensures h U g.result g.ensures r a.borrowed.now l.new.borrowed a.bat (l.ensures.rows ls H);
-    domains = stage-domains a.dimensions a.points.now a.neighbours a.active.now a.internals.now a.domains.now a.first a.m s.pre.0 W f.ensures h U g.result g.ensures r l.new.domains
-              a.bat (l.ensures.columns ls H);
-    most = omega (
-            arith,
-            l.ensures.most,
-            stage-length a.dimensions a.points.now a.neighbours a.active.now a.internals.now a.domains.now a.first a.m s.pre.0 W f.ensures h U g.result g.ensures r,
-          );
-  }
+    let H = stage-encoded a.dimensions a.points.now a.neighbours a.active.now a.internals.now a.domains.now a.first a.m s.requires.stage W f.ensures h U g.result g.ensures r in record {
+      number = stage-number a.dimensions a.points.now a.neighbours a.active.now a.internals.now a.domains.now a.first a.m s.requires.stage W f.ensures h U g.result g.ensures r l.result (l.ensures.number ls H);
+      borrowed = stage-borrowed a.dimensions a.points.now a.neighbours a.active.now a.internals.now a.domains.now a.first a.m s.requires.stage W f.ensures h U g.result g.ensures r a.borrowed.now l.new.borrowed a.bat (l.ensures.rows ls H);
+      domains = stage-domains a.dimensions a.points.now a.neighbours a.active.now a.internals.now a.domains.now a.first a.m s.requires.stage W f.ensures h U g.result g.ensures r l.new.domains
+          a.bat (l.ensures.columns ls H);
+      most = omega (
+        arith,
+        l.ensures.most,
+        stage-length a.dimensions a.points.now a.neighbours a.active.now a.internals.now a.domains.now a.first a.m s.requires.stage W f.ensures h U g.result g.ensures r,
+      );
+    }

@@ -9,7 +9,6 @@ use native.Mathlib.Omega.{arith}
 use Rattle.rows.specs.Rows.{most_leaves}
 use Rattle.overlaps.proofs.write_columns.Given as goal
 
-
 abbrev pub invariant-loop-leaf : goal.invariant-loop-leaf
 invariant-loop-leaf l = (l.leaf ≤ l.m) × (l.s ≤ length l.codes) × (length l.domains ≡ length l.initial.domains) × ((ls : List (List ℕ)) → Positions l.m most_leaves ls → l.codes ≡ codes_from 0 ls → Columned l.codes l.first l.bat l.initial.domains l.domains l.leaf l.s ls)
 

@@ -26,10 +26,10 @@ bounds-borrowed-bat c = let p = c.requires.0 in omega arith
 
 pub loop-k-preserved : goal.loop-k-preserved
 loop-k-preserved c = let s = c in (
-      omega arith,
-      search rules,
-      coded-more s.args.codes.now s.args.active.now s.args.borrowed.now s.args.bat s.requires.0 c.loop-k.borrowed c.loop-k.k c.loop-k-test.true c.loop-k.invariant.2,
-    )
+  omega arith,
+  search rules,
+  coded-more s.args.codes.now s.args.active.now s.args.borrowed.now s.args.bat s.requires.0 c.loop-k.borrowed c.loop-k.k c.loop-k-test.true c.loop-k.invariant.2,
+)
 
 pub shape_of-borrowed : goal.shape_of-borrowed
 shape_of-borrowed c = c.loop-k.invariant.1
