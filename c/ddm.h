@@ -1,5 +1,5 @@
 /* The proved tree construction of Rekvashu, for C and C++ callers: every function of the library, over lists that the caller lends.
- * ddm_tree.h lends the lists itself and is what most callers want. Link libddm_c.a (made by `rt staticlib ddm_c`) or libddm_c.so
+ * ddm_tree.h lends the lists itself and is what most callers want. Link libddm_c.a (made by `tools/build.sh ddm_c`) or libddm_c.so
  * (c/shared.sh, c/install.sh).
  *
  * No function has a precondition beyond this: each pointer comes with the number of entries that stand behind it, and no two of a

@@ -11,7 +11,7 @@ set -eu
 [ $# -eq 1 ] && [ -n "$1" ] || { echo "use: c/install.sh PREFIX" >&2; exit 2; }
 here=$(cd "$(dirname "$0")" && pwd)
 archive=${REKVASHU_LIB:-$here/../target/staticlib}/libddm_c.a
-[ -f "$archive" ] || { echo "c/install.sh: $archive is not there: make it by 'rt staticlib ddm_c'" >&2; exit 1; }
+[ -f "$archive" ] || { echo "c/install.sh: $archive is not there: make it by 'tools/build.sh ddm_c'" >&2; exit 1; }
 
 number=$(sed -n 's/^#define DDM_VERSION \([0-9]*\)$/\1/p' "$here/ddm.h")
 major=$((number / 10000))

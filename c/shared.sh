@@ -19,7 +19,7 @@ for tool in "${CC:-cc}" nm; do
     command -v "$tool" > /dev/null 2>&1 || cannot "there is no '$tool' on this machine"
 done
 [ "$(uname -s) $(uname -m)" = "Linux x86_64" ] || cannot "the library is for Linux on x86-64, and this machine is $(uname -s) $(uname -m)"
-[ -f "$archive" ] || cannot "$archive is not there: make it by 'rt staticlib ddm_c'"
+[ -f "$archive" ] || cannot "$archive is not there: make it by 'tools/build.sh ddm_c'"
 
 names=$(mktemp)
 trap 'rm -f "$names"' EXIT

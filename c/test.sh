@@ -27,7 +27,7 @@ there "$cc" || { skipped "there is no C compiler ('$cc'), so nothing was compile
 [ "$(uname -m)" = x86_64 ] || { skipped "the static library is for x86-64, and this machine is $(uname -m)"; exit 0; }
 if [ ! -f "$lib" ]; then
     there rt || failed "$lib is not there, and no 'rt' to make it"
-    rt staticlib ddm_c
+    tools/build.sh ddm_c
 fi
 
 made=$(mktemp -d)

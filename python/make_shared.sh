@@ -7,7 +7,7 @@ set -eu
 cd "$(dirname "$0")/.."
 if [ ! -f "${REKVASHU_LIB:-target/staticlib}/libddm_c.a" ]; then
     command -v rt > /dev/null 2>&1 || { echo "python/make_shared.sh: there is no libddm_c.a, and no 'rt' to make it" >&2; exit 1; }
-    rt staticlib ddm_c
+    tools/build.sh ddm_c
 fi
 c/shared.sh target/shared/libddm_c.so
 echo "made target/shared/libddm_c.so"

@@ -1,4 +1,4 @@
-//! Finds the static library that `rt staticlib ddm_c` writes (and, for the figures, that of ddm_stages): target/staticlib of the
+//! Finds the static library that `tools/build.sh ddm_c` writes (and, for the figures, that of ddm_stages): target/staticlib of the
 //! repository, or the folder that REKVASHU_LIB names. `cargo check` and `cargo doc` link nothing and do without it, so that a library
 //! that isn't there is a warning here, and an error of whatever is linked.
 use std::path::PathBuf;
@@ -17,7 +17,7 @@ fn main() {
     println!("cargo:rustc-link-lib=static=ddm_c");
     if !library.exists() {
         println!("cargo:warning={} is not there, so nothing can be linked; check and doc work all the same", library.display());
-        println!("cargo:warning=make it by `rt staticlib ddm_c` in the repository, or name its folder in REKVASHU_LIB");
+        println!("cargo:warning=make it by `tools/build.sh ddm_c` in the repository, or name its folder in REKVASHU_LIB");
     }
     let target = |key: &str| std::env::var(key).unwrap_or_default();
     if target("CARGO_CFG_TARGET_ARCH") != "x86_64" || target("CARGO_CFG_TARGET_OS") != "linux" {

@@ -20,13 +20,12 @@ esac
 made=$(mktemp -d)
 trap 'rm -rf "$made"' EXIT
 
-# Gives the copy $1 the crate of its rust/stages, which cites the crates that its text names, and what is proved here already.
+# Gives the copy $1 the crate of its rust/stages, which cites the crates that its text names.
 add_stages() {
-    if [ -d target ]; then cp -r target "$1"; fi
     mkdir -p "$1/crates/ddm_stages/src"
     cp "$1/rust/stages/lib.rt.txt" "$1/crates/ddm_stages/src/lib.rt"
-    cited=$(sed -n 's/.*Rattle·\([a-z0-9_]*\)\..*/\1/p; s/^ *\([a-z0-9_]*\)::.*/\1/p' "$1/rust/stages/lib.rt.txt" | sort -u | tr '\n' ' ')
-    echo "ddm_stages: $cited" >> "$1/crates.txt"
+    cited=$(sed -n 's/.*Rattle\.\([a-z0-9_]*\)\..*/\1/p; s/^ *\([a-z0-9_]*\)::.*/\1/p' "$1/rust/stages/lib.rt.txt" | grep -v '^std$' | sort -u | tr '\n' ' ')
+    echo "ddm_stages staticlib: $cited" >> "$1/crates.txt"
 }
 
 # The shared library $made/$1_$2.so out of the archive of the crate $2 in the copy $1.
@@ -44,19 +43,19 @@ run() {
 }
 
 mkdir -p "$made/now/rust"
-cp -r crates crates.txt "$made/now"
+cp -r crates crates.txt tools "$made/now"
 cp -r rust/stages "$made/now/rust"
 add_stages "$made/now"
-(cd "$made/now" && rt staticlib ddm_c && rt staticlib ddm_stages)
+(cd "$made/now" && tools/build.sh ddm_c ddm_stages)
 if [ -z "$against" ]; then
     run "$figures"
 else
     mkdir "$made/before"
-    git archive -o "$made/before.tar" "$against" crates crates.txt rust/stages c/ddm.h
+    git archive -o "$made/before.tar" "$against" crates crates.txt tools rust/stages c/ddm.h
     tar -xf "$made/before.tar" -C "$made/before"
     version=$(sed -n 's/^#define DDM_VERSION \([0-9]*\)$/\1/p' "$made/before/c/ddm.h")
     add_stages "$made/before"
-    (cd "$made/before" && rt staticlib ddm_c && rt staticlib ddm_stages)
+    (cd "$made/before" && tools/build.sh ddm_c ddm_stages)
     for copy in before now; do
         share "$copy" ddm_c
         share "$copy" ddm_stages

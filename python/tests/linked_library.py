@@ -15,7 +15,7 @@ def linked():
     """A shared library linked from the archive: its path, or why there is none."""
     archive = os.path.join(os.environ.get("REKVASHU_LIB", os.path.join(ROOT, "target", "staticlib")), "libddm_c.a")
     if not os.path.exists(archive):
-        return None, f"{archive} is not there: 'rt staticlib ddm_c' makes it"
+        return None, f"{archive} is not there: 'tools/build.sh ddm_c' makes it"
     folder = tempfile.TemporaryDirectory()
     atexit.register(folder.cleanup)
     path = os.path.join(folder.name, "libddm_c.so")

@@ -67,7 +67,7 @@ class Loading(unittest.TestCase):
         self.assertEqual(run("c/shared.sh").returncode, 2)
         done = run("c/shared.sh", "/nowhere/at/all.so", REKVASHU_LIB="/nowhere")
         self.assertEqual(done.returncode, 1)
-        self.assertIn("rt staticlib ddm_c", done.stderr)
+        self.assertIn("tools/build.sh ddm_c", done.stderr)
 
 
 if __name__ == "__main__":

@@ -21,6 +21,6 @@ fn check_and_doc_run_and_a_build_explains_itself() {
     let out = cargo(&["build"], &target);
     let said = String::from_utf8_lossy(&out.stderr);
     assert!(!out.status.success());
-    assert!(said.contains("libddm_c.a is not there") && said.contains("make it by `rt staticlib ddm_c`"), "{said}");
+    assert!(said.contains("libddm_c.a is not there") && said.contains("make it by `tools/build.sh ddm_c`"), "{said}");
     assert!(!said.contains("panicked") && !said.contains("backtrace"), "{said}");
 }

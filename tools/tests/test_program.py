@@ -56,7 +56,7 @@ def piped(lumps):
     return written.decode(), said.decode()
 
 
-@unittest.skipUnless(NAMED or os.access(PROGRAM, os.X_OK), "target/bin/ddm_tree is not built: rt check ddm_tree builds it")
+@unittest.skipUnless(NAMED or os.access(PROGRAM, os.X_OK), "target/bin/ddm_tree is not built: tools/build.sh ddm_tree builds it")
 class Program(unittest.TestCase):
     def answers(self, data, lumps):
         out, err = piped(lumps)
