@@ -1,15 +1,15 @@
--- `printing::print_first` is safe and ends. Assumes nothing.
-use Prim.Native.Nat.{◌≤◌, ◌-◌}
-use native.Mathlib.Omega.{arith}
-use lib.ListN.{length}
-use borrow.Author.Tests.{ltb-true, ltb-false}
-use borrow.Author.Rules.{rules}
+-- `printing::print_first` meets its contract. Assumes nothing.
+use Rattle.std.proofs.Common.{rules, subst}
+use Rattle.std.specs.Io.KnownBytes.{Appends}
+use Rattle.std.proofs.KnownBytes.{Appends-nil, Appends-trans}
+use Rattle.printing.specs.Texts.{numbers_text}
+use Rattle.printing.proofs.Numbers.{numbers-more}
 use Rattle.printing.proofs.print_first.Goals as goal
 
-pub loop-i-preserved : goal.loop-i-preserved
-loop-i-preserved c = let h = ltb-true c.loop-i.i c.args.most c.if-i-most.true in
-    (search rules, omega arith)
+pub loop-i-init : goal.loop-i-init
+unfolding numbers_text
+loop-i-init g c = (search rules, search rules, Appends-nil _)
 
-pub returns-else-i-most : goal.returns-else-i-most
-returns-else-i-most c = let h = ltb-false c.loop-i.i c.args.most c.if-i-most.false in
-    omega (arith, c.loop-i.invariant.0, c.loop-i.invariant.1)
+pub loop-i-preserved : goal.loop-i-preserved
+loop-i-preserved g c =
+    (search rules, search rules, subst (Appends _ _) (numbers-more c.args.list.now c.loop-i.i (search rules)) (Appends-trans _ _ _ _ _ c.loop-i.invariant.2 c.in_ok-print_number.ensures))
