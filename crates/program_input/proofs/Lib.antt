@@ -1,3 +1,2 @@
--- What a read's answer says, and where reading stands.
-pub mod Answers
+-- Where reading stands.
 pub mod Fronts

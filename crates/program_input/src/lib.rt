@@ -1,9 +1,12 @@
-// What the programs read: a file descriptor's bytes up to a list's room, and what the input may be when this much of it was read.
+// What the programs read: a reader's bytes up to a list's room, and what the input may be when this much of it was read.
 #![tactic(auto)]
 
-ghost use Rattle.std.specs.Prelude.{◌≡◌, ◌-◌, ◌≤◌, length, take};
-ghost use Rattle.libc.specs.Io.{Moved};
-ghost use Rattle.program_input.specs.Input.{front_after_lem, Stopped};
+ghost use Rattle.std.specs.Prelude.{◌≡◌, ◌-◌, ◌≤◌, length, take, drop, IfOk, IfSome, IsSome};
+ghost use Rattle.std.specs.Io.KnownBytes.{Consumes, ReadConsumes};
+ghost use Rattle.program_input.specs.Input.{front_after_lem, Stopped, MayBe};
+
+use std::io;
+use std::io::Read;
 
 // Where reading stands: so many bytes were read and the end was not seen, the input ended after so many, or a read failed.
 #[derive(Clone, Copy)]
@@ -14,40 +17,42 @@ pub enum Front {
 }
 
 // One read, to the bytes from `done` on. Those before them stay.
-fn read_lump(fd: i32, input: &mut [u8], done: usize) -> isize
+fn read_lump<R: Read>(reader: &mut R, input: &mut [u8], done: usize) -> io::Result<usize>
     requires { done ≤ length input.old }
-    ensures moved { Moved (length input.old - done) result }
+    ensures moved { IfOk result (λ n. n ≤ length input.old - done) }
     ensures stays { take done input.new ≡ take done input.old }
+    ensures bytes { ReadConsumes (R.remaining reader.old) (R.remaining reader.new) result (drop done input.new) }
 {
-    libc::read(fd, &mut input[done..])
+    reader.read(&mut input[done..])
 }
 
 // Where reading stands after a read that answered `got`.
-fn front_after(got: isize, done: usize, input: &[u8]) -> Front
-    requires { (done ≤ length input.now) × Moved (length input.now - done) got }
-    ensures { result ≡ front_after_lem done got }
+fn front_after(got: &io::Result<usize>, done: usize, input: &[u8]) -> Front
+    requires { (done ≤ length input.now) × IfOk got.now (λ n. n ≤ length input.now - done) }
+    ensures { result ≡ front_after_lem done got.now }
 {
-    if got < 0 {
-        return Front::Failed;
+    match *got {
+        Ok(0) => Front::Ended(done),
+        Ok(n) => Front::Open(done + n),
+        Err(_) => Front::Failed,
     }
-    if got == 0 {
-        return Front::Ended(done);
-    }
-    Front::Open(done + got as usize)
 }
 
-// Reads until `input` is full, the input ends or a read fails.
-pub fn read_input(fd: i32, input: &mut [u8]) -> Front
-    ensures { Stopped (length input.new) result }
+// Reads until `input` is full, the input ends or a read fails, and then the error is beside the front. Where the bytes that the reader has
+// left are known, they are a stream that the input may be.
+pub fn read_input<R: Read>(reader: &mut R, input: &mut [u8]) -> (Front, Option<io::Error>)
+    ensures stopped { Stopped (length input.new) result.0 }
+    ensures bytes { IfSome (R.remaining reader.old) (λ stream. MayBe result.0 input.new stream) }
+    ensures error { result.0 ≡ Front.Failed → IsSome result.1 }
 {
     let mut done = 0;
     while done < input.len() {
-        let got = read_lump(fd, input, done);
-        let front = front_after(got, done, input);
+        let got = read_lump(reader, input, done);
+        let front = front_after(&got, done, input);
         let Front::Open(n) = front else {
-            return front;
+            return (front, got.err());
         };
         done = n;
     }
-    Front::Open(done)
+    (Front::Open(done), None)
 }
