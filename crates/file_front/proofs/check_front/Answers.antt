@@ -20,9 +20,9 @@ pub returns-then-not-record_at : goal.returns-then-not-record_at
 returns-then-not-record_at c = let bs = c.args.bytes.now in
     let stands : whole head_mark head_size bs ≡ false = sym c.record_at.ensures ∙ c.if-not-record_at.true in
     record {
-    good = c.no_front.ensures ∙ head-broken bs stands;
-    read = λ t. clash t c.no_front.ensures;
-  }
+      good = c.no_front.ensures ∙ head-broken bs stands;
+      read = λ t. clash t c.no_front.ensures;
+    }
 
 pub policy_fits-requires : goal.policy_fits-requires
 policy_fits-requires c = let bs = c.args.bytes.now in
@@ -34,9 +34,9 @@ returns-then-not-policy_fits c = let bs = c.args.bytes.now in
     let stands : whole head_mark head_size bs ≡ true = sym c.record_at.ensures ∙ c.if-not-record_at.false in
     let fits : policy_fits_lem bs ≡ false = sym c.policy_fits.ensures ∙ c.if-not-policy_fits.true in
     record {
-    good = c.no_front-then-not-policy_fits.ensures ∙ policy-broken bs stands fits;
-    read = λ t. clash t c.no_front-then-not-policy_fits.ensures;
-  }
+      good = c.no_front-then-not-policy_fits.ensures ∙ policy-broken bs stands fits;
+      read = λ t. clash t c.no_front-then-not-policy_fits.ensures;
+    }
 
 pub settings_of-settings-requires : goal.settings_of-settings-requires
 settings_of-settings-requires c = let bs = c.args.bytes.now in
@@ -56,9 +56,9 @@ returns-then-not-head_passes c = let bs = c.args.bytes.now in
     let n = c.number_at-n in
     let refused = sym c.head_passes.ensures ∙ c.if-not-head_passes.true in
     record {
-    good = c.no_front-then-not-head_passes.ensures ∙ head-refused bs stands fits (settings_are settings.result) n.result settings.ensures n.ensures.0 refused;
-    read = λ t. clash t c.no_front-then-not-head_passes.ensures;
-  }
+      good = c.no_front-then-not-head_passes.ensures ∙ head-refused bs stands fits (settings_are settings.result) n.result settings.ensures n.ensures.0 refused;
+      read = λ t. clash t c.no_front-then-not-head_passes.ensures;
+    }
 
 pub points_pass-good-requires : goal.points_pass-good-requires
 points_pass-good-requires c = let bs = c.args.bytes.now in
@@ -89,6 +89,6 @@ returns c = let bs = c.args.bytes.now in
     let takes = sym c.head_passes.ensures ∙ c.if-not-head_passes.false in
     let good = points-decide bs stands fits (settings_are settings.result) n.result settings.ensures n.ensures.0 takes points.result points.ensures in
     record {
-    good = good;
-    read = λ t. front_read points.result settings.result n.result c.point_size.result bs settings.ensures n.ensures.0 c.point_size.ensures (sym t ∙ good);
-  }
+      good = good;
+      read = λ t. front_read points.result settings.result n.result c.point_size.result bs settings.ensures n.ensures.0 c.point_size.ensures (sym t ∙ good);
+    }
