@@ -17,10 +17,10 @@ check_levels-t-requires c = let a = c in
     (a.requires.0, a.requires.1, a.requires.3, search rules, c.mark_below.ensures)
 
 pub returns-then-not-t : goal.returns-then-not-t
-returns-then-not-t c = λ s d k. levels-fail _ _ _ _ _ c.check_levels-t.ensures s d _ k c.if-not-t.true
+returns-then-not-t c = λ s d k. levels-fail _ _ _ _ _ c.check_levels-t.ensures s d _ k (not-true _ c.if-not-t.true)
 
 pub returns-then-n-t : goal.returns-then-n-t
-returns-then-n-t c = λ s d k. domains-fail _ _ _ _ _ c.check_levels-t.ensures s d _ k c.if-not-t.false c.if-n-t.true
+returns-then-n-t c = λ s d k. domains-fail _ _ _ _ _ c.check_levels-t.ensures s d _ k (not-false _ c.if-not-t.false) c.if-n-t.true
 
 pub overflow_mul-result-2 : goal.overflow_mul-result-2
 overflow_mul-result-2 c = let a = c.args in
@@ -29,4 +29,4 @@ overflow_mul-result-2 c = let a = c.args in
     omega (arith, mul-le-mul rows each)
 
 pub returns : goal.returns
-returns c = λ s d k. borrowed-decide _ _ _ _ _ c.check_levels-t.ensures s d _ k c.if-not-t.false c.if-n-t.false
+returns c = λ s d k. borrowed-decide _ _ _ _ _ c.check_levels-t.ensures s d _ k (not-false _ c.if-not-t.false) c.if-n-t.false
