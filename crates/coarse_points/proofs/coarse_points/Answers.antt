@@ -26,9 +26,9 @@ send_leaves-end-requires c = let s = c in
     let a = s.args in
     let p = s.requires in
     let n = length_part a.level_points.now a.from a.a (omega (arith, p.room.1)) in record {
-    leaves = leaves-fit _ _ _ _ _ _ _ p.rows a.size (omega (arith, n, p.room.0)) _ (omega (arith, p.room.2)) c.leaf_quotas.ensures _ _ _ p.room.1 (omega (arith, n));
-    room = p.room.3;
-  }
+      leaves = leaves-fit _ _ _ _ _ _ _ p.rows a.size (omega (arith, n, p.room.0)) _ (omega (arith, p.room.2)) c.leaf_quotas.ensures _ _ _ p.room.1 (omega (arith, n));
+      room = p.room.3;
+    }
 
 pub sort_stretch-requires : goal.sort_stretch-requires
 sort_stretch-requires c = let s = c in
@@ -50,8 +50,8 @@ returns c = let s = c in
     let h : a.size ≤ length (part a.level_points.now a.from a.a) = omega (arith, n, p.room.0) in
     let z = sent-size _ _ _ _ _ _ _ p.rows a.size h _ (omega (arith, p.room.2)) q in
     let u = up-size _ _ _ _ _ _ _ p.rows a.size h _ (omega (arith, p.room.2)) q in record {
-    number = (omega (arith, k.0, z, u), omega (arith, k.0, z));
-    list = written-up _ _ _ _ _ _ _ p.rows a.size h _ (omega (arith, p.room.2)) q a.level_points.now (a.from + a.a) _ _ _ p.room.1 k.1 (omega (arith, k.0))
-            c.sort_stretch.ensures;
-    covers = covers_up _ _ _ _ _ _ _ p.rows a.size h _ (omega (arith, p.room.2)) q _ sent.covers;
-  }
+      number = (omega (arith, k.0, z, u), omega (arith, k.0, z));
+      list = written-up _ _ _ _ _ _ _ p.rows a.size h _ (omega (arith, p.room.2)) q a.level_points.now (a.from + a.a) _ _ _ p.room.1 k.1 (omega (arith, k.0))
+          c.sort_stretch.ensures;
+      covers = covers_up _ _ _ _ _ _ _ p.rows a.size h _ (omega (arith, p.room.2)) q _ sent.covers;
+    }

@@ -12,16 +12,16 @@ use Rattle.coarse_points.proofs.sample_leaf.Goals as goal
 pub returns-then-rows-lt1 : goal.returns-then-rows-lt1
 unfolding div of_bits
 returns-then-rows-lt1 c = let a = c.args in record {
-    sent = sym (ap (put a.level_points.now a.at) (sent-none a.dimensions a.points.now a.rows.now a.quota (omega arith)) ∙ put-nil a.level_points.now a.at);
-    cover = cover-empty a.dimensions a.points.now a.rows.now _ c.if-rows-lt1.true;
-  }
+  sent = sym (ap (put a.level_points.now a.at) (sent-none a.dimensions a.points.now a.rows.now a.quota (omega arith)) ∙ put-nil a.level_points.now a.at);
+  cover = cover-empty a.dimensions a.points.now a.rows.now _ c.if-rows-lt1.true;
+}
 
 pub returns-then-quota-lt1 : goal.returns-then-quota-lt1
 unfolding div of_bits
 returns-then-quota-lt1 c = let a = c.args in record {
-    sent = sym (ap (put a.level_points.now a.at) (sent-none a.dimensions a.points.now a.rows.now a.quota (omega arith)) ∙ put-nil a.level_points.now a.at);
-    cover = cover-unsent a.dimensions a.points.now a.rows.now a.quota c.if-rows-lt1.false c.if-quota-lt1.true;
-  }
+  sent = sym (ap (put a.level_points.now a.at) (sent-none a.dimensions a.points.now a.rows.now a.quota (omega arith)) ∙ put-nil a.level_points.now a.at);
+  cover = cover-unsent a.dimensions a.points.now a.rows.now a.quota c.if-rows-lt1.false c.if-quota-lt1.true;
+}
 
 pub sampling_seed-seed-requires : goal.sampling_seed-seed-requires
 sampling_seed-seed-requires c = let p = c.requires in
@@ -30,13 +30,14 @@ sampling_seed-seed-requires c = let p = c.requires in
 pub sample_rows-requires : goal.sample_rows-requires
 sample_rows-requires c = let p = c.requires in
     record {
-    rows = p.rows;
-    wanted = (omega arith, p.few.1, c.sampling_seed-seed.ensures.0);
-    room = p.room;
-  }
+      rows = p.rows;
+      wanted = (omega arith, p.few.1, c.sampling_seed-seed.ensures.0);
+      room = p.room;
+    }
 
 pub returns : goal.returns
 returns c = let a = c.args in
     let sr = c.sample_rows in
-    leaf-sampled a.dimensions a.points.now a.rows.now a.quota _ c.if-rows-lt1.false c.if-quota-lt1.false c.sampling_seed-seed.ensures.1
-    a.level_points.now _ a.at sr.result sr.ensures.sampled sr.ensures.cover
+    let r = leaf-sampled a.dimensions a.points.now a.rows.now a.quota _ c.if-rows-lt1.false c.if-quota-lt1.false c.sampling_seed-seed.ensures.1
+    a.level_points.now _ a.at sr.result sr.ensures.sampled sr.ensures.cover in
+    record { sent = r.0; cover = r.1 }

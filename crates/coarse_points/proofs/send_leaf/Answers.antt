@@ -12,14 +12,15 @@ sample_leaf-requires c = let s = c in
     let row = c.read_row-row in
     let e = own-lent a.internals.now a.domains.now a.r row.result row.ensures in
     let n = lent_length _ _ _ _ _ _ _ f _ e in record {
-    rows = lent-good _ _ _ _ _ _ _ f _ e;
-    few = (f.axes, omega (arith, n, f.within));
-    room = (s.requires.room, omega (arith, n, f.floats));
-  }
+      rows = lent-good _ _ _ _ _ _ _ f _ e;
+      few = (f.axes, omega (arith, n, f.within));
+      room = (s.requires.room, omega (arith, n, f.floats));
+    }
 
 pub returns : goal.returns
 returns c = let a = c.args in
     let row = c.read_row-row in
     let sl = c.sample_leaf in
-    leaf-lent a.dimensions a.points.now _ _ a.quota (own-lent a.internals.now a.domains.now a.r row.result row.ensures)
-    a.level_points.now _ a.at sl.result sl.ensures.sent sl.ensures.cover
+    let r = leaf-lent a.dimensions a.points.now _ _ a.quota (own-lent a.internals.now a.domains.now a.r row.result row.ensures)
+    a.level_points.now _ a.at sl.result sl.ensures.sent sl.ensures.cover in
+    record { sent = r.0; cover = r.1 }

@@ -47,9 +47,9 @@ send_leaf-cover-requires c = let s = c in
     let f = s.requires.leaves.each i.l (omega arith) in
     let n = length-take-le a.a i.floats (omega (arith, s.requires.room, i.invariant.2)) in
     let r = leaf_room _ _ _ _ _ _ _ _ _ _ s.requires.leaves i.l (omega arith) in record {
-    leaf = subst (λ (k : ℕ). LeafFits a.dimensions a.points.now a.internals.now a.domains.now (a.first + i.l) (get_or a.shares.now i.l 0) k) (sym n) f;
-    room = omega (arith, r, i.invariant.1, i.invariant.3);
-  }
+      leaf = subst (λ (k : ℕ). LeafFits a.dimensions a.points.now a.internals.now a.domains.now (a.first + i.l) (get_or a.shares.now i.l 0) k) (sym n) f;
+      room = omega (arith, r, i.invariant.1, i.invariant.3);
+    }
 
 pub overflow_add-floats : goal.overflow_add-floats
 overflow_add-floats c = omega (arith, c.requires.room)
@@ -71,9 +71,9 @@ loop-l-preserved c = let s = c in
     let i = c.loop-l in
     let sl = c.send_leaf-cover in
     let h : i.l < a.m = omega arith in
-    let room = sl.new.floats.0 in
+    let room = sl.new.floats in
     let fit : a.a + i.l < length i.floats = omega (arith, s.requires.room, i.invariant.2) in
-    let n = sl.auto.1.1.1.1.1.1.1.1.0 ∙ length-take-le a.a i.floats (omega (arith, fit)) in (
+    let n = sl.auto.floats ∙ length-take-le a.a i.floats (omega (arith, fit)) in (
       omega arith,
       omega arith,
       room-length i.floats room a.a i.l sl.result n (omega (arith, fit)) ∙ i.invariant.2,
@@ -87,6 +87,6 @@ returns c = let a = c.args in
     let i = c.loop-l in
     let e : i.l ≡ a.m = omega arith in
     let q = ap (sent_at a.dimensions a.points.now a.internals.now a.domains.now a.first a.shares.now) e in record {
-    sent = (i.invariant.3 ∙ ap (λ (z : List ℕ). a.at + length z) q, i.invariant.4 ∙ ap (put a.level_points.now a.at) q);
-    covers = ap (part i.floats a.a) (sym e) ∙ i.invariant.5 ∙ ap (covers_at a.dimensions a.points.now a.internals.now a.domains.now a.first a.shares.now) e;
-  }
+      sent = (i.invariant.3 ∙ ap (λ (z : List ℕ). a.at + length z) q, i.invariant.4 ∙ ap (put a.level_points.now a.at) q);
+      covers = ap (part i.floats a.a) (sym e) ∙ i.invariant.5 ∙ ap (covers_at a.dimensions a.points.now a.internals.now a.domains.now a.first a.shares.now) e;
+    }
