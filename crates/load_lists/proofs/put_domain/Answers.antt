@@ -59,15 +59,12 @@ pub overflow_add-result-3 : goal.overflow_add-result-3
 overflow_add-result-3 c = let s = c in
     omega (arith, s.requires.room.domains, s.well_formed)
 
-pub shape_of-internals : goal.shape_of-internals
-shape_of-internals c = c.read_numbers.auto.1.1.1.0
-
 pub returns : goal.returns
 returns c = let f = c in
     let s = f in
     let h = found s.args.dimensions s.args.coarse s.args.bytes.now s.args.c _ f.fetch_domain-found.result f.record_floats-floats.ensures f.fetch_domain-found.ensures s.requires.dimensions_bound.1 in
     let a = s.args in record {
-    next = (h.next, refl);
-    written = domain-written h a.internals.now a.domains.now a.boxes.now a.borrowed.now _ _ _ _ _ _ c.number_at-depth.ensures.0 c.floats_before-box_at.ensures
+      next = (h.next, refl);
+      written = domain-written h a.internals.now a.domains.now a.boxes.now a.borrowed.now _ _ _ _ _ _ c.number_at-depth.ensures.0 c.floats_before-box_at.ensures
           c.read_numbers.ensures c.read_numbers-2.ensures c.put_row.ensures c.put_row_floats.ensures;
-  }
+    }

@@ -17,9 +17,9 @@ put_domain-next-requires c = let s = c in
     let v = c.loop-left.invariant in
     let some = c.loop-left-test.true in
     record {
-    dimensions_bound = (s.requires.dimensions_bound.0, domain-stands v refl refl s.requires.room some);
-    room = domain-room v refl refl s.requires.room some;
-  }
+      dimensions_bound = (s.requires.dimensions_bound.0, domain-stands v refl refl s.requires.room some);
+      room = domain-room v refl refl s.requires.room some;
+    }
 
 pub loop-left-preserved : goal.loop-left-preserved
 loop-left-preserved c = let s = c in
@@ -44,6 +44,6 @@ pub returns : goal.returns
 returns c = let v = c.loop-left.invariant in
     let none : c.loop-left.left ≡ 0 = omega (arith, c.loop-left-test.false) in
     record {
-    next = domains-end v none;
-    written = domains-written v none;
-  }
+      next = domains-end v none;
+      written = domains-written v none;
+    }

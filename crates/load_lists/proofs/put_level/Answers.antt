@@ -44,9 +44,9 @@ put_domains-requires c = let s = c in
     let rows = c.number_at-rows.ensures.0 in
     let count = c.number_at-count.ensures.0 in
     record {
-    dimensions_bound = (s.requires.dimensions_bound.0, domains-stand a.dimensions a.bytes.now a.c s.requires.dimensions_bound.1 rows count);
-    room = domains-room a.dimensions a.bytes.now a.c s.requires.dimensions_bound.1 rows count s.requires.bytes_in_bounds.1;
-  }
+      dimensions_bound = (s.requires.dimensions_bound.0, domains-stand a.dimensions a.bytes.now a.c s.requires.dimensions_bound.1 rows count);
+      room = domains-room a.dimensions a.bytes.now a.c s.requires.dimensions_bound.1 rows count s.requires.bytes_in_bounds.1;
+    }
 
 pub returns : goal.returns
 returns c = let s = c in
@@ -54,10 +54,10 @@ returns c = let s = c in
     let w = c.put_domains.ensures in
     let rows = c.number_at-rows.ensures.0 in
     let count = c.number_at-count.ensures.0 in record {
-    next = (
+      next = (
         w.next.0 ∙ domains-after a.dimensions a.bytes.now a.c s.requires.dimensions_bound.1 rows count,
         omega (arith, w.next.1, rows-many a.dimensions a.bytes.now a.c s.requires.dimensions_bound.1 rows count),
       );
-    level_points = c.read_numbers.ensures ∙ ap (put a.level_points.now a.c.points) (rows-read a.dimensions a.bytes.now a.c s.requires.dimensions_bound.1 rows count);
-    written = level-written a.dimensions a.bytes.now a.c s.requires.dimensions_bound.1 rows count w.written;
-  }
+      level_points = c.read_numbers.ensures ∙ ap (put a.level_points.now a.c.points) (rows-read a.dimensions a.bytes.now a.c s.requires.dimensions_bound.1 rows count);
+      written = level-written a.dimensions a.bytes.now a.c s.requires.dimensions_bound.1 rows count w.written;
+    }

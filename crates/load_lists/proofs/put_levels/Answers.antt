@@ -19,9 +19,9 @@ put_level-next-requires c = let s = c in
     let v = c.loop-left.invariant in
     let some = c.loop-left-test.true in
     record {
-    dimensions_bound = (s.requires.dimensions_bound.0, level-stands v refl refl s.requires.can_hold some);
-    bytes_in_bounds = (points-room v refl refl s.requires.can_hold some, level-room v refl refl s.requires.can_hold some);
-  }
+      dimensions_bound = (s.requires.dimensions_bound.0, level-stands v refl refl s.requires.can_hold some);
+      bytes_in_bounds = (points-room v refl refl s.requires.can_hold some, level-room v refl refl s.requires.can_hold some);
+    }
 
 pub overflow_sub-count : goal.overflow_sub-count
 overflow_sub-count c = omega (arith, c.put_level-next.ensures.written.row_end)
@@ -75,10 +75,10 @@ pub returns : goal.returns
 returns c = let v = c.loop-left.invariant in
     let h = c.requires.can_hold in
     let none : c.loop-left.left ≡ 0 = omega (arith, c.loop-left-test.false) in record {
-    counts = ap (λ (n : Counts). record { number = 0; place = 0; value = n }) (end-counts v refl refl h none);
-    level_points = end-points v refl refl h none;
-    internals = end-internals v refl refl h none;
-    domains = end-domains v refl refl h none;
-    boxes = end-boxes v refl refl h none;
-    borrowed = end-borrowed v refl refl h none;
-  }
+      counts = ap (λ (n : Counts). record { number = 0; place = 0; value = n }) (end-counts v refl refl h none);
+      level_points = end-points v refl refl h none;
+      internals = end-internals v refl refl h none;
+      domains = end-domains v refl refl h none;
+      boxes = end-boxes v refl refl h none;
+      borrowed = end-borrowed v refl refl h none;
+    }
