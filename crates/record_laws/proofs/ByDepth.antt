@@ -253,7 +253,7 @@ module _ {D : Type 0} {leaf : ℕ} (K : Kind D leaf) where
 
     depths : (fuel e n : ℕ) (ds : List D) → Small fuel ds → Level e ds → fuel ≤ n → K.leaves ds ≡ joined (map (λ m. at m (under fuel ds)) (from (suc e) n))
     unfolding All from joined
-    depths zero e n [] u v h = K.Leaves-none ∙ sym (none_deep (suc e) n) ∙ ap (λ (s : List D). joined (map (λ m. at m s) (from (suc e) n))) (sym (under-nil zero))
+    depths zero e n [] u v h = K.leaves_none ∙ sym (none_deep (suc e) n) ∙ ap (λ (s : List D). joined (map (λ m. at m s) (from (suc e) n))) (sym (under-nil zero))
     depths zero e n (d ∷ ds) u v h = absurd (omega (arith, u.0.1, u.0.0.0))
     depths (suc fuel) e zero ds u v h = absurd (omega arith)
     depths (suc fuel) e (suc n) ds u v h =

@@ -20,9 +20,9 @@ returns c = let a = c in
     let e = k.ensures in
     let w = c.write_node.ensures in
     record {
-    plane = e.plane;
-    rows = e.rows;
-    wholes = drop_at k.new.room.0 _ (length a.args.rows.now) (e.room ∙ length-take-le (length a.args.rows.now) a.args.wholes.now (omega (arith, p.3)));
-    cuts = w.cuts ∙ ap (set a.args.cuts.now a.args.place) e.plane.0;
-    planes = w.planes ∙ ap (set a.args.planes.now a.args.place) e.plane.1;
-  }
+      plane = e.plane;
+      rows = e.rows;
+      wholes = drop_at k.new.room _ (length a.args.rows.now) (e.room ∙ length-take-le (length a.args.rows.now) a.args.wholes.now (omega (arith, p.3)));
+      cuts = w.cuts ∙ ap (set a.args.cuts.now a.args.place) e.plane.0;
+      planes = w.planes ∙ ap (set a.args.planes.now a.args.place) e.plane.1;
+    }

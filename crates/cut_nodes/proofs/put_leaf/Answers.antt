@@ -35,8 +35,8 @@ shape_of-wholes c = let a = c in
 
 pub returns : goal.returns
 returns c = record {
-    next = (refl, refl);
-    written = λ rows h.
+  next = (refl, refl);
+  written = λ rows h.
       let a = c in
       let p = a.requires in
       let w = a.args.whole.dimensions in
@@ -48,4 +48,4 @@ returns c = record {
       ∙ ap (λ (n : ℕ). put a.args.wholes.now entry (a.args.depth ∷ n ∷ a.args.from.place ∷ [])) (sym h))
       (c.write_box.ensures ∙ ap (λ (f : ℕ). put a.args.floats.now (f * a.args.from.leaves) (floats_of a.args.whole)) c.box_width.ensures)
       c.write_node.ensures.cuts c.write_node.ensures.planes refl refl;
-  }
+}

@@ -27,7 +27,7 @@ put_leaf-requires c = let a = c in
     )
 
 pub returns : goal.returns
-returns c = let a = c in
+returns c l m el em = let a = c in
     let p = a.requires in
     let x = c.put_leaf-middle.ensures.written l el in
     let y = c.put_leaf.ensures.written m em in
