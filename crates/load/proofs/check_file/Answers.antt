@@ -11,20 +11,20 @@ pub returns-then-not-front : goal.returns-then-not-front
 returns-then-not-front c = let bs = c.args.bytes.now in
     let front = c.check_front-front in
     record {
-    good = front-fails bs (λ k. omega (arith, c.shared_slice_known-1.given k)) (sym front.ensures.good ∙ c.if-not-front.true);
-    place = λ t. clash t refl;
-  }
+      good = front-fails bs (λ k. omega (arith, c.shared_slice_known-1.given k)) (sym front.ensures.good ∙ (not-true _ c.if-not-front.true));
+      place = λ t. clash t refl;
+    }
 
 pub check_tree-good-requires : goal.check_tree-good-requires
-check_tree-good-requires c = let read = c.check_front-front.ensures.read c.if-not-front.false in
+check_tree-good-requires c = let read = c.check_front-front.ensures.read (not-false _ c.if-not-front.false) in
     (read.axes_few, read.rows_few, read.neighbours_few, read.inside)
 
 pub returns : goal.returns
 returns c = let bs = c.args.bytes.now in
     let front = c.check_front-front in
-    let good = c.if-not-front.false in
+    let good = (not-false _ c.if-not-front.false) in
     let read = front.ensures.read good in
     record {
-    good = levels-decide bs (λ k. omega (arith, c.shared_slice_known-1.given k)) (sym front.ensures.good ∙ good) front.result read c.check_tree-good.result c.check_tree-good.ensures;
-    place = λ t. read.place;
-  }
+      good = levels-decide bs (λ k. omega (arith, c.shared_slice_known-1.given k)) (sym front.ensures.good ∙ good) front.result read c.check_tree-good.result c.check_tree-good.ensures;
+      place = λ t. read.place;
+    }

@@ -18,7 +18,7 @@ returns-then-not-file c = let start = c in
     let cs = start.args.points.now in
     let bs = start.args.bytes.now in
     let old = lists_of start.args.level_points.now start.args.internals.now start.args.domains.now start.args.boxes.now start.args.borrowed.now in
-    let out : well_formed bs ≡ false = sym c.check_file-file.ensures.good ∙ c.if-not-file.true in
+    let out : well_formed bs ≡ false = sym c.check_file-file.ensures.good ∙ (not-true _ c.if-not-file.true) in
     loaded-refused s cs bs old _ (refused-20 s cs bs old start.requires out) c.refusal.ensures
 
 pub same_settings-requires : goal.same_settings-requires
@@ -27,7 +27,7 @@ same_settings-requires c = let start = c in
     let cs = start.args.points.now in
     let bs = start.args.bytes.now in
     let old = lists_of start.args.level_points.now start.args.internals.now start.args.domains.now start.args.boxes.now start.args.borrowed.now in
-    let well : well_formed bs ≡ true = sym c.check_file-file.ensures.good ∙ c.if-not-file.false in
+    let well : well_formed bs ≡ true = sym c.check_file-file.ensures.good ∙ (not-false _ c.if-not-file.false) in
     (settings-inside bs well, omega (arith, (taken-with s cs old start.requires).axes_few))
 
 pub returns-then-not-same_settings : goal.returns-then-not-same_settings
@@ -36,7 +36,7 @@ returns-then-not-same_settings c = let start = c in
     let cs = start.args.points.now in
     let bs = start.args.bytes.now in
     let old = lists_of start.args.level_points.now start.args.internals.now start.args.domains.now start.args.boxes.now start.args.borrowed.now in
-    let well : well_formed bs ≡ true = sym c.check_file-file.ensures.good ∙ c.if-not-file.false in
+    let well : well_formed bs ≡ true = sym c.check_file-file.ensures.good ∙ (not-false _ c.if-not-file.false) in
     let out : same_settings_lem s bs ≡ false = sym c.same_settings.ensures ∙ c.if-not-same_settings.true in
     loaded-refused s cs bs old _ (refused-18 s cs bs old start.requires well out) c.refusal-then-not-same_settings.ensures
 
@@ -46,7 +46,7 @@ same_points-requires c = let start = c in
     let cs = start.args.points.now in
     let bs = start.args.bytes.now in
     let old = lists_of start.args.level_points.now start.args.internals.now start.args.domains.now start.args.boxes.now start.args.borrowed.now in
-    let well : well_formed bs ≡ true = sym c.check_file-file.ensures.good ∙ c.if-not-file.false in
+    let well : well_formed bs ≡ true = sym c.check_file-file.ensures.good ∙ (not-false _ c.if-not-file.false) in
     let settings : same_settings_lem s bs ≡ true = sym c.same_settings.ensures ∙ c.if-not-same_settings.false in
     let has = taken-with s cs old start.requires in
     (front-stands bs well, its-dimension s cs old start.requires bs well settings, has.axes, has.axes_few, has.rows_few)
@@ -57,7 +57,7 @@ returns-then-not-same_points c = let start = c in
     let cs = start.args.points.now in
     let bs = start.args.bytes.now in
     let old = lists_of start.args.level_points.now start.args.internals.now start.args.domains.now start.args.boxes.now start.args.borrowed.now in
-    let well : well_formed bs ≡ true = sym c.check_file-file.ensures.good ∙ c.if-not-file.false in
+    let well : well_formed bs ≡ true = sym c.check_file-file.ensures.good ∙ (not-false _ c.if-not-file.false) in
     let settings : same_settings_lem s bs ≡ true = sym c.same_settings.ensures ∙ c.if-not-same_settings.false in
     let out : same_points_lem s cs bs ≡ false = sym (c.same_points.ensures s refl settings) ∙ c.if-not-same_points.true in
     loaded-refused s cs bs old _ (refused-19 s cs bs old start.requires well settings out) c.refusal-then-not-same_points.ensures
@@ -68,15 +68,15 @@ put_levels-requires c = let start = c in
     let cs = start.args.points.now in
     let bs = start.args.bytes.now in
     let old = lists_of start.args.level_points.now start.args.internals.now start.args.domains.now start.args.boxes.now start.args.borrowed.now in
-    let well : well_formed bs ≡ true = sym c.check_file-file.ensures.good ∙ c.if-not-file.false in
+    let well : well_formed bs ≡ true = sym c.check_file-file.ensures.good ∙ (not-false _ c.if-not-file.false) in
     let settings : same_settings_lem s bs ≡ true = sym c.same_settings.ensures ∙ c.if-not-same_settings.false in
     let points : same_points_lem s cs bs ≡ true = sym (c.same_points.ensures s refl settings) ∙ c.if-not-same_points.false in
     let file = c.check_file-file in
     let place = file.ensures.place (file.ensures.good ∙ well) in
     record {
-    dimensions_bound = ((taken-with s cs old start.requires).axes_few, levels-here s cs old start.requires bs well settings points file.result.next place);
-    can_hold = can-hold-it s cs old start.requires bs well settings points file.result.next place;
-  }
+      dimensions_bound = ((taken-with s cs old start.requires).axes_few, levels-here s cs old start.requires bs well settings points file.result.next place);
+      can_hold = can-hold-it s cs old start.requires bs well settings points file.result.next place;
+    }
 
 pub returns : goal.returns
 returns c = let start = c in
@@ -84,7 +84,7 @@ returns c = let start = c in
     let cs = start.args.points.now in
     let bs = start.args.bytes.now in
     let old = lists_of start.args.level_points.now start.args.internals.now start.args.domains.now start.args.boxes.now start.args.borrowed.now in
-    let well : well_formed bs ≡ true = sym c.check_file-file.ensures.good ∙ c.if-not-file.false in
+    let well : well_formed bs ≡ true = sym c.check_file-file.ensures.good ∙ (not-false _ c.if-not-file.false) in
     let settings : same_settings_lem s bs ≡ true = sym c.same_settings.ensures ∙ c.if-not-same_settings.false in
     let points : same_points_lem s cs bs ≡ true = sym (c.same_points.ensures s refl settings) ∙ c.if-not-same_points.false in
     let file = c.check_file-file in
