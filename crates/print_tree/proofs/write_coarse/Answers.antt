@@ -12,9 +12,9 @@ pub write_leaf-requires : goal.write_leaf-requires
 unfolding coarse_level_text
 write_leaf-requires c = let start = c in
     record {
-    row_fits = start.requires.row_fits;
-    room_for = room_next _ c.write_level-next.ensures start.requires.room_for;
-  }
+      row_fits = start.requires.row_fits;
+      room_for = room_next _ c.write_level-next.ensures start.requires.room_for;
+    }
 
 pub returns : goal.returns
 unfolding coarse_level_text

@@ -107,20 +107,6 @@ write_byte-requires c = let start = c in
     let w7 = text-added w6 tt c.write_numbered-done.ensures in
     text-room w7 tt
 
--- each call keeps the list's length
-pub shape_of-out : goal.shape_of-out
-shape_of-out c = omega (
-      arith,
-      c.write_numbered-named.auto.1.1.0,
-      c.write_listed-owned.auto.1.1.0,
-      c.write_listed-lent.auto.1.1.0,
-      c.write_text-boxed.auto.1.0,
-      c.write_box-bounded.auto.1.1.0,
-      c.write_valued-covered.auto.1.1.0,
-      c.write_numbered-done.auto.1.1.0,
-      c.write_byte.auto.1.0,
-    )
-
 pub returns : goal.returns
 unfolding ascii
 returns c = let start = c in

@@ -12,9 +12,9 @@ pub write_leaves-requires : goal.write_leaves-requires
 unfolding fine_level_text
 write_leaves-requires c = let start = c in
     record {
-    by_index = start.requires.by_index;
-    room_for = room_next _ c.write_level-next.ensures start.requires.room_for;
-  }
+      by_index = start.requires.by_index;
+      room_for = room_next _ c.write_level-next.ensures start.requires.room_for;
+    }
 
 pub returns : goal.returns
 unfolding fine_level_text

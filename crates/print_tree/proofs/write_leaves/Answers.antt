@@ -23,10 +23,10 @@ pub write_leaf-next-requires : goal.write_leaf-next-requires
 write_leaf-next-requires c = let start = c in
     let a = start.args in
     let p = packed a.internals.now a.domains.now a.boxes.now a.borrowed.now a.dimensions in record {
-    row_fits = start.requires.by_index _ c.loop-i-test.true;
-    room_for = grown-room (fine_text p a.j) (λ k. leaf_line true k p (a.j + k)) (fine-grows p a.j) a.m _ c.loop-i-test.true start.requires.room_for
+      row_fits = start.requires.by_index _ c.loop-i-test.true;
+      room_for = grown-room (fine_text p a.j) (λ k. leaf_line true k p (a.j + k)) (fine-grows p a.j) a.m _ c.loop-i-test.true start.requires.room_for
           c.loop-i.invariant.0;
-  }
+    }
 
 pub loop-i-preserved : goal.loop-i-preserved
 loop-i-preserved c = let start = c in

@@ -81,11 +81,11 @@ write_fine-next-requires c = let start = c in
     let r = room-first _ _ (room-spelt (levels-whole p a.level_points.now a.rows.now a.counts.now a.levels (a.levels - 1) s refl) start.requires.room_for) in
     let g = grown-room (front_text p a.level_points.now a.rows.now a.counts.now) (fine_at p a.level_points.now a.rows.now a.counts.now)
     (front-grows p a.level_points.now a.rows.now a.counts.now) (a.levels - 1) v.t (omega arith) r v.invariant.2 in record {
-    by_index = row_fits p a.level_points.now a.rows.now a.counts.now v.t v.a v.j v.invariant.0 v.invariant.1 a.levels s
+      by_index = row_fits p a.level_points.now a.rows.now a.counts.now v.t v.a v.j v.invariant.0 v.invariant.1 a.levels s
           (omega (arith, s.some, v.invariant.3));
-    room_for = room-spelt
+      room_for = room-spelt
           (fine-here p a.level_points.now a.rows.now a.counts.now v.t v.a v.j v.invariant.0 v.invariant.1) g;
-  }
+    }
 
 pub overflow_add-j : goal.overflow_add-j
 overflow_add-j c = let start = c in
@@ -168,11 +168,11 @@ write_coarse-requires c = let start = c in
     let ej : v.j ≡ total (take (a.levels - 1) a.counts.now) = v.invariant.1 ∙ ap (λ (k : ℕ). total (take k a.counts.now)) e in
     let w = spelt (ap (front_text p a.level_points.now a.rows.now a.counts.now) e) v.invariant.2 in
     let r = room_next _ w (room-spelt (levels-whole p a.level_points.now a.rows.now a.counts.now a.levels (a.levels - 1) s refl) start.requires.room_for) in record {
-    row_fits = rw add-zero at (row_fits p a.level_points.now a.rows.now a.counts.now (a.levels - 1) v.a v.j ea ej a.levels s
+      row_fits = rw add-zero at (row_fits p a.level_points.now a.rows.now a.counts.now (a.levels - 1) v.a v.j ea ej a.levels s
           (omega (arith, s.some)) 0 (omega (arith, s.coarse)));
-    room_for = room-spelt (coarse-here p a.level_points.now a.rows.now a.counts.now (a.levels - 1)
+      room_for = room-spelt (coarse-here p a.level_points.now a.rows.now a.counts.now (a.levels - 1)
           v.a v.j ea ej) r;
-  }
+    }
 
 pub returns : goal.returns
 returns c = let start = c in

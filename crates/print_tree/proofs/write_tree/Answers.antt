@@ -39,9 +39,9 @@ write_levels-requires c = let start = c in
     let w1 = text-added w0 tt c.write_numbered-said.ensures in
     let w2 = text-added w1 tt c.write_byte-next.ensures in
     record {
-    stands = start.requires.stands;
-    room_for = text-room w2 tt;
-  }
+      stands = start.requires.stands;
+      room_for = text-room w2 tt;
+    }
 
 pub returns : goal.returns
 unfolding ascii

@@ -32,9 +32,9 @@ put_domain-next-requires c = let start = c in
     let go = c.loop-i-test.true in
     let w = restated _ (ap joined (turn f (a.j + v.i) (a.j + (v.i + 1)) v.i a.m (omega arith) go)) v.invariant.0 in
     record {
-    row_fits = start.requires.by_index v.i go;
-    room_for = room-now w;
-  }
+      row_fits = start.requires.by_index v.i go;
+      room_for = room-now w;
+    }
 
 pub loop-i-preserved : goal.loop-i-preserved
 loop-i-preserved c = let start = c in

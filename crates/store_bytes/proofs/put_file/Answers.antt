@@ -16,9 +16,9 @@ put_front-next-requires c = let start = c in
     let e = file-run s a.points.now (counts_given a.counts) l in
     let w0 = begin _ e (front-room a.out.now _ start.requires.borrowed_in_bounds) in
     record {
-    le_dimensions = start.requires.le_dimensions;
-    room_for = room-now w0;
-  }
+      le_dimensions = start.requires.le_dimensions;
+      room_for = room-now w0;
+    }
 
 pub put_levels-requires : goal.put_levels-requires
 put_levels-requires c = let start = c in
@@ -29,9 +29,9 @@ put_levels-requires c = let start = c in
     let w0 = begin _ e (front-room a.out.now _ start.requires.borrowed_in_bounds) in
     let w1 = part-written w0 c.put_front-next.ensures in
     record {
-    stands = start.requires.stands;
-    room_for = room-now w1;
-  }
+      stands = start.requires.stands;
+      room_for = room-now w1;
+    }
 
 pub returns : goal.returns
 returns c = let start = c in
@@ -43,6 +43,6 @@ returns c = let start = c in
     let w1 = part-written w0 c.put_front-next.ensures in
     let w2 = done (part-written w1 c.put_levels.ensures) in
     record {
-    answer = w2.place ∙ zero-add _;
-    file = w2.same;
-  }
+      answer = w2.place ∙ zero-add _;
+      file = w2.same;
+    }

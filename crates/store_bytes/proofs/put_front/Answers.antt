@@ -20,9 +20,9 @@ put_head-next-requires c = let start = c in
     let points = joined (map (point_bytes a.dimensions a.points.now) (from 0 n)) in
     let w0 = begin (head_bytes_lem s n ∷ points ∷ []) (front-run s a.points.now) start.requires.room_for in
     record {
-    dimensions_bound = omega (arith, start.requires.le_dimensions);
-    room_for = room-now w0;
-  }
+      dimensions_bound = omega (arith, start.requires.le_dimensions);
+      room_for = room-now w0;
+    }
 
 pub put_points-requires : goal.put_points-requires
 put_points-requires c = let start = c in
@@ -33,9 +33,9 @@ put_points-requires c = let start = c in
     let w0 = begin (head_bytes_lem s n ∷ points ∷ []) (front-run s a.points.now) start.requires.room_for in
     let w1 = part-written w0 c.put_head-next.ensures in
     record {
-    dimensions_in_bounds = div-mul-le_self (length a.points.now) a.dimensions;
-    room_for = room-now w1;
-  }
+      dimensions_in_bounds = div-mul-le_self (length a.points.now) a.dimensions;
+      room_for = room-now w1;
+    }
 
 pub returns : goal.returns
 returns c = let start = c in

@@ -37,10 +37,10 @@ put_whole_level-next-requires c = let start = c in
     let p = packed a.internals.now a.domains.now a.boxes.now a.borrowed.now a.dimensions in
     let v = c.loop-t in
     let w = restated _ (turn-here p a.level_points.now a.rows.now a.counts.now v.t v.a v.j v.invariant.0 v.invariant.1 a.levels start.requires.stands c.loop-t-test.true) v.invariant.2 in record {
-    count_in_bounds = rows_inside p a.level_points.now a.rows.now a.counts.now v.t v.a v.j v.invariant.0 v.invariant.1 a.levels start.requires.stands c.loop-t-test.true;
-    by_index = row_fits p a.level_points.now a.rows.now a.counts.now v.t v.a v.j v.invariant.0 v.invariant.1 a.levels start.requires.stands c.loop-t-test.true;
-    room_for = room-now w;
-  }
+      count_in_bounds = rows_inside p a.level_points.now a.rows.now a.counts.now v.t v.a v.j v.invariant.0 v.invariant.1 a.levels start.requires.stands c.loop-t-test.true;
+      by_index = row_fits p a.level_points.now a.rows.now a.counts.now v.t v.a v.j v.invariant.0 v.invariant.1 a.levels start.requires.stands c.loop-t-test.true;
+      room_for = room-now w;
+    }
 
 pub overflow_add-a : goal.overflow_add-a
 overflow_add-a c = let start = c in

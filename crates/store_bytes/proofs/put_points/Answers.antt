@@ -24,9 +24,9 @@ put_point-next-requires c = let start = c in
     let go = c.loop-i-test.true in
     let w = restated _ (ap joined (turn f v.i (v.i + 1) v.i a.n refl go)) v.invariant.0 in
     record {
-    dimensions_in_bounds = point-inside a.dimensions a.n v.i (length a.points.now) go start.requires.dimensions_in_bounds;
-    room_for = room-now w;
-  }
+      dimensions_in_bounds = point-inside a.dimensions a.n v.i (length a.points.now) go start.requires.dimensions_in_bounds;
+      room_for = room-now w;
+    }
 
 pub loop-i-preserved : goal.loop-i-preserved
 loop-i-preserved c = let start = c in

@@ -16,9 +16,9 @@ put_level-next-requires c = let start = c in
     let rows = part a.level_points.now a.start a.count in
     let w0 = begin (level_record rows a.m ∷ domain_records a.coarse (read_leaves p a.j a.m) ∷ []) (level-run a.coarse p rows a.j a.m) start.requires.room_for in
     record {
-    count_in_bounds = start.requires.count_in_bounds;
-    room_for = room-now w0;
-  }
+      count_in_bounds = start.requires.count_in_bounds;
+      room_for = room-now w0;
+    }
 
 pub put_domains-requires : goal.put_domains-requires
 put_domains-requires c = let start = c in
@@ -28,9 +28,9 @@ put_domains-requires c = let start = c in
     let w0 = begin (level_record rows a.m ∷ domain_records a.coarse (read_leaves p a.j a.m) ∷ []) (level-run a.coarse p rows a.j a.m) start.requires.room_for in
     let w1 = part-written w0 c.put_level-next.ensures in
     record {
-    by_index = start.requires.by_index;
-    room_for = room-now w1;
-  }
+      by_index = start.requires.by_index;
+      room_for = room-now w1;
+    }
 
 pub returns : goal.returns
 returns c = let start = c in

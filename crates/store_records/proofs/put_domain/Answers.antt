@@ -25,9 +25,9 @@ put_rows-owned-requires c = let start = c in
     (domain-parts a.coarse p a.j start.requires.row_fits row.result row.ensures) start.requires.room_for in
     let w1 = part-written w0 c.put_counts-counted.ensures in
     record {
-    count_in_bounds = omega (arith, start.requires.row_fits.own, row.ensures.own_start, row.ensures.own_count);
-    room_for = room-now w1;
-  }
+      count_in_bounds = omega (arith, start.requires.row_fits.own, row.ensures.own_start, row.ensures.own_count);
+      room_for = room-now w1;
+    }
 
 pub put_rows-listed-requires : goal.put_rows-listed-requires
 put_rows-listed-requires c = let start = c in
@@ -39,9 +39,9 @@ put_rows-listed-requires c = let start = c in
     let w1 = part-written w0 c.put_counts-counted.ensures in
     let w2 = part-written w1 c.put_rows-owned.ensures in
     record {
-    count_in_bounds = omega (arith, start.requires.row_fits.borrowed, row.ensures.borrowed_start, row.ensures.borrowed_count);
-    room_for = room-now w2;
-  }
+      count_in_bounds = omega (arith, start.requires.row_fits.borrowed, row.ensures.borrowed_start, row.ensures.borrowed_count);
+      room_for = room-now w2;
+    }
 
 pub put_row_floats-covered-requires : goal.put_row_floats-covered-requires
 put_row_floats-covered-requires c = let start = c in
@@ -54,9 +54,9 @@ put_row_floats-covered-requires c = let start = c in
     let w2 = part-written w1 c.put_rows-owned.ensures in
     let w3 = part-written w2 c.put_rows-listed.ensures in
     record {
-    dimensions_bound = (start.requires.row_fits.axes, start.requires.row_fits.floats);
-    room_for = room-now w3;
-  }
+      dimensions_bound = (start.requires.row_fits.axes, start.requires.row_fits.floats);
+      room_for = room-now w3;
+    }
 
 pub put_short-requires : goal.put_short-requires
 put_short-requires c = let start = c in

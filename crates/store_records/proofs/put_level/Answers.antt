@@ -13,27 +13,27 @@ pub put_counts-listed-requires : goal.put_counts-listed-requires
 put_counts-listed-requires c = let start = c in
     let a = start.args in
     let rows = part a.level_points.now a.start a.count in
-    let w0 = begin (counts_bytes level_mark a.count a.domain-count ∷ numbers_bytes rows ∷ [])
-    (level-parts a.level_points.now a.start a.count a.domain-count start.requires.count_in_bounds) start.requires.room_for in
+    let w0 = begin (counts_bytes level_mark a.count a.domain_count ∷ numbers_bytes rows ∷ [])
+    (level-parts a.level_points.now a.start a.count a.domain_count start.requires.count_in_bounds) start.requires.room_for in
     room-now w0
 
 pub put_rows-requires : goal.put_rows-requires
 put_rows-requires c = let start = c in
     let a = start.args in
     let rows = part a.level_points.now a.start a.count in
-    let w0 = begin (counts_bytes level_mark a.count a.domain-count ∷ numbers_bytes rows ∷ [])
-    (level-parts a.level_points.now a.start a.count a.domain-count start.requires.count_in_bounds) start.requires.room_for in
+    let w0 = begin (counts_bytes level_mark a.count a.domain_count ∷ numbers_bytes rows ∷ [])
+    (level-parts a.level_points.now a.start a.count a.domain_count start.requires.count_in_bounds) start.requires.room_for in
     let w1 = part-written w0 c.put_counts-listed.ensures in
     record {
-    count_in_bounds = start.requires.count_in_bounds;
-    room_for = room-now w1;
-  }
+      count_in_bounds = start.requires.count_in_bounds;
+      room_for = room-now w1;
+    }
 
 pub returns : goal.returns
 returns c = let start = c in
     let a = start.args in
     let rows = part a.level_points.now a.start a.count in
-    let w0 = begin (counts_bytes level_mark a.count a.domain-count ∷ numbers_bytes rows ∷ [])
-    (level-parts a.level_points.now a.start a.count a.domain-count start.requires.count_in_bounds) start.requires.room_for in
+    let w0 = begin (counts_bytes level_mark a.count a.domain_count ∷ numbers_bytes rows ∷ [])
+    (level-parts a.level_points.now a.start a.count a.domain_count start.requires.count_in_bounds) start.requires.room_for in
     let w1 = part-written w0 c.put_counts-listed.ensures in
     done (part-written w1 c.put_rows.ensures)

@@ -24,9 +24,9 @@ put_reals-requires c = let start = c in
     (point-parts a.dimensions a.points.now a.i start.requires.dimensions_in_bounds) start.requires.room_for in
     let w1 = part-written w0 (mark-wrote c.put_mark.ensures) in
     record {
-    count_in_bounds = start.requires.dimensions_in_bounds;
-    room_for = room-now w1;
-  }
+      count_in_bounds = start.requires.dimensions_in_bounds;
+      room_for = room-now w1;
+    }
 
 pub returns : goal.returns
 returns c = let start = c in

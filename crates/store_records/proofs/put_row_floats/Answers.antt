@@ -12,9 +12,9 @@ put_reals-requires c = let m = c in
     let a = start.args in
     let x = m.floats_before-start in
     let w = m.box_width-width in record {
-    count_in_bounds = omega (arith, x.ensures, w.ensures, start.requires.dimensions_bound);
-    room_for = room-spelt (cover-given a.coarse a.dimensions a.boxes.now a.j start.requires.dimensions_bound.1 x.result x.ensures w.result c.if-coarse.true w.ensures) start.requires.room_for;
-  }
+      count_in_bounds = omega (arith, x.ensures, w.ensures, start.requires.dimensions_bound);
+      room_for = room-spelt (cover-given a.coarse a.dimensions a.boxes.now a.j start.requires.dimensions_bound.1 x.result x.ensures w.result c.if-coarse.true w.ensures) start.requires.room_for;
+    }
 
 pub returns-then-coarse : goal.returns-then-coarse
 returns-then-coarse c = let taken = c in
@@ -31,9 +31,9 @@ put_reals-requires-2 c = let m = c in
     let a = start.args in
     let x = m.floats_before-start in
     let n = m.row_floats-floats in record {
-    count_in_bounds = omega (arith, x.ensures, n.ensures, start.requires.dimensions_bound);
-    room_for = room-spelt (all-given a.coarse a.dimensions a.boxes.now a.j start.requires.dimensions_bound.1 x.result x.ensures n.result c.if-coarse.false n.ensures) start.requires.room_for;
-  }
+      count_in_bounds = omega (arith, x.ensures, n.ensures, start.requires.dimensions_bound);
+      room_for = room-spelt (all-given a.coarse a.dimensions a.boxes.now a.j start.requires.dimensions_bound.1 x.result x.ensures n.result c.if-coarse.false n.ensures) start.requires.room_for;
+    }
 
 pub returns : goal.returns
 returns c = let left = c in
