@@ -5,8 +5,9 @@ ghost use Rattle.std.specs.Prelude.{◌≡◌, ◌-◌, ◌≤◌, length, take,
 ghost use Rattle.std.specs.Io.KnownBytes.{Consumes, ReadConsumes};
 ghost use Rattle.program_input.specs.Input.{front_after_lem, Stopped, MayBe};
 
-use std::io;
-use std::io::Read;
+use std::io::{ErrorKind, Read};
+use std::rt::{Env, Files};
+use std::{env, fs, io};
 
 // Where reading stands: so many bytes were read and the end was not seen, the input ended after so many, or a read failed.
 #[derive(Clone, Copy)]
@@ -55,4 +56,29 @@ pub fn read_input<R: Read>(reader: &mut R, input: &mut [u8]) -> (Front, Option<i
         done = n;
     }
     (Front::Open(done), None)
+}
+
+// The same for a file of which nothing is said: how many bytes of it are at the front of `input`, or the error.
+pub fn read_count<R: Read>(reader: &mut R, input: &mut [u8]) -> io::Result<usize>
+    ensures { IfOk result (λ n. n ≤ length input.new) }
+{
+    let (front, error) = read_input(reader, input);
+    match (front, error) {
+        (_, Some(e)) => Err(e),
+        (Front::Open(n), None) => Ok(n),
+        (Front::Ended(n), None) => Ok(n),
+        // does not come: `read_input` puts the error beside it
+        (Front::Failed, None) => Ok(0),
+    }
+}
+
+// Opens the file that the argument number i names.
+pub fn open_argument<R: Env + Files + Alloc>(rt: &R, i: usize) -> io::Result<R::File> {
+    match env::args(rt)?.nth(i) {
+        Some(path) => fs::open(rt, path.as_str()),
+        None => Err(io::Error::new(
+            ErrorKind::InvalidInput,
+            "the argument that names the file is missing",
+        )),
+    }
 }

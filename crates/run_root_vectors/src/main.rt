@@ -7,6 +7,8 @@ ghost use Rattle.std.specs.Prelude.{◌≡◌, ◌+◌, ◌≤◌, length};
 ghost use Rattle.std.specs.Float.{binary64};
 ghost use Rattle.std.specs.Float.Ieee.{nan_bits};
 
+use std::io;
+
 // The bytes of a line, and the room for a file.
 const LINE: usize = 34;
 
@@ -89,19 +91,11 @@ fn differing(text: &[u8]) -> usize {
     count
 }
 
-fn main() {
-    let mut path = io::buffer();
-    let length = os::arg(1, &mut path);
-    let fd = os::open_read(&path[..length]);
-    if fd < 0 {
-        os::fail(b"open");
-        return;
-    }
+fn main(rt: HostRuntime) -> io::Result<()> {
+    let mut file = program_input::open_argument(&rt, 1)?;
     let mut text = room();
-    let n = io::read_full(fd, &mut text);
-    libc::close(fd);
-    io::print_decimal(1, (n / LINE) as u64);
-    io::write_all(1, b" vectors, ");
-    io::print_decimal(1, differing(&text[..n]) as u64);
-    io::write_all(1, b" differ\n");
+    let n = program_input::read_count(&mut file, &mut text)?;
+    let vectors = n / LINE;
+    let differ = differing(&text[..n]);
+    println!(rt; "{vectors} vectors, {differ} differ")
 }
