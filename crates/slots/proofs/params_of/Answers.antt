@@ -4,4 +4,4 @@ use borrow.Author.Rules.{rules}
 use Rattle.slots.proofs.params_of.Goals as goal
 
 pub returns : goal.returns
-returns c = rw (← c.policy_of-size.ensures) refl
+returns c = λ d. rw (← c.policy_of-size.ensures) refl
