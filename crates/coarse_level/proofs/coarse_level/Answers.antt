@@ -7,7 +7,7 @@ returns c = let zeros = c.put_zeros.ensures in
     let width = c.row_floats.ensures in
     let start = c.floats_before.ensures in
     record {
-    internals = c.copy_rows.ensures;
-    domains = c.put_row.ensures;
-    boxes = rw (start, width) at zeros;
-  }
+      internals = c.copy_rows.ensures;
+      domains = c.put_row.ensures;
+      boxes = rw (start, width) at zeros;
+    }
