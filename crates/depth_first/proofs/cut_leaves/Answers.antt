@@ -36,9 +36,9 @@ split-end-requires c = let a = c in
     let u = c.get_pointarray_extents-whole in
     let room = level.root-space d cs g.0 leaf g.2 R g.4 g.3 a.args.place p.rows_in_bounds.0 p.rows_in_bounds.1 p.rows_in_bounds_2.0 p.rows_in_bounds_2.1 in
     record {
-    dimensions_nonzero = g;
-    dimensions_value = (u.ensures.0, level.root-wide d cs g.0 leaf g.2 R g.4 g.3 u.result u.ensures.1, omega (arith, g.4.few), room);
-  }
+      dimensions_nonzero = g;
+      dimensions_value = (u.ensures.0, level.root-wide d cs g.0 leaf g.2 R g.4 g.3 u.result u.ensures.1, omega (arith, g.4.few), room);
+    }
 
 pub number_leaves-requires : goal.number_leaves-requires
 number_leaves-requires c = let a = c in
@@ -74,11 +74,11 @@ returns c = let a = c in
     let rows = level.level-rows d cs g.0 leaf g.2 R g.4 g.3 x.new.rows x.new.wholes x.new.floats x.new.cuts x.new.planes eR w x.auto.rows x.auto.wholes x.auto.floats x.auto.cuts room in
     let own = level.level-own d cs g.0 leaf g.2 R g.4 g.3 x.new.rows x.new.wholes x.new.floats x.new.cuts x.new.planes eR w x.auto.rows x.auto.wholes x.auto.floats x.auto.cuts room in
     let m = level.level-many d cs g.0 leaf g.2 R g.4 g.3 x.new.rows x.new.wholes x.new.floats x.new.cuts x.new.planes eR w x.auto.rows x.auto.wholes x.auto.floats x.auto.cuts room in record {
-    number = m;
-    nodes = omega (arith, m, record-long d cs g.0 leaf g.2 R g.4 g.3);
-    rows = e.rows ∙ ap joined rows;
-    domains = e.domains ∙ ap (λ (z : List Own). with_own a.args.at z a.args.first a.args.domains.now) own;
-    boxes = e.boxes ∙ ap (λ (z : List (List Float)). put a.args.boxes.now (box_width_lem d * a.args.first) (joined z)) (level.level-boxes d cs g.0 leaf g.2 R g.4 g.3 x.new.rows x.new.wholes x.new.floats x.new.cuts x.new.planes eR w x.auto.rows x.auto.wholes x.auto.floats x.auto.cuts room);
-    cuts = e.cuts ∙ level.level-cuts-are d cs g.0 leaf g.2 R g.4 g.3 x.new.rows x.new.wholes x.new.floats x.new.cuts x.new.planes eR w x.auto.rows x.auto.wholes x.auto.floats x.auto.cuts room;
-    planes = level.level-planes d cs g.0 leaf g.2 R g.4 g.3 x.new.rows x.new.wholes x.new.floats x.new.cuts x.new.planes eR w x.auto.rows x.auto.wholes x.auto.floats x.auto.cuts room;
-  }
+      number = m;
+      nodes = omega (arith, m, record-long d cs g.0 leaf g.2 R g.4 g.3);
+      rows = e.rows ∙ ap joined rows;
+      domains = e.domains ∙ ap (λ (z : List Own). with_own a.args.at z a.args.first a.args.domains.now) own;
+      boxes = e.boxes ∙ ap (λ (z : List (List Float)). put a.args.boxes.now (box_width_lem d * a.args.first) (joined z)) (level.level-boxes d cs g.0 leaf g.2 R g.4 g.3 x.new.rows x.new.wholes x.new.floats x.new.cuts x.new.planes eR w x.auto.rows x.auto.wholes x.auto.floats x.auto.cuts room);
+      cuts = e.cuts ∙ level.level-cuts-are d cs g.0 leaf g.2 R g.4 g.3 x.new.rows x.new.wholes x.new.floats x.new.cuts x.new.planes eR w x.auto.rows x.auto.wholes x.auto.floats x.auto.cuts room;
+      planes = level.level-planes d cs g.0 leaf g.2 R g.4 g.3 x.new.rows x.new.wholes x.new.floats x.new.cuts x.new.planes eR w x.auto.rows x.auto.wholes x.auto.floats x.auto.cuts room;
+    }

@@ -12,7 +12,12 @@ cut_leaves-requires c = let a = c in
     let p = a.requires in
     let copied = c.copy_rows.ensures in
     let lent = place-lent a.args.internals.now a.args.active.now _ a.args.at p.active_in_bounds_2.0 copied in
-    rw lent (p.dimensions_nonzero, (p.active_in_bounds, ((omega (arith, p.active_in_bounds_2.0, a.well_formed.1.1.1.1.0.0), p.active_in_bounds_2.1, p.active_in_bounds_2.2), p.active_in_bounds_3)))
+    record {
+      dimensions_nonzero = rw lent p.dimensions_nonzero;
+      rows_in_bounds = rw lent p.active_in_bounds;
+      rows_bound = rw lent (omega (arith, p.active_in_bounds_2.0, a.well_formed.1.1.1.1.0.0), p.active_in_bounds_2.1, p.active_in_bounds_2.2);
+      rows_in_bounds_2 = rw lent p.active_in_bounds_3;
+    }
 
 pub returns : goal.returns
 returns c = let a = c in
@@ -22,4 +27,12 @@ returns c = let a = c in
     let cut = c.cut_leaves in
     let f = rw lent at cut.ensures in
     let back = place-back a.args.internals.now a.args.active.now _ a.args.at p.active_in_bounds_2.0 copied cut.new.rows (cut.auto.rows ∙ ap length lent) in
-    (f.0, (f.1.0, (back ∙ ap (put a.args.internals.now a.args.at) f.1.1.0, f.1.1.1)))
+    record {
+      number = f.number;
+      nodes = f.nodes;
+      internals = back ∙ ap (put a.args.internals.now a.args.at) f.rows;
+      domains = f.domains;
+      boxes = f.boxes;
+      cuts = f.cuts;
+      planes = f.planes;
+    }
