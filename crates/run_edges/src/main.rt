@@ -7,15 +7,18 @@ mod level_edges;
 mod quota_edges;
 mod sample_edges;
 
-fn main() {
-    level_edges::print_thresholds();
-    level_edges::print_sizes();
-    quota_edges::print_all();
-    sample_edges::print_samples();
-    sample_edges::print_refusals();
-    sample_edges::print_short();
-    build_edges::print_lengths();
-    build_edges::print_trees();
-    build_edges::print_nested();
-    build_edges::print_refusals();
+use std::io;
+
+fn main(rt: HostRuntime) -> io::Result<()> {
+    let mut out = rt.stdout();
+    level_edges::print_thresholds(&mut out)?;
+    level_edges::print_sizes(&mut out)?;
+    quota_edges::print_all(&mut out)?;
+    sample_edges::print_samples(&mut out)?;
+    sample_edges::print_refusals(&mut out)?;
+    sample_edges::print_short(&mut out)?;
+    build_edges::print_lengths(&mut out)?;
+    build_edges::print_trees(&mut out)?;
+    build_edges::print_nested(&mut out)?;
+    build_edges::print_refusals(&mut out)
 }
