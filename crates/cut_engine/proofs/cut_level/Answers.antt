@@ -7,20 +7,20 @@ use Rattle.cut_engine.proofs.cut_level.Goals as goal
 
 pub leaves-m-requires : goal.leaves-m-requires
 leaves-m-requires c = let p = c.requires in record {
-    dimensions_nonzero = p.dimensions_nonzero;
-    active_in_bounds = p.active_in_bounds;
-    active_in_bounds_2 = p.active_in_bounds_2;
-  }
+  dimensions_nonzero = p.dimensions_nonzero;
+  active_in_bounds = p.active_in_bounds;
+  active_in_bounds_2 = p.active_in_bounds_2;
+}
 
 pub leaves-m-requires-in-DepthFirst : goal.leaves-m-requires-in-DepthFirst
 leaves-m-requires-in-DepthFirst c = let p = c.requires in
     let e = c.in-DepthFirst.is in
     record {
-    dimensions_nonzero = p.dimensions_nonzero;
-    active_in_bounds = (omega (arith, p.active_in_bounds.0), p.active_in_bounds.1);
-    active_in_bounds_2 = p.active_in_bounds_2;
-    active_in_bounds_3 = rw e at p.active_in_bounds_3;
-  }
+      dimensions_nonzero = p.dimensions_nonzero;
+      active_in_bounds = (omega (arith, p.active_in_bounds.0), p.active_in_bounds.1);
+      active_in_bounds_2 = p.active_in_bounds_2;
+      active_in_bounds_3 = rw e at p.active_in_bounds_3;
+    }
 
 pub overflow_mul-result : goal.overflow_mul-result
 overflow_mul-result c = let p = c.requires in
@@ -33,13 +33,13 @@ pub returns-in-Queue : goal.returns-in-Queue
 returns-in-Queue c = let P = c.args in
     let w = c.leaves-m.ensures in
     let e = c.in-Queue.is in record {
-    counts = (w.number, rw e, omega arith);
-    internals = w.internals;
-    domains = w.domains;
-    boxes = w.boxes;
-    cuts = by-queue P.dimensions P.points.now P.leaf P.active.now whole_of _ P.cuts.now P.place e;
-    planes = by-queue P.dimensions P.points.now P.leaf P.active.now float_of _ P.planes.now P.place e;
-  }
+      counts = (w.number, rw e, omega arith);
+      internals = w.internals;
+      domains = w.domains;
+      boxes = w.boxes;
+      cuts = by-queue P.dimensions P.points.now P.leaf P.active.now whole_of _ P.cuts.now P.place e;
+      planes = by-queue P.dimensions P.points.now P.leaf P.active.now float_of _ P.planes.now P.place e;
+    }
 
 pub returns-in-DepthFirst : goal.returns-in-DepthFirst
 returns-in-DepthFirst c = let p = c.requires in
@@ -47,10 +47,10 @@ returns-in-DepthFirst c = let p = c.requires in
     let w = c.leaves-m-in-DepthFirst.ensures in
     let e = c.in-DepthFirst.is in
     let few = nodes-few P.dimensions P.points.now P.leaf P.active.now p.dimensions_nonzero.0 p.dimensions_nonzero.2 p.dimensions_nonzero.3 p.dimensions_nonzero.4 w.number in record {
-    counts = (w.number, rw e (omega (arith, w.nodes)), rw e (omega (arith, few)));
-    internals = w.internals;
-    domains = w.domains;
-    boxes = w.boxes;
-    cuts = rw e w.cuts;
-    planes = rw e w.planes;
-  }
+      counts = (w.number, rw e (omega (arith, w.nodes)), rw e (omega (arith, few)));
+      internals = w.internals;
+      domains = w.domains;
+      boxes = w.boxes;
+      cuts = rw e w.cuts;
+      planes = rw e w.planes;
+    }
