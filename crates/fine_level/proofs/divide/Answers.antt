@@ -13,11 +13,11 @@ use Rattle.fine_level.proofs.divide.Goals as goal
 pub cut_level-cut-requires : goal.cut_level-cut-requires
 cut_level-cut-requires c = let p = c.requires in
     let P = c.args in record {
-    dimensions_nonzero = (p.given_by.axes, p.given_by.axes_few, p.given_by.leaf_some, p.given_by.rows_some, p.given_by.good);
-    active_in_bounds = (omega (arith, p.room.wholes), omega (arith, boxes-room P.plan.dimensions (length P.active.now) p.given_by.axes_few, p.room.floats));
-    active_in_bounds_2 = (p.fits_at.internals, p.fits_at.domains, lent_fits _ _ _ _ _ p.given_by P.boxes.now P.place.first p.fits_at.boxes);
-    active_in_bounds_3 = p.record_fits;
-  }
+      dimensions_nonzero = (p.given_by.axes, p.given_by.axes_few, p.given_by.leaf_some, p.given_by.rows_some, p.given_by.good);
+      active_in_bounds = (omega (arith, p.room.wholes), omega (arith, boxes-room P.plan.dimensions (length P.active.now) p.given_by.axes_few, p.room.floats));
+      active_in_bounds_2 = (p.fits_at.internals, p.fits_at.domains, lent_fits _ _ _ _ _ p.given_by P.boxes.now P.place.first p.fits_at.boxes);
+      active_in_bounds_3 = p.record_fits;
+    }
 
 pub overlaps-b-requires : goal.overlaps-b-requires
 overlaps-b-requires c = let p = c.requires in
@@ -25,9 +25,9 @@ overlaps-b-requires c = let p = c.requires in
     let l = c.cut_level-cut.ensures in
     let ready = overlaps-ready _ _ _ _ _ p.given_by _ _ _ _ p.fits_at.internals p.fits_at.domains _ _ l.internals l.domains in
     record {
-    stage = rw l.counts.0 ready;
-    neighbours_in_bounds = (omega (arith, codes-room (length P.active.now) P.plan.neighbours, p.room.wholes), p.fits_at.borrowed);
-  }
+      stage = rw l.counts.0 ready;
+      neighbours_in_bounds = (omega (arith, codes-room (length P.active.now) P.plan.neighbours, p.room.wholes), p.fits_at.borrowed);
+    }
 
 pub returns : goal.returns
 returns c = let p = c.requires in
@@ -35,17 +35,14 @@ returns c = let p = c.requires in
     let l = c.cut_level-cut.ensures in
     let o = c.overlaps-b.ensures in
     let read = rw (← l.counts.0) at (leaves-read _ _ _ _ _ p.given_by _ _ _ _ p.fits_at.internals p.fits_at.domains _ _ l.internals l.domains) in
-    let lent = rw (read, ← level-borrowed P.plan.dimensions P.points.now P.plan.leaf P.plan.neighbours P.active.now) at o in
-    let rows = overlaps-rows _ _ _ _ _ p.given_by _ _ _ _ p.fits_at.internals p.fits_at.domains _ _ l.internals l.domains P.place.bat _ (rw read at o.domains) in (
-      (l.counts.0 ∙ sym (level-number _ _ _ P.plan.neighbours _), lent.0, l.counts.1, l.counts.2),
-      (
-        l.internals ∙ ap (λ (z : List (List ℕ)). put P.internals.now P.place.from (joined z)) (sym (level-own _ _ _ P.plan.neighbours _)),
-        (
-          rows,
-          (
-            boxes-packed _ _ _ _ _ p.given_by P.boxes.now P.place.first p.fits_at.boxes _ l.boxes,
-            (lent.1.0, l.1.1.1.1),
-          ),
-        ),
-      ),
-    )
+    let borrowed = level-borrowed P.plan.dimensions P.points.now P.plan.leaf P.plan.neighbours P.active.now in
+    let rows = overlaps-rows _ _ _ _ _ p.given_by _ _ _ _ p.fits_at.internals p.fits_at.domains _ _ l.internals l.domains P.place.bat _ (rw read at o.domains) in
+    record {
+      counts = (l.counts.0 ∙ sym (level-number _ _ _ P.plan.neighbours _), rw (read, ← borrowed) at o.number, l.counts.1, l.counts.2);
+      internals = l.internals ∙ ap (λ (z : List (List ℕ)). put P.internals.now P.place.from (joined z)) (sym (level-own _ _ _ P.plan.neighbours _));
+      domains = rows;
+      boxes = boxes-packed _ _ _ _ _ p.given_by P.boxes.now P.place.first p.fits_at.boxes _ l.boxes;
+      borrowed = rw (read, ← borrowed) at o.borrowed;
+      cuts = l.cuts;
+      planes = l.planes;
+    }

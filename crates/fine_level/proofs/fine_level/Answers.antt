@@ -18,7 +18,7 @@ pub divide-parts-requires : goal.divide-parts-requires
 divide-parts-requires c = let p = c.requires in
     let P = c.args in
     let n : length (part P.level_points.now P.place.from P.place.a) ≡ P.place.a = length_part P.level_points.now P.place.from P.place.a (omega (arith, p.a_in_bounds.0)) in
-    rw (part-lent P.level_points.now P.place.from P.place.a, n) (p.a_in_bounds.2, (p.fits_at, p.1.1))
+    rw (part-lent P.level_points.now P.place.from P.place.a, n) (record { given_by = p.a_in_bounds.2; fits_at = p.fits_at; room = p.room; record_fits = p.record_fits })
 
 pub send_up-next-requires : goal.send_up-next-requires
 send_up-next-requires c = let p = c.requires in
@@ -29,21 +29,25 @@ send_up-next-requires c = let p = c.requires in
     let active = part P.level_points.now P.place.from P.place.a in
     let g = p.a_in_bounds.2 in
     let n : length active ≡ P.place.a = length_part P.level_points.now P.place.from P.place.a (omega (arith, p.a_in_bounds.0)) in
-    let v = rw (part-lent P.level_points.now P.place.from P.place.a) at c.divide-parts.ensures in
-    let many = v.0.0 ∙ level-number d cs P.plan.leaf q active in
+    let v = c.divide-parts.ensures in
+    let lent = part-lent P.level_points.now P.place.from P.place.a in
+    let counts = rw lent at v.counts in
+    let internals = rw lent at v.internals in
+    let domains = rw lent at v.domains in
+    let many = counts.0 ∙ level-number d cs P.plan.leaf q active in
     let few = number-most d cs P.plan.leaf q active g in
-    let sends = packed-sends d cs P.plan.leaf q active g _ _ _ _ _ (rw n p.fits_at.internals) (rw n p.fits_at.domains) _ _ v.1.0 v.1.1.0 in
+    let sends = packed-sends d cs P.plan.leaf q active g _ _ _ _ _ (rw n p.fits_at.internals) (rw n p.fits_at.domains) _ _ internals domains in
     let rows : row_floats_lem d * (P.place.first + length (leaves_of d cs P.plan.leaf active)) ≤ row_floats_lem d * (P.place.first + 2 * P.place.a) =
     mul-le-mul_left (row_floats_lem d) (omega (arith, few, n)) in record {
-    sends_up = rw many sends;
-    size_le_a = (
+      sends_up = rw many sends;
+      size_le_a = (
         omega (arith, p.a_in_bounds.1),
         omega (arith, p.a_in_bounds.0, p.a_in_bounds.1),
         omega (arith, few, many, n, p.room.wholes),
         omega (arith, few, many, n, p.room.floats),
         rw many (omega (arith, rows, p.fits_at.boxes)),
       );
-  }
+    }
 
 pub returns : goal.returns
 returns c = let p = c.requires in
@@ -54,27 +58,37 @@ returns c = let p = c.requires in
     let active = part P.level_points.now P.place.from P.place.a in
     let g = p.a_in_bounds.2 in
     let n : length active ≡ P.place.a = length_part P.level_points.now P.place.from P.place.a (omega (arith, p.a_in_bounds.0)) in
-    let v = rw (part-lent P.level_points.now P.place.from P.place.a) at c.divide-parts.ensures in
-    let many = v.0.0 ∙ level-number d cs P.plan.leaf q active in
+    let v = c.divide-parts.ensures in
+    let lent = part-lent P.level_points.now P.place.from P.place.a in
+    let counts = rw lent at v.counts in
+    let internals = rw lent at v.internals in
+    let domains = rw lent at v.domains in
+    let many = counts.0 ∙ level-number d cs P.plan.leaf q active in
     let leaf = P.plan.leaf in
     let size = P.size in
     let few = number-most d cs leaf q active g in
     let rows : row_floats_lem d * (P.place.first + length (leaves_of d cs leaf active)) ≤ row_floats_lem d * (P.place.first + 2 * P.place.a) =
     mul-le-mul_left (row_floats_lem d) (omega (arith, few, n)) in
-    let read = rw (← many) at (packed-read d cs leaf q active g _ _ _ _ _ (rw n p.fits_at.internals) (rw n p.fits_at.domains) _ _ v.1.0 v.1.1.0) in
-    let up = rw (read, level-next d cs leaf q active size) at c.send_up-next.ensures in
+    let read = rw (← many) at (packed-read d cs leaf q active g _ _ _ _ _ (rw n p.fits_at.internals) (rw n p.fits_at.domains) _ _ internals domains) in
+    let up = c.send_up-next.ensures in
+    let number = rw (read, level-next d cs leaf q active size) at up.number in
+    let list = rw (read, level-next d cs leaf q active size) at up.list in
+    let covered = rw read at up.boxes in
     let fits : row_floats_lem d * P.place.first + row_floats_lem d * length (leaves_of d cs leaf active) ≤ length P.boxes.now =
     omega (arith, rows, p.fits_at.boxes, mul-add (row_floats_lem d) P.place.first (length (leaves_of d cs leaf active))) in
-    let own = v.1.0 ∙ ap (λ (x : List (List ℕ)). put P.internals.now P.place.from (joined x)) (sym (sent-own d cs leaf q size active)) in
-    let domains = v.1.1.0 ∙ ap (put P.domains.now (row_numbers * P.place.first)) (sym (sent-stretches d cs leaf q size active P.place.from P.place.bat)) in
-    let floats = floats-are d cs leaf q size active P.boxes.now _ _ (row_floats_lem d * P.place.first) _ fits v.1.1.1.0 refl up.1.1 in
-    let borrowed = v.1.1.1.1.0 ∙ ap (λ (x : List (List ℕ)). put P.borrowed.now P.place.bat (joined x)) (sym (sent-borrowed d cs leaf q size active)) in (
-      (
-        v.0.0 ∙ sym (sent-number d cs leaf q size active),
-        v.0.1 ∙ ap (λ (x : List (List ℕ)). length (joined x)) (sym (sent-borrowed d cs leaf q size active)),
-        up.0.0,
-        v.0.2,
-        rw n at v.0.3,
-      ),
-      (up.1.0, (own, (domains, (floats, (borrowed, v.1.1.1.1.1))))),
-    )
+    record {
+      counts = (
+        counts.0 ∙ sym (sent-number d cs leaf q size active),
+        counts.1 ∙ ap (λ (x : List (List ℕ)). length (joined x)) (sym (sent-borrowed d cs leaf q size active)),
+        number.0,
+        counts.2,
+        rw n at counts.3,
+      );
+      level_points = list;
+      internals = internals ∙ ap (λ (x : List (List ℕ)). put P.internals.now P.place.from (joined x)) (sym (sent-own d cs leaf q size active));
+      domains = domains ∙ ap (put P.domains.now (row_numbers * P.place.first)) (sym (sent-stretches d cs leaf q size active P.place.from P.place.bat));
+      boxes = floats-are d cs leaf q size active P.boxes.now _ _ (row_floats_lem d * P.place.first) _ fits (rw lent at v.boxes) refl covered;
+      borrowed = rw lent at v.borrowed ∙ ap (λ (x : List (List ℕ)). put P.borrowed.now P.place.bat (joined x)) (sym (sent-borrowed d cs leaf q size active));
+      cuts = rw lent at v.cuts;
+      planes = rw lent at v.planes;
+    }

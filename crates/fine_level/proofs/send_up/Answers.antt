@@ -19,7 +19,7 @@ returns c = let P = c.args in
     let up = c.coarse_points-next.ensures in
     let moved = c.put_covers.ensures in
     record {
-    number = up.number;
-    list = up.list;
-    boxes = (rw (part-lent c.coarse_points-next.new.floats P.a P.m, up.covers) at moved);
-  }
+      number = up.number;
+      list = up.list;
+      boxes = (rw (part-lent c.coarse_points-next.new.floats P.a P.m, up.covers) at moved);
+    }
