@@ -59,12 +59,16 @@ returns c = let P = c.args in
     let first = c.number_rows.ensures in
     let space = all-space s cs old P.floats.now P.wholes.now acc P.level_points.now refl in
     let read : part (put P.level_points.now 0 (from 0 n)) 0 n ≡ from 0 n = part-put-same P.level_points.now 0 (from 0 n) n (omega arith) (length_from 0 n) in
-    let w = rw (first, read) at c.grow_over.ensures in
-    let v = rw (over-all s cs) at w in (
-      v.0,
-      (
-        points-whole s cs (from 0 n) P.level_points.now _ _ (omega (arith, length_from 0 n, space.level_points)) refl w.1.0
-            ∙ ap (λ (ls : List Level). put P.level_points.now 0 (packed_level_points ls)) (over-all s cs),
-        v.1.1,
-      ),
-    )
+    let w = c.grow_over.ensures in
+    let e = over-all s cs in
+    record {
+      counts = rw e at (rw (first, read) at w.counts);
+      level_points = points-whole s cs (from 0 n) P.level_points.now _ _ (omega (arith, length_from 0 n, space.level_points)) refl (rw (first, read) at w.level_points)
+          ∙ ap (λ (ls : List Level). put P.level_points.now 0 (packed_level_points ls)) e;
+      internals = rw e at (rw (first, read) at w.internals);
+      domains = rw e at (rw (first, read) at w.domains);
+      boxes = rw e at (rw (first, read) at w.boxes);
+      borrowed = rw e at (rw (first, read) at w.borrowed);
+      cuts = rw e at (rw (first, read) at w.cuts);
+      planes = rw e at (rw (first, read) at w.planes);
+    }

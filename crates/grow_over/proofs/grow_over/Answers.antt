@@ -24,10 +24,11 @@ all_levels-counts-requires c = let P = c.args in
     let pre = c.requires in
     let s = settings_of_lem P.dimensions P.params in
     let ec = c.resolved_coarse_threshold-c.ensures in
-    let ek = rw ec at c.get_num_level_reductions-k.ensures in (
-      (omega (arith, ec, pre.bound.0), omega (arith, ek, reductions-few P.n (threshold s.policy P.n) s.factor pre.bound.1), pre.bound.2),
-      pre.1,
-    )
+    let ek = rw ec at c.get_num_level_reductions-k.ensures in record {
+      le_c = (omega (arith, ec, pre.bound.0), omega (arith, ek, reductions-few P.n (threshold s.policy P.n) s.factor pre.bound.1), pre.bound.2);
+      space = pre.space;
+      record_room = pre.record_room;
+    }
 
 pub returns : goal.returns
 returns c = let P = c.args in

@@ -62,8 +62,8 @@ returns-in-Accepted c = let P = c.args in
     let rows = rows_of t in
     let first : _ ≡ put P.level_points.now 0 rows = c.list_live.ensures ∙ ap (put P.level_points.now 0) (slots-listed t) in
     let read : part (put P.level_points.now 0 rows) 0 P.head.live ≡ rows = part-put-same P.level_points.now 0 rows P.head.live (omega arith) a.many in
-    let w = rw (first, read) at c.grow_over.ensures in
-    let points = points-whole s t.coordinates rows P.level_points.now _ _ (slots-long s t old P.floats.now P.wholes.now a) refl w.1.0 in
-    let lists = whole-lists points w.1.1.0 w.1.1.1.0 w.1.1.1.1.0 w.1.1.1.1.1.0 in
-    built-slots s t old P.floats.now P.wholes.now (rw (← over-slots s t) at w.0 ∙ answer-accepted v (slot_levels s t) old e) (rw (← over-slots s t) at lists ∙ lists-accepted v (slot_levels s t) old e)
+    let w = c.grow_over.ensures in
+    let points = points-whole s t.coordinates rows P.level_points.now _ _ (slots-long s t old P.floats.now P.wholes.now a) refl (rw (first, read) at w.level_points) in
+    let lists = whole-lists points (rw (first, read) at w.internals) (rw (first, read) at w.domains) (rw (first, read) at w.boxes) (rw (first, read) at w.borrowed) in
+    built-slots s t old P.floats.now P.wholes.now (rw (← over-slots s t) at (rw (first, read) at w.counts) ∙ answer-accepted v (slot_levels s t) old e) (rw (← over-slots s t) at lists ∙ lists-accepted v (slot_levels s t) old e)
     (room-accepted v _ _ e (search rules)) (room-accepted v _ _ e (search rules))
