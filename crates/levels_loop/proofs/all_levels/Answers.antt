@@ -23,11 +23,11 @@ fine_level-level-requires c = let v = c.loop-engine.invariant.0 in
     let yes = sym c.is_fine.ensures ∙ c.loop-engine-test.true in
     let some = c.requires.le_c.0 in
     record {
-    a_in_bounds = (level_points_fit _ _ v yes some, size_few _ _ v yes some c.next_size-size.ensures, v.given);
-    fits_at = level-fits _ _ v yes some;
-    room = level-room _ _ v yes some;
-    record_fits = noted-fits c.loop-engine.invariant.1 (levels-left _ _ v yes some);
-  }
+      a_in_bounds = (level_points_fit _ _ v yes some, size_few _ _ v yes some c.next_size-size.ensures, v.given);
+      fits_at = level-fits _ _ v yes some;
+      room = level-room _ _ v yes some;
+      record_fits = noted-fits c.loop-engine.invariant.1 (levels-left _ _ v yes some);
+    }
 
 pub offset_bounds-rows-built : goal.offset_bounds-rows-built
 offset_bounds-rows-built c = omega (arith, c.loop-engine.invariant.0.few)
@@ -109,13 +109,13 @@ pub shape_of-level_points : goal.shape_of-level_points
 shape_of-level_points c = omega (arith, c.loop-engine.invariant.0.long.level_points)
 
 pub shape_of-internals : goal.shape_of-internals
-shape_of-internals c = omega (arith, c.loop-engine.invariant.0.long.internals, c.coarse_level.auto.1.1.1.1.0)
+shape_of-internals c = omega (arith, c.loop-engine.invariant.0.long.internals, c.coarse_level.auto.internals)
 
 pub shape_of-domains : goal.shape_of-domains
-shape_of-domains c = omega (arith, c.loop-engine.invariant.0.long.domains, c.coarse_level.auto.1.1.1.1.1.0)
+shape_of-domains c = omega (arith, c.loop-engine.invariant.0.long.domains, c.coarse_level.auto.domains)
 
 pub shape_of-boxes : goal.shape_of-boxes
-shape_of-boxes c = omega (arith, c.loop-engine.invariant.0.long.boxes, c.coarse_level.auto.1.1.1.1.1.1.1.1.0)
+shape_of-boxes c = omega (arith, c.loop-engine.invariant.0.long.boxes, c.coarse_level.auto.boxes)
 
 pub shape_of-borrowed : goal.shape_of-borrowed
 shape_of-borrowed c = omega (arith, c.loop-engine.invariant.0.long.borrowed)
@@ -135,13 +135,15 @@ shape_of-planes c = omega (arith, c.loop-engine.invariant.1.planes.long)
 pub returns : goal.returns
 returns c = let v = c.loop-engine.invariant.0 in
     let no = sym c.is_fine.ensures ∙ c.loop-engine-test.false in
-    let w = c.coarse_level.ensures in (
-      (end-number _ _ v no w.internals w.domains w.boxes, end-rows _ _ v no w.internals w.domains w.boxes, end-counts _ _ v no w.internals w.domains w.boxes),
-      (
-        end-points _ _ v no w.internals w.domains w.boxes,
-        (
-          end-internals _ _ v no w.internals w.domains w.boxes,
-          (end-domains _ _ v no w.internals w.domains w.boxes, (end-boxes _ _ v no w.internals w.domains w.boxes, (end-borrowed _ _ v no w.internals w.domains w.boxes, noted-end c.loop-engine.invariant.1 (end_rest _ _ v no w.internals w.domains w.boxes)))),
-        ),
-      ),
-    )
+    let w = c.coarse_level.ensures in
+    let n = noted-end c.loop-engine.invariant.1 (end_rest _ _ v no w.internals w.domains w.boxes) in
+    record {
+      counts = (end-number _ _ v no w.internals w.domains w.boxes, end-rows _ _ v no w.internals w.domains w.boxes, end-counts _ _ v no w.internals w.domains w.boxes);
+      level_points = end-points _ _ v no w.internals w.domains w.boxes;
+      internals = end-internals _ _ v no w.internals w.domains w.boxes;
+      domains = end-domains _ _ v no w.internals w.domains w.boxes;
+      boxes = end-boxes _ _ v no w.internals w.domains w.boxes;
+      borrowed = end-borrowed _ _ v no w.internals w.domains w.boxes;
+      cuts = n.0;
+      planes = n.1;
+    }
