@@ -1,7 +1,7 @@
 -- Domain rows that are those of packing: the first one and those behind it, the own and the borrowed rows that they name, and where the
 -- borrowed rows end. Assumes nothing.
 -- Holds: AsPacked, rows_split, FirstAsPacked, depth-read, first-as-packed, packed-first, own-joined, borrowed-joined,
---   borrowed_end, stretches-append, leaves-length, leaves-append, packed-append, packed-front, packed-behind, end-append
+--   borrowed_end_is, stretches-append, leaves-length, leaves-append, packed-append, packed-front, packed-behind, end-append
 use mathlib.Core.Path.{◌≡◌, refl, sym, ap, ap₂, ◌∙◌}
 use mathlib.Core.List.{List, ◌∷◌, ◌++◌, map, map-append, map-map}
 use Prim.Native.Nat.{ℕ, zero, suc, ◌+◌, ◌*◌, ◌≤◌, ◌<◌}
@@ -17,6 +17,7 @@ use Rattle.definition.specs.Tree.{Leaf}
 use Rattle.definition.specs.Packed.{row_numbers, numbers_of, stretches}
 use Rattle.definition_laws.proofs.Fit.{length-stretches}
 use Rattle.packed.proofs.Packing as packing
+use Rattle.packed.specs.Reading as reading
 use Rattle.packed.specs.Reading.{Packed, own_start, own_count, borrowed_start, borrowed_count, depth_at, row_at, read_leaf, read_leaves}
 use Rattle.tree_tests.proofs.Lengths.{own_total, borrowed_total}
 use Rattle.list_domains.specs.InLists.{borrowed_end}
@@ -55,7 +56,7 @@ pub record FirstAsPacked (p : Packed) (j m a b : ℕ) : Type 0 where
   pub own_count : own_count p.domains j ≡ length (read_leaf p j).own
   pub borrowed_start : borrowed_start p.domains j ≡ b
   pub borrowed_count : borrowed_count p.domains j ≡ length (read_leaf p j).borrowed
-  pub behind : AsPacked p (suc j) m (a + own_count p.domains j) (b + borrowed_count p.domains j)
+  pub behind : AsPacked p (suc j) m (a + reading.own_count p.domains j) (b + reading.borrowed_count p.domains j)
 
 module _ (p : Packed) where
   -- the depth of a leaf is that of its row
@@ -109,14 +110,14 @@ module _ (p : Packed) where
       rw (later, ← g.borrowed_count, g.borrowed_start) (part-append p.borrowed b more (borrowed_total (read_leaves p (suc j) m)))
 
   -- ---- where the borrowed rows end
-  pub borrowed_end : (m j a b : ℕ) → row_numbers * (j + m) ≤ length p.domains → AsPacked p j m a b
+  pub borrowed_end_is : (m j a b : ℕ) → row_numbers * (j + m) ≤ length p.domains → AsPacked p j m a b
       → borrowed_end p.domains j b m ≡ b + borrowed_total (read_leaves p j m)
   unfolding read_leaves from total borrowed_end
-  borrowed_end zero j a b fit h = sym (add-zero b)
-  borrowed_end (suc m) j a b fit h =
+  borrowed_end_is zero j a b fit h = sym (add-zero b)
+  borrowed_end_is (suc m) j a b fit h =
       let g = first-as-packed j m a b fit h in
       let more = borrowed_count p.domains j in
-      borrowed_end m (suc j) (a + own_count p.domains j) (b + more) (omega arith) g.behind
+      borrowed_end_is m (suc j) (a + own_count p.domains j) (b + more) (omega arith) g.behind
       ∙ omega (arith, g.borrowed_count)
 
 -- ---- domain rows and those behind them

@@ -33,8 +33,8 @@ rows_pass-good-requires c = let tested = c in
     let is = tested.read_row-row.ensures in
     let fits = tested.stretches_fit.ensures in
     let good = tested.if-not-stretches_fit.false in (
-      own-within a.coarse l a.borrowed-most a.rows a.j a.own_at a.borrowed_at a.remaining a.least a.left.now a.listed.now start.requires row is _ fits good,
-      borrowed-within a.coarse l a.borrowed-most a.rows a.j a.own_at a.borrowed_at a.remaining a.least a.left.now a.listed.now start.requires row is _ fits good,
+      own-within a.coarse l a.borrowed_most a.rows a.j a.own_at a.borrowed_at a.remaining a.least a.left.now a.listed.now start.requires row is _ fits good,
+      borrowed-within a.coarse l a.borrowed_most a.rows a.j a.own_at a.borrowed_at a.remaining a.least a.left.now a.listed.now start.requires row is _ fits good,
       start.requires.same_length,
       start.requires.inside,
     )

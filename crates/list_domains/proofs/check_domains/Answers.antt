@@ -16,29 +16,25 @@ check_domain-one-requires c = row-ready c.loop-i.invariant (omega arith)
 
 pub returns-then-not-one : goal.returns-then-not-one
 returns-then-not-one c = let called = c in
-    let sets = called.check_domain-one.new.1.1.1.1.1.1.1.1.1.1.1.1.1 in
     let at-loop = called in
-    between-out at-loop.loop-i.invariant called.loop-i-test.true sets.0 sets.1.0 called.check_domain-one.ensures _ c.if-not-one.true
+    between-out at-loop.loop-i.invariant called.loop-i-test.true called.check_domain-one.new.left called.check_domain-one.new.listed called.check_domain-one.ensures _ (not-true _ c.if-not-one.true)
 
 pub overflow_add-own : goal.overflow_add-own
 overflow_add-own c = let called = c in
-    let sets = called.check_domain-one.new.1.1.1.1.1.1.1.1.1.1.1.1.1 in
     let at-loop = called in
-    let most = own-most at-loop.loop-i.invariant called.loop-i-test.true sets.0 sets.1.0 called.check_domain-one.ensures c.if-not-one.false in
+    let most = own-most at-loop.loop-i.invariant called.loop-i-test.true called.check_domain-one.new.left called.check_domain-one.new.listed called.check_domain-one.ensures (not-false _ c.if-not-one.false) in
     search rules
 
 pub overflow_add-end : goal.overflow_add-end
 overflow_add-end c = let called = c in
-    let sets = called.check_domain-one.new.1.1.1.1.1.1.1.1.1.1.1.1.1 in
     let at-loop = called in
-    let most = borrowed-most at-loop.loop-i.invariant called.loop-i-test.true sets.0 sets.1.0 called.check_domain-one.ensures c.if-not-one.false in
-    record { fits = omega (arith, most, at-loop.loop-i.invariant.ready.end, at-loop.ranges.borrowed-most) }
+    let most = borrowed-most at-loop.loop-i.invariant called.loop-i-test.true called.check_domain-one.new.left called.check_domain-one.new.listed called.check_domain-one.ensures (not-false _ c.if-not-one.false) in
+    record { fits = omega (arith, most, at-loop.loop-i.invariant.ready.end, at-loop.ranges.borrowed_most) }
 
 pub overflow_sub-remaining : goal.overflow_sub-remaining
 overflow_sub-remaining c = let called = c in
-    let sets = called.check_domain-one.new.1.1.1.1.1.1.1.1.1.1.1.1.1 in
     let at-loop = called in
-    let most = own-most at-loop.loop-i.invariant called.loop-i-test.true sets.0 sets.1.0 called.check_domain-one.ensures c.if-not-one.false in
+    let most = own-most at-loop.loop-i.invariant called.loop-i-test.true called.check_domain-one.new.left called.check_domain-one.new.listed called.check_domain-one.ensures (not-false _ c.if-not-one.false) in
     search rules
 
 pub overflow_add-i : goal.overflow_add-i
@@ -47,11 +43,9 @@ overflow_add-i c = let at-loop = c in
 
 pub loop-i-preserved : goal.loop-i-preserved
 loop-i-preserved c = let called = c in
-    let sets = called.check_domain-one.new.1.1.1.1.1.1.1.1.1.1.1.1.1 in
     let at-loop = called in
-    let kept = called.check_domain-one.auto.1.1.1.1.1.1.1.1.1.1.1.1.1 in
-    between_next at-loop.loop-i.invariant called.loop-i-test.true sets.0 sets.1.0 called.check_domain-one.ensures c.if-not-one.false
-    kept.0 kept.1.0
+    between_next at-loop.loop-i.invariant called.loop-i-test.true called.check_domain-one.new.left called.check_domain-one.new.listed called.check_domain-one.ensures (not-false _ c.if-not-one.false)
+    called.check_domain-one.auto.left called.check_domain-one.auto.listed
 
 pub returns : goal.returns
 returns c = between-end c.loop-i.invariant c.loop-i-test.false _ refl
