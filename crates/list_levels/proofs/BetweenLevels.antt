@@ -18,7 +18,7 @@ use Rattle.packed.specs.Reading.{Packed, up_to, points_at}
 use Rattle.tree_tests.specs.InTurn.{among}
 use Rattle.marks.specs.Bits.{Marked}
 use Rattle.list_domains.specs.InLists.{borrowed_end}
-use Rattle.list_domains.proofs.AsPacked.{end-append, borrowed_end}
+use Rattle.list_domains.proofs.AsPacked.{end-append, borrowed_end_is}
 use Rattle.list_levels.specs.InLists.{count_fits_lem, one_only, held_level_passes, held_levels_pass}
 use Rattle.list_levels.specs.Passed.{LevelsReady, NextReady, NextPassed, LevelsPassed}
 use Rattle.list_levels.specs.declared.ListsPassed.{ListsPassed}
@@ -158,7 +158,7 @@ module _ {l : Packed} {level_points : List ℕ} {c : Counts} {n most : ℕ} {lef
               (omega (arith, rows-most, room-here, ready.long.points)) (omega (arith, rows-most, room-here, ready.long.internals)) h.low tests.0 tests.2
 
           end-most : r.borrowed ≤ most
-          end-most = omega (arith, d.borrowed_on good, borrowed_end l m done.domains done.rows done.borrowed fit level.packed, level.within)
+          end-most = omega (arith, d.borrowed_on good, borrowed_end_is l m done.domains done.rows done.borrowed fit level.packed, level.within)
 
           next-domains : done.domains + m ≡ up_to c.domains (t + 1)
           next-domains = rw (h.domains-are, m-is, add-one t) (sym (total-more c.domains t))

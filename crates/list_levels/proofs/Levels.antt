@@ -21,7 +21,7 @@ use Rattle.packed.specs.Reading.{Packed, read_leaves, up_to, points_at, read_lev
 use Rattle.tree_tests.specs.InTurn.{among, fewer, level_passes, levels_pass}
 use Rattle.tree_tests.proofs.Lengths.{own_total, borrowed_total}
 use Rattle.list_domains.specs.InLists.{borrowed_end}
-use Rattle.list_domains.proofs.AsPacked.{AsPacked, leaves-append, leaves-length, packed-append, packed-front, packed-behind, borrowed_end}
+use Rattle.list_domains.proofs.AsPacked.{AsPacked, leaves-append, leaves-length, packed-append, packed-front, packed-behind, borrowed_end_is}
 use Rattle.list_levels.specs.InLists.{count_fits_lem, one_only, held_level_passes, held_levels_pass}
 use Rattle.list_levels.proofs.OneLevel.{level_there, LevelHeld, level-held, held-count, held-level, level-own}
 
@@ -158,7 +158,7 @@ module _ (p : Packed) (level_points : List ℕ) (c : Counts) (n most : ℕ) (len
       rows_on = total-more c.rows l ∙ ap (λ (x : ℕ). up_to c.rows l + x) (sym (level-own (eqb k 0) p level_points most (count_fits_lem l n many) above j (up_to c.rows l) b rows m lent fit g))
 
       end_is : borrowed_end p.domains j b m ≡ b + borrowed_total fs
-      end_is = borrowed_end p m j (up_to c.rows l) b fit g.packed
+      end_is = borrowed_end_is p m j (up_to c.rows l) b fit g.packed
 
       module _ (d : ℕ) where
         both : borrowed_total (read_leaves p j (m + d)) ≡ borrowed_total fs + borrowed_total (read_leaves p (j + m) d)

@@ -27,7 +27,7 @@ use Rattle.tree_tests.proofs.AllRows.{same-is, same_self}
 use Rattle.tree_tests.proofs.Limits.{sound-counted}
 use Rattle.tree_tests.proofs.Lengths.{own_total, borrowed_total}
 use Rattle.list_domains.specs.InLists.{borrowed_end}
-use Rattle.list_domains.proofs.AsPacked.{AsPacked, leaves-length, own-joined, borrowed-joined, borrowed_end}
+use Rattle.list_domains.proofs.AsPacked.{AsPacked, leaves-length, own-joined, borrowed-joined, borrowed_end_is}
 use Rattle.list_levels.specs.InLists.{count_fits_lem, none_beyond_lem, counts_stand_lem, held_levels_pass, held_tree_passes}
 use Rattle.list_levels.specs.Passed.{Long}
 use Rattle.list_levels.proofs.Levels.{LevelsHeld, levels_held, counts_from_lem, leaves-held, levels-held, held-levels}
@@ -278,4 +278,4 @@ module _ (s : Settings) (n : ℕ) (c : Counts) (l : TreeLists) (four-rows : leng
     pub borrowed-total : borrowed_end l.domains 0 0 (up_to c.domains c.levels) ≡ length (packed_borrowed (tree_held s.dimension c l))
     borrowed-total =
         let t = tests-to h in
-        ap (borrowed_end l.domains 0 0) (domains-total ∙ leaves-many) ∙ borrowed_end p all_domains 0 0 0 (fit t) (as-packed t) ∙ zero-add (borrowed_total (read_leaves p 0 all_domains)) ∙ sym borrowed-many
+        ap (borrowed_end l.domains 0 0) (domains-total ∙ leaves-many) ∙ borrowed_end_is p all_domains 0 0 0 (fit t) (as-packed t) ∙ zero-add (borrowed_total (read_leaves p 0 all_domains)) ∙ sym borrowed-many

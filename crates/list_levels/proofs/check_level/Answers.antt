@@ -37,7 +37,7 @@ check_domains-requires c = let asked = c in
     let first = c.set_rows in
     let second = c.set_rows-2 in
     domains-ready a.level_points.now a.own_at a.rows a.listed.now _ asked.rows_marked.ensures _ _ first.ensures second.ensures a.left.now start.requires
-    first.auto.1.1.1.0 second.auto.1.1.1.0
+    first.auto.words second.auto.words
 
 pub returns : goal.returns
 returns c = let asked = c in
@@ -47,5 +47,5 @@ returns c = let asked = c in
     let first = c.set_rows in
     let second = c.set_rows-2 in
     level-tell a.level_points.now a.own_at a.rows a.listed.now _ asked.rows_marked.ensures _ _ first.ensures second.ensures c.if-not-rows_marked.false a.coarse
-    (packed a.internals.now a.domains.now a.boxes.now a.borrowed.now a.dimensions) a.borrowed-most a.first a.borrowed_at a.count called.new.listed.0 called.result
+    (packed a.internals.now a.domains.now a.boxes.now a.borrowed.now a.dimensions) a.borrowed_most a.first a.borrowed_at a.count called.new.listed called.result
     called.ensures

@@ -17,16 +17,13 @@ next_level-done-requires c = let at-loop = c in
 pub returns-then-not-done : goal.returns-then-not-done
 returns-then-not-done c = let called = c in
     let at-loop = called in
-    let sets = called.next_level-done.new.1.1.1.1.1.1.1.1.1.1.1.1.1.1 in
-    between-out at-loop.requires at-loop.loop-t.invariant called.loop-t-test.true sets.0 sets.1.0 _ _ refl refl _ called.next_level-done.ensures c.if-not-done.true
+    between-out at-loop.requires at-loop.loop-t.invariant called.loop-t-test.true called.next_level-done.new.left called.next_level-done.new.listed _ _ refl refl _ called.next_level-done.ensures (not-true _ c.if-not-done.true)
 
 pub loop-t-preserved : goal.loop-t-preserved
 loop-t-preserved c = let called = c in
     let at-loop = called in
-    let sets = called.next_level-done.new.1.1.1.1.1.1.1.1.1.1.1.1.1.1 in
-    let kept = called.next_level-done.auto.1.1.1.1.1.1.1.1.1.1.1.1.1.1 in
-    between_next at-loop.requires at-loop.loop-t.invariant called.loop-t-test.true sets.0 sets.1.0 _ _ refl refl _ called.next_level-done.ensures c.if-not-done.false
-    kept.0 kept.1.0
+    between_next at-loop.requires at-loop.loop-t.invariant called.loop-t-test.true called.next_level-done.new.left called.next_level-done.new.listed _ _ refl refl _ called.next_level-done.ensures (not-false _ c.if-not-done.false)
+    called.next_level-done.auto.left called.next_level-done.auto.listed
 
 pub returns : goal.returns
 returns c = between-end c.requires c.loop-t.invariant c.loop-t-test.false

@@ -19,7 +19,7 @@ check_level-level-requires c = let tested = c in
     let a = start.args in
     let x = tested.count_fits.ensures in
     let y = tested.domains_fit.ensures in
-    level-ready a.coarse (packed a.internals.now a.domains.now a.boxes.now a.borrowed.now a.dimensions) a.level_points.now a.n a.borrowed-most a.t a.above a.rows a.count a.done a.left.now a.listed.now start.requires
+    level-ready a.coarse (packed a.internals.now a.domains.now a.boxes.now a.borrowed.now a.dimensions) a.level_points.now a.n a.borrowed_most a.t a.above a.rows a.count a.done a.left.now a.listed.now start.requires
     _ x _ y tested.if-not-count_fits.false tested.if-not-domains_fit.false
 
 pub overflow_add-result : goal.overflow_add-result
@@ -28,7 +28,7 @@ overflow_add-result c = let tested = c in
     let a = start.args in
     let x = tested.count_fits.ensures in
     let y = tested.domains_fit.ensures in
-    let few = rows-most a.coarse (packed a.internals.now a.domains.now a.boxes.now a.borrowed.now a.dimensions) a.level_points.now a.n a.borrowed-most a.t a.above a.rows a.count a.done a.left.now a.listed.now start.requires
+    let few = rows-most a.coarse (packed a.internals.now a.domains.now a.boxes.now a.borrowed.now a.dimensions) a.level_points.now a.n a.borrowed_most a.t a.above a.rows a.count a.done a.left.now a.listed.now start.requires
     _ x _ y tested.if-not-count_fits.false tested.if-not-domains_fit.false in
     let room = start.requires.room in
     let many = start.requires.many in
@@ -40,7 +40,7 @@ overflow_add-result-2 c = let tested = c in
     let a = start.args in
     let x = tested.count_fits.ensures in
     let y = tested.domains_fit.ensures in
-    let few = domains-most a.coarse (packed a.internals.now a.domains.now a.boxes.now a.borrowed.now a.dimensions) a.level_points.now a.n a.borrowed-most a.t a.above a.rows a.count a.done a.left.now a.listed.now start.requires
+    let few = domains-most a.coarse (packed a.internals.now a.domains.now a.boxes.now a.borrowed.now a.dimensions) a.level_points.now a.n a.borrowed_most a.t a.above a.rows a.count a.done a.left.now a.listed.now start.requires
     _ x _ y tested.if-not-count_fits.false tested.if-not-domains_fit.false in
     let many = start.requires.many in
     search rules
@@ -52,5 +52,5 @@ returns c = let called = c.check_level-level in
     let a = start.args in
     let x = tested.count_fits.ensures in
     let y = tested.domains_fit.ensures in
-    level-on a.coarse (packed a.internals.now a.domains.now a.boxes.now a.borrowed.now a.dimensions) a.level_points.now a.n a.borrowed-most a.t a.above a.rows a.count a.done a.left.now a.listed.now start.requires
-    _ x _ y tested.if-not-count_fits.false tested.if-not-domains_fit.false called.new.listed.0 _ called.ensures
+    level-on a.coarse (packed a.internals.now a.domains.now a.boxes.now a.borrowed.now a.dimensions) a.level_points.now a.n a.borrowed_most a.t a.above a.rows a.count a.done a.left.now a.listed.now start.requires
+    _ x _ y tested.if-not-count_fits.false tested.if-not-domains_fit.false called.new.listed _ called.ensures
