@@ -13,51 +13,51 @@ use Rattle.stream_reader.proofs.read_job.Goals as goal
 
 pub returns-then-not-settings_whole : goal.returns-then-not-settings_whole
 returns-then-not-settings_whole c = record {
-    same = job-broken c.args.input.now (sym c.settings_whole.ensures ∙ c.if-not-settings_whole.true);
-    within = tt;
-  }
+  same = job-broken c.args.input.now (sym c.settings_whole.ensures ∙ c.if-not-settings_whole.true);
+  within = tt;
+}
 
 pub settings_of-s-requires : goal.settings_of-s-requires
 settings_of-s-requires c = whole_long c.args.input.now (sym c.settings_whole.ensures ∙ c.if-not-settings_whole.false)
 
 pub returns-then-d-eq0 : goal.returns-then-d-eq0
 returns-then-d-eq0 c = record {
-    same = job-low c.args.input.now
+  same = job-low c.args.input.now
       (sym c.settings_whole.ensures ∙ c.if-not-settings_whole.false) _ c.settings_of-s.ensures c.if-d-eq0.true;
-    within = tt;
-  }
+  within = tt;
+}
 
 pub returns-then-d-gt3 : goal.returns-then-d-gt3
 returns-then-d-gt3 c = record {
-    same = job-high c.args.input.now
+  same = job-high c.args.input.now
       (sym c.settings_whole.ensures ∙ c.if-not-settings_whole.false) _ c.settings_of-s.ensures c.if-d-gt3.true;
-    within = tt;
-  }
+  within = tt;
+}
 
 pub loop-at-init : goal.loop-at-init
 loop-at-init c = let start = c in (
-      begun _ start.args.input.now _
-          (sym c.settings_whole.ensures ∙ c.if-not-settings_whole.false)
-          c.settings_of-s.ensures c.if-d-eq0.false c.if-d-gt3.false start.requires,
-      refl,
-    )
+  begun _ start.args.input.now _
+      (sym c.settings_whole.ensures ∙ c.if-not-settings_whole.false)
+      c.settings_of-s.ensures c.if-d-eq0.false c.if-d-gt3.false start.requires,
+  refl,
+)
 
 pub record_at-requires : goal.record_at-requires
 record_at-requires c = (c.loop-at.invariant.0.within, search rules)
 
 pub returns-then-not-record_at : goal.returns-then-not-record_at
 returns-then-not-record_at c = record {
-    same = reading-cut c.loop-at.invariant.0 c.loop-at-test.true
+  same = reading-cut c.loop-at.invariant.0 c.loop-at-test.true
       (sym c.record_at.ensures ∙ c.if-not-record_at.true);
-    within = tt;
-  }
+  within = tt;
+}
 
 pub returns-then-n-eq-MOST_POINTS : goal.returns-then-n-eq-MOST_POINTS
 returns-then-n-eq-MOST_POINTS c = record {
-    same = reading-full c.loop-at.invariant.0 c.loop-at-test.true
+  same = reading-full c.loop-at.invariant.0 c.loop-at-test.true
       (sym c.record_at.ensures ∙ c.if-not-record_at.false) c.if-n-eq-MOST_POINTS.true;
-    within = tt;
-  }
+  within = tt;
+}
 
 pub overflow_mul-n : goal.overflow_mul-n
 overflow_mul-n c = let turn = c.loop-at in
@@ -89,20 +89,20 @@ loop-at-smaller c = omega (arith, c.loop-at-test.true)
 
 pub loop-at-preserved : goal.loop-at-preserved
 loop-at-preserved c = let turn = c.loop-at in (
-      reading-more turn.invariant.0 c.loop-at-test.true
-          (sym c.record_at.ensures ∙ c.if-not-record_at.false)
-          c.if-n-eq-MOST_POINTS.false _ c.read_floats.ensures (search rules),
-      search rules,
-    )
+  reading-more turn.invariant.0 c.loop-at-test.true
+      (sym c.record_at.ensures ∙ c.if-not-record_at.false)
+      c.if-n-eq-MOST_POINTS.false _ c.read_floats.ensures (search rules),
+  search rules,
+)
 
 pub returns-then-neighbours-gt-MOST_NEIGHBOURS : goal.returns-then-neighbours-gt-MOST_NEIGHBOURS
 returns-then-neighbours-gt-MOST_NEIGHBOURS c = record {
-    same = reading-over c.loop-at.invariant.0 c.loop-at-test.false c.if-neighbours-gt-MOST_NEIGHBOURS.true;
-    within = tt;
-  }
+  same = reading-over c.loop-at.invariant.0 c.loop-at-test.false c.if-neighbours-gt-MOST_NEIGHBOURS.true;
+  within = tt;
+}
 
 pub returns : goal.returns
 returns c = record {
-    same = reading-done c.loop-at.invariant.0 c.loop-at-test.false c.if-neighbours-gt-MOST_NEIGHBOURS.false;
-    within = c.loop-at.invariant.0.few;
-  }
+  same = reading-done c.loop-at.invariant.0 c.loop-at-test.false c.if-neighbours-gt-MOST_NEIGHBOURS.false;
+  within = c.loop-at.invariant.0.few;
+}
