@@ -6,6 +6,8 @@
 ghost use Rattle.std.specs.Prelude.{◌≡◌, ◌+◌, ◌≤◌, ◌<◌, length};
 ghost use Rattle.stream_laws.specs.Sizes.{most_bytes};
 
+use std::io;
+
 // The room for a file, and for a printout.
 const FILE: usize = 1835008;
 
@@ -73,21 +75,13 @@ fn replay(file: &[u8], text: &mut [u8]) -> Tally {
     Tally { streams, differ }
 }
 
-fn main() {
-    let mut path = io::buffer();
-    let length = os::arg(1, &mut path);
-    let fd = os::open_read(&path[..length]);
-    if fd < 0 {
-        os::fail(b"open");
-        return;
-    }
+fn main(rt: HostRuntime) -> io::Result<()> {
+    let mut from = program_input::open_argument(&rt, 1)?;
     let mut file = file_room();
-    let n = io::read_full(fd, &mut file);
-    libc::close(fd);
+    let n = program_input::read_count(&mut from, &mut file)?;
     let mut text = text_room();
     let tally = replay(&file[..n], &mut text);
-    io::print_decimal(libc::STDOUT_FILENO, tally.streams);
-    io::write_all(libc::STDOUT_FILENO, b" streams, ");
-    io::print_decimal(libc::STDOUT_FILENO, tally.differ);
-    io::write_all(libc::STDOUT_FILENO, b" differ\n");
+    let streams = tally.streams;
+    let differ = tally.differ;
+    println!(rt; "{streams} streams, {differ} differ")
 }

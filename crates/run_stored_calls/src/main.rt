@@ -3,8 +3,14 @@
 // file, and its head says the form of a record.
 #![tactic(auto)]
 
+use std::io;
+use std::io::Read;
+
 // More records than this are not replayed.
 const MOST: u64 = 100000;
+
+// The room for a record.
+const ROOM: usize = 4096;
 
 // The kinds of a record.
 const LOAD: usize = 1;
@@ -31,11 +37,11 @@ fn agrees(record: &[u8]) -> bool {
 }
 
 // All records of the file. One that cannot be read whole counts as one that differs, and is the last.
-fn replay(fd: i32, room: &mut [u8]) -> Tally {
+fn replay<R: Read>(file: &mut R, room: &mut [u8]) -> Tally {
     let mut calls: u64 = 0;
     let mut differ: u64 = 0;
     while calls < MOST {
-        let next = record_file::read_next(fd, room);
+        let next = record_file::read_next(file, room);
         if !next.found {
             break;
         }
@@ -51,19 +57,11 @@ fn replay(fd: i32, room: &mut [u8]) -> Tally {
     Tally { calls, differ }
 }
 
-fn main() {
-    let mut path = io::buffer();
-    let length = os::arg(1, &mut path);
-    let fd = os::open_read(&path[..length]);
-    if fd < 0 {
-        os::fail(b"open");
-        return;
-    }
-    let mut room = io::buffer();
-    let tally = replay(fd, &mut room);
-    libc::close(fd);
-    io::print_decimal(libc::STDOUT_FILENO, tally.calls);
-    io::write_all(libc::STDOUT_FILENO, b" calls, ");
-    io::print_decimal(libc::STDOUT_FILENO, tally.differ);
-    io::write_all(libc::STDOUT_FILENO, b" differ\n");
+fn main(rt: HostRuntime) -> io::Result<()> {
+    let mut file = program_input::open_argument(&rt, 1)?;
+    let mut room = [0u8; ROOM];
+    let tally = replay(&mut file, &mut room);
+    let calls = tally.calls;
+    let differ = tally.differ;
+    println!(rt; "{calls} calls, {differ} differ")
 }

@@ -5,8 +5,14 @@
 
 ghost use Rattle.std.specs.Prelude.{◌^◌, ◌≤◌};
 
+use std::io;
+use std::io::{Read, Write};
+
 // More records than this are not replayed.
 const MOST: u64 = 100000;
+
+// The room for a record.
+const ROOM: usize = 65536;
 
 // The kinds of a record.
 const ADD: usize = 1;
@@ -70,12 +76,12 @@ fn agrees(record: &[u8]) -> bool {
 }
 
 // All records of the file. One that cannot be read whole counts as one that differs, and is the last.
-fn replay(fd: i32, room: &mut [u8]) -> Tally {
+fn replay<R: Read>(file: &mut R, room: &mut [u8]) -> Tally {
     let mut calls: u64 = 0;
     let mut differ: u64 = 0;
     let mut first: u64 = 0;
     while calls < MOST {
-        let next = record_file::read_next(fd, room);
+        let next = record_file::read_next(file, room);
         if !next.found {
             break;
         }
@@ -99,28 +105,20 @@ fn replay(fd: i32, room: &mut [u8]) -> Tally {
 }
 
 // Writes the number of calls, and how many of them differ.
-fn print_tally(tally: Tally) {
-    io::print_decimal(libc::STDOUT_FILENO, tally.calls);
-    io::write_all(libc::STDOUT_FILENO, b" calls, ");
-    io::print_decimal(libc::STDOUT_FILENO, tally.differ);
-    io::write_all(libc::STDOUT_FILENO, b" differ");
-    if 0 < tally.differ {
-        io::write_all(libc::STDOUT_FILENO, b", the first is call ");
-        io::print_decimal(libc::STDOUT_FILENO, tally.first);
+fn print_tally<W: Write>(to: &mut W, tally: Tally) -> io::Result<()> {
+    let calls = tally.calls;
+    let differ = tally.differ;
+    write!(to, "{calls} calls, {differ} differ")?;
+    if 0 < differ {
+        let first = tally.first;
+        write!(to, ", the first is call {first}")?;
     }
-    io::write_all(libc::STDOUT_FILENO, b"\n");
+    to.write_all(b"\n")
 }
 
-fn main() {
-    let mut path = io::buffer();
-    let length = os::arg(1, &mut path);
-    let fd = os::open_read(&path[..length]);
-    if fd < 0 {
-        os::fail(b"open");
-        return;
-    }
-    let mut room = io::large_buffer();
-    let tally = replay(fd, &mut room);
-    libc::close(fd);
-    print_tally(tally);
+fn main(rt: HostRuntime) -> io::Result<()> {
+    let mut file = program_input::open_argument(&rt, 1)?;
+    let mut room = [0u8; ROOM];
+    let tally = replay(&mut file, &mut room);
+    print_tally(&mut rt.stdout(), tally)
 }
