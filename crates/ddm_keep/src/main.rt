@@ -2,15 +2,19 @@
 // error, and then nothing is written to standard output.
 #![tactic(auto)]
 
-ghost use Rattle.std.specs.Prelude.{◌≡◌, ◌≤◌, length};
+ghost use Rattle.std.specs.Prelude.{◌≡◌, ◌≤◌, length, IfSome, OnOk};
+ghost use Rattle.std.specs.Io.KnownBytes.{Appends};
 ghost use Rattle.stored.specs.Programs.{nothing, kept};
 ghost use Rattle.stream_laws.specs.Sizes.{decisive};
 ghost use Rattle.reload_laws.specs.Sizes.{most_file_bytes};
 ghost use Rattle.print_texts.specs.Refusals.{refusal_of};
 ghost use Rattle.program_input.specs.Input.{Stopped};
-ghost use Rattle.ddm_keep.specs.Output.{KeptFor, FileFor, RefusalFor, Answers, Replies};
+ghost use Rattle.ddm_keep.specs.Output.{KeptFor, FileFor, RefusalFor, RefusalAdded, KeptIn, Answers, Replies};
 
 use program_input::Front;
+use std::io;
+use std::io::{Read, Write};
+use std::process::ExitCode;
 
 // The room for a stream. Its first 878 bytes decide what is kept of it (`front_kept` of reload_laws), so a longer stream is read no further.
 const STREAM: usize = 1024;
@@ -50,45 +54,80 @@ fn reply_to(input: &[u8], front: Front, file: &mut [u8]) -> Reply
     }
 }
 
-// Writes the file for what was read to standard output. `false` says that a write failed.
-fn write_file(input: &[u8], front: Front, bytes: &[u8]) -> bool
+// Writes the file for what was read.
+fn write_file<W: Write>(out: &mut W, input: &[u8], front: Front, bytes: &[u8]) -> io::Result<()>
     requires { FileFor front input.now bytes.now }
+    ensures { OnOk result (Appends (W.contents out.old) (W.contents out.new) bytes.now) }
 {
-    io::write_all(libc::STDOUT_FILENO, bytes)
+    out.write_all(bytes)
 }
 
-// Writes the text of the refusal for what was read to standard error. `false` says that a write failed.
-fn write_text(input: &[u8], front: Front, text: &[u8]) -> bool
+// Writes the text of the refusal for what was read.
+fn write_text<W: Write>(errors: &mut W, input: &[u8], front: Front, text: &[u8]) -> io::Result<()>
     requires { RefusalFor front input.now text.now }
+    ensures { OnOk result (Appends (W.contents errors.old) (W.contents errors.new) text.now) }
 {
-    io::write_all(libc::STDERR_FILENO, text)
+    errors.write_all(text)
 }
 
 // The same by the refusal's number and place.
-fn write_refusal(input: &[u8], front: Front, number: usize, place: usize) -> bool
+fn write_refusal<W: Write>(
+    errors: &mut W,
+    input: &[u8],
+    front: Front,
+    number: usize,
+    place: usize,
+) -> io::Result<()>
     requires { KeptFor front input.now (nothing (refusal_of number place)) }
+    ensures { OnOk result (RefusalAdded front input.now (W.contents errors.old) (W.contents errors.new)) }
 {
     let mut line = [0u8; LINE];
     let count = print_texts::write_refusal(number, place, &mut line, 0);
-    write_text(input, front, &line[..count])
+    write_text(errors, input, front, &line[..count])
 }
 
-fn main() {
+// Why the file or the refusal was not written, or not all of it.
+#[derive(Clone, Copy)]
+enum Failure {
+    Input(io::Error),
+    Errors(io::Error),
+    Output(io::Error),
+}
+
+// Reads a stream and writes the file of its tree, or its refusal to `errors`. Where the bytes of each side are known, what is kept of the
+// reader's bytes says which of the two writers has more, and what.
+fn keep_stream<R: Read, W: Write, E: Write>(
+    reader: &mut R,
+    out: &mut W,
+    errors: &mut E,
+) -> Result<(), Failure>
+    ensures { OnOk result (IfSome (R.remaining reader.old) (λ stream. KeptIn (kept stream)
+        (W.contents out.old) (W.contents out.new) (E.contents errors.old) (E.contents errors.new))) }
+{
     let mut input = [0u8; STREAM];
     let mut file = [0u8; keep::MOST_FILE_BYTES];
-    let front = program_input::read_input(libc::STDIN_FILENO, &mut input);
+    let (front, error) = program_input::read_input(reader, &mut input);
     let reply = reply_to(&input, front, &mut file);
     match reply {
-        Reply::Unread => os::fail(b"standard input"),
+        Reply::Unread => Err(Failure::Input(program_input::cause(error))),
         Reply::Refused(number, place) => {
-            if !write_refusal(&input, front, number, place) {
-                os::fail(b"standard error");
+            match write_refusal(errors, &input, front, number, place) {
+                Ok(()) => Ok(()),
+                Err(e) => Err(Failure::Errors(e)),
             }
         }
-        Reply::File(count) => {
-            if !write_file(&input, front, &file[..count]) {
-                os::fail(b"standard output");
-            }
-        }
+        Reply::File(count) => match write_file(out, &input, front, &file[..count]) {
+            Ok(()) => Ok(()),
+            Err(e) => Err(Failure::Output(e)),
+        },
+    }
+}
+
+fn main(rt: HostRuntime) -> ExitCode {
+    match keep_stream(&mut rt.stdin(), &mut rt.stdout(), &mut rt.stderr()) {
+        Ok(()) => ExitCode::SUCCESS,
+        Err(Failure::Input(e)) => program_input::fail(&rt, "standard input", e),
+        Err(Failure::Errors(e)) => program_input::fail(&rt, "standard error", e),
+        Err(Failure::Output(e)) => program_input::fail(&rt, "standard output", e),
     }
 }

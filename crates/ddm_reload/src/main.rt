@@ -2,13 +2,18 @@
 // to standard output.
 #![tactic(auto)]
 
-ghost use Rattle.std.specs.Prelude.{false, ◌≡◌, ◌≤◌, ◌<◌, length, take};
+ghost use Rattle.std.specs.Prelude.{false, ◌≡◌, ◌≤◌, ◌<◌, length, take, OnOk};
+ghost use Rattle.std.specs.Io.KnownBytes.{Appends};
 ghost use Rattle.stored.specs.Programs.{most_file, reloaded};
 ghost use Rattle.stream_laws.specs.Sizes.{decisive, most_bytes};
 ghost use Rattle.program_input.specs.Input.{Stopped};
 ghost use Rattle.ddm_reload.specs.Output.{count_read_lem, has_failed, ReloadedFrom};
 
 use program_input::Front;
+use std::io;
+use std::io::Write;
+use std::process::ExitCode;
+use std::rt::{Env, Files};
 
 // The room for a stream. Its first 878 bytes decide what is printed (`front-reloaded` of reload_laws).
 const STREAM: usize = 1024;
@@ -31,19 +36,18 @@ fn text_room() -> [u8; TEXT]
     [0; TEXT]
 }
 
-// Reads the file that the argument number i names. Where it can't be opened, nothing was read.
-fn read_argument(i: usize, input: &mut [u8]) -> Front
-    ensures { Stopped (length input.new) result }
+// Reads the file that the argument number i names. Where it can't be opened, nothing was read. The error is beside a front that failed.
+fn read_argument<R: Env + Files + Alloc>(
+    rt: &R,
+    i: usize,
+    input: &mut [u8],
+) -> (Front, Option<io::Error>)
+    ensures { Stopped (length input.new) result.0 }
 {
-    let mut path = io::buffer();
-    let length = os::arg(i, &mut path);
-    let fd = os::open_read(&path[..length]);
-    if fd < 0 {
-        return Front::Failed;
+    match program_input::open_argument(rt, i) {
+        Ok(mut file) => program_input::read_input(&mut file, input),
+        Err(e) => (Front::Failed, Some(e)),
     }
-    let front = program_input::read_input(fd, input);
-    libc::close(fd);
-    front
 }
 
 // Whether nothing can be said of an input, because it was not opened or a read failed.
@@ -91,29 +95,36 @@ fn reply_to(stream: &[u8], job: Front, file: &[u8], tree: Front, text: &mut [u8]
     print_bytes(&stream[..n], &file[..m], text)
 }
 
-// Writes what is printed for the two inputs to standard output. `false` says that a write failed.
-fn write_reply(stream: &[u8], job: Front, file: &[u8], tree: Front, text: &[u8]) -> bool
+// Writes what is printed for the two inputs.
+fn write_reply<W: Write>(
+    out: &mut W,
+    stream: &[u8],
+    job: Front,
+    file: &[u8],
+    tree: Front,
+    text: &[u8],
+) -> io::Result<()>
     requires { ReloadedFrom job stream.now tree file.now text.now }
+    ensures { OnOk result (Appends (W.contents out.old) (W.contents out.new) text.now) }
 {
-    io::write_all(libc::STDOUT_FILENO, text)
+    out.write_all(text)
 }
 
-fn main() {
+fn main(rt: HostRuntime) -> ExitCode {
     let mut stream = [0u8; STREAM];
-    let job = read_argument(1, &mut stream);
+    let (job, why) = read_argument(&rt, 1, &mut stream);
     if failed(job) {
-        os::fail(b"job stream");
-        return;
+        return program_input::fail(&rt, "job stream", program_input::cause(why));
     }
     let mut file = file_room();
-    let tree = read_argument(2, &mut file);
+    let (tree, why) = read_argument(&rt, 2, &mut file);
     if failed(tree) {
-        os::fail(b"stored tree");
-        return;
+        return program_input::fail(&rt, "stored tree", program_input::cause(why));
     }
     let mut text = text_room();
     let count = reply_to(&stream, job, &file, tree, &mut text);
-    if !write_reply(&stream, job, &file, tree, &text[..count]) {
-        os::fail(b"standard output");
+    match write_reply(&mut rt.stdout(), &stream, job, &file, tree, &text[..count]) {
+        Ok(()) => ExitCode::SUCCESS,
+        Err(e) => program_input::fail(&rt, "standard output", e),
     }
 }

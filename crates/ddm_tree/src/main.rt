@@ -1,13 +1,17 @@
 // The program: reads a job stream from standard input and writes its printout to standard output.
 #![tactic(auto)]
 
-ghost use Rattle.std.specs.Prelude.{◌≡◌, ◌≤◌, length, take};
+ghost use Rattle.std.specs.Prelude.{◌≡◌, ◌≤◌, length, take, IfSome, OnOk};
+ghost use Rattle.std.specs.Io.KnownBytes.{Appends};
 ghost use Rattle.formats.specs.Printout.{printout};
 ghost use Rattle.stream_laws.specs.Sizes.{decisive, most_bytes};
 ghost use Rattle.program_input.specs.Input.{Stopped};
 ghost use Rattle.ddm_tree.specs.Output.{PrintoutFor, Replies};
 
 use program_input::Front;
+use std::io;
+use std::io::{Read, Write};
+use std::process::ExitCode;
 
 // The room for a stream. Its first 878 bytes decide the printout (`front-printed` of stream_laws), so a longer stream is read no further.
 const STREAM: usize = 1024;
@@ -50,24 +54,43 @@ fn reply_to(input: &[u8], front: Front, text: &mut [u8]) -> Reply
     }
 }
 
-// Writes the printout for what was read to standard output. `false` says that a write failed.
-fn write_reply(input: &[u8], front: Front, text: &[u8]) -> bool
+// Writes the printout for what was read.
+fn write_reply<W: Write>(out: &mut W, input: &[u8], front: Front, text: &[u8]) -> io::Result<()>
     requires { PrintoutFor front input.now text.now }
+    ensures { OnOk result (Appends (W.contents out.old) (W.contents out.new) text.now) }
 {
-    io::write_all(libc::STDOUT_FILENO, text)
+    out.write_all(text)
 }
 
-fn main() {
+// Why nothing was printed, or not all.
+#[derive(Clone, Copy)]
+enum Failure {
+    Input(io::Error),
+    Output(io::Error),
+}
+
+// Reads a stream and writes its printout. Where the bytes of both sides are known, the printout of the reader's bytes is added to the writer's.
+fn print_stream<R: Read, W: Write>(reader: &mut R, out: &mut W) -> Result<(), Failure>
+    ensures { OnOk result (IfSome (R.remaining reader.old)
+        (λ stream. Appends (W.contents out.old) (W.contents out.new) (printout stream))) }
+{
     let mut input = [0u8; STREAM];
     let mut text = text_room();
-    let front = program_input::read_input(libc::STDIN_FILENO, &mut input);
+    let (front, error) = program_input::read_input(reader, &mut input);
     let reply = reply_to(&input, front, &mut text);
     match reply {
-        Reply::Unread => os::fail(b"standard input"),
-        Reply::Text(count) => {
-            if !write_reply(&input, front, &text[..count]) {
-                os::fail(b"standard output");
-            }
-        }
+        Reply::Unread => Err(Failure::Input(program_input::cause(error))),
+        Reply::Text(count) => match write_reply(out, &input, front, &text[..count]) {
+            Ok(()) => Ok(()),
+            Err(e) => Err(Failure::Output(e)),
+        },
+    }
+}
+
+fn main(rt: HostRuntime) -> ExitCode {
+    match print_stream(&mut rt.stdin(), &mut rt.stdout()) {
+        Ok(()) => ExitCode::SUCCESS,
+        Err(Failure::Input(e)) => program_input::fail(&rt, "standard input", e),
+        Err(Failure::Output(e)) => program_input::fail(&rt, "standard output", e),
     }
 }

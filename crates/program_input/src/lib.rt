@@ -6,6 +6,7 @@ ghost use Rattle.std.specs.Io.KnownBytes.{Consumes, ReadConsumes};
 ghost use Rattle.program_input.specs.Input.{front_after_lem, Stopped, MayBe};
 
 use std::io::{ErrorKind, Read};
+use std::process::ExitCode;
 use std::rt::{Env, Files};
 use std::{env, fs, io};
 
@@ -81,4 +82,18 @@ pub fn open_argument<R: Env + Files + Alloc>(rt: &R, i: usize) -> io::Result<R::
             "the argument that names the file is missing",
         )),
     }
+}
+
+// The error beside a front that failed.
+pub fn cause(error: Option<io::Error>) -> io::Error {
+    match error {
+        Some(e) => e,
+        None => io::Error::other("a read failed"),
+    }
+}
+
+// Says on standard error what failed, and why. The answer is the status that a program ends with then.
+pub fn fail<R: Eprint>(rt: &R, what: &str, error: io::Error) -> ExitCode {
+    let _ = eprintln!(rt; "{what}: {error}");
+    ExitCode::FAILURE
 }

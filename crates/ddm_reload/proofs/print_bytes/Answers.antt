@@ -10,6 +10,6 @@ returns c = let start = c in
     let text = start.args.text.now in
     let call = c.reload-printed in
     record {
-    fits = text-fits printed text _ call.ensures.answer start.requires _ call.ensures.output;
-    same = text-printed printed text _ call.ensures.answer start.requires _ call.ensures.output;
-  }
+      fits = text-fits printed text _ call.ensures.answer start.requires _ call.ensures.output;
+      same = text-printed printed text _ call.ensures.answer start.requires _ call.ensures.output;
+    }

@@ -26,6 +26,6 @@ returns c = let start = c in
     print.ensures.same
     ∙ ap₂ (λ xs ys. reloaded xs ys) (ap (λ n. take n a.stream.now) c.count_read-n.ensures) (ap (λ n. take n a.file.now) c.count_read-m.ensures) in
     record {
-    fits = print.ensures.fits;
-    same = both-decide a.job a.stream.now job.0 job.1 job.2 a.tree a.file.now tree.0 tree.1 tree.2 _ same;
-  }
+      fits = print.ensures.fits;
+      same = both-decide a.job a.stream.now job.0 job.1 job.2 a.tree a.file.now tree.0 tree.1 tree.2 _ same;
+    }

@@ -10,6 +10,6 @@ returns c = let start = c in
     let text = start.args.text.now in
     let job = c.printout-printed in
     record {
-    fits = text-fits printed text _ job.ensures.answer start.requires _ job.ensures.output;
-    same = text-printed printed text _ job.ensures.answer start.requires _ job.ensures.output;
-  }
+      fits = text-fits printed text _ job.ensures.answer start.requires _ job.ensures.output;
+      same = text-printed printed text _ job.ensures.answer start.requires _ job.ensures.output;
+    }
