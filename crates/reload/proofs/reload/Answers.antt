@@ -10,9 +10,9 @@ returns-then-output-lt-TEXT c = let a = c.args in
     let text = reloaded a.stream.now a.file.now in
     let short = c.if-output-lt-TEXT.true in
     record {
-    answer = answer-short text a.output.now (omega (arith, short));
-    output = output-short text a.output.now (omega (arith, short));
-  }
+      answer = answer-short text a.output.now (omega (arith, short));
+      output = output-short text a.output.now (omega (arith, short));
+    }
 
 pub returns : goal.returns
 returns c = let a = c.args in
@@ -20,6 +20,6 @@ returns c = let a = c.args in
     let long = c.if-output-lt-TEXT.false in
     let w = c.write_reloaded-count.ensures in
     record {
-    answer = answer-long text a.output.now long _ _ w;
-    output = output-long text a.output.now long _ _ w;
-  }
+      answer = answer-long text a.output.now long _ _ w;
+      output = output-long text a.output.now long _ _ w;
+    }

@@ -33,9 +33,9 @@ write_tree-requires c = let start = c in
     let w = c.load_tree-tree.ensures in
     let t = c.if-number-gt0.false in
     record {
-    stands = loaded-stands s cs bs start.requires.0 _ _ w (omega (arith, t));
-    room_for = room-spelt (load-tree-text s cs bs start.requires.0 _ _ w (omega (arith, t))) start.requires.1;
-  }
+      stands = loaded-stands s cs bs start.requires.0 _ _ w (omega (arith, t));
+      room_for = room-spelt (load-tree-text s cs bs start.requires.0 _ _ w (omega (arith, t))) start.requires.1;
+    }
 
 pub returns : goal.returns
 returns c = let start = c in
