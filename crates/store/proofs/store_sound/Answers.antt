@@ -34,7 +34,7 @@ returns-then-not-tree c = let start = c in
     let cs = a.points.now in
     let l = lists_of a.level_points.now a.internals.now a.domains.now a.boxes.now a.borrowed.now in
     let tested = c.check_lists-tree.ensures s refl refl in
-    tree-refused s cs (counts_given a.counts) l a.file.now start.requires (tree-bad s _ (counts_given a.counts) l _ tested c.if-not-tree.true) _ c.refusal.ensures
+    tree-refused s cs (counts_given a.counts) l a.file.now start.requires (tree-bad s _ (counts_given a.counts) l _ tested (not-true _ c.if-not-tree.true)) _ c.refusal.ensures
 
 pub file_size-size-requires : goal.file_size-size-requires
 file_size-size-requires c = let start = c in
@@ -43,7 +43,7 @@ file_size-size-requires c = let start = c in
     let cs = a.points.now in
     let l = lists_of a.level_points.now a.internals.now a.domains.now a.boxes.now a.borrowed.now in
     let tested = c.check_lists-tree.ensures s refl refl in
-    let good = c.if-not-tree.false in
+    let good = not-false _ c.if-not-tree.false in
     tree-limited s cs (counts_given a.counts) l start.requires _ tested good
 
 pub returns-then-file-size : goal.returns-then-file-size
@@ -53,7 +53,7 @@ returns-then-file-size c = let start = c in
     let cs = a.points.now in
     let l = lists_of a.level_points.now a.internals.now a.domains.now a.boxes.now a.borrowed.now in
     let tested = c.check_lists-tree.ensures s refl refl in
-    let good = c.if-not-tree.false in
+    let good = not-false _ c.if-not-tree.false in
     let g = tree-good s cs (counts_given a.counts) l start.requires _ tested good in
     let size = tree-size s cs (counts_given a.counts) l start.requires _ tested good _ c.file_size-size.ensures in
     file-refused s cs (counts_given a.counts) l a.file.now start.requires g (omega (arith, size, c.if-file-size.true)) _ c.refusal-then-file-size.ensures
@@ -65,17 +65,17 @@ put_file-bytes-requires c = let start = c in
     let cs = a.points.now in
     let l = lists_of a.level_points.now a.internals.now a.domains.now a.boxes.now a.borrowed.now in
     let tested = c.check_lists-tree.ensures s refl refl in
-    let good = c.if-not-tree.false in
+    let good = not-false _ c.if-not-tree.false in
     let p = own-passed s cs l start.requires in
     let packing = tree-packs s cs (counts_given a.counts) l start.requires _ tested good in
     let passing = tree-sound s cs (counts_given a.counts) l start.requires _ tested good in
     let room = tree-room s cs (counts_given a.counts) l start.requires _ tested good in
     let size = tree-size s cs (counts_given a.counts) l start.requires _ tested good _ c.file_size-size.ensures in
     record {
-    le_dimensions = (p.axes, p.axes_few);
-    stands = held-stands s _ (counts_given a.counts) l packing passing room p.axes_few;
-    borrowed_in_bounds = omega (arith, size, c.if-file-size.false);
-  }
+      le_dimensions = (p.axes, p.axes_few);
+      stands = held-stands s _ (counts_given a.counts) l packing passing room p.axes_few;
+      borrowed_in_bounds = omega (arith, size, c.if-file-size.false);
+    }
 
 pub returns : goal.returns
 returns c = let start = c in
@@ -84,7 +84,7 @@ returns c = let start = c in
     let cs = a.points.now in
     let l = lists_of a.level_points.now a.internals.now a.domains.now a.boxes.now a.borrowed.now in
     let tested = c.check_lists-tree.ensures s refl refl in
-    let good = c.if-not-tree.false in
+    let good = not-false _ c.if-not-tree.false in
     let g = tree-good s cs (counts_given a.counts) l start.requires _ tested good in
     let size = tree-size s cs (counts_given a.counts) l start.requires _ tested good _ c.file_size-size.ensures in
     let put = c.put_file-bytes.ensures in
