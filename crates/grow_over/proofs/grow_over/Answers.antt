@@ -40,12 +40,12 @@ returns c = let P = c.args in
     let ek = c.get_num_level_reductions-k.ensures in
     let w = c.all_levels-counts.ensures in
     let t = tree_is s cs rows P.n _ _ (length_part P.level_points.now 0 P.n (omega (arith, pre.space.level_points))) ec ek in record {
-    counts = ap (λ (v : Counts). record { number = 0; place = 0; value = v }) (counts_whole _ _ _ _ _ _ _ _ _ _ w.counts.0 w.counts.1 w.counts.2 ∙ ap counts_of (sym t));
-    level_points = w.level_points ∙ ap (λ (ls : List Level). put P.level_points.now 0 (packed_level_points ls)) (sym t);
-    internals = w.internals ∙ ap (λ (ls : List Level). put P.internals.now 0 (packed_internals ls)) (sym t);
-    domains = w.domains ∙ ap (λ (ls : List Level). put P.domains.now 0 (packed_domains ls)) (sym t);
-    boxes = w.boxes ∙ ap (λ (ls : List Level). put P.boxes.now 0 (packed_boxes ls)) (sym t);
-    borrowed = w.borrowed ∙ ap (λ (ls : List Level). put P.borrowed.now 0 (packed_borrowed ls)) (sym t);
-    cuts = records-whole whole_of P.engine s cs _ _ P.cuts.now _ t w.cuts;
-    planes = records-whole float_of P.engine s cs _ _ P.planes.now _ t w.planes;
-  }
+      counts = ap (λ (v : Counts). record { number = 0; place = 0; value = v }) (counts_whole _ _ _ _ _ _ _ _ _ _ w.counts.0 w.counts.1 w.counts.2 ∙ ap counts_of (sym t));
+      level_points = w.level_points ∙ ap (λ (ls : List Level). put P.level_points.now 0 (packed_level_points ls)) (sym t);
+      internals = w.internals ∙ ap (λ (ls : List Level). put P.internals.now 0 (packed_internals ls)) (sym t);
+      domains = w.domains ∙ ap (λ (ls : List Level). put P.domains.now 0 (packed_domains ls)) (sym t);
+      boxes = w.boxes ∙ ap (λ (ls : List Level). put P.boxes.now 0 (packed_boxes ls)) (sym t);
+      borrowed = w.borrowed ∙ ap (λ (ls : List Level). put P.borrowed.now 0 (packed_borrowed ls)) (sym t);
+      cuts = records-whole whole_of P.engine s cs _ _ P.cuts.now _ t w.cuts;
+      planes = records-whole float_of P.engine s cs _ _ P.planes.now _ t w.planes;
+    }
