@@ -44,10 +44,10 @@ grow_over-requires c = let P = c.args in
     let space = all-space s cs old P.floats.now P.wholes.now acc P.level_points.now refl in
     let read : part (put P.level_points.now 0 (from 0 n)) 0 n ≡ from 0 n = part-put-same P.level_points.now 0 (from 0 n) n (omega arith) (length_from 0 n) in
     let long = ap length first ∙ length-put P.level_points.now 0 (from 0 n) (omega (arith, length_from 0 n, space.level_points)) in record {
-    bound = (acc.passes-all.coarse-some, acc.passes-all.reaches, rw (first, read) (all_rows s cs old P.floats.now P.wholes.now acc));
-    space = all-space s cs old P.floats.now P.wholes.now acc _ long;
-    record_room = c.requires.record_room;
-  }
+      bound = (acc.passes-all.coarse-some, acc.passes-all.reaches, rw (first, read) (all_rows s cs old P.floats.now P.wholes.now acc));
+      space = all-space s cs old P.floats.now P.wholes.now acc _ long;
+      record_room = c.requires.record_room;
+    }
 
 pub returns : goal.returns
 returns c = let P = c.args in
