@@ -36,10 +36,10 @@ grow_over-requires c = let P = c.args in
     let fits = slots-long s t old P.floats.now P.wholes.now a in
     let read : part (put P.level_points.now 0 rows) 0 P.head.live ≡ rows = part-put-same P.level_points.now 0 rows P.head.live (omega arith) a.many in
     let long = ap length first ∙ length-put P.level_points.now 0 rows (omega (arith, fits)) in record {
-    bound = (a.passes-all.coarse-some, a.passes-all.reaches, rw (first, read) (slots-given s t old P.floats.now P.wholes.now a));
-    space = lent-space s.dimension s.neighbours P.head.live old P.floats.now P.wholes.now a.enough _ long;
-    record_room = (omega arith, omega arith);
-  }
+      bound = (a.passes-all.coarse-some, a.passes-all.reaches, rw (first, read) (slots-given s t old P.floats.now P.wholes.now a));
+      space = lent-space s.dimension s.neighbours P.head.live old P.floats.now P.wholes.now a.enough _ long;
+      record_room = (omega arith, omega arith);
+    }
 
 pub returns-in-Refused : goal.returns-in-Refused
 returns-in-Refused c = let P = c.args in
