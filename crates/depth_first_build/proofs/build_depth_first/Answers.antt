@@ -21,9 +21,9 @@ grow-requires c = let P = c.args in
     let records = records_of P.cuts.now P.planes.now in
     let e = sym c.check_depth_first-checked.ensures ∙ ap verdict_of c.in-Accepted.is in
     record {
-    wholes_value = both-accepted s cs (lent_sizes old P.floats.now P.wholes.now) (lent_records records) e;
-    record_room = records-room s cs old P.floats.now P.wholes.now records e;
-  }
+      wholes_value = both-accepted s cs (lent_sizes old P.floats.now P.wholes.now) (lent_records records) e;
+      record_room = records-room s cs old P.floats.now P.wholes.now records e;
+    }
 
 pub returns-in-Refused : goal.returns-in-Refused
 returns-in-Refused c = let P = c.args in
