@@ -14,5 +14,5 @@ pub returns : goal.returns
 returns c = let P = c.args in
     let q = c.added-answer in
     let w = q.ensures in
-    add-long P.dimensions P.head.now P.flags.now P.coordinates.now P.point.now P.result.now _ _ _ (edit_answer q.result)
+    add-long P.dimensions P.head.now P.flags.now P.coordinates.now P.point.now P.res.now _ _ _ (edit_answer q.result)
     (table_of q.result.slots q.result.live q.new.flags q.new.coordinates) (omega arith) c.put_pair.ensures w.answers w.table refl refl
