@@ -13,9 +13,9 @@ use Rattle.ddm.proofs.build.Goals as goal
 
 pub grow-requires : goal.grow-requires
 grow-requires c = record {
-    wholes_value = sym c.check_build-checked.ensures ∙ ap verdict_of c.in-Accepted.is;
-    record_room = (omega arith, omega arith);
-  }
+  wholes_value = sym c.check_build-checked.ensures ∙ ap verdict_of c.in-Accepted.is;
+  record_room = (omega arith, omega arith);
+}
 
 pub returns-in-Refused : goal.returns-in-Refused
 returns-in-Refused c = let P = c.args in
