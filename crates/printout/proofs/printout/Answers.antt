@@ -8,15 +8,15 @@ use Rattle.printout.proofs.printout.Goals as goal
 pub returns-then-output-lt-TEXT : goal.returns-then-output-lt-TEXT
 returns-then-output-lt-TEXT c = let a = c.args in
     record {
-    answer = answer-short (printed a.input.now) a.output.now (omega (arith, c.if-output-lt-TEXT.true));
-    output = output-short (printed a.input.now) a.output.now (omega (arith, c.if-output-lt-TEXT.true));
-  }
+      answer = answer-short (printed a.input.now) a.output.now (omega (arith, c.if-output-lt-TEXT.true));
+      output = output-short (printed a.input.now) a.output.now (omega (arith, c.if-output-lt-TEXT.true));
+    }
 
 pub returns : goal.returns
 returns c = let a = c.args in
     let long = c.if-output-lt-TEXT.false in
     let w = c.write_printout-count.ensures in
     record {
-    answer = answer-long (printed a.input.now) a.output.now long _ _ w;
-    output = output-long (printed a.input.now) a.output.now long _ _ w;
-  }
+      answer = answer-long (printed a.input.now) a.output.now long _ _ w;
+      output = output-long (printed a.input.now) a.output.now long _ _ w;
+    }

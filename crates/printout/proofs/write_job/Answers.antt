@@ -30,10 +30,10 @@ write_tree-requires c = let start = c in
     let cs = start.args.points.now in
     let w = c.build-tree.ensures in
     let t = c.if-number-gt0.false in record {
-    stands = tree-ready s cs lent_lists _ _ start.requires.0 lent-largest _ w.answers t _ w.lists;
-    room_for = room-spelt
+      stands = tree-ready s cs lent_lists _ _ start.requires.0 lent-largest _ w.answers t _ w.lists;
+      room_for = room-spelt
           (job-tree s cs lent_lists _ _ start.requires.0 lent-largest _ w.answers t _ w.lists) (room_for s cs start.args.out.now start.requires.0 start.requires.1);
-  }
+    }
 
 pub returns : goal.returns
 returns c = let start = c in
