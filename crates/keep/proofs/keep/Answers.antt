@@ -13,9 +13,9 @@ pub returns-then-file-lt-MOST_FILE_BYTES : goal.returns-then-file-lt-MOST_FILE_B
 returns-then-file-lt-MOST_FILE_BYTES c = let a = c.args in
     let short = c.if-file-lt-MOST_FILE_BYTES.true in
     record {
-    answer = answer-short (kept a.stream.now) a.file.now (omega (arith, short));
-    output = output-short (kept a.stream.now) a.file.now (omega (arith, short));
-  }
+      answer = answer-short (kept a.stream.now) a.file.now (omega (arith, short));
+      output = output-short (kept a.stream.now) a.file.now (omega (arith, short));
+    }
 
 pub overflow_mul-k : goal.overflow_mul-k
 overflow_mul-k c = let start = c in
@@ -49,9 +49,9 @@ returns-in-Broken c = let a = c.args in
     let told = c.in-Broken.is in
     let long = c.if-file-lt-MOST_FILE_BYTES.false in
     record {
-    answer = broken-answer _ _ a.stream.now same a.file.now _ _ told (omega (arith, long));
-    output = broken-output _ _ a.stream.now same a.file.now _ _ told (omega (arith, long));
-  }
+      answer = broken-answer _ _ a.stream.now same a.file.now _ _ told (omega (arith, long));
+      output = broken-output _ _ a.stream.now same a.file.now _ _ told (omega (arith, long));
+    }
 
 pub returns-in-Whole : goal.returns-in-Whole
 returns-in-Whole c = let a = c.args in
@@ -59,6 +59,6 @@ returns-in-Whole c = let a = c.args in
     let told = c.in-Whole.is in
     let w = c.keep_job.ensures in
     record {
-    answer = whole-answer _ _ a.stream.now same a.file.now _ _ told _ w.answer;
-    output = whole-output _ _ a.stream.now same a.file.now _ _ told _ w.output;
-  }
+      answer = whole-answer _ _ a.stream.now same a.file.now _ _ told _ w.answer;
+      output = whole-output _ _ a.stream.now same a.file.now _ _ told _ w.output;
+    }

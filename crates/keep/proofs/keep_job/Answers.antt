@@ -13,9 +13,9 @@ returns-then-tree-gt0 c = let start = c in
     let w = c.build-tree.ensures in
     let t = c.if-tree-gt0.true in
     record {
-    answer = refused-answer s cs start.requires.0 lent start.requires.1 _ w.answers (omega (arith, t));
-    output = refused-output s cs start.requires.0 lent start.requires.1 _ w.answers (omega (arith, t));
-  }
+      answer = refused-answer s cs start.requires.0 lent start.requires.1 _ w.answers (omega (arith, t));
+      output = refused-output s cs start.requires.0 lent start.requires.1 _ w.answers (omega (arith, t));
+    }
 
 pub returns : goal.returns
 returns c = let start = c in
@@ -25,6 +25,6 @@ returns c = let start = c in
     let w = c.build-tree.ensures in
     let t = c.if-tree-gt0.false in
     let stored = c.store_tree-stored.ensures in record {
-    answer = stored_answer s cs start.requires.0 lent start.requires.1 _ w.answers (omega (arith, t)) _ w.lists _ _ stored;
-    output = stored-output s cs start.requires.0 lent start.requires.1 _ w.answers (omega (arith, t)) _ w.lists _ _ stored;
-  }
+      answer = stored_answer s cs start.requires.0 lent start.requires.1 _ w.answers (omega (arith, t)) _ w.lists _ _ stored;
+      output = stored-output s cs start.requires.0 lent start.requires.1 _ w.answers (omega (arith, t)) _ w.lists _ _ stored;
+    }
