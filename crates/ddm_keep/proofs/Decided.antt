@@ -1,5 +1,5 @@
 -- What is kept of the bytes read is what is kept of the stream. Assumes nothing.
--- Holds: open-replies, ended-replies, reply-file, reply-refused, line-room, line-fits, line-tells
+-- Holds: open-replies, ended-replies, reply-file, reply-refused, line-room, line-fits, line-tells, told, kept-file, kept-refusal
 use mathlib.Core.Path.{◌≡◌, refl, ap, subst, ◌∙◌}
 use Prim.Native.Nat.{ℕ, ◌≤◌}
 use native.Mathlib.Omega.{arith}
@@ -7,6 +7,9 @@ use native.Mathlib.Nat.{zero-add}
 use mathlib.Core.List.{List, ◌++◌}
 use lib.ListN.{length, take, drop, length-append}
 use lib.Seq.{take_at}
+use Rattle.std.specs.Prelude.{OnOk, IfSome, Result, Ok, Err, Option, None, Some}
+use Rattle.std.specs.Io.KnownBytes.{Appends}
+use Rattle.std.proofs.KnownBytes.{Keeps-refl}
 use Rattle.lists.proofs.Put.{put-zero}
 use Rattle.formats.specs.Printout.{refusal_text}
 use Rattle.stored.specs.Programs.{Kept, file, nothing, kept}
@@ -17,11 +20,11 @@ use Rattle.bytes_out.specs.Wrote.{Wrote, RoomFor}
 use Rattle.print_texts.specs.Refusals.{refusal_of}
 use Rattle.program_input.specs.declared.Front.{Front}
 use Rattle.program_input.specs.declared.Front.TheVariants.{Open, Ended}
-use Rattle.program_input.specs.Input.{Stopped}
+use Rattle.program_input.specs.Input.{Stopped, MayBe}
 use Rattle.program_input.proofs.Fronts.{open-decides, ended-decides}
 use Rattle.ddm_keep.specs.declared.Reply.{Reply}
 use Rattle.ddm_keep.specs.declared.Reply.TheVariants.{File, Refused, Unread}
-use Rattle.ddm_keep.specs.Output.{KeptFor, FileFor, Tells, RefusalFor, Answers, Replies}
+use Rattle.ddm_keep.specs.Output.{KeptFor, FileFor, Tells, RefusalFor, RefusalAdded, KeptIn, Answers, Replies}
 
 -- ---- a reply to the bytes read is one to the input
 by-reply : (front : Front) (input bytes : List ℕ) (n : ℕ) → ((k : Kept) → k ≡ kept (take n input) → KeptFor front input k) → (r : Reply)
@@ -70,3 +73,24 @@ module _ (number place : ℕ) (line : List ℕ) where
     line-tells front input h stream m =
         let same : take r after ≡ text = rw (line-counted, line-is) (take_at text (drop (length text) line) (length text) refl) in
         subst (Tells (take r after)) (h stream m) same
+
+-- ---- where it is written
+pub told : {A E : Type 0} (r : Result A E) (front : Front) (input text : List ℕ) (old new : Option (List ℕ)) → RefusalFor front input text
+    → OnOk r (Appends old new text) → OnOk r (RefusalAdded front input old new)
+told (Ok a) front input text old new h p = (text, h, p)
+told (Err e) front input text old new h p = tt
+
+-- what is kept of the bytes that the reader had is in the writers
+pub kept-file : (left : Option (List ℕ)) (front : Front) (input bytes : List ℕ) (old new errors : Option (List ℕ)) → IfSome left (λ stream. MayBe front input stream)
+    → FileFor front input bytes → Appends old new bytes → IfSome left (λ stream. KeptIn (kept stream) old new errors errors)
+kept-file None front input bytes old new errors m h p = tt
+kept-file (Some stream) front input bytes old new errors m h p = subst (λ k. KeptIn k old new errors errors) (h stream m) (p, Keeps-refl errors)
+
+refusal-in : (k : Kept) (text : List ℕ) (out old new : Option (List ℕ)) → Tells text k → Appends old new text → KeptIn k out out old new
+refusal-in (file bytes) text out old new h p = absurd h
+refusal-in (nothing r) text out old new h p = (Keeps-refl out, subst (Appends old new) h p)
+
+pub kept-refusal : (left : Option (List ℕ)) (front : Front) (input : List ℕ) (out old new : Option (List ℕ)) → IfSome left (λ stream. MayBe front input stream)
+    → RefusalAdded front input old new → IfSome left (λ stream. KeptIn (kept stream) out out old new)
+kept-refusal None front input out old new m h = tt
+kept-refusal (Some stream) front input out old new m h = refusal-in (kept stream) h.0 out old new (h.1 stream m) h.2
