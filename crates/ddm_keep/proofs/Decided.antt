@@ -77,8 +77,8 @@ module _ (number place : ℕ) (line : List ℕ) where
 -- ---- where it is written
 pub told : {A E : Type 0} (r : Result A E) (front : Front) (input text : List ℕ) (old new : Option (List ℕ)) → RefusalFor front input text
     → OnOk r (Appends old new text) → OnOk r (RefusalAdded front input old new)
-told (Ok a) front input text old new h p = (text, h, p)
-told (Err e) front input text old new h p = tt
+told (Ok a) front input words old new h p = (words, h, p)
+told (Err e) front input words old new h p = tt
 
 -- what is kept of the bytes that the reader had is in the writers
 pub kept-file : (left : Option (List ℕ)) (front : Front) (input bytes : List ℕ) (old new errors : Option (List ℕ)) → IfSome left (λ stream. MayBe front input stream)
@@ -87,8 +87,8 @@ kept-file None front input bytes old new errors m h p = tt
 kept-file (Some stream) front input bytes old new errors m h p = subst (λ k. KeptIn k old new errors errors) (h stream m) (p, Keeps-refl errors)
 
 refusal-in : (k : Kept) (text : List ℕ) (out old new : Option (List ℕ)) → Tells text k → Appends old new text → KeptIn k out out old new
-refusal-in (file bytes) text out old new h p = absurd h
-refusal-in (nothing r) text out old new h p = (Keeps-refl out, subst (Appends old new) h p)
+refusal-in (file bytes) words out old new h p = absurd h
+refusal-in (nothing r) words out old new h p = (Keeps-refl out, subst (Appends old new) h p)
 
 pub kept-refusal : (left : Option (List ℕ)) (front : Front) (input : List ℕ) (out old new : Option (List ℕ)) → IfSome left (λ stream. MayBe front input stream)
     → RefusalAdded front input old new → IfSome left (λ stream. KeptIn (kept stream) out out old new)

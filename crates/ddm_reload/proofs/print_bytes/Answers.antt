@@ -1,7 +1,6 @@
 -- `ddm_reload::print_bytes` meets its contract. Assumes nothing.
 use Rattle.stored.specs.Programs.{reloaded}
 use Rattle.job_room.proofs.Printing.{text-fits, text-printed}
-use borrow.Author.Rules.{rules}
 use Rattle.ddm_reload.proofs.print_bytes.Goals as goal
 
 pub returns : goal.returns

@@ -5,7 +5,6 @@ use lib.ListN.{length, take}
 use lib.Seq.{length-take-le}
 use Rattle.stored.specs.Programs.{reloaded}
 use Rattle.ddm_reload.proofs.Decided.{count-within, both-decide}
-use borrow.Author.Rules.{rules}
 use Rattle.ddm_reload.proofs.reply_to.Goals as goal
 
 pub slice_bounds-print_bytes-end : goal.slice_bounds-print_bytes-end
