@@ -1,7 +1,6 @@
 -- `ddm_tree::print_bytes` meets its contract. Assumes nothing.
 use Rattle.formats.specs.Printout.{printout}
 use Rattle.job_room.proofs.Printing.{text-fits, text-printed}
-use borrow.Author.Rules.{rules}
 use Rattle.ddm_tree.proofs.print_bytes.Goals as goal
 
 pub returns : goal.returns

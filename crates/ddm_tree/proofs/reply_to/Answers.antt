@@ -3,7 +3,6 @@ use mathlib.Core.Path.{sym}
 use lib.Seq.{length-take-le}
 use Rattle.program_input.proofs.Fronts.{open-within, ended-within}
 use Rattle.ddm_tree.proofs.Printed.{open-printed, ended-printed}
-use borrow.Author.Rules.{rules}
 use Rattle.ddm_tree.proofs.reply_to.Goals as goal
 
 pub slice_bounds-print_bytes-end : goal.slice_bounds-print_bytes-end
