@@ -3,7 +3,6 @@ use native.Mathlib.Omega.{arith}
 use Rattle.stored.specs.Programs.{kept}
 use Rattle.keep.proofs.Numbered.{kept-numbered}
 use Rattle.keep.proofs.Found.{found-refusal, found-file}
-use borrow.Author.Rules.{rules}
 use Rattle.ddm_keep.proofs.keep_bytes.Goals as goal
 
 pub returns-then-kept-gt0 : goal.returns-then-kept-gt0

@@ -3,7 +3,6 @@ use mathlib.Core.Path.{sym}
 use lib.Seq.{length-take-le}
 use Rattle.program_input.proofs.Fronts.{open-within, ended-within}
 use Rattle.ddm_keep.proofs.Decided.{open-replies, ended-replies}
-use borrow.Author.Rules.{rules}
 use Rattle.ddm_keep.proofs.reply_to.Goals as goal
 
 pub slice_bounds-keep_bytes-end : goal.slice_bounds-keep_bytes-end

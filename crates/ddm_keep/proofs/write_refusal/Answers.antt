@@ -3,7 +3,6 @@ use mathlib.Core.Path.{sym}
 use native.Mathlib.Omega.{arith}
 use lib.Seq.{length-take-le}
 use Rattle.ddm_keep.proofs.Decided.{line-room, line-fits, line-tells, told}
-use borrow.Author.Rules.{rules}
 use Rattle.ddm_keep.proofs.write_refusal.Goals as goal
 
 pub write_refusal-count-requires : goal.write_refusal-count-requires
