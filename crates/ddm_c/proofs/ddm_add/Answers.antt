@@ -1,7 +1,6 @@
 -- `ddm_c::ddm_add` meets its contract. Assumes nothing.
 use mathlib.Core.Path.{refl}
 use native.Mathlib.Omega.{arith}
-use borrow.Author.Rules.{rules}
 use Rattle.table_checks.specs.Tables.{table_of}
 use Rattle.table_edits.specs.Edits.{edit_answer}
 use Rattle.slots.proofs.Told.{add-short, add-long}

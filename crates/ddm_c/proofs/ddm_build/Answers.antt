@@ -4,7 +4,6 @@ use Rattle.config.specs.Params.{settings_of_lem}
 use Rattle.tree_answer.specs.Answers.{tree_answer_lem, lists_of}
 use Rattle.slots.specs.Settings.{settings_from}
 use Rattle.slots.proofs.Told.{build-short, build-long}
-use borrow.Author.Rules.{rules}
 use Rattle.ddm_c.proofs.ddm_build.Goals as goal
 
 pub returns-then-res-lt10 : goal.returns-then-res-lt10

@@ -5,7 +5,6 @@ use Rattle.tree_answer.specs.Answers.{tree_answer_lem, lists_of}
 use Rattle.depth_first_build.specs.Outcome.{records_of}
 use Rattle.slots.specs.Settings.{settings_from}
 use Rattle.slots.proofs.Told.{depth-first-short, depth-first-long}
-use borrow.Author.Rules.{rules}
 use Rattle.ddm_c.proofs.ddm_build_depth_first.Goals as goal
 
 pub returns-then-res-lt10 : goal.returns-then-res-lt10

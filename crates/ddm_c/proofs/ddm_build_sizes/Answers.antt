@@ -2,7 +2,6 @@
 use mathlib.Core.Path.{refl}
 use Rattle.build_sizes.specs.Sizes.{sizes_report}
 use Rattle.slots.proofs.Told.{told-short, told-long}
-use borrow.Author.Rules.{rules}
 use Rattle.ddm_c.proofs.ddm_build_sizes.Goals as goal
 
 pub returns-then-res-lt7 : goal.returns-then-res-lt7

@@ -1,5 +1,4 @@
 -- `ddm_c::ddm_build_slots` meets its contract. Assumes nothing.
-use borrow.Author.Rules.{rules}
 use Rattle.config.specs.Params.{settings_of_lem}
 use Rattle.tree_answer.specs.Answers.{tree_answer_lem, lists_of}
 use Rattle.table_checks.specs.Tables.{table_of}

@@ -1,6 +1,5 @@
 -- `ddm_c::ddm_level_size` meets its contract. Assumes nothing.
 use Rattle.slots.proofs.Told.{told-short, told-value}
-use borrow.Author.Rules.{rules}
 use Rattle.ddm_c.proofs.ddm_level_size.Goals as goal
 
 pub returns-then-res-lt1 : goal.returns-then-res-lt1

@@ -1,6 +1,5 @@
 -- `ddm_c::ddm_quotas` meets its contract. Assumes nothing.
 use Rattle.slots.proofs.Told.{quotas-short, quotas-long}
-use borrow.Author.Rules.{rules}
 use Rattle.ddm_c.proofs.ddm_quotas.Goals as goal
 
 pub returns-then-res-lt2 : goal.returns-then-res-lt2

@@ -1,6 +1,5 @@
 -- `ddm_c::ddm_retire` meets its contract. Assumes nothing.
 use mathlib.Core.Path.{refl}
-use borrow.Author.Rules.{rules}
 use Rattle.table_checks.specs.Tables.{table_of}
 use Rattle.table_edits.specs.Edits.{edit_answer}
 use Rattle.slots.proofs.Told.{retire-told}

@@ -1,6 +1,5 @@
 -- `ddm_c::ddm_sample` meets its contract. Assumes nothing.
 use Rattle.slots.proofs.Told.{sample-cover-short, sample-short, sample-long}
-use borrow.Author.Rules.{rules}
 use Rattle.ddm_c.proofs.ddm_sample.Goals as goal
 
 pub returns-then-cover-lt1 : goal.returns-then-cover-lt1

@@ -5,7 +5,6 @@ use Rattle.tree_answer.specs.Answers.{counts_given, lists_of}
 use Rattle.store.specs.Outcome.{store_report}
 use Rattle.slots.specs.Settings.{settings_from}
 use Rattle.slots.proofs.Told.{store-short, store-tree-short, store_long}
-use borrow.Author.Rules.{rules}
 use Rattle.ddm_c.proofs.ddm_store.Goals as goal
 
 pub returns-then-res-lt2 : goal.returns-then-res-lt2
