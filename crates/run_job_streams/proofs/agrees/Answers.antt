@@ -4,7 +4,6 @@ use native.Mathlib.Omega.{arith}
 use lib.Seq.{length-take-le}
 use Rattle.stream_laws.proofs.Long.{printout-long}
 use Rattle.job_room.proofs.Printing.{count_fits}
-use borrow.Author.Rules.{rules}
 use Rattle.run_job_streams.proofs.agrees.Goals as goal
 
 pub slice_bounds-same-end : goal.slice_bounds-same-end
