@@ -3,7 +3,6 @@ use mathlib.Core.Path.{◌≡◌, sym}
 use mathlib.Core.Bool.{true, not, true≢false}
 use lib.Dec.{T}
 use lib.Ieee.{Float, nan, inf, fin, eq, is_nan}
-use borrow.Author.Rules.{rules}
 use Rattle.run_edges.proofs.sample_edges.bits_of.Goals as goal
 
 equal_no_nan : (x : Float) → eq x x ≡ true → T (not (is_nan x))
