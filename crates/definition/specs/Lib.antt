@@ -17,6 +17,8 @@ pub mod DepthFirst
 -- The table of wells, and the build over its live slots (document 02, request 7).
 pub mod Table
 pub mod Slots
+-- Closing the gaps of the table.
+pub mod Closing
 -- What the laws of level sizes and quotas say.
 pub mod SeatCut
 pub mod Fair

@@ -1,6 +1,6 @@
 -- Over a table that 27 passes, whose slots are all live and fill its capacity, with the coordinates of exactly that many points, the build
 -- over slots is the build: its verdict, its answer and every list. Assumes nothing.
--- Holds: places-below, first-place, judged-same, all_live, same-verdicts, same-answers, same_lists
+-- Holds: places-below, first-place, judged-same, all_live, same-levels, same-verdicts, same-answers, same_lists
 use mathlib.Core.Path.{◌≡◌, refl, sym, ap, ap₂, ◌∙◌}
 use mathlib.Core.Logic.{⊎_elim}
 use mathlib.Core.Bool.{Bool, true, false, not, ◌||◌, cond}
@@ -19,13 +19,14 @@ use Rattle.lists.proofs.From.{below-snoc, from-append}
 use Rattle.lists.proofs.Joined.{joined-nil, joined-map-snoc}
 use Rattle.definition.specs.Tree.{Settings, Level, levels, levels_over, point_count}
 use Rattle.definition.specs.Packed.{BuildSizes, build_stated, counts_of}
-use Rattle.definition.specs.Refusals.{Refusal, Test, Verdict, accepted, refused, on, verdict, wrong_dimension_lem, coordinates_missing, first_bad, not_finite_lem, settings_tests, points_tests, build_short, build_tests, build_verdict}
+use Rattle.definition.specs.Refusals.{Refusal, Test, Verdict, refused, on, verdict, wrong_dimension_lem, coordinates_missing, first_bad, not_finite_lem, settings_tests, points_tests, build_short, build_tests, build_verdict}
 use Rattle.definition.specs.Outcome.{TreeLists, answered, value_of, list_after, tree_lists_after, zero_counts, build_answer, build_lists}
 use Rattle.definition.specs.Table.{Table, capacity, unsound, coordinates_short}
 use Rattle.definition.specs.Slots.{places_of_rows, bad_at, rows_not_finite, rows_of, slots_verdict, slot_levels, slots_answer, slots_lists}
-use Rattle.definition_laws.proofs.Accepted.{decides, pass, right-dimension}
+use Rattle.definition_laws.proofs.Accepted.{decides, pass, right-dimension, build-accepted}
+use Rattle.table_laws.proofs.Outcomes.{same_outcome}
 use Rattle.table_laws.proofs.Live.{Sound, sound-table, live-mem}
-use Rattle.table_laws.proofs.Slots.{live-ascends}
+use Rattle.table_laws.proofs.Slots.{live-ascends, own_tests, own-wrong}
 
 -- ---- tests
 
@@ -101,18 +102,15 @@ module _ (s : Settings) (t : Table) (sound : Sound t) (live : t.head.live ≡ t.
     long : coordinates_short d t ≡ false
     long = le-ltb (length cs) (capacity t.flags * d) (omega (arith, exact, ap (λ (k : ℕ). k * d) filled))
 
-    same-levels : slot_levels s t ≡ levels s cs
+    pub same-levels : slot_levels s t ≡ levels s t.coordinates
     unfolding slot_levels levels
     same-levels = ap (levels_over s cs) (all_live ∙ ap (from 0) (sym count_is))
 
   -- ---- the verdicts
-  abbrev own : BuildSizes → List Test
-  own lent = build_tests s t.head.live false (build_short lent (build_stated d t.head.live s.neighbours) || coordinates_short d t) (rows_not_finite d cs (rows_of t))
-
   abbrev theirs : BuildSizes → List Test
   theirs lent = build_tests s (point_count d cs) (coordinates_missing d cs) (build_short lent (build_stated d (point_count d cs) s.neighbours)) (not_finite_lem cs)
 
-  own_is : (lent : BuildSizes) → 1 ≤ s.dimension → own lent ≡ build_tests s n false (build_short lent (build_stated d n s.neighbours)) (rows_not_finite d cs (from 0 n))
+  own_is : (lent : BuildSizes) → 1 ≤ s.dimension → own_tests s t lent ≡ build_tests s n false (build_short lent (build_stated d n s.neighbours)) (rows_not_finite d cs (from 0 n))
   own_is lent some =
       let short : ℕ → Bool = λ m. build_short lent (build_stated d m s.neighbours) in
       ap (λ (m : ℕ). build_tests s m false (build_short lent (build_stated d m s.neighbours) || coordinates_short d t) (rows_not_finite d cs (rows_of t))) live
@@ -123,7 +121,7 @@ module _ (s : Settings) (t : Table) (sound : Sound t) (live : t.head.live ≡ t.
   theirs-are lent some =
       ap₂ (λ (m : ℕ) (b : Bool). build_tests s m b (build_short lent (build_stated d m s.neighbours)) (not_finite_lem cs)) (sym (count_is some)) (sym (whole some))
 
-  fine-own : (lent : BuildSizes) → 1 ≤ s.dimension → verdict (own lent) ≡ verdict (theirs lent)
+  fine-own : (lent : BuildSizes) → 1 ≤ s.dimension → verdict (own_tests s t lent) ≡ verdict (theirs lent)
   unfolding build_tests
   fine-own lent some =
       let stated = build_stated d n s.neighbours in
@@ -132,34 +130,24 @@ module _ (s : Settings) (t : Table) (sound : Sound t) (live : t.head.live ≡ t.
       (after (on (build_short lent stated) 11 ∷ []) (rows_not_finite d cs (from 0 n) ∷ []) (not_finite_lem cs ∷ []) (judged-same d cs n exact))
       ∙ ap verdict (theirs-are lent some)
 
-  wrong-own : (lent : BuildSizes) → wrong_dimension_lem s.dimension ≡ true → (verdict (own lent) ≡ refused (record { number = 1; place = 0 })) × (verdict (theirs lent) ≡ refused (record { number = 1; place = 0 }))
+  theirs-wrong : (lent : BuildSizes) → wrong_dimension_lem s.dimension ≡ true → verdict (theirs lent) ≡ refused (record { number = 1; place = 0 })
   unfolding build_tests
-  wrong-own lent w = (decides (on (wrong_dimension_lem d) 1) _ w, decides (on (wrong_dimension_lem d) 1) _ w)
-
-  build-wrong : (lent : BuildSizes) → wrong_dimension_lem s.dimension ≡ true → build_verdict s t.coordinates lent ≡ refused (record { number = 1; place = 0 })
-  unfolding build_verdict
-  build-wrong lent w = (wrong-own lent w).1
+  theirs-wrong lent w = decides (on (wrong_dimension_lem d) 1) _ w
 
   pub same-verdicts : (lent : BuildSizes) → slots_verdict s t lent ≡ build_verdict s t.coordinates lent
   unfolding slots_verdict build_verdict
   same-verdicts lent =
-      pass (on (unsound t.head t.flags) 27) (own lent) sound
+      pass (on (unsound t.head t.flags) 27) (own_tests s t lent) sound
       ∙ ⊎_elim
-      (λ (w : wrong_dimension_lem d ≡ true). (wrong-own lent w).0 ∙ sym (wrong-own lent w).1)
+      (λ (w : wrong_dimension_lem d ≡ true). own-wrong s t lent w ∙ sym (theirs-wrong lent w))
       (λ (w : wrong_dimension_lem d ≡ false). fine-own lent (right-dimension d w).0)
       (true-or-false (wrong_dimension_lem d))
 
   -- ---- the answer, and every list
-  -- what is built counts only where the call is accepted, and then the dimension is right
   same-tree : {A : Type 0} (f : Verdict → List Level → A) → ((r : Refusal) (x y : List Level) → f (refused r) x ≡ f (refused r) y) → (lent : BuildSizes)
       → f (slots_verdict s t lent) (slot_levels s t) ≡ f (build_verdict s t.coordinates lent) (levels s t.coordinates)
   same-tree f refuses lent =
-      ⊎_elim
-      (λ (w : wrong_dimension_lem d ≡ true).
-      let r = build-wrong lent w in
-      ap (λ (v : Verdict). f v (slot_levels s t)) (same-verdicts lent ∙ r) ∙ refuses (record { number = 1; place = 0 }) (slot_levels s t) (levels s cs) ∙ ap (λ (v : Verdict). f v (levels s cs)) (sym r))
-      (λ (w : wrong_dimension_lem d ≡ false). ap₂ f (same-verdicts lent) (same-levels (right-dimension d w).0))
-      (true-or-false (wrong_dimension_lem d))
+      same_outcome f refuses (build_verdict s cs lent) (slots_verdict s t lent) (levels s cs) (slot_levels s t) (same-verdicts lent) (λ e. same-levels (build-accepted s cs lent e).passes-all.axes)
 
   module _ (old : TreeLists) (floats : List Float) (wholes : List ℕ) where
     pub same-answers : slots_answer s t old floats wholes ≡ build_answer s t.coordinates old floats wholes

@@ -1,5 +1,6 @@
 -- The build over the live slots of a table: what an accepted call has, and two numbers that never come. Assumes nothing.
--- Holds: live-ascends, places-mem, SlotsAccepted, slots-accepted, never, slots-never-7, live-most, slots-never-8
+-- Holds: live-ascends, places-mem, SlotsAccepted, slots-accepted, slots-covered, never, slots-never-7, live-most, own_tests,
+--   own-wrong, slots-never-8
 use mathlib.Core.Path.{◌≡◌, refl, sym}
 use mathlib.Core.Bool.{Bool, true, false, ◌||◌, cond}
 use mathlib.Core.List.{List, [], ◌∷◌, map, Memᴰ}
@@ -19,11 +20,11 @@ use Rattle.lists.proofs.From.{mem-from}
 use Rattle.lists.proofs.Members.{none_any, mem-joined, mem-map}
 use Rattle.definition.specs.Tree.{Settings}
 use Rattle.definition.specs.Packed.{BuildSizes, build_stated}
-use Rattle.definition.specs.Refusals.{Test, accepted, refused, verdict, most_points, build_short, build_tests}
+use Rattle.definition.specs.Refusals.{Test, accepted, refused, on, verdict, most_points, wrong_dimension_lem, build_short, build_tests}
 use Rattle.definition.specs.Outcome.{number_of}
 use Rattle.definition.specs.Table.{Head, Table, capacity, live_slots_lem, unsound, coordinates_short}
 use Rattle.definition.specs.Slots.{places_of_rows, bad_at, rows_not_finite, rows_of, slots_verdict}
-use Rattle.definition_laws.proofs.Accepted.{passes, Passed, passed, LentEnough, lent-enough}
+use Rattle.definition_laws.proofs.Accepted.{passes, decides, Passed, passed, LentEnough, lent-enough}
 use Rattle.rows.specs.Rows.{GoodRow, GoodRows}
 use Rattle.table_laws.proofs.Live.{Sound, SoundTable, sound-table, live-mem, live-few}
 
@@ -86,6 +87,12 @@ module _ (s : Settings) (t : Table) (lent : BuildSizes) where
         enough = lent-enough lent (build_stated d n s.neighbours) short.0;
       }
 
+  -- its coordinates reach to the capacity
+  pub slots-covered : slots_verdict s t lent ≡ accepted → capacity t.flags * s.dimension ≤ length t.coordinates
+  slots-covered e =
+      let short = or-none (build_short lent (build_stated d t.head.live s.neighbours)) (coordinates_short d t) (slots-accepted e).passes-all.none-short in
+      ltb-false (length cs) (capacity t.flags * d) short.1
+
 -- ---- a number whose tests all fail never comes
 pub never : (k : ℕ) (ts : List Test) → 1 ≤ k → All (λ (t : Test). (t.refusal.number ≡ k → t.holds ≡ false)) ts → number_of (verdict ts) ≡ k → ⊥
 unfolding All verdict number_of
@@ -109,10 +116,15 @@ pub live-most : (h : Head) (flags : List ℕ) → unsound h flags ≡ false → 
 live-most h flags u = let sound = sound-table h flags u in omega (arith, sound.counted, live-few h flags, sound.within)
 
 -- the build's own tests
-abbrev own_tests : Settings → Table → BuildSizes → List Test
+abbrev pub own_tests : Settings → Table → BuildSizes → List Test
 own_tests s t lent =
     build_tests s t.head.live false (build_short lent (build_stated s.dimension t.head.live s.neighbours) || coordinates_short s.dimension t)
     (rows_not_finite s.dimension t.coordinates (rows_of t))
+
+-- 1 comes first of them
+pub own-wrong : (s : Settings) (t : Table) (lent : BuildSizes) → wrong_dimension_lem s.dimension ≡ true → verdict (own_tests s t lent) ≡ refused (record { number = 1; place = 0 })
+unfolding build_tests
+own-wrong s t lent w = decides (on (wrong_dimension_lem s.dimension) 1) _ w
 
 own-never-8 : (s : Settings) (t : Table) (lent : BuildSizes) → Sound t → number_of (verdict (own_tests s t lent)) ≡ 8 → ⊥
 unfolding build_tests All
