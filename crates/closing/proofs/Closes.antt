@@ -15,13 +15,14 @@ use Rattle.lists.proofs.Put.{put-zero, put-next-at}
 use Rattle.definition.specs.Number.{plus_zero}
 use Rattle.definition.specs.Refusals.{Test, accepted, refused, verdict}
 use Rattle.definition.specs.Outcome.{number_of, place_of, value_of, written, list_after}
-use Rattle.definition.specs.Table.{Table, live_slots_lem, editTests}
-use Rattle.definition.specs.Closing.{rename_list, live_coordinates, close_verdict, closed, close_answer, close_table, close_rename}
+use Rattle.definition.specs.Table.{Table, live_slots_lem}
+use Rattle.definition.specs.Closing.{edit_tests, rename_list, live_coordinates, close_verdict, closed, close_answer, close_table, close_rename}
 use Rattle.build_checks.specs.Verdicts.{numbered_verdict}
 use Rattle.table_checks.specs.Tables.{table_of}
 use Rattle.table_edits.specs.Edits.{edit_answer, refusal}
 use Rattle.table_edits.specs.declared.EditAnswer.{EditAnswer}
-use Rattle.table_edits.proofs.TableTests.{isShort, stops_at, Editable, none-lacks, editable, live_below}
+use Rattle.table_edits.proofs.TableTests.{stops_at, Editable, live_below}
+use Rattle.closing.proofs.CloseTests.{is_short, none-lacks, closable}
 use Rattle.closing.specs.Passed.{live_below_lem, live_parts, renames}
 use Rattle.closing.specs.Outcome.{Closed}
 use Rattle.closing.proofs.Moves.{parts-length}
@@ -31,7 +32,7 @@ module _ (d : ℕ) (t : Table) (rename : List ℕ) where
   lacking = ltb (length rename) t.head.slots
 
   abbrev tests : List Test
-  tests = editTests d t (isShort d t lacking)
+  tests = edit_tests d t (is_short d t lacking)
 
   -- the lists hold all slots, and what is left of the coordinates past the live ones ends with the last slot's
   pub record CloseRoom : Type 0 where
@@ -54,7 +55,7 @@ module _ (d : ℕ) (t : Table) (rename : List ℕ) where
       passed = rw z at e
 
       able : Editable d t
-      able = editable d t lacking (sym passed)
+      able = closable d t lacking (sym passed)
 
       pub close-room : CloseRoom
       close-room =

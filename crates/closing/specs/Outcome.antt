@@ -1,7 +1,5 @@
 -- The complete outcome of closing a table's gaps. Definitions only.
-use Prim.Native.Nat.{ℕ}
-use mathlib.Core.Path.{◌≡◌}
-use mathlib.Core.List.{List}
+use Rattle.std.specs.Prelude.{ℕ, ◌≡◌, List}
 use Rattle.definition.specs.Outcome.{Answer}
 use Rattle.definition.specs.Table.{Table}
 use Rattle.definition.specs.Closing.{close_answer, close_table, close_rename}

@@ -1,12 +1,12 @@
 // Closing the gaps of a table of wells, on plain numbers and lists: the live wells moved down, in order and in place.
 #![tactic(auto)]
 
-ghost use mathlib.Core.Path.{◌≡◌};
-ghost use mathlib.Core.Bool.{cond};
-ghost use Prim.Native.Nat.{◌+◌, ◌*◌, ◌≤◌, ◌<◌};
-ghost use lib.ListN.{length, set, replicate};
+ghost use Rattle.std.specs.Prelude.{◌≡◌, cond, ◌||◌, ◌+◌, ◌*◌, ◌≤◌, ◌<◌, length, set, replicate};
 ghost use Rattle.lists.specs.Lists.{one_if, put, part};
-ghost use Rattle.definition.specs.Table.{flagged};
+ghost use Rattle.definition.specs.Refusals.{verdict};
+ghost use Rattle.definition.specs.Table.{flagged, coordinates_short};
+ghost use Rattle.definition.specs.Closing.{edit_tests};
+ghost use Rattle.build_checks.specs.Verdicts.{numbered_verdict};
 ghost use Rattle.table_checks.specs.Tables.{table_of};
 ghost use Rattle.table_edits.specs.Edits.{edit_answer};
 ghost use Rattle.closing.specs.Outcome.{Closed};
@@ -87,6 +87,27 @@ fn clear_flags(flags: &mut [u8], at: usize, count: usize)
     }
 }
 
+// What closing tries: 1, 11 for the coordinates or another lent list that is short, and 27. The number of the first, or 0.
+fn close_fault(
+    slots: usize,
+    live: usize,
+    flags: &[u8],
+    coordinates: &[f64],
+    dimensions: usize,
+    lacking: bool,
+) -> usize
+    ensures { numbered_verdict result ≡ verdict (edit_tests dimensions (table_of slots live flags.now coordinates.now) (lacking || coordinates_short dimensions (table_of slots live flags.now coordinates.now))) }
+{
+    let fault = table_edits::table_fault(slots, live, flags, coordinates, dimensions);
+    if !lacking {
+        return fault.number;
+    }
+    if fault.number == 1 {
+        return 1;
+    }
+    11
+}
+
 // Closes the gaps of the table: 1, 11 and 27 are tried before anything is written. The answer's slot is the new slot count.
 pub fn closed(
     slots: usize,
@@ -98,7 +119,7 @@ pub fn closed(
 ) -> EditAnswer
     ensures { Closed dimensions (table_of slots live flags.old coordinates.old) (table_of result.slots result.live flags.new coordinates.new) rename.old rename.new (edit_answer result) }
 {
-    let fault = table_edits::table_fault(
+    let fault = close_fault(
         slots,
         live,
         flags,
@@ -106,8 +127,14 @@ pub fn closed(
         dimensions,
         rename.len() < slots,
     );
-    if fault.number != 0 {
-        return table_edits::refusing(fault.number, 0, slots, live);
+    if fault != 0 {
+        return EditAnswer {
+            number: fault,
+            place: 0,
+            slot: 0,
+            slots,
+            live,
+        };
     }
     move_down(slots, flags, coordinates, dimensions, rename);
     let gone = slots - live;

@@ -1,8 +1,5 @@
 -- What the pass over the slots has written after i of them. Definitions only.
-use Prim.Native.Nat.{ℕ, ◌*◌}
-use mathlib.Core.Bool.{cond}
-use mathlib.Core.List.{List, map}
-use lib.Ieee.{Float}
+use Rattle.std.specs.Prelude.{ℕ, ◌*◌, cond, List, map, Float}
 use Rattle.lists.specs.Lists.{count, from, joined, keep, part}
 use Rattle.definition.specs.Table.{flagged}
 

@@ -1,0 +1,14 @@
+use mathlib.Core.Path.{◌≡◌, refl}
+use Prim.Native.Nat.{◌-◌, ◌≤◌}
+use native.Mathlib.Omega.{arith}
+use borrow.Author.Rules.{rules}
+use lib.ListN.{length}
+use Rattle.closing.proofs.Moves.{slot-room, MovedDown, starts, ends, low, turn}
+use Rattle.closing.proofs.move_down.Given as goal
+
+abbrev pub invariant-loop-i : goal.invariant-loop-i
+invariant-loop-i l = (l.i ≤ l.slots) × (length l.flags ≡ length l.initial.flags) × (length l.coordinates ≡ length l.initial.coordinates) × (length l.rename ≡ length l.initial.rename)
+    × MovedDown l.dimensions l.slots l.initial.flags l.initial.coordinates l.initial.rename l.flags l.coordinates l.rename l.i l.to
+
+abbrev pub decreases-loop-i : goal.decreases-loop-i
+decreases-loop-i l = l.slots - l.i
