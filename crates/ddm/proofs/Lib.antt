@@ -1,4 +1,5 @@
--- Laws of the build, of both builds together, and of the build over slots where all are live.
+-- Laws of the build, of both builds together, of the build over slots where all are live, and of two of them around a closing.
 pub mod Outcomes
 pub mod BothBuilds
 pub mod AllSlots
+pub mod AroundClosing

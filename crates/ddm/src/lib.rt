@@ -11,6 +11,7 @@ use cut_engine::Engine;
 
 // The settings, and the other calls, each with its answer.
 pub use build_sizes::{BuildSizes, SizesAnswer, build_sizes};
+pub use closing::closed;
 pub use config::{DDMParams, SizePolicy};
 pub use depth_first_build::build_depth_first;
 pub use leaf_rows::{Which, row_test, rows_of};
@@ -21,7 +22,7 @@ pub use quotas::{QuotaAnswer, get_domain_coarse_quotas};
 pub use root::{RootAnswer, square_root};
 pub use sampling::{SampleAnswer, farthest_point_sampling};
 pub use store::{StoreAnswer, store_tree};
-pub use table::{Head, add, retire};
+pub use table::{Head, add, close, retire};
 pub use table_build::build_slots;
 pub use table_edits::{EditAnswer, added, retired};
 pub use tree_answer::{DDMTree, TreeCounts};

@@ -3,3 +3,4 @@ pub mod RightLists
 pub mod Shuts
 pub mod LoadedShuts
 pub mod DepthShuts
+pub mod RenamedShuts

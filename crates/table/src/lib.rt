@@ -4,6 +4,7 @@
 ghost use Rattle.std.specs.Prelude.{◌≡◌};
 ghost use Rattle.table_checks.specs.Tables.{table_of};
 ghost use Rattle.table_edits.specs.Edits.{edit_answer, Added, Retired};
+ghost use Rattle.closing.specs.Outcome.{Closed};
 
 use table_edits::EditAnswer;
 
@@ -44,6 +45,30 @@ pub fn retire(
         × (result.slots ≡ head.new.slots) × (result.live ≡ head.new.live) }
 {
     let e = table_edits::retired(head.slots, head.live, flags, coordinates, dimensions, slot);
+    head.slots = e.slots;
+    head.live = e.live;
+    e
+}
+
+// Closes the gaps of the table, and writes each slot's new one to the front of the rename list.
+pub fn close(
+    head: &mut Head,
+    flags: &mut [u8],
+    coordinates: &mut [f64],
+    dimensions: usize,
+    rename: &mut [usize],
+) -> EditAnswer
+    ensures { Closed dimensions (table_of head.old.slots head.old.live flags.old coordinates.old) (table_of head.new.slots head.new.live flags.new coordinates.new) rename.old rename.new (edit_answer result)
+        × (result.slots ≡ head.new.slots) × (result.live ≡ head.new.live) }
+{
+    let e = closing::closed(
+        head.slots,
+        head.live,
+        flags,
+        coordinates,
+        dimensions,
+        rename,
+    );
     head.slots = e.slots;
     head.live = e.live;
     e
