@@ -1,6 +1,6 @@
 -- The complete outcome of each public call: result, place, counts and values, and the final content of each lent list, for
 -- refused calls too. Definitions only.
-use Rattle.std.specs.Prelude.{ℕ, ◌+◌, ◌≡◌, List, [], ◌++◌, length, drop, replicate, Float}
+use Rattle.std.specs.Prelude.{ℕ, ◌≡◌, List, [], ◌++◌, length, drop, replicate, Float}
 use Rattle.lists.specs.Lists.{from, part}
 use Rattle.definition.specs.Number.{plus_zero, square_root_lem}
 use Rattle.definition.specs.Levels.{level_size_lem}
