@@ -1,10 +1,7 @@
-use borrow.Author.Rules.{rules}
 use Prim.Native.Nat.{◌≤◌, ◌-◌}
 use mathlib.Core.Path.{◌≡◌}
-use native.Mathlib.Omega.{arith}
 use lib.ListN.{length}
 use Rattle.lists.specs.Lists.{put, part}
-use Rattle.lists.proofs.Put.{copy-none, copy_more}
 use Rattle.stretches.proofs.copy_rows.Given as goal
 
 abbrev pub invariant-loop-i : goal.invariant-loop-i

@@ -1,9 +1,9 @@
 -- `stretches::number_rows` meets its contract. The loop's invariant: the numbers passed are written. Assumes nothing.
-use mathlib.Core.Path.{◌≡◌, refl, sym, ap, ◌∙◌}
-use Prim.Native.Nat.{ℕ, ◌≤◌, ◌-◌}
+use mathlib.Core.Path.{refl, sym, ap, ◌∙◌}
+use Prim.Native.Nat.{ℕ}
 use native.Mathlib.Nat.{le_antisymm}
 use native.Mathlib.Omega.{arith}
-use lib.ListN.{length, length-set}
+use lib.ListN.{length-set}
 use Rattle.lists.specs.Lists.{put, from}
 use Rattle.lists.proofs.Put.{put-nil}
 use Rattle.lists.proofs.From.{numbered_more}

@@ -1,11 +1,7 @@
-use mathlib.Core.Path.{◌≡◌, refl, sym, ap, ◌∙◌}
-use Prim.Native.Nat.{ℕ, ◌≤◌, ◌-◌}
-use native.Mathlib.Nat.{le_antisymm}
-use native.Mathlib.Omega.{arith}
-use lib.ListN.{length, length-set}
+use mathlib.Core.Path.{◌≡◌}
+use Prim.Native.Nat.{◌≤◌, ◌-◌}
+use lib.ListN.{length}
 use Rattle.lists.specs.Lists.{put, from}
-use Rattle.lists.proofs.Put.{put-nil}
-use Rattle.lists.proofs.From.{numbered_more}
 use Rattle.stretches.proofs.number_rows.Given as goal
 
 abbrev pub invariant-loop-i : goal.invariant-loop-i

@@ -1,7 +1,6 @@
 -- `stretches::put_pair` meets its contract. Assumes nothing.
 use native.Mathlib.Omega.{arith}
 use lib.ListN.{length-set}
-use borrow.Author.Rules.{rules}
 use Rattle.lists.proofs.Put.{set-two}
 use Rattle.stretches.proofs.put_pair.Goals as goal
 
