@@ -2,7 +2,7 @@
 -- Holds: box_with, three, lower-changed, upper-changed, box_read, box-written, Filled, filled_none, filled_more, filled-all
 use mathlib.Core.Path.{◌≡◌, refl, sym, ap, ap₂, subst, ◌∙◌}
 use mathlib.Core.List.{List, ◌++◌, map}
-use Prim.Native.Nat.{ℕ, ◌+◌, ◌*◌, ◌≤◌, ◌<◌}
+use Prim.Native.Nat.{ℕ, ◌+◌, ◌≤◌, ◌<◌}
 use native.Mathlib.Omega.{arith}
 use lib.ListN.{length, set, take, length-map, length-set}
 use lib.Seq.{length-take-le}

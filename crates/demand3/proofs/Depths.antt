@@ -21,7 +21,7 @@ use Rattle.definition_laws.proofs.Depths.{Halved, LevelHolds, leaf_sized, fine-h
 use Rattle.packed.proofs.Counts.{no_level}
 use Rattle.packed.proofs.Unpacked.{no_leaf}
 use Rattle.demand3.specs.Handed.{Handed, level_count, leaves_on, listed, own_of, depth_of}
-use Rattle.demand3.specs.Depths.{LevelDepths, TreeDepths}
+use Rattle.demand3.specs.Depths.{TreeDepths}
 use Rattle.demand3.proofs.Unpack.{PackedIn, handed-levels, handed-leaves, handed-listed, handed-own, handed-depth}
 
 -- ---- a packed tree

@@ -10,7 +10,7 @@ use Prim.Native.Nat.{ℕ, zero, suc, ◌+◌, ◌*◌, ◌/◌, ◌%◌, ◌^◌
 use native.Mathlib.Nat.{pow-succ'}
 use native.Mathlib.Omega.{arith}
 use mathlib.Core.List.{List, [], ◌∷◌, ◌++◌, map, map-map}
-use lib.ListN.{length, replicate, length-append}
+use lib.ListN.{length, length-append}
 use lib.Dec.{ltb}
 use borrow.Author.Tests.{lt-ltb}
 use lib.Ieee.{Float, binary64, to_bits}
@@ -22,7 +22,6 @@ use Rattle.lists.proofs.Count.{count-len, length-keep}
 use Rattle.lists.proofs.From.{all_from, length_from}
 use Rattle.lists.proofs.Joined.{length-joined}
 use Rattle.lists.proofs.Sums.{sum-most}
-use Rattle.definition.specs.Number.{plus_zero}
 use Rattle.definition.specs.Levels.{threshold, reductions}
 use Rattle.definition.specs.Cut.{Domain, root_domain, cut_keys, left_of, right_of, queue_leaves, leaves_of}
 use Rattle.definition.specs.Overlaps.{borrowed_by}

@@ -13,11 +13,11 @@ use lib.ListN.{length, set, take, length-set, length-take}
 use lib.Seq.{get_or-set_same, get_or-set_other, get_or-take, take-set-le, take-set-lt}
 use lib.Dec.{ltb, eqb}
 use lib.Ieee.{Float}
-use Rattle.lists.specs.Lists.{count, member, from}
+use Rattle.lists.specs.Lists.{count, member}
 use Rattle.lists.proofs.Tests.{clash, or-none, or-false, or-true, and-of, and-true, le-or-lt, same_or}
 use Rattle.lists.proofs.Least.{least-before, least-holds}
 use Rattle.lists.proofs.Count.{count_set, count-more}
-use Rattle.definition.specs.Refusals.{Verdict, accepted, refused, Refusal, verdict}
+use Rattle.definition.specs.Refusals.{Verdict, accepted, refused, Refusal}
 use Rattle.definition.specs.Outcome.{value_of}
 use Rattle.definition.specs.Table.{Head, Table, capacity, flagged, live_slots_lem, next_slot, full, add_verdict, retire_verdict, added, add_answer_lem, add_table, retired, retire_table, Edit, adding, retiring, lending, lent_by, edit_verdict, edited, after_all}
 use Rattle.definition.specs.Slots.{rows_of}

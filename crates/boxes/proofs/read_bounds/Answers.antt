@@ -1,8 +1,8 @@
 -- `boxes::read_bounds` meets its contract. The invariant: the bounds passed are those of the list. Assumes nothing.
-use mathlib.Core.Path.{◌≡◌, refl}
-use Prim.Native.Nat.{◌≤◌, ◌-◌}
+use mathlib.Core.Path.{refl}
+use Prim.Native.Nat.{◌-◌}
 use native.Mathlib.Omega.{arith}
-use lib.ListN.{length, take, length-set}
+use lib.ListN.{length-set}
 use lib.Ieee.{nan}
 use Rattle.lists.specs.Lists.{part}
 use Rattle.lists.proofs.Put.{read_more}

@@ -1,11 +1,7 @@
-use mathlib.Core.Path.{◌≡◌, refl}
+use mathlib.Core.Path.{◌≡◌}
 use Prim.Native.Nat.{◌≤◌, ◌-◌}
-use native.Mathlib.Omega.{arith}
-use lib.ListN.{length, take, length-set}
-use lib.Ieee.{nan}
+use lib.ListN.{length, take}
 use Rattle.lists.specs.Lists.{part}
-use Rattle.lists.proofs.Put.{read_more}
-use Rattle.boxes.proofs.Turns.{all_read}
 use Rattle.boxes.proofs.read_bounds.Given as goal
 
 abbrev pub invariant-loop-k : goal.invariant-loop-k

@@ -1,6 +1,5 @@
 -- `boxes::read_box` meets its contract. Assumes nothing.
 use mathlib.Core.Path.{refl}
-use borrow.Author.Rules.{rules}
 use Rattle.boxes.proofs.Boxed.{box_read}
 use Rattle.boxes.proofs.read_box.Goals as goal
 

@@ -1,9 +1,8 @@
 -- `boxes::write_bounds` meets its contract. The invariant: the bounds passed are written. Assumes nothing.
-use mathlib.Core.Path.{◌≡◌, refl, sym}
-use Prim.Native.Nat.{◌≤◌, ◌-◌}
+use mathlib.Core.Path.{refl, sym}
+use Prim.Native.Nat.{◌-◌}
 use native.Mathlib.Omega.{arith}
-use lib.ListN.{length, take, length-set}
-use Rattle.lists.specs.Lists.{put}
+use lib.ListN.{length-set}
 use Rattle.lists.proofs.Put.{put-nil}
 use Rattle.boxes.proofs.Turns.{write-turn, all-written}
 use Rattle.boxes.proofs.write_bounds.Goals as goal

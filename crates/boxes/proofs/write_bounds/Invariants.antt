@@ -1,10 +1,7 @@
-use mathlib.Core.Path.{◌≡◌, refl, sym}
+use mathlib.Core.Path.{◌≡◌}
 use Prim.Native.Nat.{◌≤◌, ◌-◌}
-use native.Mathlib.Omega.{arith}
-use lib.ListN.{length, take, length-set}
+use lib.ListN.{length, take}
 use Rattle.lists.specs.Lists.{put}
-use Rattle.lists.proofs.Put.{put-nil}
-use Rattle.boxes.proofs.Turns.{write-turn, all-written}
 use Rattle.boxes.proofs.write_bounds.Given as goal
 
 abbrev pub invariant-loop-k : goal.invariant-loop-k

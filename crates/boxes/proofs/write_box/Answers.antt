@@ -1,6 +1,5 @@
 -- `boxes::write_box` meets its contract. Assumes nothing.
 use native.Mathlib.Omega.{arith}
-use borrow.Author.Rules.{rules}
 use Rattle.boxes.proofs.Boxed.{box-written}
 use Rattle.boxes.proofs.write_box.Goals as goal
 

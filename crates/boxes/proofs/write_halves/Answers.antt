@@ -1,7 +1,6 @@
 -- `boxes::write_halves` meets its contract. Assumes nothing.
 use Prim.Native.Nat.{◌+◌}
 use native.Mathlib.Omega.{arith}
-use borrow.Author.Rules.{rules}
 use Rattle.boxes.specs.Boxes.{floats_of}
 use Rattle.boxes.proofs.Halves.{length-floats, two-boxes}
 use Rattle.boxes.proofs.write_halves.Goals as goal

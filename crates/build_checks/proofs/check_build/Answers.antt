@@ -1,7 +1,6 @@
 -- `build_checks::check_build` meets its contract. Assumes nothing.
 use mathlib.Core.Path.{◌∙◌}
 use native.Mathlib.Omega.{arith}
-use borrow.Author.Rules.{rules}
 use Rattle.config.specs.Params.{settings_of_lem}
 use Rattle.build_sizes.specs.Sizes.{sizes_of}
 use Rattle.build_checks.proofs.Laws.{refused-first, passed_first}

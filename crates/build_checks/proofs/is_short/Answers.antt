@@ -1,6 +1,5 @@
 -- `build_checks::is_short` meets its contract. Assumes nothing.
 use mathlib.Core.Path.{ap, ◌∙◌}
-use borrow.Author.Rules.{rules}
 use Rattle.definition.specs.Refusals.{build_short}
 use Rattle.build_checks.proofs.Laws.{short-1, short-2, short-3, short-4, short-5, short-6, short-7}
 use Rattle.build_checks.proofs.is_short.Goals as goal

@@ -2,7 +2,6 @@
 use mathlib.Core.Path.{ap, ◌∙◌}
 use Prim.Native.Nat.{ℕ}
 use native.Mathlib.Omega.{arith}
-use borrow.Author.Rules.{rules}
 use Rattle.definition.specs.Refusals.{refused}
 use Rattle.build_checks.proofs.Laws.{last-11, last-10, last-fine}
 use Rattle.build_checks.proofs.last_check.Goals as goal

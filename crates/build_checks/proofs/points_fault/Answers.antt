@@ -1,7 +1,6 @@
 -- `build_checks::points_fault` meets its contract. Assumes nothing.
 use Prim.Native.Nat.{◌/◌, ◌≤◌, ◌<◌}
 use native.Mathlib.Omega.{arith}
-use borrow.Author.Rules.{rules}
 use Rattle.definition.specs.Levels.{threshold, reductions}
 use Rattle.config.specs.Params.{settings_of_lem}
 use Rattle.build_checks.proofs.Laws.{points-6, points-7, points-8, points-9, points-fine, reductions-many, checked-reductions}

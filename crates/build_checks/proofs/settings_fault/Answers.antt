@@ -1,7 +1,6 @@
 -- `build_checks::settings_fault` meets its contract. Assumes nothing.
 use mathlib.Core.Path.{sym, ◌∙◌}
 use native.Mathlib.Omega.{arith}
-use borrow.Author.Rules.{rules}
 use Rattle.config.specs.Params.{settings_of_lem}
 use Rattle.build_checks.proofs.Laws.{settings-low, settings-high, settings-2, settings-3, settings-4, settings-5, settings-fine}
 use Rattle.build_checks.proofs.settings_fault.Goals as goal

@@ -1,4 +1,3 @@
-use borrow.Author.Rules.{rules}
 use Rattle.build_checks.proofs.zero_threshold.Goals as goal
 
 -- src/lib.rt:37:1

@@ -2,7 +2,6 @@
 use mathlib.Core.Path.{◌∙◌}
 use native.Mathlib.Omega.{arith}
 use Rattle.build_sizes.proofs.Verdicts.{sizes-low, sizes-high, sizes-5, sizes-6, sizes-8, sizes-given}
-use borrow.Author.Rules.{rules}
 use Rattle.build_sizes.proofs.build_sizes.Reads as reads
 use Rattle.build_sizes.proofs.build_sizes.Lts as lts
 use Rattle.build_sizes.proofs.refusal.Reads as refusal-reads

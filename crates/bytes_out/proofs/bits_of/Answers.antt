@@ -1,6 +1,5 @@
 -- `bytes_out::bits_of` meets its contract. Assumes nothing.
 use Rattle.bytes_out.proofs.Nan.{equal-is-no-nan, bits-nan}
-use borrow.Author.Rules.{rules}
 use Rattle.bytes_out.proofs.bits_of.Goals as goal
 
 pub float_to_bits-result : goal.float_to_bits-result

@@ -2,7 +2,6 @@
 use Rattle.lists.proofs.Put.{set-put}
 use Prim.Native.Nat.{◌%◌}
 use Rattle.formats.specs.Bytes.{bytes_of}
-use borrow.Author.Rules.{rules}
 use Rattle.bytes_out.proofs.put_byte.Goals as goal
 
 pub returns : goal.returns

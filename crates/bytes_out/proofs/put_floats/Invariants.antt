@@ -1,12 +1,8 @@
-use Rattle.bytes_out.proofs.Turns.{written_none, written-more}
-use Rattle.bytes_out.proofs.Bytes.{length-bytes}
 use mathlib.Core.Path.{◌≡◌}
 use Prim.Native.Nat.{◌-◌, ◌≤◌}
 use lib.ListN.{length}
 use Rattle.lists.specs.Lists.{part, put}
-use Rattle.formats.specs.Bytes.{float_bytes, floats_bytes, float_size}
-use lib.Ieee.{Float, nan, to_bits, binary64}
-use borrow.Author.Rules.{rules}
+use Rattle.formats.specs.Bytes.{floats_bytes}
 use Rattle.bytes_out.proofs.put_floats.Given as goal
 
 abbrev pub invariant-loop-i : goal.invariant-loop-i

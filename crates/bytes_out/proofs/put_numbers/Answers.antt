@@ -2,9 +2,8 @@
 use Rattle.bytes_out.proofs.Turns.{written_none, written-more}
 use Rattle.bytes_out.proofs.Bytes.{length-bytes}
 use mathlib.Core.Path.{◌≡◌}
-use Prim.Native.Nat.{ℕ, ◌-◌, ◌≤◌}
+use Prim.Native.Nat.{ℕ, ◌-◌}
 use lib.ListN.{length}
-use Rattle.lists.specs.Lists.{part, put}
 use Rattle.formats.specs.Bytes.{number_bytes, numbers_bytes, number_size}
 use borrow.Author.Rules.{rules}
 use Rattle.bytes_out.proofs.put_numbers.Goals as goal

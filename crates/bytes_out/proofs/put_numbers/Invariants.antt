@@ -1,11 +1,8 @@
-use Rattle.bytes_out.proofs.Turns.{written_none, written-more}
-use Rattle.bytes_out.proofs.Bytes.{length-bytes}
 use mathlib.Core.Path.{◌≡◌}
-use Prim.Native.Nat.{ℕ, ◌-◌, ◌≤◌}
+use Prim.Native.Nat.{◌-◌, ◌≤◌}
 use lib.ListN.{length}
 use Rattle.lists.specs.Lists.{part, put}
-use Rattle.formats.specs.Bytes.{number_bytes, numbers_bytes, number_size}
-use borrow.Author.Rules.{rules}
+use Rattle.formats.specs.Bytes.{numbers_bytes}
 use Rattle.bytes_out.proofs.put_numbers.Given as goal
 
 abbrev pub invariant-loop-i : goal.invariant-loop-i

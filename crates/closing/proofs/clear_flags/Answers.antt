@@ -1,9 +1,9 @@
 -- `closing::clear_flags` meets its contract. The loop's invariant: i entries are cleared. Assumes nothing.
 use mathlib.Core.Path.{◌≡◌, sym, ap, ◌∙◌}
-use Prim.Native.Nat.{ℕ, ◌-◌, ◌≤◌}
+use Prim.Native.Nat.{ℕ, ◌-◌}
 use native.Mathlib.Omega.{arith}
 use borrow.Author.Rules.{rules}
-use lib.ListN.{length, replicate, length-set}
+use lib.ListN.{replicate, length-set}
 use Rattle.lists.specs.Lists.{put}
 use Rattle.lists.proofs.Put.{put-nil, put-same-more}
 use Rattle.closing.proofs.clear_flags.Goals as goal

@@ -1,6 +1,5 @@
 -- `closing::close_fault` meets its contract, by the cases of the other list and of refusal 1.
 use mathlib.Core.Path.{◌∙◌}
-use native.Mathlib.Omega.{arith}
 use Rattle.build_checks.specs.Verdicts.{numbered_verdict}
 use mathlib.Core.Path.{ap, sym}
 use Rattle.table_checks.specs.Tables.{table_of}

@@ -1,7 +1,6 @@
 -- `closing::closed` meets its contract. Assumes nothing.
 use mathlib.Core.Path.{refl}
 use native.Mathlib.Omega.{arith}
-use borrow.Author.Rules.{rules}
 use Rattle.table_checks.specs.Tables.{table_of}
 use Rattle.closing.proofs.Closes.{close-refused, close-room, close-done}
 use Rattle.closing.proofs.closed.Goals as goal

@@ -1,10 +1,10 @@
 -- `closing::move_down` meets its contract. Assumes nothing.
-use mathlib.Core.Path.{◌≡◌, refl}
-use Prim.Native.Nat.{◌-◌, ◌≤◌}
+use mathlib.Core.Path.{refl}
+use Prim.Native.Nat.{◌-◌}
 use native.Mathlib.Omega.{arith}
 use borrow.Author.Rules.{rules}
 use lib.ListN.{length}
-use Rattle.closing.proofs.Moves.{slot-room, MovedDown, starts, ends, low, turn}
+use Rattle.closing.proofs.Moves.{slot-room, starts, ends, low, turn}
 use Rattle.closing.proofs.move_down.Goals as goal
 
 pub loop-i-init : goal.loop-i-init

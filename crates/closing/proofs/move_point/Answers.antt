@@ -1,11 +1,9 @@
 -- `closing::move_point` meets its contract. The loop's invariant: the coordinates passed are copied. Assumes nothing.
 use mathlib.Core.Path.{◌≡◌}
-use Prim.Native.Nat.{◌-◌, ◌≤◌}
+use Prim.Native.Nat.{◌-◌}
 use native.Mathlib.Omega.{arith}
 use borrow.Author.Rules.{rules}
-use lib.ListN.{length}
 use lib.Ieee.{nan}
-use Rattle.lists.specs.Lists.{put, part}
 use Rattle.lists.proofs.Put.{copy-none}
 use Rattle.closing.proofs.Moves.{copy-down}
 use Rattle.closing.proofs.move_point.Goals as goal

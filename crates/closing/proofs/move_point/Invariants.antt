@@ -1,12 +1,7 @@
 use mathlib.Core.Path.{◌≡◌}
 use Prim.Native.Nat.{◌-◌, ◌≤◌}
-use native.Mathlib.Omega.{arith}
-use borrow.Author.Rules.{rules}
 use lib.ListN.{length}
-use lib.Ieee.{nan}
 use Rattle.lists.specs.Lists.{put, part}
-use Rattle.lists.proofs.Put.{copy-none}
-use Rattle.closing.proofs.Moves.{copy-down}
 use Rattle.closing.proofs.move_point.Given as goal
 
 abbrev pub invariant-loop-i : goal.invariant-loop-i

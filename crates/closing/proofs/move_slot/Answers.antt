@@ -1,7 +1,6 @@
 -- `closing::move_slot` meets its contract. Assumes nothing.
 use native.Mathlib.Nat.{add-zero, mul-le-mul_right}
 use native.Mathlib.Omega.{arith}
-use borrow.Author.Rules.{rules}
 use Rattle.closing.proofs.Moves.{is-retired, is_live}
 use Rattle.closing.proofs.move_slot.Goals as goal
 

@@ -1,5 +1,4 @@
 -- `coarse_level::coarse_level` meets its contract. Assumes nothing.
-use borrow.Author.Rules.{rules}
 use Rattle.coarse_level.proofs.coarse_level.Goals as goal
 
 pub returns : goal.returns

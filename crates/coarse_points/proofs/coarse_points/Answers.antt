@@ -6,7 +6,6 @@ use lib.ListN.{length}
 use Rattle.lists.specs.Lists.{part}
 use Rattle.lists.proofs.Put.{length_part}
 use Rattle.coarse_points.proofs.Stages.{counts_all, leaves-fit, sent-size, up-size, covers_up, written-up}
-use borrow.Author.Rules.{rules}
 use Rattle.coarse_points.proofs.coarse_points.Goals as goal
 
 pub leaf_quotas-requires : goal.leaf_quotas-requires

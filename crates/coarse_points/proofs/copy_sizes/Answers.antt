@@ -1,9 +1,9 @@
 -- `coarse_points::copy_sizes` meets its contract: the sizes so far stand at the front of the working list. Assumes nothing.
 use mathlib.Core.Path.{◌≡◌, refl, ap, ◌∙◌}
 use mathlib.Core.List.{◌++◌, map}
-use Prim.Native.Nat.{ℕ, ◌+◌, ◌-◌, ◌≤◌}
+use Prim.Native.Nat.{ℕ, ◌+◌, ◌-◌}
 use native.Mathlib.Omega.{arith}
-use lib.ListN.{length, take, drop, length-set}
+use lib.ListN.{take, drop, length-set}
 use lib.Seq.{take_at}
 use Rattle.lists.specs.Lists.{from}
 use Rattle.lists.proofs.From.{map-from-nil, front-below-suc, length-map-from}

@@ -1,11 +1,8 @@
-use mathlib.Core.Path.{◌≡◌, refl, ap, ◌∙◌}
+use mathlib.Core.Path.{◌≡◌}
 use mathlib.Core.List.{◌++◌, map}
-use Prim.Native.Nat.{ℕ, ◌+◌, ◌-◌, ◌≤◌}
-use native.Mathlib.Omega.{arith}
-use lib.ListN.{length, take, drop, length-set}
-use lib.Seq.{take_at}
+use Prim.Native.Nat.{◌+◌, ◌-◌, ◌≤◌}
+use lib.ListN.{length, drop}
 use Rattle.lists.specs.Lists.{from}
-use Rattle.lists.proofs.From.{map-from-nil, front-below-suc, length-map-from}
 use Rattle.packed.specs.Reading.{own_count}
 use Rattle.coarse_points.proofs.copy_sizes.Given as goal
 

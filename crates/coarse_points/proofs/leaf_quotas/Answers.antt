@@ -4,7 +4,6 @@ use native.Mathlib.Omega.{arith}
 use Rattle.lists.specs.Lists.{total}
 use Rattle.coarse_points.specs.Sent.{counts_at}
 use Rattle.coarse_points.proofs.Stages.{quotas-front}
-use borrow.Author.Rules.{rules}
 use Rattle.coarse_points.proofs.leaf_quotas.Goals as goal
 
 pub share_in_place-requires : goal.share_in_place-requires

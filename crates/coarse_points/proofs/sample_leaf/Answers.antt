@@ -6,7 +6,6 @@ use Rattle.lists.specs.Lists.{put}
 use Rattle.lists.proofs.Put.{put-nil}
 use Rattle.coarse_points.proofs.Sending.{sent-none}
 use Rattle.coarse_points.proofs.Covering.{cover-empty, cover-unsent, leaf-sampled}
-use borrow.Author.Rules.{rules}
 use Rattle.coarse_points.proofs.sample_leaf.Goals as goal
 
 pub returns-then-rows-lt1 : goal.returns-then-rows-lt1

@@ -2,7 +2,6 @@
 use native.Mathlib.Omega.{arith}
 use Rattle.coarse_points.proofs.Covering.{leaf-lent}
 use Rattle.coarse_points.proofs.Stages.{own-lent, lent-good, lent_length}
-use borrow.Author.Rules.{rules}
 use Rattle.coarse_points.proofs.send_leaf.Goals as goal
 
 pub sample_leaf-requires : goal.sample_leaf-requires

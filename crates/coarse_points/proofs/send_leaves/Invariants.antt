@@ -1,15 +1,8 @@
-use mathlib.Core.Path.{◌≡◌, refl, sym, ap, ◌∙◌, subst}
-use mathlib.Core.List.{List}
-use Prim.Native.Nat.{ℕ, ◌+◌, ◌-◌, ◌≤◌, ◌<◌}
-use native.Mathlib.Omega.{arith}
-use lib.ListN.{length, get_or}
-use lib.Seq.{length-take-le}
+use mathlib.Core.Path.{◌≡◌}
+use Prim.Native.Nat.{◌+◌, ◌-◌, ◌≤◌}
+use lib.ListN.{length}
 use Rattle.lists.specs.Lists.{part, put}
-use Rattle.lists.proofs.Put.{put-nil}
-use Rattle.coarse_points.specs.Sent.{sent_at, covers_at, LeafFits}
-use Rattle.coarse_points.proofs.Sending.{sent-first}
-use Rattle.coarse_points.proofs.Covering.{room-length, covers-first, covers-next}
-use Rattle.coarse_points.proofs.Stages.{leaf_room, leaf-end, leaf-list}
+use Rattle.coarse_points.specs.Sent.{sent_at, covers_at}
 use Rattle.coarse_points.proofs.send_leaves.Given as goal
 
 abbrev pub invariant-loop-l : goal.invariant-loop-l

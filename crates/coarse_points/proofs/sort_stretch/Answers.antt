@@ -1,7 +1,6 @@
 -- `coarse_points::sort_stretch` meets its contract: what was done to the stretch is written back. Assumes nothing.
 use native.Mathlib.Omega.{arith}
 use Rattle.coarse_points.proofs.Stages.{reordered}
-use borrow.Author.Rules.{rules}
 use Rattle.coarse_points.proofs.sort_stretch.Goals as goal
 
 pub returns : goal.returns

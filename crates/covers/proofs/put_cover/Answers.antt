@@ -8,7 +8,6 @@ use Rattle.lists.specs.Lists.{part}
 use Rattle.lists.proofs.Put.{length_part, put-snoc}
 use Rattle.definition.specs.Points.{box_width_lem}
 use Rattle.definition.specs.Packed.{row_floats_lem}
-use borrow.Author.Rules.{rules}
 use Rattle.covers.proofs.put_cover.Goals as goal
 
 pub returns : goal.returns

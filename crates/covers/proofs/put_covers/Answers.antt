@@ -3,7 +3,6 @@ use mathlib.Core.Path.{◌≡◌, ap, subst}
 use Prim.Native.Nat.{ℕ, suc, ◌+◌, ◌-◌, ◌*◌, ◌≤◌}
 use native.Mathlib.Omega.{arith}
 use native.Mathlib.Nat.{mul-add, mul-le-mul_left}
-use borrow.Author.Rules.{rules}
 use lib.ListN.{length}
 use Rattle.definition.specs.Packed.{row_floats_lem}
 use Rattle.covers.proofs.Moved.{Moved, moved-start, moved-turn, moved-end}

@@ -1,6 +1,5 @@
 -- `cut::cut_stretch` meets its contract. Assumes nothing.
 use native.Mathlib.Omega.{arith}
-use borrow.Author.Rules.{rules}
 use Rattle.rows.proofs.Good.{good-inside}
 use Rattle.cut.proofs.Stretch.{axis_in, value_in, plane-value}
 use Rattle.cut.proofs.cut_stretch.Goals as goal

@@ -1,7 +1,6 @@
 -- `cut::extent_on` meets its contract. Assumes nothing.
 use mathlib.Core.Path.{ap₂}
 use lib.Ieee.{Float}
-use borrow.Author.Rules.{rules}
 use Rattle.definition.specs.Number.{minus}
 use Rattle.definition.specs.Points.{extent}
 use Rattle.cut.proofs.extent_on.Goals as goal

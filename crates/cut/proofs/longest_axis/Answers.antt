@@ -2,12 +2,10 @@
 -- `e` is its extent. Assumes nothing.
 use mathlib.Core.Path.{◌≡◌, ◌∙◌}
 use mathlib.Core.Bool.{Bool}
-use mathlib.Core.Logic.{⊎_elim}
-use Prim.Native.Nat.{ℕ, ◌-◌, ◌≤◌}
+use Prim.Native.Nat.{ℕ, ◌-◌}
 use native.Mathlib.Omega.{arith}
 use lib.Ieee.{lt}
 use borrow.Author.Rules.{rules}
-use Rattle.lists.specs.Lists.{best, from}
 use Rattle.lists.proofs.Best.{best-below-first, best-below-yes, best-below-no}
 use Rattle.definition.specs.Points.{extent}
 use Rattle.definition.specs.Cut.{longest_axis_lem}

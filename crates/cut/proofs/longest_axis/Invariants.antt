@@ -1,14 +1,8 @@
-use mathlib.Core.Path.{◌≡◌, ◌∙◌}
-use mathlib.Core.Bool.{Bool}
-use mathlib.Core.Logic.{⊎_elim}
-use Prim.Native.Nat.{ℕ, ◌-◌, ◌≤◌}
-use native.Mathlib.Omega.{arith}
+use mathlib.Core.Path.{◌≡◌}
+use Prim.Native.Nat.{◌-◌, ◌≤◌}
 use lib.Ieee.{lt}
-use borrow.Author.Rules.{rules}
 use Rattle.lists.specs.Lists.{best, from}
-use Rattle.lists.proofs.Best.{best-below-first, best-below-yes, best-below-no}
 use Rattle.definition.specs.Points.{extent}
-use Rattle.definition.specs.Cut.{longest_axis_lem}
 use Rattle.cut.proofs.longest_axis.Given as goal
 
 abbrev pub invariant-loop-axis : goal.invariant-loop-axis

@@ -1,6 +1,5 @@
 -- `cut_engine::cut_level` meets its contract, by the engine. Assumes nothing.
 use native.Mathlib.Omega.{arith}
-use borrow.Author.Rules.{rules}
 use Rattle.definition.specs.Record.{whole_of, float_of}
 use Rattle.cut_engine.proofs.Written.{nodes-few, by-queue}
 use Rattle.cut_engine.proofs.cut_level.Goals as goal

@@ -1,7 +1,6 @@
 -- `cut_nodes::cut_node` meets its contract. Assumes nothing.
 use mathlib.Core.Path.{ap, sym, ◌∙◌}
 use native.Mathlib.Omega.{arith}
-use borrow.Author.Rules.{rules}
 use lib.ListN.{length, set}
 use lib.Seq.{length-take-le, drop_at}
 use Rattle.cut_nodes.proofs.cut_node.Goals as goal

@@ -1,7 +1,6 @@
 -- `depth_first::leaves` meets its contract. Assumes nothing.
 use mathlib.Core.Path.{ap, ◌∙◌}
 use native.Mathlib.Omega.{arith}
-use borrow.Author.Rules.{rules}
 use lib.ListN.{length}
 use Rattle.lists.specs.Lists.{put}
 use Rattle.leaves.proofs.Place.{place-lent, place-back}

@@ -5,7 +5,6 @@ use borrow.Author.Tests.{not-true, not-false}
 use Rattle.file_reader.proofs.Fetches.{parts_within}
 use Rattle.file_reader.proofs.LastFloats.{record-few}
 use Rattle.file_domains.proofs.OneDomain.{no_record, too_many, bad-depth, bad-rows, bad-box, domain-good}
-use borrow.Author.Rules.{rules}
 use Rattle.file_domains.proofs.check_domain.Goals as goal
 
 pub overflow_mul-floats : goal.overflow_mul-floats

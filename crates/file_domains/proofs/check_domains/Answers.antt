@@ -1,9 +1,9 @@
 -- `file_domains::check_domains` meets its contract: before record i those before it passed, and the rest decides. Assumes nothing.
 use mathlib.Core.Path.{refl}
-use Prim.Native.Nat.{◌-◌, ◌≤◌}
+use Prim.Native.Nat.{◌-◌}
 use native.Mathlib.Omega.{arith}
 use borrow.Author.Tests.{not-true, not-false}
-use Rattle.file_domains.proofs.DomainsInTurn.{Tested, tested-start, tested-enough, tested-fits, tested-next, tested-bad, tested-left, tested-end}
+use Rattle.file_domains.proofs.DomainsInTurn.{tested-start, tested-enough, tested-fits, tested-next, tested-bad, tested-left, tested-end}
 use borrow.Author.Rules.{rules}
 use Rattle.file_domains.proofs.check_domains.Goals as goal
 

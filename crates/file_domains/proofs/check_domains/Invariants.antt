@@ -1,9 +1,5 @@
-use mathlib.Core.Path.{refl}
 use Prim.Native.Nat.{◌-◌, ◌≤◌}
-use native.Mathlib.Omega.{arith}
-use borrow.Author.Tests.{not-true, not-false}
-use Rattle.file_domains.proofs.DomainsInTurn.{Tested, tested-start, tested-enough, tested-fits, tested-next, tested-bad, tested-left, tested-end}
-use borrow.Author.Rules.{rules}
+use Rattle.file_domains.proofs.DomainsInTurn.{Tested}
 use Rattle.file_domains.proofs.check_domains.Given as goal
 
 abbrev pub invariant-loop-i : goal.invariant-loop-i

@@ -1,5 +1,4 @@
 -- `file_domains::rows_pass` meets its contract: each way out has its law. Assumes nothing.
-use borrow.Author.Tests.{not-true, not-false}
 use Rattle.file_domains.proofs.RowTests.{own-fail, own-markable, borrowed-fail, rows-good}
 use borrow.Author.Rules.{rules}
 use Rattle.file_domains.proofs.rows_pass.Goals as goal

@@ -1,10 +1,8 @@
 -- `file_front::floats_are` meets its contract: before float i, the floats before it agree. Assumes nothing.
-use mathlib.Core.Path.{◌≡◌}
 use mathlib.Core.Bool.{false}
-use Prim.Native.Nat.{◌+◌, ◌-◌, ◌≤◌}
+use Prim.Native.Nat.{◌+◌, ◌-◌}
 use native.Mathlib.Omega.{arith}
 use borrow.Author.Rules.{rules}
-use Rattle.lists.specs.Lists.{any_of, from}
 use Rattle.formats.specs.Bytes.{float_size}
 use Rattle.bytes_in.proofs.Turns.{none-tested, none_more}
 use Rattle.file_front.proofs.Compared.{differs, float_after, floats-found, floats-end, float-differs, float-agrees}

@@ -1,7 +1,6 @@
 -- `file_front::head_passes` meets its contract. Assumes nothing.
 use native.Mathlib.Nat.{mul-le-mul_left}
 use native.Mathlib.Omega.{arith}
-use borrow.Author.Rules.{rules}
 use Rattle.settings_record.specs.Reading.{settings_are}
 use Rattle.file_front.proofs.Takes.{settings-refused, head_is}
 use Rattle.file_front.proofs.head_passes.Goals as goal

@@ -1,9 +1,8 @@
 -- `file_front::points_pass` meets its contract: before row i, the rows before it pass. Assumes nothing.
-use Prim.Native.Nat.{◌-◌, ◌≤◌}
+use Prim.Native.Nat.{◌-◌}
 use native.Mathlib.Omega.{arith}
 use borrow.Author.Rules.{rules}
-use borrow.Author.Tests.{not-true, not-false}
-use Rattle.file_front.proofs.Points.{Passing, passing-start, passing-inside, passing-broken, passing-bad, passing-next, passing-end}
+use Rattle.file_front.proofs.Points.{passing-start, passing-inside, passing-broken, passing-bad, passing-next, passing-end}
 use Rattle.file_front.proofs.points_pass.Goals as goal
 
 pub loop-i-init : goal.loop-i-init

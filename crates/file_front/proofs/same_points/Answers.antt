@@ -1,11 +1,10 @@
 -- `file_front::same_points` meets its contract: before row i, the rows before it agree. Assumes nothing.
 use mathlib.Core.Path.{sym, ◌∙◌}
-use Prim.Native.Nat.{◌-◌, ◌≤◌}
+use Prim.Native.Nat.{◌-◌}
 use native.Mathlib.Omega.{arith}
 use borrow.Author.Rules.{rules}
-use borrow.Author.Tests.{not-true, not-false}
 use Rattle.file_front.proofs.Tested.{head-inside}
-use Rattle.file_front.proofs.PresentPoints.{front-parts, other-count, Comparing, comparing-start, comparing-listed, comparing-inside, comparing-found, comparing-next, comparing-end}
+use Rattle.file_front.proofs.PresentPoints.{front-parts, other-count, comparing-start, comparing-listed, comparing-inside, comparing-found, comparing-next, comparing-end}
 use Rattle.file_front.proofs.same_points.Goals as goal
 
 pub number_at-n-requires : goal.number_at-n-requires

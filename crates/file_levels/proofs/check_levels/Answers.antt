@@ -1,11 +1,10 @@
 -- `file_levels::check_levels` meets its contract: before level i those before it passed, none of them with one domain, and the rest
 -- decides. Assumes nothing.
 use mathlib.Core.Path.{refl}
-use Prim.Native.Nat.{◌-◌, ◌≤◌}
+use Prim.Native.Nat.{◌-◌}
 use native.Mathlib.Omega.{arith}
 use borrow.Author.Tests.{not-true, not-false}
-use Rattle.definition.specs.Packed.{most_levels}
-use Rattle.file_levels.proofs.LevelsInTurn.{LevelsTested, levels-start, level-bad, level-fits, levels-trail, levels-end, levels-next, levels-none}
+use Rattle.file_levels.proofs.LevelsInTurn.{levels-start, level-bad, level-fits, levels-trail, levels-end, levels-next, levels-none}
 use borrow.Author.Rules.{rules}
 use Rattle.file_levels.proofs.check_levels.Goals as goal
 

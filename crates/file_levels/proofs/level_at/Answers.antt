@@ -2,10 +2,8 @@
 use mathlib.Core.Path.{refl, sym, ◌∙◌}
 use native.Mathlib.Omega.{arith}
 use lib.ListN.{drop, length-drop}
-use borrow.Author.Tests.{not-true, not-false}
 use Rattle.file_reader.proofs.Fetches.{number-here}
 use Rattle.file_levels.proofs.LevelHeads.{head-room, no-level, short-level, is-level}
-use borrow.Author.Rules.{rules}
 use Rattle.file_levels.proofs.level_at.Goals as goal
 
 pub returns-then-not-record_at : goal.returns-then-not-record_at

@@ -1,7 +1,6 @@
 -- `file_reader::counts_stand` meets its contract. Assumes nothing.
 use native.Mathlib.Omega.{arith}
 use Rattle.file_reader.proofs.Fetches.{no-counts}
-use borrow.Author.Rules.{rules}
 use Rattle.file_reader.proofs.counts_stand.Goals as goal
 
 pub returns-then-bytes-at : goal.returns-then-bytes-at

@@ -2,9 +2,7 @@
 use mathlib.Core.Path.{refl, sym, ◌∙◌}
 use native.Mathlib.Omega.{arith}
 use lib.ListN.{drop, length-drop}
-use borrow.Author.Tests.{not-true, not-false}
 use Rattle.file_reader.proofs.Fetches.{counts-room, number-here, not-marked, too_short, is_whole}
-use borrow.Author.Rules.{rules}
 use Rattle.file_reader.proofs.domain_at.Goals as goal
 
 pub returns-then-not-counts_stand : goal.returns-then-not-counts_stand

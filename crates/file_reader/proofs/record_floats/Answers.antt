@@ -2,7 +2,6 @@
 use mathlib.Core.Path.{sym, ◌∙◌}
 use Rattle.lists.proofs.Tests.{cond-false}
 use Rattle.definition.specs.Packed.{row_floats_lem}
-use borrow.Author.Rules.{rules}
 use Rattle.file_reader.proofs.record_floats.Goals as goal
 
 pub returns : goal.returns

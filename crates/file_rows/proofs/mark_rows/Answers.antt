@@ -1,11 +1,11 @@
 -- `file_rows::mark_rows` meets its contract: before row i the rows before it are marked. Assumes nothing.
 use mathlib.Core.Path.{◌∙◌}
-use Prim.Native.Nat.{◌-◌, ◌≤◌, ◌<◌}
+use Prim.Native.Nat.{◌-◌, ◌<◌}
 use native.Mathlib.Omega.{arith}
 use lib.ListN.{length}
 use Rattle.formats.specs.Bytes.{numbers_at}
 use Rattle.file_rows.proofs.InBytes.{length-rows, row_at}
-use Rattle.file_rows.proofs.Loops.{Marking, marking-start, marking-within, marking-clear, marking-next, marking-end}
+use Rattle.file_rows.proofs.Loops.{marking-start, marking-within, marking-clear, marking-next, marking-end}
 use borrow.Author.Rules.{rules}
 use Rattle.file_rows.proofs.mark_rows.Goals as goal
 

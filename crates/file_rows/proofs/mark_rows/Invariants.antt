@@ -1,11 +1,6 @@
-use mathlib.Core.Path.{◌∙◌}
-use Prim.Native.Nat.{◌-◌, ◌≤◌, ◌<◌}
-use native.Mathlib.Omega.{arith}
-use lib.ListN.{length}
+use Prim.Native.Nat.{◌-◌, ◌≤◌}
 use Rattle.formats.specs.Bytes.{numbers_at}
-use Rattle.file_rows.proofs.InBytes.{length-rows, row_at}
-use Rattle.file_rows.proofs.Loops.{Marking, marking-start, marking-within, marking-clear, marking-next, marking-end}
-use borrow.Author.Rules.{rules}
+use Rattle.file_rows.proofs.Loops.{Marking}
 use Rattle.file_rows.proofs.mark_rows.Given as goal
 
 abbrev pub invariant-loop-i : goal.invariant-loop-i

@@ -1,13 +1,11 @@
 -- `file_rows::rows_marked` meets its contract: before row i the rest decides. Assumes nothing.
 use mathlib.Core.Path.{◌∙◌}
-use Prim.Native.Nat.{◌-◌, ◌≤◌, ◌<◌}
+use Prim.Native.Nat.{◌-◌, ◌<◌}
 use native.Mathlib.Omega.{arith}
 use lib.ListN.{length}
-use borrow.Author.Tests.{not-true, not-false}
 use Rattle.formats.specs.Bytes.{numbers_at}
 use Rattle.file_rows.proofs.InBytes.{length-rows, row_at}
-use Rattle.file_rows.proofs.Loops.{Asking, asking-start, asking-low, asking-out, asking-next, asking-end}
-use borrow.Author.Rules.{rules}
+use Rattle.file_rows.proofs.Loops.{asking-start, asking-low, asking-out, asking-next, asking-end}
 use Rattle.file_rows.proofs.rows_marked.Goals as goal
 
 pub loop-i-init : goal.loop-i-init

@@ -1,12 +1,6 @@
-use mathlib.Core.Path.{◌∙◌}
-use Prim.Native.Nat.{◌-◌, ◌≤◌, ◌<◌}
-use native.Mathlib.Omega.{arith}
-use lib.ListN.{length}
-use borrow.Author.Tests.{not-true, not-false}
+use Prim.Native.Nat.{◌-◌, ◌≤◌}
 use Rattle.formats.specs.Bytes.{numbers_at}
-use Rattle.file_rows.proofs.InBytes.{length-rows, row_at}
-use Rattle.file_rows.proofs.Loops.{Asking, asking-start, asking-low, asking-out, asking-next, asking-end}
-use borrow.Author.Rules.{rules}
+use Rattle.file_rows.proofs.Loops.{Asking}
 use Rattle.file_rows.proofs.rows_marked.Given as goal
 
 abbrev pub invariant-loop-i : goal.invariant-loop-i

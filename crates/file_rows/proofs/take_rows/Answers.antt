@@ -1,12 +1,11 @@
 -- `file_rows::take_rows` meets its contract: before row i the rows before it are out of both sets, and the rest decides. Assumes nothing.
 use mathlib.Core.Path.{refl, ◌∙◌}
-use Prim.Native.Nat.{◌-◌, ◌≤◌, ◌<◌}
+use Prim.Native.Nat.{◌-◌, ◌<◌}
 use native.Mathlib.Omega.{arith}
 use lib.ListN.{length}
-use borrow.Author.Tests.{not-true, not-false}
 use Rattle.formats.specs.Bytes.{numbers_at}
 use Rattle.file_rows.proofs.InBytes.{length-rows, row_at}
-use Rattle.file_rows.proofs.Loops.{Taking, taking-start, taking-among, taking-low, taking-out, taking-next, taking-end}
+use Rattle.file_rows.proofs.Loops.{taking-start, taking-among, taking-low, taking-out, taking-next, taking-end}
 use Rattle.lists.proofs.Tests.{clash}
 use borrow.Author.Rules.{rules}
 use Rattle.file_rows.proofs.take_rows.Goals as goal

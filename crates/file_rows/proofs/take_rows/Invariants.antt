@@ -1,13 +1,6 @@
-use mathlib.Core.Path.{refl, ◌∙◌}
-use Prim.Native.Nat.{◌-◌, ◌≤◌, ◌<◌}
-use native.Mathlib.Omega.{arith}
-use lib.ListN.{length}
-use borrow.Author.Tests.{not-true, not-false}
+use Prim.Native.Nat.{◌-◌, ◌≤◌}
 use Rattle.formats.specs.Bytes.{numbers_at}
-use Rattle.file_rows.proofs.InBytes.{length-rows, row_at}
-use Rattle.file_rows.proofs.Loops.{Taking, taking-start, taking-among, taking-low, taking-out, taking-next, taking-end}
-use Rattle.lists.proofs.Tests.{clash}
-use borrow.Author.Rules.{rules}
+use Rattle.file_rows.proofs.Loops.{Taking}
 use Rattle.file_rows.proofs.take_rows.Given as goal
 
 abbrev pub invariant-loop-i : goal.invariant-loop-i

@@ -3,7 +3,6 @@ use mathlib.Core.Path.{sym, ap, ◌∙◌}
 use mathlib.Core.List.{List}
 use Prim.Native.Nat.{ℕ}
 use native.Mathlib.Omega.{arith}
-use borrow.Author.Rules.{rules}
 use lib.ListN.{length}
 use Rattle.lists.specs.Lists.{put, joined}
 use Rattle.fine_level.proofs.Stages.{level-own, level-borrowed, level-number, leaves-read, overlaps-ready, overlaps-rows, boxes-room, codes-room}

@@ -4,7 +4,6 @@ use Prim.Native.Nat.{◌+◌, ◌-◌}
 use native.Mathlib.Omega.{arith}
 use lib.ListN.{length, take, drop}
 use Rattle.lists.proofs.Put.{length_part, part-lent}
-use borrow.Author.Rules.{rules}
 use Rattle.fine_level.proofs.send_up.Goals as goal
 
 pub put_covers-requires : goal.put_covers-requires

@@ -1,13 +1,9 @@
 -- `finite::first_not_finite` meets its contract. The invariant: the values passed are finite, so the first that is not
 -- stands from i on. Assumes nothing.
-use mathlib.Core.Path.{◌≡◌, refl, sym, ◌∙◌}
-use Prim.Native.Nat.{◌≤◌, ◌-◌}
+use mathlib.Core.Path.{refl, sym, ◌∙◌}
+use Prim.Native.Nat.{◌-◌}
 use native.Mathlib.Nat.{le_antisymm}
 use native.Mathlib.Omega.{arith}
-use borrow.Author.Rules.{rules}
-use borrow.Author.Tests.{not-true, not-false}
-use lib.ListN.{length, drop}
-use Rattle.definition.specs.Refusals.{first_bad}
 use Rattle.finite.proofs.Positions.{bad-later, bad-here, bad-none}
 use Rattle.finite.proofs.first_not_finite.Goals as goal
 

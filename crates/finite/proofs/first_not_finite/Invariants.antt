@@ -1,12 +1,7 @@
-use mathlib.Core.Path.{◌≡◌, refl, sym, ◌∙◌}
+use mathlib.Core.Path.{◌≡◌}
 use Prim.Native.Nat.{◌≤◌, ◌-◌}
-use native.Mathlib.Nat.{le_antisymm}
-use native.Mathlib.Omega.{arith}
-use borrow.Author.Rules.{rules}
-use borrow.Author.Tests.{not-true, not-false}
 use lib.ListN.{length, drop}
 use Rattle.definition.specs.Refusals.{first_bad}
-use Rattle.finite.proofs.Positions.{bad-later, bad-here, bad-none}
 use Rattle.finite.proofs.first_not_finite.Given as goal
 
 abbrev pub invariant-loop-i : goal.invariant-loop-i

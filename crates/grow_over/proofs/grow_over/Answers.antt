@@ -2,7 +2,6 @@
 use mathlib.Core.Path.{sym, ap, ◌∙◌}
 use mathlib.Core.List.{List}
 use native.Mathlib.Omega.{arith}
-use borrow.Author.Rules.{rules}
 use Rattle.lists.specs.Lists.{put, part}
 use Rattle.lists.proofs.Put.{length_part}
 use Rattle.definition.specs.Levels.{threshold}

@@ -1,5 +1,4 @@
 -- `halving::halves` meets its contract. Assumes nothing.
-use borrow.Author.Rules.{rules}
 use mathlib.Core.Path.{◌∙◌}
 use native.Mathlib.Omega.{arith}
 use Rattle.rows.proofs.Good.{good-finite}

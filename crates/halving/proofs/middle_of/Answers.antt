@@ -1,5 +1,4 @@
 -- `halving::middle_of` meets its contract. Assumes nothing.
-use borrow.Author.Rules.{rules}
 use Rattle.halving.proofs.Cutting.{copied}
 use Rattle.halving.proofs.middle_of.Goals as goal
 

@@ -1,13 +1,10 @@
 -- `halving::part_rows` meets its contract. Assumes nothing.
-use borrow.Author.Rules.{rules}
 use mathlib.Core.Path.{sym, ◌∙◌}
 use Prim.Native.Nat.{◌-◌}
 use native.Mathlib.Omega.{arith}
-use lib.ListN.{length}
 use mathlib.Core.Bool.{true}
-use Rattle.middle_row.specs.Middle.{on_side}
 use Rattle.argsort.proofs.Orders.{row_inside}
-use Rattle.halving.proofs.Turns.{Parted, parted-first, parted-row, parted-left, parted-right, parted-end}
+use Rattle.halving.proofs.Turns.{parted-first, parted-row, parted-left, parted-right, parted-end}
 use Rattle.halving.proofs.part_rows.Goals as goal
 
 pub loop-i-init : goal.loop-i-init

@@ -1,12 +1,8 @@
-use borrow.Author.Rules.{rules}
-use mathlib.Core.Path.{sym, ◌∙◌}
 use Prim.Native.Nat.{◌-◌}
-use native.Mathlib.Omega.{arith}
 use lib.ListN.{length}
 use mathlib.Core.Bool.{true}
 use Rattle.middle_row.specs.Middle.{on_side}
-use Rattle.argsort.proofs.Orders.{row_inside}
-use Rattle.halving.proofs.Turns.{Parted, parted-first, parted-row, parted-left, parted-right, parted-end}
+use Rattle.halving.proofs.Turns.{Parted}
 use Rattle.halving.proofs.part_rows.Given as goal
 
 abbrev pub invariant-loop-i : goal.invariant-loop-i

@@ -6,7 +6,6 @@ use Rattle.stored.specs.Programs.{kept}
 use Rattle.job_room.proofs.JobRead.{limits-read, coordinates-read}
 use Rattle.keep.proofs.Outcomes.{answer-short, output-short}
 use Rattle.keep.proofs.StreamKept.{broken-answer, broken-output, whole-answer, whole-output}
-use borrow.Author.Rules.{rules}
 use Rattle.keep.proofs.keep.Goals as goal
 
 pub returns-then-file-lt-MOST_FILE_BYTES : goal.returns-then-file-lt-MOST_FILE_BYTES

@@ -2,7 +2,6 @@
 use native.Mathlib.Omega.{arith}
 use Rattle.settings_record.specs.Reading.{settings_are}
 use Rattle.keep.proofs.JobKept.{refused-answer, refused-output, stored_answer, stored-output}
-use borrow.Author.Rules.{rules}
 use Rattle.keep.proofs.keep_job.Goals as goal
 
 pub returns-then-tree-gt0 : goal.returns-then-tree-gt0

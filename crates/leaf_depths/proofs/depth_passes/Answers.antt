@@ -2,7 +2,6 @@
 use mathlib.Core.Path.{sym, ◌∙◌}
 use mathlib.Core.Bool.{true}
 use lib.Dec.{eqb}
-use borrow.Author.Tests.{not-true, not-false}
 use borrow.Author.Rules.{rules}
 use Rattle.lists.proofs.Tests.{cond-true, cond-false}
 use Rattle.leaf_depths.proofs.Ways.{falls, wrong_size, depth-good}

@@ -1,6 +1,5 @@
 -- `leaf_rows::row_test` meets its contract. Assumes nothing.
 use Rattle.definition.specs.Outcome.{row_test_lem, asked_verdict}
-use borrow.Author.Rules.{rules}
 use Rattle.leaf_rows.proofs.row_test.Goals as goal
 
 pub returns-in-Own : goal.returns-in-Own

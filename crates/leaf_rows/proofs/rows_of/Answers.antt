@@ -1,6 +1,5 @@
 -- `leaf_rows::rows_of` meets its contract. Assumes nothing.
 use Rattle.definition.specs.Outcome.{rows_asked, asked_verdict}
-use borrow.Author.Rules.{rules}
 use Rattle.leaf_rows.proofs.rows_of.Goals as goal
 
 pub returns-in-Own : goal.returns-in-Own

@@ -2,7 +2,6 @@
 use mathlib.Core.Path.{sym}
 use native.Mathlib.Omega.{arith}
 use Rattle.leaf_rows.proofs.Stretches.{ends-past, ends-within, none-past, stretch-is}
-use borrow.Author.Rules.{rules}
 use Rattle.leaf_rows.proofs.stretch_of.Goals as goal
 
 pub returns-then-stretch_test-gt0 : goal.returns-then-stretch_test-gt0

@@ -1,16 +1,10 @@
-use mathlib.Core.Path.{◌≡◌, refl, sym, ap, ◌∙◌}
-use Prim.Native.Nat.{ℕ, ◌-◌, ◌*◌}
-use native.Mathlib.Omega.{arith}
+use mathlib.Core.Path.{◌≡◌}
+use Prim.Native.Nat.{◌-◌}
 use lib.ListN.{length}
-use borrow.Author.Rules.{rules}
-use Rattle.lists.proofs.Put.{put_whole}
-use Rattle.rows.proofs.Good.{good-inside}
 use Rattle.queue.proofs.Loop.{cuts_left}
-use Rattle.queue.proofs.View.{room_in, packed-length}
+use Rattle.queue.proofs.View.{room_in}
 use Rattle.definition.specs.Points.{box_width_lem}
-use Rattle.boxes.specs.Boxes.{floats_of}
-use Rattle.leaves.proofs.Turns.{Run, KeptLengths, kept_next, run-first, run_end, found_all, front, known}
-use Rattle.leaves.proofs.Turns.{lent-good, lent-some, spare-length, lent-room, rows-kept, room-kept, wait, wait-less, next-leaves, next-leaves-less, width-most, axis-fit}
+use Rattle.leaves.proofs.Turns.{Run, KeptLengths}
 use Rattle.leaves.proofs.cut_leaves.Given as goal
 
 abbrev pub invariant-loop-head : goal.invariant-loop-head

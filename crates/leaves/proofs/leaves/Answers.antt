@@ -1,8 +1,7 @@
 -- `leaves::leaves` meets its contract. Assumes nothing.
-use mathlib.Core.Path.{◌≡◌, ap, ◌∙◌}
+use mathlib.Core.Path.{ap, ◌∙◌}
 use native.Mathlib.Omega.{arith}
 use lib.ListN.{length}
-use borrow.Author.Rules.{rules}
 use Rattle.lists.specs.Lists.{put}
 use Rattle.leaves.proofs.Place.{place-lent, place-back}
 use Rattle.leaves.proofs.leaves.Goals as goal

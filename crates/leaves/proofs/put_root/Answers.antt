@@ -1,5 +1,4 @@
 -- `leaves::put_root` meets its contract. Assumes nothing.
-use borrow.Author.Rules.{rules}
 use Rattle.leaves.proofs.put_root.Goals as goal
 
 pub returns : goal.returns

@@ -1,8 +1,4 @@
-use mathlib.Core.Path.{◌≡◌, ap}
-use Prim.Native.Nat.{ℕ, ◌^◌, ◌*◌, ◌+◌, ◌-◌, ◌≤◌, ◌<◌}
-use native.Mathlib.Nat.{pow-le-pow_left}
-use native.Mathlib.Omega.{arith}
-use Rattle.definition.proofs.Sizes.{exact-is, goal-bound}
+use Prim.Native.Nat.{ℕ, ◌^◌, ◌-◌, ◌≤◌, ◌<◌}
 use Rattle.level_sizes.proofs.exact_size.Given as goal
 
 abbrev pub invariant-loop-lo : goal.invariant-loop-lo

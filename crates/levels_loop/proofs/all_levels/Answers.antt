@@ -4,10 +4,9 @@ use mathlib.Core.Path.{sym, ◌∙◌}
 use Prim.Native.Nat.{◌-◌}
 use native.Mathlib.Omega.{arith}
 use borrow.Author.Rules.{rules}
-use Rattle.definition.specs.Tree.{most_fine}
 use Rattle.levels_loop.proofs.Spaces.{coarse-fits}
-use Rattle.levels_loop.proofs.Loop.{Inv, levels-first, levels-next, rows_few, built-below, level-above, level_points_fit, level-fits, level-room, size_few, first_fits, bat-fits, end-points, end-internals, end-domains, end-boxes, end-borrowed, end-rows, end-counts, end-number, end_rest, levels-left, next-rest, next-fewer}
-use Rattle.levels_loop.proofs.Noted.{Noted, noted-first, noted-fits, noted-next, noted-end}
+use Rattle.levels_loop.proofs.Loop.{levels-first, levels-next, rows_few, built-below, level-above, level_points_fit, level-fits, level-room, size_few, first_fits, bat-fits, end-points, end-internals, end-domains, end-boxes, end-borrowed, end-rows, end-counts, end-number, end_rest, levels-left, next-rest, next-fewer}
+use Rattle.levels_loop.proofs.Noted.{noted-first, noted-fits, noted-next, noted-end}
 use Rattle.levels_loop.proofs.all_levels.Goals as goal
 
 pub loop-engine-init : goal.loop-engine-init

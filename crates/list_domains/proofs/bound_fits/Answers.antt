@@ -1,5 +1,4 @@
 -- `list_domains::bound_fits` meets its contract. Assumes nothing.
-use borrow.Author.Rules.{rules}
 use Rattle.list_domains.proofs.Boxes.{bound-coarse, bound-fine}
 use Rattle.list_domains.proofs.bound_fits.Goals as goal
 

@@ -1,14 +1,11 @@
 -- `list_domains::bounds_fit` meets its contract: before bound i the rest decides. Assumes nothing.
-use mathlib.Core.Path.{◌≡◌, refl, sym, ◌∙◌}
-use Prim.Native.Nat.{◌≤◌, ◌<◌, ◌-◌}
+use mathlib.Core.Path.{refl, sym, ◌∙◌}
+use Prim.Native.Nat.{◌<◌, ◌-◌}
 use native.Mathlib.Omega.{arith}
-use lib.ListN.{length, drop}
+use lib.ListN.{length}
 use lib.Ieee.{nan}
-use borrow.Author.Rules.{rules}
-use borrow.Author.Tests.{not-true, not-false}
 use Rattle.lists.specs.Lists.{part}
 use Rattle.lists.proofs.Put.{length_part, get_d_part}
-use Rattle.stored.specs.Sound.{all_of}
 use Rattle.list_domains.specs.Boxes.{bound_fits_lem}
 use Rattle.list_domains.proofs.Each.{each-end, each-out, each_next}
 use Rattle.list_domains.proofs.bounds_fit.Goals as goal

@@ -1,8 +1,6 @@
 -- `list_domains::check_domain` meets its contract: each way out has its law. Assumes nothing.
-use borrow.Author.Tests.{not-true, not-false}
 use Rattle.packed.specs.Reading.{packed}
 use Rattle.list_domains.proofs.OneDomain.{stretches-off, own-within, borrowed-within, depth-off, box-off, rows_tell}
-use borrow.Author.Rules.{rules}
 use Rattle.list_domains.proofs.check_domain.Goals as goal
 
 pub returns-then-not-stretches_fit : goal.returns-then-not-stretches_fit

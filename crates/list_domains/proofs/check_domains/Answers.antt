@@ -4,8 +4,7 @@ use Prim.Native.Nat.{◌-◌}
 use native.Mathlib.Omega.{arith}
 use borrow.Author.Rules.{rules}
 use borrow.Author.Tests.{not-true, not-false}
-use Rattle.packed.specs.Reading.{packed}
-use Rattle.list_domains.proofs.Between.{Between, between_start, between-end, row-ready, between-out, own-most, borrowed-most, between_next}
+use Rattle.list_domains.proofs.Between.{between_start, between-end, row-ready, between-out, own-most, borrowed-most, between_next}
 use Rattle.list_domains.proofs.check_domains.Goals as goal
 
 pub loop-i-init : goal.loop-i-init

@@ -1,10 +1,6 @@
-use mathlib.Core.Path.{refl}
 use Prim.Native.Nat.{◌-◌}
-use native.Mathlib.Omega.{arith}
-use borrow.Author.Rules.{rules}
-use borrow.Author.Tests.{not-true, not-false}
 use Rattle.packed.specs.Reading.{packed}
-use Rattle.list_domains.proofs.Between.{Between, between_start, between-end, row-ready, between-out, own-most, borrowed-most, between_next}
+use Rattle.list_domains.proofs.Between.{Between}
 use Rattle.list_domains.proofs.check_domains.Given as goal
 
 abbrev pub invariant-loop-i : goal.invariant-loop-i

@@ -1,7 +1,5 @@
 -- `list_domains::floats_fit` meets its contract. Assumes nothing.
 use Prim.Native.Nat.{◌+◌}
-use borrow.Author.Rules.{rules}
-use borrow.Author.Tests.{not-true, not-false}
 use Rattle.list_domains.proofs.Boxes.{bounds-off, bounds-on}
 use Rattle.list_domains.proofs.floats_fit.Goals as goal
 

@@ -1,6 +1,5 @@
 -- `list_domains::rows_pass` meets its contract. Assumes nothing.
 use borrow.Author.Rules.{rules}
-use borrow.Author.Tests.{not-true, not-false}
 use Rattle.lists.specs.Lists.{part}
 use Rattle.list_domains.proofs.Sets.{rows_out, own-markable, rows-asked}
 use Rattle.list_domains.proofs.rows_pass.Goals as goal

@@ -1,5 +1,4 @@
 -- `list_domains::stretches_fit` meets its contract. Assumes nothing.
-use borrow.Author.Rules.{rules}
 use Rattle.list_domains.proofs.Starts.{own-elsewhere, borrowed-elsewhere, own-too-many, stretches-tell}
 use Rattle.list_domains.proofs.stretches_fit.Goals as goal
 

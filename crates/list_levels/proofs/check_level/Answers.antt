@@ -1,9 +1,7 @@
 -- `list_levels::check_level` meets its contract. Assumes nothing.
 use mathlib.Core.Path.{refl, sym}
-use borrow.Author.Tests.{not-true, not-false}
 use Rattle.packed.specs.Reading.{packed}
 use Rattle.list_levels.proofs.LevelRows.{points-ascend, points-within, level_out, domains-ready, level-tell}
-use borrow.Author.Rules.{rules}
 use Rattle.list_levels.proofs.check_level.Goals as goal
 
 pub returns-then-not-rows_marked : goal.returns-then-not-rows_marked

@@ -1,10 +1,8 @@
 -- `list_levels::check_levels` meets its contract. Assumes nothing.
 use mathlib.Core.Path.{refl}
 use Prim.Native.Nat.{◌-◌}
-use borrow.Author.Rules.{rules}
 use borrow.Author.Tests.{not-true, not-false}
-use Rattle.packed.specs.Reading.{packed}
-use Rattle.list_levels.proofs.BetweenLevels.{BetweenLevels, between_start, between-end, next-ready, between-out, between_next}
+use Rattle.list_levels.proofs.BetweenLevels.{between_start, between-end, next-ready, between-out, between_next}
 use Rattle.list_levels.proofs.check_levels.Goals as goal
 
 pub loop-t-init : goal.loop-t-init

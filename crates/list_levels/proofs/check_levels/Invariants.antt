@@ -1,9 +1,6 @@
-use mathlib.Core.Path.{refl}
 use Prim.Native.Nat.{◌-◌}
-use borrow.Author.Rules.{rules}
-use borrow.Author.Tests.{not-true, not-false}
 use Rattle.packed.specs.Reading.{packed}
-use Rattle.list_levels.proofs.BetweenLevels.{BetweenLevels, between_start, between-end, next-ready, between-out, between_next}
+use Rattle.list_levels.proofs.BetweenLevels.{BetweenLevels}
 use Rattle.list_levels.proofs.check_levels.Given as goal
 
 abbrev pub invariant-loop-t : goal.invariant-loop-t

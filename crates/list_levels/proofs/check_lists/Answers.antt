@@ -1,6 +1,5 @@
 -- `list_levels::check_lists` meets its contract. Assumes nothing.
 use mathlib.Core.Path.{sym}
-use borrow.Author.Tests.{not-true, not-false}
 use Rattle.tree_answer.specs.Answers.{counts_given, lists_of}
 use Rattle.marks.proofs.Marks.{marked-zeros}
 use Rattle.list_levels.proofs.WholeTree.{tree-out, tree-tell, levels-ready, most-fits}

@@ -1,6 +1,4 @@
 -- `list_levels::counts_stand` meets its contract. Assumes nothing.
-use borrow.Author.Rules.{rules}
-use borrow.Author.Tests.{not-true, not-false}
 use Rattle.list_levels.proofs.LevelCounts.{no-levels, many-levels, rows-beyond, counts-tell}
 use Rattle.list_levels.proofs.counts_stand.Goals as goal
 

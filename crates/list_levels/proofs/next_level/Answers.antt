@@ -1,5 +1,4 @@
 -- `list_levels::next_level` meets its contract. Assumes nothing.
-use borrow.Author.Tests.{not-true, not-false}
 use Rattle.packed.specs.Reading.{packed}
 use Rattle.list_levels.proofs.NextLevel.{count-off, domains-off, rows-most, domains-most, level-ready, level-on}
 use borrow.Author.Rules.{rules}

@@ -1,14 +1,10 @@
 -- `list_levels::none_beyond` meets its contract: before count i the rest decides. Assumes nothing.
-use mathlib.Core.Path.{◌≡◌, refl}
+use mathlib.Core.Path.{refl}
 use Prim.Native.Nat.{◌-◌}
 use native.Mathlib.Omega.{arith}
 use lib.Dec.{eqb}
-use lib.ListN.{length, drop}
-use borrow.Author.Rules.{rules}
 use borrow.Author.Tests.{eq-eqb, ne_eqb}
-use Rattle.stored.specs.Sound.{all_of}
 use Rattle.list_domains.proofs.Each.{each-end, each-out, each_next}
-use Rattle.list_levels.specs.InLists.{none_beyond_lem}
 use Rattle.list_levels.proofs.none_beyond.Goals as goal
 
 pub loop-i-init : goal.loop-i-init

@@ -1,12 +1,8 @@
-use mathlib.Core.Path.{◌≡◌, refl}
+use mathlib.Core.Path.{◌≡◌}
 use Prim.Native.Nat.{◌-◌}
-use native.Mathlib.Omega.{arith}
 use lib.Dec.{eqb}
 use lib.ListN.{length, drop}
-use borrow.Author.Rules.{rules}
-use borrow.Author.Tests.{eq-eqb, ne_eqb}
 use Rattle.stored.specs.Sound.{all_of}
-use Rattle.list_domains.proofs.Each.{each-end, each-out, each_next}
 use Rattle.list_levels.specs.InLists.{none_beyond_lem}
 use Rattle.list_levels.proofs.none_beyond.Given as goal
 

@@ -1,7 +1,6 @@
 -- `list_levels::set_rows` meets its contract. Assumes nothing.
 use mathlib.Core.Bool.{false}
 use Rattle.file_rows.proofs.PutBack.{none-markable}
-use borrow.Author.Rules.{rules}
 use Rattle.list_levels.proofs.set_rows.Goals as goal
 
 pub mark_rows-requires : goal.mark_rows-requires

@@ -1,11 +1,11 @@
 -- `list_rows::mark_rows` meets its contract: before row i the rows before it are marked. Assumes nothing.
 use mathlib.Core.Path.{sym}
-use Prim.Native.Nat.{◌-◌, ◌≤◌, ◌<◌}
+use Prim.Native.Nat.{◌-◌, ◌<◌}
 use native.Mathlib.Omega.{arith}
 use lib.ListN.{length}
 use Rattle.lists.specs.Lists.{part}
 use Rattle.lists.proofs.Put.{length_part, get_d_part}
-use Rattle.file_rows.proofs.Loops.{Marking, marking-start, marking-within, marking-clear, marking-next, marking-end}
+use Rattle.file_rows.proofs.Loops.{marking-start, marking-within, marking-clear, marking-next, marking-end}
 use borrow.Author.Rules.{rules}
 use Rattle.list_rows.proofs.mark_rows.Goals as goal
 

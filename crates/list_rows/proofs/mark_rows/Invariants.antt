@@ -1,11 +1,6 @@
-use mathlib.Core.Path.{sym}
-use Prim.Native.Nat.{◌-◌, ◌≤◌, ◌<◌}
-use native.Mathlib.Omega.{arith}
-use lib.ListN.{length}
+use Prim.Native.Nat.{◌-◌, ◌≤◌}
 use Rattle.lists.specs.Lists.{part}
-use Rattle.lists.proofs.Put.{length_part, get_d_part}
-use Rattle.file_rows.proofs.Loops.{Marking, marking-start, marking-within, marking-clear, marking-next, marking-end}
-use borrow.Author.Rules.{rules}
+use Rattle.file_rows.proofs.Loops.{Marking}
 use Rattle.list_rows.proofs.mark_rows.Given as goal
 
 abbrev pub invariant-loop-i : goal.invariant-loop-i

@@ -1,14 +1,7 @@
-use mathlib.Core.Path.{sym}
-use Prim.Native.Nat.{◌+◌, ◌-◌, ◌≤◌, ◌<◌}
-use native.Mathlib.Omega.{arith}
-use lib.ListN.{length, get_or}
-use borrow.Author.Tests.{not-true, not-false}
+use Prim.Native.Nat.{◌-◌, ◌≤◌}
 use Rattle.lists.specs.Lists.{part}
-use Rattle.lists.proofs.Put.{length_part, get_d_part}
 use Rattle.list_rows.specs.Order.{least_after}
-use Rattle.list_rows.proofs.Order.{asking-after, too-low, not_low}
-use Rattle.file_rows.proofs.Loops.{Asking, asking-start, asking-low, asking-out, asking-next, asking-end}
-use borrow.Author.Rules.{rules}
+use Rattle.file_rows.proofs.Loops.{Asking}
 use Rattle.list_rows.proofs.rows_marked.Given as goal
 
 abbrev pub invariant-loop-i : goal.invariant-loop-i

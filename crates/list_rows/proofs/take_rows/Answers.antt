@@ -1,15 +1,14 @@
 -- `list_rows::take_rows` meets its contract: before row i the rows before it are out of both sets, and the rest decides. Assumes nothing.
 use mathlib.Core.Path.{refl, sym}
-use Prim.Native.Nat.{◌+◌, ◌-◌, ◌≤◌, ◌<◌}
+use Prim.Native.Nat.{◌+◌, ◌-◌, ◌<◌}
 use native.Mathlib.Omega.{arith}
 use lib.ListN.{length, get_or}
-use borrow.Author.Tests.{not-true, not-false}
 use Rattle.lists.specs.Lists.{part}
 use Rattle.lists.proofs.Put.{length_part, get_d_part}
 use Rattle.lists.proofs.Tests.{clash}
 use Rattle.list_rows.specs.Order.{least_after}
 use Rattle.list_rows.proofs.Order.{taking-after, too-low, not_low}
-use Rattle.file_rows.proofs.Loops.{Taking, taking-start, taking-among, taking-low, taking-out, taking-next, taking-end}
+use Rattle.file_rows.proofs.Loops.{taking-start, taking-among, taking-low, taking-out, taking-next, taking-end}
 use borrow.Author.Rules.{rules}
 use Rattle.list_rows.proofs.take_rows.Goals as goal
 

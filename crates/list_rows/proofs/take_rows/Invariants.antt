@@ -1,15 +1,7 @@
-use mathlib.Core.Path.{refl, sym}
-use Prim.Native.Nat.{◌+◌, ◌-◌, ◌≤◌, ◌<◌}
-use native.Mathlib.Omega.{arith}
-use lib.ListN.{length, get_or}
-use borrow.Author.Tests.{not-true, not-false}
+use Prim.Native.Nat.{◌-◌, ◌≤◌}
 use Rattle.lists.specs.Lists.{part}
-use Rattle.lists.proofs.Put.{length_part, get_d_part}
-use Rattle.lists.proofs.Tests.{clash}
 use Rattle.list_rows.specs.Order.{least_after}
-use Rattle.list_rows.proofs.Order.{taking-after, too-low, not_low}
-use Rattle.file_rows.proofs.Loops.{Taking, taking-start, taking-among, taking-low, taking-out, taking-next, taking-end}
-use borrow.Author.Rules.{rules}
+use Rattle.file_rows.proofs.Loops.{Taking}
 use Rattle.list_rows.proofs.take_rows.Given as goal
 
 abbrev pub invariant-loop-i : goal.invariant-loop-i

@@ -1,10 +1,9 @@
 -- `live_slots::list_live` meets its contract. Assumes nothing.
-use mathlib.Core.Path.{◌≡◌, refl, ap, ◌∙◌}
-use Prim.Native.Nat.{◌≤◌, ◌-◌}
+use mathlib.Core.Path.{refl, ap, ◌∙◌}
+use Prim.Native.Nat.{◌-◌}
 use native.Mathlib.Omega.{arith}
-use borrow.Author.Rules.{rules}
 use lib.ListN.{length, length-set}
-use Rattle.live_slots.proofs.Listed.{Listing, starts, turn-fits, turn-live, turn-retired, ends}
+use Rattle.live_slots.proofs.Listed.{starts, turn-fits, turn-live, turn-retired, ends}
 use Rattle.live_slots.proofs.list_live.Goals as goal
 use Rattle.live_slots.proofs.list_live.Goals.{then-flags-i-ne0, else-flags-i-ne0}
 

@@ -1,10 +1,7 @@
-use mathlib.Core.Path.{◌≡◌, refl, ap, ◌∙◌}
-use mathlib.Core.Logic.{⊎_elim}
+use mathlib.Core.Path.{◌≡◌}
 use Prim.Native.Nat.{◌≤◌, ◌-◌}
-use native.Mathlib.Omega.{arith}
-use borrow.Author.Rules.{rules}
-use lib.ListN.{length, length-set}
-use Rattle.live_slots.proofs.Listed.{Listing, starts, turn-fits, turn-live, turn-retired, ends}
+use lib.ListN.{length}
+use Rattle.live_slots.proofs.Listed.{Listing}
 use Rattle.live_slots.proofs.list_live.Given as goal
 
 abbrev pub invariant-loop-i : goal.invariant-loop-i

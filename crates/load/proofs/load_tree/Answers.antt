@@ -1,6 +1,5 @@
 -- `load::load_tree` meets its contract. Assumes nothing.
 use mathlib.Core.Path.{refl, sym, ap, ◌∙◌}
-use borrow.Author.Rules.{rules}
 use Rattle.config.specs.Params.{settings_of_lem}
 use Rattle.build_checks.specs.Verdicts.{verdict_of}
 use Rattle.tree_answer.specs.Answers.{lists_of}

@@ -1,7 +1,6 @@
 -- `load_lists::put_domain` meets its contract. Assumes nothing.
 use mathlib.Core.Path.{refl}
 use native.Mathlib.Omega.{arith}
-use borrow.Author.Rules.{rules}
 use Rattle.file_reader.proofs.LastFloats.{record-few}
 use Rattle.load_lists.proofs.Domain.{found, own-fits, borrowed-fits, floats_fit, domain-written}
 use Rattle.load_lists.proofs.put_domain.Goals as goal

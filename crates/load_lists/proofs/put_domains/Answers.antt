@@ -2,9 +2,8 @@
 -- left. Assumes nothing.
 use mathlib.Core.Path.{◌≡◌, refl}
 use native.Mathlib.Omega.{arith}
-use borrow.Author.Rules.{rules}
 use Rattle.packed.specs.Reading.{packed}
-use Rattle.load_lists.proofs.DomainsLoop.{Inv, domains-start, domains-end, domains-written, domains-long, domain-stands, domain-room, domains-next}
+use Rattle.load_lists.proofs.DomainsLoop.{domains-start, domains-end, domains-written, domains-long, domain-stands, domain-room, domains-next}
 use Rattle.load_lists.proofs.put_domains.Goals as goal
 
 pub loop-left-init : goal.loop-left-init

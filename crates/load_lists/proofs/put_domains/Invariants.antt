@@ -1,8 +1,5 @@
-use mathlib.Core.Path.{◌≡◌, refl}
-use native.Mathlib.Omega.{arith}
-use borrow.Author.Rules.{rules}
 use Rattle.packed.specs.Reading.{packed}
-use Rattle.load_lists.proofs.DomainsLoop.{Inv, domains-start, domains-end, domains-written, domains-long, domain-stands, domain-room, domains-next}
+use Rattle.load_lists.proofs.DomainsLoop.{Inv}
 use Rattle.load_lists.proofs.put_domains.Given as goal
 
 abbrev pub invariant-loop-left : goal.invariant-loop-left

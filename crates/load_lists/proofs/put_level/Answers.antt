@@ -1,7 +1,6 @@
 -- `load_lists::put_level` meets its contract. Assumes nothing.
 use mathlib.Core.Path.{ap, ◌∙◌}
 use native.Mathlib.Omega.{arith}
-use borrow.Author.Rules.{rules}
 use Rattle.lists.specs.Lists.{put}
 use Rattle.load_lists.proofs.Level.{level-within, rows-many, rows-read, rows-within, domains-stand, domains-after, domains-room, level-written}
 use Rattle.load_lists.proofs.put_level.Goals as goal

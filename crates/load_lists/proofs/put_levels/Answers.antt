@@ -6,7 +6,7 @@ use native.Mathlib.Omega.{arith}
 use lib.Dec.{eqb}
 use Rattle.definition.specs.Packed.{Counts}
 use Rattle.packed.specs.Reading.{packed}
-use Rattle.load_lists.proofs.LevelsLoop.{Inv, levels-start, levels-long, points-long, rows-slots, counts-many, levels-below, left_less, level-stands, points-room, level-room, levels-next, end-points, end-internals, end-domains, end-boxes, end-borrowed, end-counts}
+use Rattle.load_lists.proofs.LevelsLoop.{levels-start, levels-long, points-long, rows-slots, counts-many, levels-below, left_less, level-stands, points-room, level-room, levels-next, end-points, end-internals, end-domains, end-boxes, end-borrowed, end-counts}
 use Rattle.load_lists.proofs.put_levels.Goals as goal
 
 pub loop-left-init : goal.loop-left-init

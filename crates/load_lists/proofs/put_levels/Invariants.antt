@@ -1,10 +1,6 @@
-use mathlib.Core.Path.{◌≡◌, refl, ap}
 use Prim.Native.Nat.{◌-◌}
-use native.Mathlib.Omega.{arith}
-use lib.Dec.{eqb}
-use Rattle.definition.specs.Packed.{Counts}
 use Rattle.packed.specs.Reading.{packed}
-use Rattle.load_lists.proofs.LevelsLoop.{Inv, levels-start, levels-long, points-long, rows-slots, counts-many, levels-below, left_less, level-stands, points-room, level-room, levels-next, end-points, end-internals, end-domains, end-boxes, end-borrowed, end-counts}
+use Rattle.load_lists.proofs.LevelsLoop.{Inv}
 use Rattle.load_lists.proofs.put_levels.Given as goal
 
 abbrev pub invariant-loop-left : goal.invariant-loop-left

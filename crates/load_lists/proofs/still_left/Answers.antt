@@ -1,5 +1,4 @@
 -- `load_lists::still_left` meets its contract. Assumes nothing.
-use borrow.Author.Rules.{rules}
 use borrow.Author.Tests.{eq-eqb, ne_eqb}
 use Rattle.load_lists.proofs.still_left.Goals as goal
 

@@ -1,5 +1,4 @@
 -- `middle_row::beside` meets its contract. Assumes nothing.
-use borrow.Author.Rules.{rules}
 use Rattle.middle_row.proofs.beside.Goals as goal
 
 pub returns-then-low : goal.returns-then-low

@@ -1,13 +1,10 @@
 -- `middle_row::count_before` meets its contract. Assumes nothing.
-use borrow.Author.Rules.{rules}
 use mathlib.Core.Path.{sym, ◌∙◌}
 use Prim.Native.Nat.{◌-◌}
-use lib.ListN.{length}
 use Rattle.lists.proofs.All.{all-at}
 use mathlib.Core.Bool.{true}
-use Rattle.middle_row.specs.Middle.{on_side}
 use Rattle.argsort.proofs.Orders.{row_inside}
-use Rattle.middle_row.proofs.Turns.{CountedTo, counted-first, counted-in, counted-out, counted-end}
+use Rattle.middle_row.proofs.Turns.{counted-first, counted-in, counted-out, counted-end}
 use Rattle.middle_row.proofs.count_before.Goals as goal
 
 pub loop-t-init : goal.loop-t-init

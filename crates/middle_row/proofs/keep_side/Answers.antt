@@ -1,10 +1,8 @@
 -- `middle_row::keep_side` meets its contract. Assumes nothing.
-use borrow.Author.Rules.{rules}
 use mathlib.Core.Path.{sym, ◌∙◌}
 use Prim.Native.Nat.{◌-◌}
-use Rattle.middle_row.specs.Middle.{on_side}
 use Rattle.argsort.proofs.Orders.{row_inside}
-use Rattle.middle_row.proofs.Turns.{KeptFront, kept-first, kept_row, kept_in, kept_out, kept-end}
+use Rattle.middle_row.proofs.Turns.{kept-first, kept_row, kept_in, kept_out, kept-end}
 use Rattle.middle_row.proofs.keep_side.Goals as goal
 
 pub loop-t-init : goal.loop-t-init

@@ -1,9 +1,6 @@
-use borrow.Author.Rules.{rules}
-use mathlib.Core.Path.{sym, ◌∙◌}
 use Prim.Native.Nat.{◌-◌}
 use Rattle.middle_row.specs.Middle.{on_side}
-use Rattle.argsort.proofs.Orders.{row_inside}
-use Rattle.middle_row.proofs.Turns.{KeptFront, kept-first, kept_row, kept_in, kept_out, kept-end}
+use Rattle.middle_row.proofs.Turns.{KeptFront}
 use Rattle.middle_row.proofs.keep_side.Given as goal
 
 abbrev pub invariant-loop-t : goal.invariant-loop-t

@@ -1,12 +1,8 @@
 -- `middle_row::middle` meets its contract. Assumes nothing.
 use borrow.Author.Rules.{rules}
-use mathlib.Core.Path.{◌≡◌, refl, sym}
-use Prim.Native.Nat.{◌+◌, ◌*◌, ◌/◌, ◌≤◌}
+use mathlib.Core.Path.{refl, sym}
 use native.Mathlib.Nat.{mod-lt}
 use native.Mathlib.Omega.{arith}
-use lib.ListN.{length}
-use Rattle.middle_row.specs.Middle.{Narrows}
-use Rattle.definition.specs.Refusals.{most_points}
 use Rattle.middle_row.proofs.Rounds.{search-first, search-more, end-asks, end-front, end-inside, end-middle}
 use Rattle.middle_row.proofs.middle.Goals as goal
 

@@ -1,12 +1,8 @@
-use borrow.Author.Rules.{rules}
-use mathlib.Core.Path.{◌≡◌, refl, sym}
+use mathlib.Core.Path.{◌≡◌}
 use Prim.Native.Nat.{◌+◌, ◌*◌, ◌/◌, ◌≤◌}
-use native.Mathlib.Nat.{mod-lt}
-use native.Mathlib.Omega.{arith}
 use lib.ListN.{length}
 use Rattle.middle_row.specs.Middle.{Narrows}
 use Rattle.definition.specs.Refusals.{most_points}
-use Rattle.middle_row.proofs.Rounds.{search-first, search-more, end-asks, end-front, end-inside, end-middle}
 use Rattle.middle_row.proofs.middle.Given as goal
 
 abbrev pub invariant-loop-m : goal.invariant-loop-m

@@ -1,5 +1,4 @@
 -- `middle_row::narrow` meets its contract. Assumes nothing.
-use borrow.Author.Rules.{rules}
 use mathlib.Core.Path.{sym}
 use Rattle.middle_row.proofs.Rounds.{round-front, round-finite, round-inside, round-found, round-low, round-high}
 use Rattle.middle_row.proofs.narrow.Goals as goal

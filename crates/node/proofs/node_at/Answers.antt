@@ -6,7 +6,6 @@ use lib.ListN.{get_or}
 use lib.Ieee.{nan}
 use Rattle.definition.specs.Record.{cut_node, leaf_node}
 use borrow.Author.Tests.{lt-ltb, le-ltb}
-use borrow.Author.Rules.{rules}
 use Rattle.node.proofs.node_at.Goals as goal
 
 pub returns-then-whole-lt-LEAF : goal.returns-then-whole-lt-LEAF

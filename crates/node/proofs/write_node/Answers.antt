@@ -5,7 +5,6 @@ use lib.ListN.{set}
 use Rattle.definition.specs.Record.{whole_of, float_of}
 use Rattle.node.specs.Nodes.{as_node}
 use Rattle.node.specs.declared.Node.{Node}
-use borrow.Author.Rules.{rules}
 use Rattle.node.proofs.write_node.Goals as goal
 
 pub overflow_add-cuts : goal.overflow_add-cuts

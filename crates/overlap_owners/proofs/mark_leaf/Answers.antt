@@ -3,13 +3,12 @@ use Rattle.lists.proofs.Members.{mem-at}
 use Rattle.lists.proofs.Put.{get_d_part, length_part}
 use mathlib.Core.Path.{subst}
 use mathlib.Core.List.{Memᴰ}
-use Prim.Native.Nat.{ℕ, ◌-◌, ◌≤◌}
+use Prim.Native.Nat.{ℕ, ◌-◌}
 use mathlib.Core.Path.{◌≡◌, refl}
-use lib.ListN.{length, length-set}
+use lib.ListN.{length-set}
 use Rattle.lists.specs.Lists.{part}
 use Rattle.overlap_owners.specs.Own.{Written}
 use Rattle.overlap_owners.proofs.Marks.{stretch-none, stretch-more}
-use borrow.Author.Rules.{rules}
 use native.Mathlib.Omega.{arith}
 use Rattle.overlap_owners.proofs.mark_leaf.Goals as goal
 

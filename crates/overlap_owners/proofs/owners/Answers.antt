@@ -1,9 +1,8 @@
 -- `overlap_owners::owners` meets its contract. The loop has marked the rows of the leaves passed. Assumes nothing.
-use Prim.Native.Nat.{◌+◌, ◌-◌, ◌≤◌}
-use mathlib.Core.Path.{◌≡◌, refl}
-use lib.ListN.{length}
+use Prim.Native.Nat.{◌+◌, ◌-◌}
+use mathlib.Core.Path.{refl}
 use Rattle.packed.proofs.OwnRows.{row-own}
-use Rattle.overlap_owners.proofs.Marks.{MarkedUpTo, leaf-inside, leaf-more, marked-owned}
+use Rattle.overlap_owners.proofs.Marks.{leaf-inside, leaf-more, marked-owned}
 use borrow.Author.Rules.{rules}
 use native.Mathlib.Omega.{arith}
 use Rattle.overlap_owners.proofs.owners.Goals as goal

@@ -1,10 +1,7 @@
-use Prim.Native.Nat.{◌+◌, ◌-◌, ◌≤◌}
-use mathlib.Core.Path.{◌≡◌, refl}
+use Prim.Native.Nat.{◌-◌, ◌≤◌}
+use mathlib.Core.Path.{◌≡◌}
 use lib.ListN.{length}
-use Rattle.packed.proofs.OwnRows.{row-own}
-use Rattle.overlap_owners.proofs.Marks.{MarkedUpTo, leaf-inside, leaf-more, marked-owned}
-use borrow.Author.Rules.{rules}
-use native.Mathlib.Omega.{arith}
+use Rattle.overlap_owners.proofs.Marks.{MarkedUpTo}
 use Rattle.overlap_owners.proofs.owners.Given as goal
 
 abbrev pub invariant-loop-leaf : goal.invariant-loop-leaf

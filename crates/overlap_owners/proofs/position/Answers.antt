@@ -1,8 +1,7 @@
 -- `overlap_owners::position` meets its contract. The loop keeps the row between its two bounds: `Between`. Assumes nothing.
 use Prim.Native.Nat.{◌+◌, ◌/◌}
 use Prim.Native.Nat.{◌-◌}
-use Rattle.overlap_owners.proofs.Bisect.{Between, between-all, between-low, between-high, between-one}
-use borrow.Author.Rules.{rules}
+use Rattle.overlap_owners.proofs.Bisect.{between-all, between-low, between-high, between-one}
 use native.Mathlib.Omega.{arith}
 use Rattle.overlap_owners.proofs.position.Goals as goal
 

@@ -1,8 +1,5 @@
-use Prim.Native.Nat.{◌+◌, ◌/◌}
 use Prim.Native.Nat.{◌-◌}
-use Rattle.overlap_owners.proofs.Bisect.{Between, between-all, between-low, between-high, between-one}
-use borrow.Author.Rules.{rules}
-use native.Mathlib.Omega.{arith}
+use Rattle.overlap_owners.proofs.Bisect.{Between}
 use Rattle.overlap_owners.proofs.position.Given as goal
 
 abbrev pub invariant-loop-low : goal.invariant-loop-low

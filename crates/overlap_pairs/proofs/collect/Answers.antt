@@ -4,7 +4,6 @@ use mathlib.Core.Path.{◌≡◌, refl, ◌∙◌, subst}
 use lib.ListN.{length}
 use Rattle.overlap_pairs.specs.Pairs.{Collected}
 use Rattle.overlap_pairs.proofs.Collects.{collect-none, collect-room, collect-owners, collect-long, collect-more}
-use borrow.Author.Rules.{rules}
 use native.Mathlib.Omega.{arith}
 use Rattle.overlap_pairs.proofs.collect.Goals as goal
 

@@ -1,10 +1,7 @@
-use Prim.Native.Nat.{ℕ, ◌+◌, ◌-◌, ◌*◌, ◌≤◌}
-use mathlib.Core.Path.{◌≡◌, refl, ◌∙◌, subst}
+use Prim.Native.Nat.{◌-◌, ◌≤◌}
+use mathlib.Core.Path.{◌≡◌}
 use lib.ListN.{length}
 use Rattle.overlap_pairs.specs.Pairs.{Collected}
-use Rattle.overlap_pairs.proofs.Collects.{collect-none, collect-room, collect-owners, collect-long, collect-more}
-use borrow.Author.Rules.{rules}
-use native.Mathlib.Omega.{arith}
 use Rattle.overlap_pairs.proofs.collect.Given as goal
 
 abbrev pub invariant-loop-p : goal.invariant-loop-p

@@ -1,9 +1,8 @@
 -- `overlap_pairs::send` meets its contract. The loop has written what the positions passed send: `Sent`. Assumes nothing.
 use Prim.Native.Nat.{◌-◌}
-use mathlib.Core.Path.{◌≡◌, refl}
-use lib.ListN.{length, get_or, length-set}
-use Rattle.overlap_pairs.proofs.Sends.{Sent, send-none, send-small, send-skip, send-pair, send-end}
-use borrow.Author.Rules.{rules}
+use mathlib.Core.Path.{refl}
+use lib.ListN.{length-set}
+use Rattle.overlap_pairs.proofs.Sends.{send-none, send-small, send-skip, send-pair, send-end}
 use native.Mathlib.Omega.{arith}
 use Rattle.overlap_pairs.proofs.send.Goals as goal
 

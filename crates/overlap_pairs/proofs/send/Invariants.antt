@@ -1,9 +1,7 @@
 use Prim.Native.Nat.{◌-◌}
-use mathlib.Core.Path.{◌≡◌, refl}
-use lib.ListN.{length, get_or, length-set}
-use Rattle.overlap_pairs.proofs.Sends.{Sent, send-none, send-small, send-skip, send-pair, send-end}
-use borrow.Author.Rules.{rules}
-use native.Mathlib.Omega.{arith}
+use mathlib.Core.Path.{◌≡◌}
+use lib.ListN.{length, get_or}
+use Rattle.overlap_pairs.proofs.Sends.{Sent}
 use Rattle.overlap_pairs.proofs.send.Given as goal
 
 abbrev pub invariant-loop-k : goal.invariant-loop-k

@@ -6,7 +6,6 @@ use lib.Seq.{length-take-le}
 use Rattle.definition.specs.Refusals.{most_neighbours}
 use Rattle.rows.proofs.Good.{good-at}
 use native.Mathlib.Omega.{arith}
-use borrow.Author.Rules.{rules}
 use Rattle.overlap_pairs.proofs.send_row.Goals as goal
 
 pub nearest-count-requires : goal.nearest-count-requires

@@ -1,8 +1,7 @@
 -- `overlaps::drop_repeats` meets its contract. Assumes nothing.
 use Prim.Native.Nat.{◌-◌}
 use native.Mathlib.Omega.{arith}
-use lib.ListN.{length}
-use Rattle.overlaps.proofs.Drops.{Dropped, drop-first, drop-same, drop-new, drop-end, drop-none}
+use Rattle.overlaps.proofs.Drops.{drop-first, drop-same, drop-new, drop-end, drop-none}
 use Rattle.overlaps.proofs.drop_repeats.Goals as goal
 
 pub returns-then-codes-eq0 : goal.returns-then-codes-eq0

@@ -1,7 +1,6 @@
 use Prim.Native.Nat.{◌-◌}
-use native.Mathlib.Omega.{arith}
 use lib.ListN.{length}
-use Rattle.overlaps.proofs.Drops.{Dropped, drop-first, drop-same, drop-new, drop-end, drop-none}
+use Rattle.overlaps.proofs.Drops.{Dropped}
 use Rattle.overlaps.proofs.drop_repeats.Given as goal
 
 abbrev pub invariant-loop-r : goal.invariant-loop-r

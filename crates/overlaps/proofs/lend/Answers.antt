@@ -5,7 +5,6 @@ use lib.Seq.{length-take-le}
 use Rattle.lists.specs.Lists.{put}
 use Rattle.overlaps.proofs.Lends.{small-lists, distinct-codes, distinct-rows, distinct-length, distinct-inside}
 use native.Mathlib.Omega.{arith}
-use borrow.Author.Rules.{rules}
 use Rattle.overlaps.proofs.lend.Goals as goal
 
 pub slice_bounds-write_rows-end-2 : goal.slice_bounds-write_rows-end-2

@@ -3,7 +3,6 @@ use lib.ListN.{take}
 use Rattle.lists.proofs.Same.{same_length as same_size}
 use Rattle.overlaps.proofs.Lends.{same-distinct}
 use native.Mathlib.Omega.{arith}
-use borrow.Author.Rules.{rules}
 use Rattle.overlaps.proofs.order_once.Goals as goal
 
 pub returns : goal.returns

@@ -7,7 +7,6 @@ use Rattle.overlaps.proofs.Stages.{sent-fits, stage-owners, stage-length, stage-
 use Rattle.overlaps.proofs.Borrows.{positions_of}
 use Rattle.packed.specs.Reading.{read_own}
 use native.Mathlib.Omega.{arith}
-use borrow.Author.Rules.{rules}
 use Rattle.overlaps.proofs.overlaps.Goals as goal
 
 pub collect-end-requires : goal.collect-end-requires

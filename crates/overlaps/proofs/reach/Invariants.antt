@@ -1,7 +1,5 @@
 use Prim.Native.Nat.{ℕ, ◌-◌, ◌≤◌, ◌<◌}
-use native.Mathlib.Omega.{arith}
 use lib.ListN.{length, get_or}
-use borrow.Author.Count.{below_more}
 use Rattle.overlaps.proofs.reach.Given as goal
 
 abbrev pub invariant-loop-k : goal.invariant-loop-k

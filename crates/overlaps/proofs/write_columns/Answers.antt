@@ -1,13 +1,9 @@
 -- `overlaps::write_columns` meets its contract. The loop has written the columns of the leaves passed: `Columned`. Assumes nothing.
-use Prim.Native.Nat.{ℕ, ◌-◌, ◌≤◌}
-use mathlib.Core.Path.{◌≡◌, refl}
-use mathlib.Core.List.{List}
-use lib.ListN.{length}
-use Rattle.overlaps.specs.Codes.{codes_from, Positions}
-use Rattle.overlaps.proofs.Columns.{Columned, column-none, column-more, column-all}
+use Prim.Native.Nat.{◌-◌}
+use mathlib.Core.Path.{refl}
+use Rattle.overlaps.proofs.Columns.{column-none, column-more, column-all}
 use borrow.Author.Rules.{rules}
 use native.Mathlib.Omega.{arith}
-use Rattle.rows.specs.Rows.{most_leaves}
 use Rattle.overlaps.proofs.write_columns.Goals as goal
 
 pub loop-leaf-init : goal.loop-leaf-init

@@ -1,11 +1,9 @@
 use Prim.Native.Nat.{ℕ, ◌-◌, ◌≤◌}
-use mathlib.Core.Path.{◌≡◌, refl}
+use mathlib.Core.Path.{◌≡◌}
 use mathlib.Core.List.{List}
 use lib.ListN.{length}
 use Rattle.overlaps.specs.Codes.{codes_from, Positions}
-use Rattle.overlaps.proofs.Columns.{Columned, column-none, column-more, column-all}
-use borrow.Author.Rules.{rules}
-use native.Mathlib.Omega.{arith}
+use Rattle.overlaps.proofs.Columns.{Columned}
 use Rattle.rows.specs.Rows.{most_leaves}
 use Rattle.overlaps.proofs.write_columns.Given as goal
 

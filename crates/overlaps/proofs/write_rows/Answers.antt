@@ -1,11 +1,7 @@
 -- `overlaps::write_rows` meets its contract. Assumes nothing.
 use native.Mathlib.Omega.{arith}
 use borrow.Author.Rules.{rules}
-use mathlib.Core.Path.{◌≡◌}
-use Prim.Native.Nat.{◌-◌, ◌≤◌}
-use lib.ListN.{length, take}
-use Rattle.lists.specs.Lists.{put}
-use Rattle.overlaps.specs.Codes.{coded_rows}
+use Prim.Native.Nat.{◌-◌}
 use Rattle.overlaps.proofs.Rows.{coded_none, coded-more, coded-end}
 use Rattle.overlaps.proofs.write_rows.Goals as goal
 

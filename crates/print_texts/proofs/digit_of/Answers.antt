@@ -1,7 +1,6 @@
 -- `print_texts::digit_of` meets its contract. Assumes nothing.
 use mathlib.Core.Path.{sym}
 use Rattle.print_texts.proofs.Digits.{digit_low, digit-high}
-use borrow.Author.Rules.{rules}
 use Rattle.print_texts.proofs.digit_of.Goals as goal
 
 pub returns-then-n-lt10 : goal.returns-then-n-lt10

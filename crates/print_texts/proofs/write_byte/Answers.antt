@@ -1,6 +1,5 @@
 -- `print_texts::write_byte` meets its contract. Assumes nothing.
 use Rattle.bytes_out.proofs.Wrote.{wrote-byte}
-use borrow.Author.Rules.{rules}
 use Rattle.print_texts.proofs.write_byte.Goals as goal
 
 pub returns : goal.returns

@@ -3,7 +3,6 @@ use Rattle.print_texts.proofs.Digits.{bits_text, bits-text}
 use Rattle.bytes_out.proofs.Wrote.{spelt, room-spelt, room-first, room_next, wrote_then}
 use mathlib.Core.List.{[], ◌∷◌}
 use mathlib.Core.Path.{sym}
-use borrow.Author.Rules.{rules}
 use Rattle.print_texts.proofs.write_float.Goals as goal
 
 pub write_byte-next-requires : goal.write_byte-next-requires

@@ -1,13 +1,9 @@
 -- `print_texts::write_floats` meets its contract. Assumes nothing.
 use Rattle.print_texts.proofs.Each.{float_text, floats-text, each_none, each_all, each_more, more_room}
-use Rattle.bytes_out.specs.Wrote.{Wrote}
 use Rattle.bytes_out.proofs.Wrote.{spelt, room-spelt, wrote_none}
-use Rattle.lists.specs.Lists.{joined}
 use lib.Ieee.{nan}
-use lib.ListN.{length, take}
-use Prim.Native.Nat.{◌-◌, ◌≤◌}
-use mathlib.Core.List.{map}
-use mathlib.Core.Path.{◌≡◌, sym, ◌∙◌}
+use Prim.Native.Nat.{◌-◌}
+use mathlib.Core.Path.{sym, ◌∙◌}
 use borrow.Author.Rules.{rules}
 use Rattle.print_texts.proofs.write_floats.Goals as goal
 

@@ -3,7 +3,6 @@ use mathlib.Core.List.{[], ◌∷◌}
 use Rattle.formats.specs.Printout.{decimal}
 use Rattle.lists.proofs.Joined.{joined-two}
 use Rattle.print_texts.proofs.Writing.{begin, text-room, text-added, finish}
-use borrow.Author.Rules.{rules}
 use Rattle.print_texts.proofs.write_numbered.Goals as goal
 
 pub write_text-next-requires : goal.write_text-next-requires

@@ -1,7 +1,6 @@
 -- `print_texts::write_refusal` meets its contract. Assumes nothing.
 use Rattle.formats.specs.Printout.{ascii}
 use Rattle.print_texts.proofs.Writing.{begin, text-room, text-added, finish, refusal-texts, refusal_texts}
-use borrow.Author.Rules.{rules}
 use Rattle.print_texts.proofs.write_refusal.Goals as goal
 
 pub write_numbered-said-requires : goal.write_numbered-said-requires

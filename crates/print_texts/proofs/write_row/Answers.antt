@@ -2,7 +2,6 @@
 use Rattle.bytes_out.proofs.Wrote.{room-first, room_next, wrote_then}
 use Rattle.formats.specs.Printout.{decimal}
 use mathlib.Core.List.{[], ◌∷◌}
-use borrow.Author.Rules.{rules}
 use Rattle.print_texts.proofs.write_row.Goals as goal
 
 pub write_byte-next-requires : goal.write_byte-next-requires

@@ -1,12 +1,8 @@
 -- `print_texts::write_rows` meets its contract. Assumes nothing.
 use Rattle.print_texts.proofs.Each.{row_text, rows-dash, rows-listed, each_none, each_all, each_more, more_room}
-use Rattle.bytes_out.specs.Wrote.{Wrote}
 use Rattle.bytes_out.proofs.Wrote.{spelt, room-spelt, wrote_none}
-use Rattle.lists.specs.Lists.{joined}
-use lib.ListN.{length, take}
-use Prim.Native.Nat.{◌-◌, ◌≤◌}
-use mathlib.Core.List.{map}
-use mathlib.Core.Path.{◌≡◌, sym, ◌∙◌}
+use Prim.Native.Nat.{◌-◌}
+use mathlib.Core.Path.{sym, ◌∙◌}
 use borrow.Author.Rules.{rules}
 use Rattle.print_texts.proofs.write_rows.Goals as goal
 

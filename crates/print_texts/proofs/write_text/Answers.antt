@@ -1,11 +1,9 @@
 -- `print_texts::write_text` meets its contract. Assumes nothing.
-use Rattle.bytes_out.specs.Wrote.{Wrote}
 use Rattle.bytes_out.proofs.Wrote.{spelt, wrote_none, copied}
 use native.Mathlib.Nat.{add-zero}
 use lib.Seq.{take_all}
-use lib.ListN.{length, take, length-set}
-use Prim.Native.Nat.{◌+◌, ◌-◌, ◌≤◌}
-use mathlib.Core.Path.{◌≡◌}
+use lib.ListN.{length-set}
+use Prim.Native.Nat.{◌-◌}
 use native.Mathlib.Omega.{arith}
 use borrow.Author.Rules.{rules}
 use Rattle.print_texts.proofs.write_text.Goals as goal

@@ -1,12 +1,7 @@
 use Rattle.bytes_out.specs.Wrote.{Wrote}
-use Rattle.bytes_out.proofs.Wrote.{spelt, wrote_none, copied}
-use native.Mathlib.Nat.{add-zero}
-use lib.Seq.{take_all}
-use lib.ListN.{length, take, length-set}
+use lib.ListN.{length, take}
 use Prim.Native.Nat.{◌+◌, ◌-◌, ◌≤◌}
 use mathlib.Core.Path.{◌≡◌}
-use native.Mathlib.Omega.{arith}
-use borrow.Author.Rules.{rules}
 use Rattle.print_texts.proofs.write_text.Given as goal
 
 abbrev pub invariant-loop-i : goal.invariant-loop-i

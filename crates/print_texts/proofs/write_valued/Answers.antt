@@ -2,7 +2,6 @@
 use mathlib.Core.List.{[], ◌∷◌}
 use Rattle.print_texts.proofs.Each.{float_text, valued-text}
 use Rattle.print_texts.proofs.Writing.{begin, text-room, text-added, finish}
-use borrow.Author.Rules.{rules}
 use Rattle.print_texts.proofs.write_valued.Goals as goal
 
 pub write_text-next-requires : goal.write_text-next-requires

@@ -2,7 +2,6 @@
 use Rattle.print_tree.proofs.Lines.{box-fine, box-coarse}
 use Rattle.bytes_out.proofs.Wrote.{spelt, room-spelt}
 use mathlib.Core.Path.{sym}
-use borrow.Author.Rules.{rules}
 use Rattle.print_tree.proofs.write_box.Goals as goal
 
 pub write_floats-requires : goal.write_floats-requires

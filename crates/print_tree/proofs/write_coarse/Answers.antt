@@ -1,7 +1,6 @@
 -- `print_tree::write_coarse` meets its contract. Assumes nothing.
 use Rattle.bytes_out.proofs.Wrote.{room-first, room_next, wrote_then}
 use Rattle.print_tree.specs.Unpack.{coarse_level_text}
-use borrow.Author.Rules.{rules}
 use Rattle.print_tree.proofs.write_coarse.Goals as goal
 
 pub write_level-next-requires : goal.write_level-next-requires

@@ -3,8 +3,6 @@ use Rattle.print_tree.specs.Unpack.{leaf_of, box_part}
 use Rattle.formats.specs.Printout.{ascii}
 use Rattle.print_texts.proofs.Writing.{begin, text-room, text-added, finish}
 use Rattle.print_tree.proofs.Lines.{domain-texts, domain_texts}
-use native.Mathlib.Omega.{arith}
-use borrow.Author.Rules.{rules}
 use Rattle.print_tree.proofs.write_domain.Goals as goal
 
 pub write_numbered-named-requires : goal.write_numbered-named-requires

@@ -1,7 +1,6 @@
 -- `print_tree::write_fine` meets its contract. Assumes nothing.
 use Rattle.bytes_out.proofs.Wrote.{room-first, room_next, wrote_then}
 use Rattle.print_tree.specs.Unpack.{fine_level_text}
-use borrow.Author.Rules.{rules}
 use Rattle.print_tree.proofs.write_fine.Goals as goal
 
 pub write_level-next-requires : goal.write_level-next-requires

@@ -3,7 +3,6 @@ use Rattle.print_tree.proofs.Leaves.{leaf-line}
 use Rattle.bytes_out.proofs.Wrote.{spelt, room-spelt}
 use Rattle.packed.specs.Reading.{packed}
 use mathlib.Core.Path.{sym}
-use borrow.Author.Rules.{rules}
 use Rattle.print_tree.proofs.write_leaf.Goals as goal
 
 pub write_domain-requires : goal.write_domain-requires

@@ -2,10 +2,8 @@
 use Rattle.print_tree.proofs.Grow.{fine_text, fine-none, fine-grows, grown-room, grown}
 use Rattle.packed.specs.Reading.{packed}
 use Rattle.print_tree.specs.Unpack.{leaf_line}
-use Rattle.bytes_out.specs.Wrote.{Wrote}
 use Rattle.bytes_out.proofs.Wrote.{spelt, wrote_none}
-use lib.ListN.{length}
-use Prim.Native.Nat.{◌+◌, ◌-◌, ◌≤◌}
+use Prim.Native.Nat.{◌+◌, ◌-◌}
 use mathlib.Core.Bool.{true}
 use mathlib.Core.Path.{◌≡◌, sym, ap}
 use native.Mathlib.Omega.{arith}

@@ -2,7 +2,6 @@
 use Rattle.formats.specs.Printout.{ascii}
 use Rattle.print_texts.proofs.Writing.{begin, text-room, text-added, finish}
 use Rattle.print_tree.proofs.Lines.{level-texts, level_texts}
-use borrow.Author.Rules.{rules}
 use Rattle.print_tree.proofs.write_level.Goals as goal
 
 pub write_numbered-named-requires : goal.write_numbered-named-requires

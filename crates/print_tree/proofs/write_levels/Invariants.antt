@@ -1,17 +1,10 @@
-use Rattle.print_tree.proofs.Levels.{front_text, fine_at, front-none, front-grows, total-none, fine-here, coarse-here, levels-whole}
-use Rattle.lists.proofs.Sums.{total-step}
-use Rattle.print_tree.proofs.Grow.{grown-room, grown}
+use Rattle.print_tree.proofs.Levels.{front_text}
 use Rattle.packed.specs.Reading.{packed}
-use Rattle.packed.proofs.Standing.{rows_inside, row_fits, domains-inside}
 use Rattle.bytes_out.specs.Wrote.{Wrote}
-use Rattle.bytes_out.proofs.Wrote.{spelt, room-spelt, room-first, room_next, wrote_then, wrote_none}
 use Rattle.lists.specs.Lists.{total}
-use lib.ListN.{length, take, get_or}
-use native.Mathlib.Nat.{add-zero}
-use Prim.Native.Nat.{ℕ, ◌+◌, ◌-◌, ◌≤◌}
-use mathlib.Core.Path.{◌≡◌, refl, sym, ap, ◌∙◌}
-use native.Mathlib.Omega.{arith}
-use borrow.Author.Rules.{rules}
+use lib.ListN.{length, take}
+use Prim.Native.Nat.{◌-◌, ◌≤◌}
+use mathlib.Core.Path.{◌≡◌}
 use Rattle.print_tree.proofs.write_levels.Given as goal
 
 abbrev pub invariant-loop-t : goal.invariant-loop-t

@@ -4,7 +4,6 @@ use Rattle.print_tree.proofs.Levels.{how-many}
 use Rattle.formats.specs.Printout.{ascii}
 use Rattle.print_texts.proofs.Writing.{begin, text-room, text-added, finish}
 use Rattle.print_tree.proofs.Lines.{tree-texts, tree_texts}
-use borrow.Author.Rules.{rules}
 use Rattle.print_tree.proofs.write_tree.Goals as goal
 
 pub write_numbered-said-requires : goal.write_numbered-said-requires

@@ -2,7 +2,6 @@
 use Rattle.job_room.proofs.Printing.{answer-short, output-short, answer-long, output-long}
 use Rattle.formats.specs.Printout.{printout as printed}
 use native.Mathlib.Omega.{arith}
-use borrow.Author.Rules.{rules}
 use Rattle.printout.proofs.printout.Goals as goal
 
 pub returns-then-output-lt-TEXT : goal.returns-then-output-lt-TEXT

@@ -5,7 +5,6 @@ use Rattle.settings_record.specs.Reading.{settings_are}
 use Rattle.job_room.proofs.Lists.{lent_lists, lent-largest}
 use Rattle.printout.proofs.Joins.{room_for, job-refused, tree-ready, job-tree}
 use native.Mathlib.Omega.{arith}
-use borrow.Author.Rules.{rules}
 use Rattle.printout.proofs.write_job.Goals as goal
 
 pub write_refusal-requires : goal.write_refusal-requires

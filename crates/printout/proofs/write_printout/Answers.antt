@@ -6,7 +6,6 @@ use Rattle.bytes_out.proofs.Wrote.{spelt}
 use Rattle.job_room.proofs.JobRead.{limits-read, coordinates-read}
 use Rattle.job_room.proofs.Printing.{refusal-room}
 use Rattle.printout.proofs.Joins.{broken-printed, whole-printed}
-use borrow.Author.Rules.{rules}
 use Rattle.printout.proofs.write_printout.Goals as goal
 
 pub write_refusal-requires : goal.write_refusal-requires

@@ -2,7 +2,6 @@
 use mathlib.Core.Path.{refl, ◌∙◌}
 use native.Mathlib.Omega.{arith}
 use Rattle.lists.proofs.Put.{put-next-at}
-use borrow.Author.Rules.{rules}
 use Rattle.queue.proofs.put_halves.Goals as goal
 
 pub returns : goal.returns

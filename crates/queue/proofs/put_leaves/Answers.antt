@@ -1,5 +1,4 @@
 -- `queue::put_leaves` meets its contract. Assumes nothing.
-use borrow.Author.Rules.{rules}
 use Rattle.queue.proofs.put_leaves.Goals as goal
 
 pub returns : goal.returns

@@ -6,7 +6,6 @@ use lib.ListN.{length}
 use Rattle.lists.specs.Lists.{put}
 use Rattle.lists.proofs.Put.{part-whole}
 use Rattle.quotas.proofs.Written.{put_written}
-use borrow.Author.Rules.{rules}
 use Rattle.quotas.proofs.copy_sizes.Goals as goal
 
 pub returns : goal.returns

@@ -1,16 +1,9 @@
-use mathlib.Core.Path.{◌≡◌, ap}
-use mathlib.Core.Bool.{Bool}
-use mathlib.Core.Logic.{⊎_elim}
-use Prim.Native.Nat.{ℕ, ◌-◌, ◌≤◌}
-use native.Mathlib.Omega.{arith}
+use mathlib.Core.Path.{◌≡◌}
+use Prim.Native.Nat.{◌-◌, ◌≤◌}
 use lib.ListN.{length}
-use lib.Dec.{ltb}
-use borrow.Author.Tests.{lt-ltb, le-ltb}
-use Rattle.lists.proofs.From.{count-below-yes, count-below-no, count-below-nil}
 use Rattle.definition.specs.Quotas.{remainder_at}
 use Rattle.definition.specs.SeatCut.{above}
 use Rattle.quotas.specs.Sharing.{capacities}
-use Rattle.quotas.proofs.OneLeaf.{same-leaves, remainder_is}
 use Rattle.quotas.proofs.count_above.Given as goal
 
 abbrev pub invariant-loop-i : goal.invariant-loop-i

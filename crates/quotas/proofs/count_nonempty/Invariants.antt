@@ -1,12 +1,6 @@
-use mathlib.Core.Path.{◌≡◌, ap}
-use mathlib.Core.Logic.{⊎_elim}
+use mathlib.Core.Path.{◌≡◌}
 use Prim.Native.Nat.{◌-◌, ◌≤◌}
-use native.Mathlib.Omega.{arith}
-use lib.ListN.{length, get_or, take}
-use lib.Seq.{take_all}
-use lib.Dec.{ltb}
-use borrow.Author.Tests.{lt-ltb, le-ltb}
-use Rattle.lists.proofs.Count.{count-nil, count_yes, count_no}
+use lib.ListN.{length, take}
 use Rattle.definition.specs.Quotas.{nonempty}
 use Rattle.quotas.proofs.count_nonempty.Given as goal
 

@@ -1,7 +1,7 @@
 -- `quotas::cut` meets its contract, by halving: more than `left` remainders are above each number below `lo`, and at most `left`
 -- are above `hi`. Assumes nothing.
 use mathlib.Core.Path.{◌≡◌}
-use Prim.Native.Nat.{ℕ, ◌+◌, ◌-◌, ◌≤◌, ◌<◌}
+use Prim.Native.Nat.{ℕ, ◌+◌, ◌-◌, ◌<◌}
 use native.Mathlib.Omega.{arith}
 use lib.ListN.{length}
 use lib.Dec.{ltb}
@@ -10,7 +10,7 @@ use Rattle.lists.specs.Lists.{from}
 use Rattle.lists.proofs.Count.{count-le}
 use Rattle.definition.specs.Quotas.{remainder_at}
 use Rattle.definition.specs.SeatCut.{above}
-use Rattle.quotas.specs.Sharing.{capacities, remainders_above}
+use Rattle.quotas.specs.Sharing.{capacities}
 use Rattle.quotas.proofs.OneLeaf.{top-cut}
 use Rattle.quotas.proofs.cut.Goals as goal
 

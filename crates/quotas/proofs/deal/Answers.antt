@@ -8,7 +8,6 @@ use Rattle.definition.specs.Quotas.{size_at}
 use Rattle.definition.specs.Refusals.{most_points}
 use Rattle.quotas.specs.Sharing.{Sharing, capacities}
 use Rattle.quotas.proofs.OneLeaf.{seat-cut-is}
-use borrow.Author.Rules.{rules}
 use Rattle.quotas.proofs.deal.Goals as goal
 
 -- what the sharing asks, from what the numbers are

@@ -11,7 +11,6 @@ use Rattle.definition.specs.Outcome.{written}
 use Rattle.definition.proofs.Fairness.{quotas-length}
 use Rattle.quotas.proofs.Written.{length-written, take-written, written_over}
 use Rattle.quotas.proofs.Verdicts.{refused-8, refused-11-out, refused-11-wholes, seated}
-use borrow.Author.Rules.{rules}
 use Rattle.quotas.proofs.get_domain_coarse_quotas.Goals as goal
 
 -- the sizes stand at the front of the output, and then their quotas

@@ -1,16 +1,13 @@
 -- `quotas::hand_out` meets its contract: `at_cut` seats are left for remainders equal to the cut, the quotas so far stand in the
 -- place of the sizes, and the sizes ahead are as they were. Assumes nothing.
 use mathlib.Core.Path.{◌≡◌, refl, ap, ◌∙◌}
-use mathlib.Core.List.{◌++◌, map}
 use Prim.Native.Nat.{ℕ, ◌-◌, ◌*◌, ◌%◌, ◌≤◌, min}
-use borrow.Author.Rules.{rules}
 use native.Mathlib.Omega.{arith}
-use lib.ListN.{length, drop, length-set}
+use lib.ListN.{length, length-set}
 use lib.Dec.{eqb}
-use Rattle.lists.specs.Lists.{one_if, from}
+use Rattle.lists.specs.Lists.{one_if}
 use Rattle.lists.proofs.From.{count-below-suc, map-from-nil, front-below-suc, count-below-nil, front_read, front-whole}
 use Rattle.definition.specs.Quotas.{remainder_at}
-use Rattle.definition.specs.SeatCut.{ties}
 use Rattle.definition.proofs.Seats.{by_le}
 use Rattle.quotas.specs.Sharing.{capacities, quota_at}
 use Rattle.quotas.proofs.OneLeaf.{remainder_is, whole-small, quota-is}

@@ -1,17 +1,11 @@
-use mathlib.Core.Path.{◌≡◌, refl, ap, ◌∙◌}
+use mathlib.Core.Path.{◌≡◌}
 use mathlib.Core.List.{◌++◌, map}
-use Prim.Native.Nat.{ℕ, ◌-◌, ◌*◌, ◌%◌, ◌≤◌, min}
-use borrow.Author.Rules.{rules}
-use native.Mathlib.Omega.{arith}
-use lib.ListN.{length, drop, length-set}
-use lib.Dec.{eqb}
-use Rattle.lists.specs.Lists.{one_if, from}
-use Rattle.lists.proofs.From.{count-below-suc, map-from-nil, front-below-suc, count-below-nil, front_read, front-whole}
+use Prim.Native.Nat.{◌-◌, ◌≤◌}
+use lib.ListN.{length, drop}
+use Rattle.lists.specs.Lists.{from}
 use Rattle.definition.specs.Quotas.{remainder_at}
 use Rattle.definition.specs.SeatCut.{ties}
-use Rattle.definition.proofs.Seats.{by_le}
 use Rattle.quotas.specs.Sharing.{capacities, quota_at}
-use Rattle.quotas.proofs.OneLeaf.{remainder_is, whole-small, quota-is}
 use Rattle.quotas.proofs.hand_out.Given as goal
 
 abbrev pub invariant-loop-i : goal.invariant-loop-i

@@ -1,14 +1,10 @@
-use mathlib.Core.Path.{◌≡◌, ap}
+use mathlib.Core.Path.{◌≡◌}
 use mathlib.Core.List.{map}
-use Prim.Native.Nat.{ℕ, ◌+◌, ◌-◌, ◌≤◌}
-use native.Mathlib.Omega.{arith}
+use Prim.Native.Nat.{◌-◌, ◌≤◌}
 use lib.ListN.{length}
 use Rattle.lists.specs.Lists.{total, from}
-use Rattle.lists.proofs.Sums.{sum-below-nil, sum-below-suc, sum-below-part}
 use Rattle.definition.specs.Quotas.{whole_at}
-use Rattle.definition.proofs.Shares.{wholes_fit}
 use Rattle.quotas.specs.Sharing.{capacities}
-use Rattle.quotas.proofs.OneLeaf.{same-leaves, whole_is}
 use Rattle.quotas.proofs.leftover_seats.Given as goal
 
 abbrev pub invariant-loop-i : goal.invariant-loop-i

@@ -1,7 +1,6 @@
 -- `quotas::seats_after` meets its contract, by its tests. Assumes nothing.
 use native.Mathlib.Omega.{arith}
 use borrow.Author.Tests.{eq-eqb, ne_eqb}
-use borrow.Author.Rules.{rules}
 use Rattle.quotas.proofs.seats_after.Goals as goal
 
 pub returns-then-left-gt0 : goal.returns-then-left-gt0

@@ -5,7 +5,6 @@ use native.Mathlib.Omega.{arith}
 use Rattle.lists.specs.Lists.{total}
 use Rattle.lists.proofs.Sums.{total-at}
 use Rattle.definition.proofs.Fairness.{capacity-one, capacity-none, for-each, for-none}
-use borrow.Author.Rules.{rules}
 use Rattle.quotas.proofs.share.Goals as goal
 
 pub deal-requires : goal.deal-requires

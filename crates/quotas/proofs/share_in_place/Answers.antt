@@ -8,7 +8,6 @@ use Rattle.lists.specs.Lists.{total}
 use Rattle.definition.specs.Quotas.{quotas_for}
 use Rattle.definition.specs.Outcome.{written}
 use Rattle.definition.proofs.Fairness.{quotas-length}
-use borrow.Author.Rules.{rules}
 use native.Mathlib.Omega.{arith}
 use Rattle.quotas.proofs.share_in_place.Goals as goal
 

@@ -1,12 +1,10 @@
 -- `quotas::total_size` meets its contract: `sum` is the total of the sizes passed, and stays within the limit. Assumes nothing.
-use mathlib.Core.Path.{◌≡◌, ap}
-use Prim.Native.Nat.{◌+◌, ◌-◌, ◌≤◌}
+use mathlib.Core.Path.{ap}
+use Prim.Native.Nat.{◌+◌, ◌-◌}
 use native.Mathlib.Omega.{arith}
-use lib.ListN.{length, take}
 use lib.Seq.{take_all}
 use Rattle.lists.specs.Lists.{total}
 use Rattle.lists.proofs.Sums.{total-nil, total-step, total-front}
-use Rattle.definition.specs.Refusals.{most_points}
 use Rattle.quotas.proofs.total_size.Goals as goal
 
 pub loop-i-init : goal.loop-i-init

@@ -1,10 +1,7 @@
-use mathlib.Core.Path.{◌≡◌, ap}
-use Prim.Native.Nat.{◌+◌, ◌-◌, ◌≤◌}
-use native.Mathlib.Omega.{arith}
+use mathlib.Core.Path.{◌≡◌}
+use Prim.Native.Nat.{◌-◌, ◌≤◌}
 use lib.ListN.{length, take}
-use lib.Seq.{take_all}
 use Rattle.lists.specs.Lists.{total}
-use Rattle.lists.proofs.Sums.{total-nil, total-step, total-front}
 use Rattle.definition.specs.Refusals.{most_points}
 use Rattle.quotas.proofs.total_size.Given as goal
 

@@ -1,6 +1,5 @@
 -- `record_checks::any_short` meets its contract. Assumes nothing.
 use mathlib.Core.Path.{sym, ◌∙◌}
-use borrow.Author.Rules.{rules}
 use Rattle.definition.specs.Packed.{build_stated}
 use Rattle.definition.specs.Refusals.{build_short}
 use Rattle.definition.specs.DepthFirst.{record_short_lem}

@@ -1,7 +1,6 @@
 -- `record_checks::check_depth_first` meets its contract. Assumes nothing.
 use mathlib.Core.Path.{◌∙◌}
 use native.Mathlib.Omega.{arith}
-use borrow.Author.Rules.{rules}
 use Rattle.config.specs.Params.{settings_of_lem}
 use Rattle.build_sizes.specs.Sizes.{sizes_of}
 use Rattle.record_checks.specs.Lengths.{record_sizes_of}

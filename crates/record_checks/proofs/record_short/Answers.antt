@@ -1,5 +1,4 @@
 -- `record_checks::record_short` meets its contract. Assumes nothing.
-use borrow.Author.Rules.{rules}
 use Rattle.record_checks.specs.Lengths.{record_sizes_of}
 use Rattle.record_checks.proofs.Verdicts.{record-1, record-2}
 use Rattle.record_checks.proofs.record_short.Goals as goal

@@ -2,7 +2,6 @@
 use native.Mathlib.Omega.{arith}
 use Rattle.stored.specs.Programs.{reloaded}
 use Rattle.job_room.proofs.Printing.{answer-short, output-short, answer-long, output-long}
-use borrow.Author.Rules.{rules}
 use Rattle.reload.proofs.reload.Goals as goal
 
 pub returns-then-output-lt-TEXT : goal.returns-then-output-lt-TEXT

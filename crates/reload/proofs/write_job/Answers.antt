@@ -4,7 +4,6 @@ use Rattle.bytes_out.proofs.Wrote.{spelt}
 use Rattle.settings_record.specs.Reading.{settings_are}
 use Rattle.job_room.proofs.Printing.{refusal-room}
 use Rattle.reload.proofs.Reloads.{too_long, not-too-long, loaded-room}
-use borrow.Author.Rules.{rules}
 use Rattle.reload.proofs.write_job.Goals as goal
 
 pub write_refusal-requires : goal.write_refusal-requires

@@ -4,7 +4,6 @@ use native.Mathlib.Omega.{arith}
 use Rattle.bytes_out.proofs.Wrote.{spelt, room-spelt}
 use Rattle.settings_record.specs.Reading.{settings_are}
 use Rattle.reload.proofs.LoadedText.{load-refused, loaded-stands, load-tree-text}
-use borrow.Author.Rules.{rules}
 use Rattle.reload.proofs.write_loaded.Goals as goal
 
 pub write_refusal-requires : goal.write_refusal-requires

@@ -6,7 +6,6 @@ use Rattle.bytes_out.proofs.Wrote.{spelt}
 use Rattle.job_room.proofs.JobRead.{limits-read, coordinates-read}
 use Rattle.job_room.proofs.Printing.{refusal-room}
 use Rattle.reload.proofs.Reloads.{broken-reloaded, whole-reloaded}
-use borrow.Author.Rules.{rules}
 use Rattle.reload.proofs.write_reloaded.Goals as goal
 
 pub write_refusal-requires : goal.write_refusal-requires

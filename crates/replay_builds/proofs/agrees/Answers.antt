@@ -1,6 +1,4 @@
 -- `replay_builds::agrees` meets its contract. Assumes nothing.
-use borrow.Author.Tests.{not-false}
-use borrow.Author.Rules.{rules}
 use Rattle.replay_builds.proofs.agrees.Goals as goal
 
 pub nines_agree-requires : goal.nines_agree-requires

@@ -1,7 +1,6 @@
 -- `replay_builds::fit` meets its contract. Assumes nothing.
 use mathlib.Core.Path.{refl}
 use Rattle.lists.proofs.Tests.{clash}
-use borrow.Author.Rules.{rules}
 use Rattle.replay_builds.proofs.fit.Goals as goal
 
 pub returns-then-size-gt-LEVEL_POINTS : goal.returns-then-size-gt-LEVEL_POINTS

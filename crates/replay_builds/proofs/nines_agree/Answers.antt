@@ -1,7 +1,6 @@
 -- `replay_builds::nines_agree` meets its contract. Assumes nothing.
 use mathlib.Core.Path.{sym}
 use lib.Seq.{length-take-le}
-use borrow.Author.Rules.{rules}
 use Rattle.replay_builds.proofs.nines_agree.Goals as goal
 
 pub slice_bounds-level_points-end : goal.slice_bounds-level_points-end

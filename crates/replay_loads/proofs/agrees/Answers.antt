@@ -3,7 +3,6 @@ use borrow.Author.Rules.{rules}
 use mathlib.Core.Path.{sym}
 use lib.Seq.{length-take-le}
 use native.Mathlib.Omega.{arith}
-use borrow.Author.Tests.{not-false}
 use Rattle.replay_loads.proofs.agrees.Goals as goal
 
 pub slice_bounds-points-end : goal.slice_bounds-points-end

@@ -1,5 +1,4 @@
 -- `replay_loads::load_agrees` meets its contract. Assumes nothing.
-use borrow.Author.Rules.{rules}
 use native.Mathlib.Omega.{arith}
 use Rattle.replay_loads.proofs.load_agrees.Goals as goal
 

@@ -1,5 +1,4 @@
 -- `replay_stores::fill_lists` meets its contract. Assumes nothing.
-use borrow.Author.Rules.{rules}
 use native.Mathlib.Omega.{arith}
 use Rattle.replay_stores.proofs.fill_lists.Goals as goal
 

@@ -1,5 +1,4 @@
 -- `replay_stores::store_agrees` meets its contract. Assumes nothing.
-use borrow.Author.Rules.{rules}
 use native.Mathlib.Omega.{arith}
 use Rattle.replay_stores.proofs.store_agrees.Goals as goal
 

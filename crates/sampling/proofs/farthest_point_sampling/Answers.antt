@@ -6,7 +6,6 @@ use native.Mathlib.Omega.{arith}
 use lib.ListN.{length}
 use Rattle.lists.proofs.From.{length_from}
 use Rattle.sampling.proofs.Refusing.{accepted-call, rows-numbered, call-ready, call-written, call-covered, call-refused, call-sampled}
-use borrow.Author.Rules.{rules}
 use Rattle.sampling.proofs.farthest_point_sampling.Goals as goal
 
 pub nonzero_div-rows : goal.nonzero_div-rows

@@ -1,5 +1,4 @@
 -- `sampling::lists_short` meets its contract. Assumes nothing.
-use borrow.Author.Rules.{rules}
 use borrow.Author.Tests.{lt-ltb, le-ltb}
 use Rattle.definition.specs.Packed.{sample_stated}
 use Rattle.definition.specs.Refusals.{sample_short}

@@ -1,6 +1,5 @@
 -- `sampling::sampling_verdict` meets its contract. Each return is the first refusal whose condition is met. Assumes nothing.
 use mathlib.Core.Path.{sym, ap, ◌∙◌}
-use borrow.Author.Rules.{rules}
 use borrow.Author.Tests.{lt-ltb, le-ltb, eq-eqb, ne_eqb}
 use Rattle.definition.specs.Refusals.{verdict, sample_verdict}
 use Rattle.sampling.specs.declared.SampleTests.TheVariants.{Failed}

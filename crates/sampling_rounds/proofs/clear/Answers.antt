@@ -1,10 +1,10 @@
 -- `sampling_rounds::clear` meets its contract. The loop's invariant: the squares passed are infinite. Assumes nothing.
-use mathlib.Core.Path.{◌≡◌, refl}
+use mathlib.Core.Path.{refl}
 use mathlib.Core.Bool.{false}
-use Prim.Native.Nat.{ℕ, ◌≤◌, ◌-◌, ◌<◌}
+use Prim.Native.Nat.{◌-◌}
 use native.Mathlib.Omega.{arith}
 use borrow.Author.Count.{below_none}
-use lib.ListN.{length, get_or, length-set}
+use lib.ListN.{length-set}
 use lib.Ieee.{nan, inf, of_bits, div}
 use Rattle.lists.proofs.From.{noted_more}
 use Rattle.sampling_rounds.proofs.clear.Goals as goal

@@ -1,11 +1,8 @@
-use mathlib.Core.Path.{◌≡◌, refl}
+use mathlib.Core.Path.{◌≡◌}
 use mathlib.Core.Bool.{false}
 use Prim.Native.Nat.{ℕ, ◌≤◌, ◌-◌, ◌<◌}
-use native.Mathlib.Omega.{arith}
-use borrow.Author.Count.{below_none}
-use lib.ListN.{length, get_or, length-set}
-use lib.Ieee.{nan, inf, of_bits, div}
-use Rattle.lists.proofs.From.{noted_more}
+use lib.ListN.{length, get_or}
+use lib.Ieee.{nan, inf}
 use Rattle.sampling_rounds.proofs.clear.Given as goal
 
 abbrev pub invariant-loop-i : goal.invariant-loop-i

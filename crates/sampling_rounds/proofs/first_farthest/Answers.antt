@@ -5,7 +5,6 @@ use lib.Ieee.{Float, lt}
 use Rattle.definition.specs.Number.{square_root_lem}
 use Rattle.root_laws.specs.Sorts.{good}
 use Rattle.sampling_rounds.proofs.Roots.{none_before, less-before}
-use borrow.Author.Rules.{rules}
 use Rattle.sampling_rounds.proofs.first_farthest.Goals as goal
 
 pub returns-then-peak : goal.returns-then-peak

@@ -1,15 +1,13 @@
 -- `sampling_rounds::lessen` meets its contract. The loop's invariant: the squares passed are lessened (`PassedTo`), and `most`
 -- is the greatest of them (`Seen`). Assumes nothing.
 use mathlib.Core.Path.{◌≡◌, subst}
-use mathlib.Core.Logic.{⊎_elim}
-use Prim.Native.Nat.{ℕ, ◌≤◌, ◌-◌}
+use Prim.Native.Nat.{ℕ, ◌-◌}
 use native.Mathlib.Nat.{le_antisymm}
 use native.Mathlib.Omega.{arith}
-use borrow.Author.Rules.{rules}
 use lib.ListN.{length}
 use Rattle.sampling_rounds.specs.Rounds.{lessened}
 use Rattle.rows.proofs.Good.{good-at}
-use Rattle.sampling_rounds.proofs.Passes.{PassedTo, Seen, passed_none, passed-more, seen_none, seen-greater, seen_other, seen_all, lessened-at, lessened-kept}
+use Rattle.sampling_rounds.proofs.Passes.{Seen, passed_none, passed-more, seen_none, seen-greater, seen_other, seen_all, lessened-at, lessened-kept}
 use Rattle.sampling_rounds.proofs.lessen.Goals.{then-most-value, else-most-value}
 use Rattle.sampling_rounds.proofs.lessen.Goals as goal
 

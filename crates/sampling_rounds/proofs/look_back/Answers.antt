@@ -1,16 +1,14 @@
 -- `sampling_rounds::look_back` meets its contract. The loop's invariant: `Looked`. Assumes nothing.
-use mathlib.Core.Logic.{⊎_elim}
 use mathlib.Core.List.{List}
 use Prim.Native.Nat.{ℕ, ◌+◌, ◌≤◌, ◌-◌, ◌<◌}
 use native.Mathlib.Nat.{le_antisymm}
 use native.Mathlib.Omega.{arith}
-use borrow.Author.Rules.{rules}
-use lib.ListN.{length, get_or}
+use lib.ListN.{get_or}
 use lib.Ieee.{Float, nan}
 use Rattle.definition.specs.Number.{square_root_lem}
 use Rattle.root_laws.proofs.Values.{root-good}
 use Rattle.sampling_rounds.proofs.Orders.{near-good, kept-good}
-use Rattle.sampling_rounds.proofs.Roots.{Looked, looked-none, looked-near, looked-low, looked-less, looked-here, looked-all}
+use Rattle.sampling_rounds.proofs.Roots.{looked-none, looked-near, looked-low, looked-less, looked-here, looked-all}
 use Rattle.sampling_rounds.proofs.look_back.Goals.{then-root-top, else-root-top, then-low-value+then-root-top-2, else-low-value}
 use Rattle.sampling_rounds.proofs.look_back.Goals as goal
 

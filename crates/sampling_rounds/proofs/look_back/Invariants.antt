@@ -1,15 +1,9 @@
-use mathlib.Core.Logic.{⊎_elim}
 use mathlib.Core.List.{List}
-use Prim.Native.Nat.{ℕ, ◌+◌, ◌≤◌, ◌-◌, ◌<◌}
-use native.Mathlib.Nat.{le_antisymm}
-use native.Mathlib.Omega.{arith}
-use borrow.Author.Rules.{rules}
+use Prim.Native.Nat.{ℕ, ◌≤◌, ◌-◌, ◌<◌}
 use lib.ListN.{length, get_or}
 use lib.Ieee.{Float, nan}
 use Rattle.definition.specs.Number.{square_root_lem}
-use Rattle.root_laws.proofs.Values.{root-good}
-use Rattle.sampling_rounds.proofs.Orders.{near-good, kept-good}
-use Rattle.sampling_rounds.proofs.Roots.{Looked, looked-none, looked-near, looked-low, looked-less, looked-here, looked-all}
+use Rattle.sampling_rounds.proofs.Roots.{Looked}
 use Rattle.sampling_rounds.proofs.look_back.Given as goal
 
 abbrev value : List Float → ℕ → Float

@@ -4,7 +4,6 @@ use native.Mathlib.Omega.{arith}
 use Rattle.sampling_rounds.specs.Rounds.{lessened}
 use Rattle.sampling_rounds.proofs.Passes.{lessened-kept, lessened-good, peaked-in}
 use Rattle.sampling_rounds.proofs.Roots.{greatest-good, first-chosen}
-use borrow.Author.Rules.{rules}
 use Rattle.sampling_rounds.proofs.next_place.Goals as goal
 
 ltrans : {a b n : ℕ} → a < b → b < n → a < n

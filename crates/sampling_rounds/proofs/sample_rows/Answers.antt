@@ -8,7 +8,7 @@ use lib.ListN.{length, get_or, set, length-set}
 use lib.Seq.{get_or-set_same, get_or-set_other}
 use lib.Ieee.{nan}
 use Rattle.sampling_rounds.specs.Rounds.{minus_one}
-use Rattle.sampling_rounds.proofs.Choosing.{Choosing, choosing-start, choosing-kept, choosing-open, choosing-more, choosing-end, choosing-all, choosing-worst}
+use Rattle.sampling_rounds.proofs.Choosing.{choosing-start, choosing-kept, choosing-open, choosing-more, choosing-end, choosing-all, choosing-worst}
 use Rattle.sampling_rounds.proofs.sample_rows.Goals as goal
 
 -- the lists keep their lengths, which are enough

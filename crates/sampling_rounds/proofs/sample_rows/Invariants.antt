@@ -1,12 +1,7 @@
-use mathlib.Core.Path.{◌≡◌, refl, sym, ◌∙◌}
-use Prim.Native.Nat.{ℕ, ◌+◌, ◌≤◌, ◌<◌, ◌-◌}
-use native.Mathlib.Nat.{le_antisymm}
-use native.Mathlib.Omega.{arith}
-use lib.ListN.{length, get_or, set, length-set}
-use lib.Seq.{get_or-set_same, get_or-set_other}
-use lib.Ieee.{nan}
-use Rattle.sampling_rounds.specs.Rounds.{minus_one}
-use Rattle.sampling_rounds.proofs.Choosing.{Choosing, choosing-start, choosing-kept, choosing-open, choosing-more, choosing-end, choosing-all, choosing-worst}
+use mathlib.Core.Path.{◌≡◌}
+use Prim.Native.Nat.{ℕ, ◌+◌, ◌≤◌, ◌-◌}
+use lib.ListN.{length, get_or}
+use Rattle.sampling_rounds.proofs.Choosing.{Choosing}
 use Rattle.sampling_rounds.proofs.sample_rows.Given as goal
 
 -- the lists keep their lengths, which are enough

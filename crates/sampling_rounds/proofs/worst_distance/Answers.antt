@@ -2,7 +2,6 @@
 use Rattle.sampling_rounds.specs.Rounds.{lessened}
 use Rattle.sampling_rounds.proofs.Passes.{lessened-kept, lessened-good}
 use Rattle.sampling_rounds.proofs.Roots.{greatest-good, peak-worst}
-use borrow.Author.Rules.{rules}
 use Rattle.sampling_rounds.proofs.worst_distance.Goals as goal
 
 pub returns : goal.returns

@@ -6,7 +6,7 @@ use lib.Dec.{le→leb, lit≤}
 use lib.ListN.{length}
 use lib.Ieee.{in_float}
 use Rattle.rows.proofs.Good.{good-at}
-use Rattle.sampling_seed.proofs.Nearest.{Summed, summed-none, summed-more, summed-all}
+use Rattle.sampling_seed.proofs.Nearest.{summed-none, summed-more, summed-all}
 use Rattle.sampling_seed.proofs.centroid_axis.Goals as goal
 
 pub loop-i-init : goal.loop-i-init

@@ -1,9 +1,9 @@
 -- `sampling_seed::get_centroid` meets its contract. The loop's invariant: the axes passed have their centroid. Assumes nothing.
-use mathlib.Core.Path.{◌≡◌, refl}
-use Prim.Native.Nat.{ℕ, ◌≤◌, ◌-◌, ◌<◌}
+use mathlib.Core.Path.{refl}
+use Prim.Native.Nat.{◌-◌}
 use native.Mathlib.Omega.{arith}
 use borrow.Author.Count.{below_none}
-use lib.ListN.{length, get_or, length-set}
+use lib.ListN.{length-set}
 use lib.Ieee.{nan}
 use Rattle.lists.proofs.From.{noted_more}
 use Rattle.definition.specs.Sampling.{centroid}

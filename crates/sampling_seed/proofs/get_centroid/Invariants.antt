@@ -1,10 +1,7 @@
-use mathlib.Core.Path.{◌≡◌, refl}
+use mathlib.Core.Path.{◌≡◌}
 use Prim.Native.Nat.{ℕ, ◌≤◌, ◌-◌, ◌<◌}
-use native.Mathlib.Omega.{arith}
-use borrow.Author.Count.{below_none}
-use lib.ListN.{length, get_or, length-set}
+use lib.ListN.{length, get_or}
 use lib.Ieee.{nan}
-use Rattle.lists.proofs.From.{noted_more}
 use Rattle.definition.specs.Sampling.{centroid}
 use Rattle.sampling_seed.proofs.get_centroid.Given as goal
 

@@ -1,15 +1,12 @@
 -- `sampling_seed::sampling_seed` meets its contract. The loop's invariant: `Nearest`. Assumes nothing.
 use mathlib.Core.Path.{◌≡◌}
 use mathlib.Core.Bool.{true}
-use mathlib.Core.Logic.{⊎_elim}
 use Prim.Native.Nat.{ℕ, ◌≤◌, ◌-◌}
 use native.Mathlib.Nat.{le_antisymm}
 use native.Mathlib.Omega.{arith}
-use borrow.Author.Rules.{rules}
-use lib.ListN.{length}
 use Rattle.root_laws.specs.Sorts.{good}
 use Rattle.rows.proofs.Good.{good-at}
-use Rattle.sampling_seed.proofs.Nearest.{from_center, center-square, center-good, Nearest, nearest-start, nearest-far, nearest-tie, nearest-less, nearest-end}
+use Rattle.sampling_seed.proofs.Nearest.{from_center, center-square, center-good, nearest-start, nearest-far, nearest-tie, nearest-less, nearest-end}
 use Rattle.sampling_seed.proofs.sampling_seed.Goals.{then-square-low+then-apart-near, then-square-low+else-apart-near, else-square-low}
 use Rattle.sampling_seed.proofs.sampling_seed.Goals as goal
 

@@ -1,6 +1,5 @@
 -- `settings_record::policy_fits` meets its contract. Assumes nothing.
 use Rattle.settings_record.proofs.Policies.{fits-fixed, fits-auto, fits-neither}
-use borrow.Author.Rules.{rules}
 use Rattle.settings_record.proofs.policy_fits.Goals as goal
 
 pub returns-then-kind-eq1 : goal.returns-then-kind-eq1

@@ -1,9 +1,7 @@
 -- `settings_record::policy_is` meets its contract. Assumes nothing.
 use Rattle.settings_record.proofs.Compared.{policy-same}
 use mathlib.Core.Path.{sym, ◌∙◌}
-use borrow.Author.Tests.{not-true, not-false}
 use Rattle.config.specs.Params.{threshold_policy}
-use borrow.Author.Rules.{rules}
 use Rattle.settings_record.proofs.policy_is.Goals as goal
 
 pub returns-then-not-byte_is : goal.returns-then-not-byte_is

@@ -1,6 +1,5 @@
 -- `settings_record::policy_of` meets its contract. Assumes nothing.
 use Rattle.definition.proofs.Policies.{policy-fixed}
-use borrow.Author.Rules.{rules}
 use Rattle.settings_record.proofs.policy_of.Goals as goal
 
 pub returns : goal.returns

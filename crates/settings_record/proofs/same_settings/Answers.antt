@@ -1,9 +1,7 @@
 -- `settings_record::same_settings` meets its contract. Assumes nothing.
 use Rattle.settings_record.proofs.Compared.{dimension-differs, leaf-differs, neighbours_differ, factor-differs, policy-decides}
 use mathlib.Core.Path.{sym, ◌∙◌}
-use borrow.Author.Tests.{not-true, not-false}
 use Rattle.config.specs.Params.{settings_of_lem}
-use borrow.Author.Rules.{rules}
 use Rattle.settings_record.proofs.same_settings.Goals as goal
 
 pub returns-then-not-byte_is : goal.returns-then-not-byte_is

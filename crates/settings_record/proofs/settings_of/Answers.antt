@@ -1,6 +1,5 @@
 -- `settings_record::settings_of` meets its contract. Assumes nothing.
 use Rattle.formats.specs.Stream.{settings_in}
-use borrow.Author.Rules.{rules}
 use Rattle.settings_record.proofs.settings_of.Goals as goal
 
 pub returns : goal.returns

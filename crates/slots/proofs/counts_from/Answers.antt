@@ -1,7 +1,6 @@
 -- `slots::counts_from` meets its contract. Assumes nothing.
 use native.Mathlib.Omega.{arith}
 use Rattle.slots.proofs.Slots.{slot_read}
-use borrow.Author.Rules.{rules}
 use Rattle.slots.proofs.counts_from.Goals as goal
 
 pub returns : goal.returns

@@ -1,6 +1,5 @@
 -- `slots::params_of` meets its contract. Assumes nothing.
 use mathlib.Core.Path.{refl}
-use borrow.Author.Rules.{rules}
 use Rattle.slots.proofs.params_of.Goals as goal
 
 pub returns : goal.returns

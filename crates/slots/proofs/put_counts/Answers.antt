@@ -1,6 +1,5 @@
 -- `slots::put_counts` meets its contract. Assumes nothing.
 use native.Mathlib.Omega.{arith}
-use borrow.Author.Rules.{rules}
 use Rattle.slots.proofs.Slots.{slot_counts}
 use Rattle.slots.proofs.put_counts.Goals as goal
 

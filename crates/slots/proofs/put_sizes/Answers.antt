@@ -2,7 +2,6 @@
 use mathlib.Core.Path.{refl, ap, ◌∙◌}
 use Rattle.lists.specs.Lists.{put}
 use Rattle.lists.proofs.Put.{part-whole}
-use borrow.Author.Rules.{rules}
 use Rattle.slots.proofs.put_sizes.Goals as goal
 
 pub returns : goal.returns

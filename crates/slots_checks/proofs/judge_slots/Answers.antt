@@ -1,13 +1,12 @@
 -- `slots_checks::judge_slots` meets its contract. The invariant: of the live slots passed none has a coordinate that is not finite.
 -- Assumes nothing.
 use mathlib.Core.Path.{ap, ◌∙◌}
-use Prim.Native.Nat.{ℕ, ◌+◌, ◌-◌, ◌*◌, ◌≤◌}
+use Prim.Native.Nat.{ℕ, ◌+◌, ◌-◌, ◌*◌}
 use native.Mathlib.Omega.{arith}
-use borrow.Author.Rules.{rules}
 use Rattle.lists.proofs.Put.{part-lent}
 use Rattle.definition.specs.Refusals.{refused, first_bad}
 use Rattle.definition.specs.Table.{flagged}
-use Rattle.slots_checks.proofs.Judged.{flag-live, flag-retired, None, none_first, none-same, none_more, judged-none, judged-here}
+use Rattle.slots_checks.proofs.Judged.{flag-live, flag-retired, none_first, none-same, none_more, judged-none, judged-here}
 use Rattle.slots_checks.proofs.Groups.{slots-times, slot-inside}
 use Rattle.slots_checks.proofs.judge_slots.Goals as goal
 use Rattle.slots_checks.proofs.judge_slots.Goals.{then-flags-i-ne0+else-bad-dimensions, else-flags-i-ne0}

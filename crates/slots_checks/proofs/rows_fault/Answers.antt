@@ -1,6 +1,5 @@
 -- `slots_checks::rows_fault` meets its contract. Assumes nothing.
 use native.Mathlib.Omega.{arith}
-use borrow.Author.Rules.{rules}
 use Rattle.definition.specs.Refusals.{settings_tests}
 use Rattle.config.specs.Params.{settings_of_lem}
 use Rattle.build_checks.proofs.Laws.{fault-first, fault-second}

@@ -1,7 +1,6 @@
 -- `store::file_size` meets its contract. Assumes nothing.
 use native.Mathlib.Omega.{arith}
 use Rattle.store.proofs.Lengths.{points-most, boxes-most}
-use borrow.Author.Rules.{rules}
 use Rattle.store.proofs.file_size.Goals as goal
 
 pub overflow_mul-front : goal.overflow_mul-front

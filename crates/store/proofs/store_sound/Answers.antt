@@ -7,7 +7,6 @@ use Rattle.tree_answer.specs.Answers.{counts_given, lists_of}
 use Rattle.store.proofs.Held.{held-stands}
 use Rattle.store.proofs.Sized.{own-passed, tree-bad, tree-good, tree-packs, tree-sound, tree-room, tree-limited, tree-size}
 use Rattle.store.proofs.Outcomes.{tree-refused, file-refused, file-written}
-use borrow.Author.Rules.{rules}
 use Rattle.store.proofs.store_sound.Goals as goal
 
 pub nonzero_div-n : goal.nonzero_div-n

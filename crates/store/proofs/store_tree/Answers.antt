@@ -4,7 +4,6 @@ use Rattle.config.specs.Params.{settings_of_lem}
 use Rattle.build_checks.specs.Verdicts.{verdict_of}
 use Rattle.tree_answer.specs.Answers.{counts_given, lists_of}
 use Rattle.store.proofs.Outcomes.{own-refused}
-use borrow.Author.Rules.{rules}
 use Rattle.store.proofs.store_tree.Goals as goal
 
 pub store_sound-requires : goal.store_sound-requires

@@ -1,13 +1,11 @@
 -- `store_bytes::put_domains` meets its contract. Assumes nothing.
-use Rattle.store_records.proofs.Remains.{Remains, begin, restated, room-now, part-written, done}
+use Rattle.store_records.proofs.Remains.{begin, restated, room-now, part-written, done}
 use Rattle.store_bytes.proofs.Turns.{turn, no-turn}
 use Rattle.store_bytes.proofs.Runs.{domain_at_lem, domain-run}
 use Rattle.lists.specs.Lists.{joined, from}
-use Rattle.packed.specs.Reading.{packed, read_leaves}
-use Rattle.store_bytes.specs.Runs.{domain_records}
-use lib.ListN.{length}
-use Prim.Native.Nat.{◌+◌, ◌-◌, ◌≤◌}
-use mathlib.Core.Path.{◌≡◌, ap}
+use Rattle.packed.specs.Reading.{packed}
+use Prim.Native.Nat.{◌+◌, ◌-◌}
+use mathlib.Core.Path.{ap}
 use mathlib.Core.List.{[], map}
 use native.Mathlib.Omega.{arith}
 use borrow.Author.Rules.{rules}

@@ -1,15 +1,12 @@
-use Rattle.store_records.proofs.Remains.{Remains, begin, restated, room-now, part-written, done}
-use Rattle.store_bytes.proofs.Turns.{turn, no-turn}
-use Rattle.store_bytes.proofs.Runs.{domain_at_lem, domain-run}
-use Rattle.lists.specs.Lists.{joined, from}
+use Rattle.store_records.proofs.Remains.{Remains}
+use Rattle.store_bytes.proofs.Runs.{domain_at_lem}
+use Rattle.lists.specs.Lists.{from}
 use Rattle.packed.specs.Reading.{packed, read_leaves}
 use Rattle.store_bytes.specs.Runs.{domain_records}
 use lib.ListN.{length}
 use Prim.Native.Nat.{◌+◌, ◌-◌, ◌≤◌}
-use mathlib.Core.Path.{◌≡◌, ap}
-use mathlib.Core.List.{[], map}
-use native.Mathlib.Omega.{arith}
-use borrow.Author.Rules.{rules}
+use mathlib.Core.Path.{◌≡◌}
+use mathlib.Core.List.{map}
 use Rattle.store_bytes.proofs.put_domains.Given as goal
 
 abbrev pub invariant-loop-i : goal.invariant-loop-i

@@ -5,7 +5,6 @@ use Rattle.config.specs.Params.{settings_of_lem}
 use Rattle.tree_answer.specs.Answers.{counts_given, lists_of}
 use native.Mathlib.Nat.{zero-add}
 use mathlib.Core.Path.{◌∙◌}
-use borrow.Author.Rules.{rules}
 use Rattle.store_bytes.proofs.put_file.Goals as goal
 
 pub put_front-next-requires : goal.put_front-next-requires

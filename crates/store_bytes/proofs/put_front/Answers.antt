@@ -9,7 +9,6 @@ use Prim.Native.Nat.{◌/◌}
 use native.Mathlib.Nat.{div-mul-le_self}
 use native.Mathlib.Omega.{arith}
 use mathlib.Core.List.{[], ◌∷◌, map}
-use borrow.Author.Rules.{rules}
 use Rattle.store_bytes.proofs.put_front.Goals as goal
 
 pub put_head-next-requires : goal.put_head-next-requires

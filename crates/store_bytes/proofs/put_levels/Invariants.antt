@@ -1,16 +1,11 @@
-use Rattle.store_records.proofs.Remains.{Remains, begin, restated, room-now, part-written, done}
-use Rattle.store_bytes.proofs.Levels.{no-level, levels-all, turn-here}
+use Rattle.store_records.proofs.Remains.{Remains}
 use Rattle.lists.specs.Lists.{joined, total, from}
-use Rattle.lists.proofs.Sums.{total-nil, total-step}
 use Rattle.packed.specs.Reading.{packed, read_level, read_levels}
-use Rattle.packed.proofs.Standing.{rows_inside, row_fits, domains-inside}
 use Rattle.stored.specs.File.{tree_records}
-use lib.ListN.{length, get_or, take}
-use Prim.Native.Nat.{ℕ, ◌+◌, ◌-◌, ◌≤◌}
-use mathlib.Core.Path.{◌≡◌, refl, sym, ap, ◌∙◌}
-use mathlib.Core.List.{[], map}
-use native.Mathlib.Omega.{arith}
-use borrow.Author.Rules.{rules}
+use lib.ListN.{length, take}
+use Prim.Native.Nat.{◌-◌, ◌≤◌}
+use mathlib.Core.Path.{◌≡◌}
+use mathlib.Core.List.{map}
 use Rattle.store_bytes.proofs.put_levels.Given as goal
 
 abbrev pub invariant-loop-t : goal.invariant-loop-t

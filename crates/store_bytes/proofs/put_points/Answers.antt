@@ -1,11 +1,11 @@
 -- `store_bytes::put_points` meets its contract. Assumes nothing.
-use Rattle.store_records.proofs.Remains.{Remains, begin, restated, room-now, part-written, done}
+use Rattle.store_records.proofs.Remains.{begin, restated, room-now, part-written, done}
 use Rattle.store_bytes.proofs.Turns.{first-turn, turn, no-turn, point-inside}
 use Rattle.lists.specs.Lists.{joined, from}
 use Rattle.stored.specs.File.{point_bytes}
 use lib.ListN.{length}
-use Prim.Native.Nat.{◌+◌, ◌-◌, ◌≤◌}
-use mathlib.Core.Path.{◌≡◌, refl, ap}
+use Prim.Native.Nat.{◌+◌, ◌-◌}
+use mathlib.Core.Path.{refl, ap}
 use mathlib.Core.List.{[], map}
 use borrow.Author.Rules.{rules}
 use Rattle.store_bytes.proofs.put_points.Goals as goal

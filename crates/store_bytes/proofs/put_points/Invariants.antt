@@ -1,12 +1,10 @@
-use Rattle.store_records.proofs.Remains.{Remains, begin, restated, room-now, part-written, done}
-use Rattle.store_bytes.proofs.Turns.{first-turn, turn, no-turn, point-inside}
+use Rattle.store_records.proofs.Remains.{Remains}
 use Rattle.lists.specs.Lists.{joined, from}
 use Rattle.stored.specs.File.{point_bytes}
 use lib.ListN.{length}
-use Prim.Native.Nat.{◌+◌, ◌-◌, ◌≤◌}
-use mathlib.Core.Path.{◌≡◌, refl, ap}
-use mathlib.Core.List.{[], map}
-use borrow.Author.Rules.{rules}
+use Prim.Native.Nat.{◌-◌, ◌≤◌}
+use mathlib.Core.Path.{◌≡◌}
+use mathlib.Core.List.{map}
 use Rattle.store_bytes.proofs.put_points.Given as goal
 
 abbrev pub invariant-loop-i : goal.invariant-loop-i

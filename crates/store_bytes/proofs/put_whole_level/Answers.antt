@@ -6,7 +6,6 @@ use Rattle.packed.specs.Reading.{packed, read_leaves}
 use Rattle.store_records.specs.Records.{level_record}
 use Rattle.store_bytes.specs.Runs.{domain_records}
 use mathlib.Core.List.{[], ◌∷◌}
-use borrow.Author.Rules.{rules}
 use Rattle.store_bytes.proofs.put_whole_level.Goals as goal
 
 pub put_level-next-requires : goal.put_level-next-requires

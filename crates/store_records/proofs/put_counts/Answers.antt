@@ -4,7 +4,6 @@ use Rattle.store_records.proofs.Fields.{mark-wrote, number-wrote, number-room}
 use Rattle.store_records.proofs.Parts.{counts-parts}
 use Rattle.formats.specs.Bytes.{mark_of, mark_bytes, number_bytes}
 use mathlib.Core.List.{[], ◌∷◌}
-use borrow.Author.Rules.{rules}
 use Rattle.store_records.proofs.put_counts.Goals as goal
 
 pub put_mark-requires : goal.put_mark-requires

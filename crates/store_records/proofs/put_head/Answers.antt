@@ -7,7 +7,6 @@ use Rattle.formats.specs.Bytes.{mark_bytes, number_bytes}
 use Rattle.formats.specs.Stream.{settings_bytes}
 use Rattle.stored.specs.File.{head_mark}
 use mathlib.Core.List.{[], ◌∷◌}
-use borrow.Author.Rules.{rules}
 use Rattle.store_records.proofs.put_head.Goals as goal
 
 pub put_mark-requires : goal.put_mark-requires

@@ -6,7 +6,6 @@ use Rattle.formats.specs.Bytes.{numbers_bytes}
 use Rattle.stored.specs.File.{level_mark}
 use Rattle.store_records.specs.Records.{counts_bytes}
 use mathlib.Core.List.{[], ◌∷◌}
-use borrow.Author.Rules.{rules}
 use Rattle.store_records.proofs.put_level.Goals as goal
 
 pub put_counts-listed-requires : goal.put_counts-listed-requires

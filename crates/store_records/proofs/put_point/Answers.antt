@@ -7,7 +7,6 @@ use Rattle.formats.specs.Bytes.{mark_bytes, floats_bytes}
 use Rattle.stored.specs.File.{file_point_mark}
 use Prim.Native.Nat.{◌*◌}
 use mathlib.Core.List.{[], ◌∷◌}
-use borrow.Author.Rules.{rules}
 use Rattle.store_records.proofs.put_point.Goals as goal
 
 pub put_mark-requires : goal.put_mark-requires

@@ -3,7 +3,6 @@ use Rattle.store_records.proofs.Fields.{floats-long}
 use mathlib.Core.Path.{sym, ap}
 use Prim.Native.Nat.{ℕ, ◌+◌}
 use native.Mathlib.Omega.{arith}
-use borrow.Author.Rules.{rules}
 use Rattle.store_records.proofs.put_reals.Goals as goal
 
 pub put_floats-requires : goal.put_floats-requires

@@ -3,7 +3,6 @@ use Rattle.store_records.proofs.Parts.{cover-given, all-given}
 use Rattle.bytes_out.proofs.Wrote.{spelt, room-spelt}
 use mathlib.Core.Path.{sym}
 use native.Mathlib.Omega.{arith}
-use borrow.Author.Rules.{rules}
 use Rattle.store_records.proofs.put_row_floats.Goals as goal
 
 pub put_reals-requires : goal.put_reals-requires

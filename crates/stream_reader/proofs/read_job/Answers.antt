@@ -1,12 +1,9 @@
 -- `stream_reader::read_job` meets its contract. Assumes nothing.
-use Rattle.stream_reader.proofs.Records.{Reading, job-broken, whole_long, job-low, job-high, begun, reading-cut, reading-full, spot, reading-more, reading-over, reading-done}
-use Rattle.settings_record.specs.Reading.{settings_are}
+use Rattle.stream_reader.proofs.Records.{job-broken, whole_long, job-low, job-high, begun, reading-cut, reading-full, spot, reading-more, reading-over, reading-done}
 use Rattle.bytes_in.proofs.Bytes.{record-room}
 use Rattle.formats.specs.Stream.{point_mark, point_size_lem}
-use borrow.Author.Tests.{not-true, not-false}
-use lib.ListN.{length}
 use Prim.Native.Nat.{◌-◌}
-use mathlib.Core.Path.{◌≡◌, refl, sym, ◌∙◌}
+use mathlib.Core.Path.{refl, sym, ◌∙◌}
 use borrow.Author.Rules.{rules}
 use native.Mathlib.Omega.{arith}
 use Rattle.stream_reader.proofs.read_job.Goals as goal

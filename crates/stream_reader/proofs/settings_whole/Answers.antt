@@ -1,6 +1,5 @@
 -- `stream_reader::settings_whole` meets its contract. Assumes nothing.
 use mathlib.Core.Path.{sym, ◌∙◌}
-use borrow.Author.Tests.{not-true, not-false}
 use Rattle.formats.specs.Stream.{settings_mark, settings_size}
 use Rattle.bytes_in.proofs.Bytes.{record-room}
 use borrow.Author.Rules.{rules}

@@ -1,7 +1,6 @@
 -- `table_checks::sound` meets its contract. Assumes nothing.
 use mathlib.Core.Bool.{true≢false}
 use native.Mathlib.Omega.{arith}
-use borrow.Author.Rules.{rules}
 use Rattle.table_checks.specs.Tables.{head_of}
 use Rattle.table_checks.proofs.Heads.{unsound-high, unsound-live, next-is}
 use Rattle.table_checks.proofs.sound.Goals as goal

@@ -1,9 +1,8 @@
 -- `table_checks::survey` meets its contract. Assumes nothing.
 use mathlib.Core.Path.{◌≡◌}
-use Prim.Native.Nat.{◌≤◌, ◌-◌}
+use Prim.Native.Nat.{◌-◌}
 use native.Mathlib.Omega.{arith}
-use borrow.Author.Rules.{rules}
-use Rattle.table_checks.proofs.Pass.{Passed, starts, turn-live, turn-first, turn-later, ends-live, ends_next}
+use Rattle.table_checks.proofs.Pass.{starts, turn-live, turn-first, turn-later, ends-live, ends_next}
 use Rattle.table_checks.proofs.survey.Goals as goal
 use Rattle.table_checks.proofs.survey.Goals.{then-flags-i-ne0, else-flags-i-ne0+then-i-next, else-flags-i-ne0+else-i-next}
 

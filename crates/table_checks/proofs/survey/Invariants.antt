@@ -1,9 +1,5 @@
-use mathlib.Core.Path.{◌≡◌}
-use mathlib.Core.Logic.{⊎_elim}
 use Prim.Native.Nat.{◌≤◌, ◌-◌}
-use native.Mathlib.Omega.{arith}
-use borrow.Author.Rules.{rules}
-use Rattle.table_checks.proofs.Pass.{Passed, starts, turn-live, turn-first, turn-later, ends-live, ends_next}
+use Rattle.table_checks.proofs.Pass.{Passed}
 use Rattle.table_checks.proofs.survey.Given as goal
 
 abbrev pub invariant-loop-i : goal.invariant-loop-i

@@ -2,7 +2,6 @@
 use mathlib.Core.Path.{refl, sym, ◌∙◌}
 use Prim.Native.Nat.{◌+◌}
 use native.Mathlib.Omega.{arith}
-use borrow.Author.Rules.{rules}
 use Rattle.table_checks.specs.Tables.{table_of}
 use Rattle.table_laws.proofs.Live.{next-high}
 use Rattle.table_edits.proofs.TableTests.{live_below}

@@ -1,6 +1,5 @@
 -- `table_edits::added` meets its contract. Assumes nothing.
 use native.Mathlib.Omega.{arith}
-use borrow.Author.Rules.{rules}
 use Rattle.table_checks.specs.Tables.{table_of}
 use Rattle.table_edits.proofs.Adds.{add-room, add_kept, add-written}
 use Rattle.table_edits.proofs.added.Goals as goal

@@ -1,7 +1,6 @@
 -- `table_edits::retire_answer` meets its contract. Assumes nothing.
 use mathlib.Core.Path.{refl}
 use Prim.Native.Nat.{◌-◌}
-use borrow.Author.Rules.{rules}
 use Rattle.table_checks.specs.Tables.{table_of}
 use Rattle.table_edits.proofs.Retires.{retire-first, retire-high, slot-in, retire-free, live-some, retire-fine}
 use Rattle.table_edits.proofs.retire_answer.Goals as goal

@@ -1,5 +1,4 @@
 -- `table_edits::retired` meets its contract. Assumes nothing.
-use borrow.Author.Rules.{rules}
 use Rattle.table_checks.specs.Tables.{table_of}
 use Rattle.table_edits.proofs.Retires.{in-flags, retire-kept, retire-written}
 use Rattle.table_edits.proofs.retired.Goals as goal

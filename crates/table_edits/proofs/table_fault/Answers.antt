@@ -3,7 +3,6 @@ use mathlib.Core.Path.{sym, ◌∙◌}
 use Prim.Native.Nat.{◌≤◌}
 use native.Mathlib.Omega.{arith}
 use native.Mathlib.Nat.{mul-le-mul}
-use borrow.Author.Rules.{rules}
 use Rattle.definition.specs.Refusals.{most_points}
 use Rattle.table_checks.specs.Tables.{table_of}
 use Rattle.table_edits.proofs.TableTests.{table-low, table-high, table-11, table-27, table-fine}

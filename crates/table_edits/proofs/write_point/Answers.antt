@@ -1,8 +1,7 @@
 -- `table_edits::write_point` meets its contract. The loop's invariant: the coordinates passed are written. Assumes nothing.
-use mathlib.Core.Path.{◌≡◌, sym, ap, ◌∙◌}
-use Prim.Native.Nat.{◌≤◌, ◌-◌}
+use mathlib.Core.Path.{sym, ap, ◌∙◌}
+use Prim.Native.Nat.{◌-◌}
 use native.Mathlib.Omega.{arith}
-use lib.ListN.{length, take}
 use lib.Seq.{take_all}
 use lib.Ieee.{nan}
 use borrow.Author.Rules.{rules}

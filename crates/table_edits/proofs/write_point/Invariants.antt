@@ -1,12 +1,7 @@
-use mathlib.Core.Path.{◌≡◌, sym, ap, ◌∙◌}
+use mathlib.Core.Path.{◌≡◌}
 use Prim.Native.Nat.{◌≤◌, ◌-◌}
-use native.Mathlib.Omega.{arith}
 use lib.ListN.{length, take}
-use lib.Seq.{take_all}
-use lib.Ieee.{nan}
-use borrow.Author.Rules.{rules}
 use Rattle.lists.specs.Lists.{put}
-use Rattle.lists.proofs.Put.{put-nil, write-more}
 use Rattle.table_edits.proofs.write_point.Given as goal
 
 abbrev pub invariant-loop-i : goal.invariant-loop-i

@@ -1,6 +1,5 @@
 -- `tree_checks::check_tree` meets its contract. Assumes nothing.
 use mathlib.Core.Path.{refl, ◌∙◌}
-use borrow.Author.Rules.{rules}
 use Rattle.tree_checks.proofs.NoRoom.{build-is-own}
 use Rattle.tree_checks.proofs.check_tree.Reads as reads
 use Rattle.tree_checks.proofs.check_tree.Lts as lts

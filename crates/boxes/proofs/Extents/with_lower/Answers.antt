@@ -1,6 +1,5 @@
 -- `boxes::Extents::with_lower` meets its contract. Assumes nothing.
 use mathlib.Core.Path.{refl}
-use borrow.Author.Rules.{rules}
 use Rattle.boxes.proofs.Boxed.{lower-changed}
 use Rattle.boxes.proofs.Extents.with_lower.Goals as goal
 

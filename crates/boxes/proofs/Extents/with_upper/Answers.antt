@@ -1,6 +1,5 @@
 -- `boxes::Extents::with_upper` meets its contract. Assumes nothing.
 use mathlib.Core.Path.{refl}
-use borrow.Author.Rules.{rules}
 use Rattle.boxes.proofs.Boxed.{upper-changed}
 use Rattle.boxes.proofs.Extents.with_upper.Goals as goal
 

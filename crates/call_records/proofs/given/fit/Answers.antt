@@ -1,8 +1,6 @@
 -- `call_records::given::fit` meets its contract. Assumes nothing.
-use borrow.Author.Rules.{rules}
 use mathlib.Core.Path.{refl}
 use Rattle.lists.proofs.Tests.{clash}
-use borrow.Author.Rules.{rules}
 use Rattle.call_records.proofs.given.fit.Goals as goal
 
 pub returns-then-size-gt-POINTS : goal.returns-then-size-gt-POINTS

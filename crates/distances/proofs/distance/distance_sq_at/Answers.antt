@@ -1,8 +1,8 @@
 -- `distances::distance_sq_at` meets its contract. The invariant: the sum is that of the axes passed. Assumes nothing.
-use mathlib.Core.Path.{◌≡◌, refl}
-use Prim.Native.Nat.{◌≤◌, ◌-◌}
+use mathlib.Core.Path.{refl}
+use Prim.Native.Nat.{◌-◌}
 use native.Mathlib.Omega.{arith}
-use Rattle.definition.specs.Points.{point_at, distance_sq_lem}
+use Rattle.definition.specs.Points.{distance_sq_lem}
 use Rattle.distances.proofs.Turns.{distance-more, distance-all}
 use Rattle.distances.proofs.distance.distance_sq_at.Goals as goal
 

@@ -1,8 +1,6 @@
-use mathlib.Core.Path.{◌≡◌, refl}
+use mathlib.Core.Path.{◌≡◌}
 use Prim.Native.Nat.{◌≤◌, ◌-◌}
-use native.Mathlib.Omega.{arith}
 use Rattle.definition.specs.Points.{point_at, distance_sq_lem}
-use Rattle.distances.proofs.Turns.{distance-more, distance-all}
 use Rattle.distances.proofs.distance.distance_sq_at.Given as goal
 
 abbrev pub invariant-loop-k : goal.invariant-loop-k

@@ -1,6 +1,5 @@
 -- `distances::get_distance` meets its contract. Assumes nothing.
 use mathlib.Core.Path.{ap, ◌∙◌}
-use borrow.Author.Rules.{rules}
 use Rattle.definition.specs.Number.{square_root_lem}
 use Rattle.definition.specs.Points.{distance, rows_sq, rows_apart}
 use Rattle.distances.proofs.distance.get_distance.Goals as goal

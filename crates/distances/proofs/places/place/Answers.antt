@@ -1,12 +1,8 @@
 -- `distances::place` meets its contract. Assumes nothing.
-use mathlib.Core.Logic.{⊎_elim}
 use Prim.Native.Nat.{◌-◌}
-use native.Mathlib.Omega.{arith}
-use borrow.Author.Rules.{rules}
-use lib.ListN.{length, get_or}
+use lib.ListN.{get_or}
 use lib.Ieee.{nan}
-use Rattle.extents.specs.Sides.{beyond}
-use Rattle.distances.proofs.Firsts.{Place, place-first, place-yes, place-no, place_end}
+use Rattle.distances.proofs.Firsts.{place-first, place-yes, place-no, place_end}
 use mathlib.Core.Path.{sym, ◌∙◌}
 use Rattle.distances.proofs.places.place.Goals.{then-is_beyond, else-is_beyond}
 use Rattle.distances.proofs.places.place.Goals as goal

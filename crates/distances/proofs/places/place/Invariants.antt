@@ -1,11 +1,8 @@
-use mathlib.Core.Logic.{⊎_elim}
 use Prim.Native.Nat.{◌-◌}
-use native.Mathlib.Omega.{arith}
-use borrow.Author.Rules.{rules}
 use lib.ListN.{length, get_or}
 use lib.Ieee.{nan}
 use Rattle.extents.specs.Sides.{beyond}
-use Rattle.distances.proofs.Firsts.{Place, place-first, place-yes, place-no, place_end}
+use Rattle.distances.proofs.Firsts.{Place}
 use Rattle.distances.proofs.places.place.Given as goal
 
 abbrev pub invariant-loop-i : goal.invariant-loop-i

@@ -1,16 +1,10 @@
 -- `extents::bound` meets its contract. The invariant: the bound is that of the rows passed. Assumes nothing.
-use mathlib.Core.Path.{◌≡◌, ◌∙◌}
-use mathlib.Core.Logic.{⊎_elim}
-use mathlib.Core.List.{List}
-use Prim.Native.Nat.{ℕ, ◌-◌, ◌≤◌}
+use mathlib.Core.Path.{◌∙◌}
+use Prim.Native.Nat.{◌-◌}
 use native.Mathlib.Omega.{arith}
-use borrow.Author.Rules.{rules}
-use lib.ListN.{length}
-use lib.Ieee.{Float}
-use Rattle.definition.specs.Points.{coordinate}
 use Rattle.extents.specs.Sides.{beyond}
 use Rattle.rows.proofs.Good.{row_fits}
-use Rattle.extents.proofs.Firsts.{best_in, bound-first, bound-yes, bound-no, bound-end}
+use Rattle.extents.proofs.Firsts.{bound-first, bound-yes, bound-no, bound-end}
 use Rattle.extents.proofs.bounds.bound.Invariants.{along}
 use Rattle.extents.proofs.bounds.bound.Goals.{then-is_beyond, else-is_beyond}
 use Rattle.extents.proofs.bounds.bound.Goals as goal

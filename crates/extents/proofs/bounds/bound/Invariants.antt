@@ -1,15 +1,11 @@
-use mathlib.Core.Path.{◌≡◌, ◌∙◌}
-use mathlib.Core.Logic.{⊎_elim}
+use mathlib.Core.Path.{◌≡◌}
 use mathlib.Core.List.{List}
 use Prim.Native.Nat.{ℕ, ◌-◌, ◌≤◌}
-use native.Mathlib.Omega.{arith}
-use borrow.Author.Rules.{rules}
 use lib.ListN.{length}
 use lib.Ieee.{Float}
 use Rattle.definition.specs.Points.{coordinate}
 use Rattle.extents.specs.Sides.{beyond}
-use Rattle.rows.proofs.Good.{row_fits}
-use Rattle.extents.proofs.Firsts.{best_in, bound-first, bound-yes, bound-no, bound-end}
+use Rattle.extents.proofs.Firsts.{best_in}
 use Rattle.extents.proofs.bounds.bound.Given as goal
 
 abbrev pub along : ℕ → List Float → ℕ → ℕ → Float

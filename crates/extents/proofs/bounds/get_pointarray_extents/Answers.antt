@@ -1,9 +1,7 @@
 -- `extents::get_pointarray_extents` meets its contract. Assumes nothing.
 use mathlib.Core.Path.{refl}
 use Prim.Native.Nat.{◌-◌}
-use native.Mathlib.Omega.{arith}
-use borrow.Author.Rules.{rules}
-use Rattle.boxes.proofs.Boxed.{Filled, filled_none, filled_more, filled-all}
+use Rattle.boxes.proofs.Boxed.{filled_none, filled_more, filled-all}
 use Rattle.extents.proofs.bounds.get_pointarray_extents.Goals as goal
 
 pub loop-axis-init : goal.loop-axis-init

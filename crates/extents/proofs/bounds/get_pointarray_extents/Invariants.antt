@@ -1,8 +1,5 @@
-use mathlib.Core.Path.{refl}
 use Prim.Native.Nat.{◌-◌}
-use native.Mathlib.Omega.{arith}
-use borrow.Author.Rules.{rules}
-use Rattle.boxes.proofs.Boxed.{Filled, filled_none, filled_more, filled-all}
+use Rattle.boxes.proofs.Boxed.{Filled}
 use Rattle.extents.proofs.bounds.get_pointarray_extents.Given as goal
 
 abbrev pub invariant-loop-axis : goal.invariant-loop-axis
