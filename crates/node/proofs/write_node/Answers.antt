@@ -12,12 +12,12 @@ overflow_add-cuts c = omega (arith, ap (λ (n : Node). whole_of (as_node n)) c.i
 
 pub returns-in-Cut : goal.returns-in-Cut
 returns-in-Cut c = let a = c.args in record {
-    cuts = ap (λ (n : Node). set a.cuts.now a.at (whole_of (as_node n))) (sym c.in-Cut.is);
-    planes = ap (λ (n : Node). set a.planes.now a.at (float_of (as_node n))) (sym c.in-Cut.is);
-  }
+  cuts = ap (λ (n : Node). set a.cuts.now a.at (whole_of (as_node n))) (sym c.in-Cut.is);
+  planes = ap (λ (n : Node). set a.planes.now a.at (float_of (as_node n))) (sym c.in-Cut.is);
+}
 
 pub returns-in-Leaf : goal.returns-in-Leaf
 returns-in-Leaf c = let a = c.args in record {
-    cuts = ap (λ (n : Node). set a.cuts.now a.at (whole_of (as_node n))) (sym c.in-Leaf.is);
-    planes = ap (λ (n : Node). set a.planes.now a.at (float_of (as_node n))) (sym c.in-Leaf.is);
-  }
+  cuts = ap (λ (n : Node). set a.cuts.now a.at (whole_of (as_node n))) (sym c.in-Leaf.is);
+  planes = ap (λ (n : Node). set a.planes.now a.at (float_of (as_node n))) (sym c.in-Leaf.is);
+}
