@@ -1,6 +1,6 @@
 -- A selection by rank and the rest: how many rows each has, which rows, in which order; and the key in the middle. Assumes nothing.
--- Holds: Sortable, first-half-length, other-half-length, Middle, key-at, key_of, length-keyed, rows-keyed, rank-keyed, first_rows,
---   other-rows, parts-times, first-ascends, other-ascends, sortable
+-- Holds: Sortable, first-half-length, other-half-length, Middle, key-at, key_of, length-keyed, rows-keyed, rank-keyed,
+--   first_rows, other-rows, parts-times, first-ascends, other-ascends, sortable
 use mathlib.Core.Path.{◌≡◌, refl, ap, ◌∙◌}
 use mathlib.Core.Logic.{◌⊎◌}
 use mathlib.Core.Bool.{true, false, not}

@@ -1,5 +1,6 @@
 -- One step of the queue and of the levels, as a proof of the loops uses them. Assumes nothing.
--- Holds: queue-empty, queue-wait, queue-done, sent_with, fine_of, size_from, sent_from, next_of, levels-last, levels-end, levels-more
+-- Holds: queue-empty, queue-wait, queue-done, sent_with, fine_of, size_from, sent_from, next_of, levels-last, levels-end,
+--   levels-more
 use mathlib.Core.Path.{◌≡◌, refl}
 use mathlib.Core.List.{List, [], ◌∷◌, ◌++◌}
 use Prim.Native.Nat.{ℕ, zero, suc, ◌*◌, ◌≤◌, ◌<◌}

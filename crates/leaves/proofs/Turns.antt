@@ -1,8 +1,8 @@
 -- The loop over the queue of the definition's domains: the rows in one list; room for an ordering, packed leaves and queue in another;
 -- the boxes of what waits in a third. Where it begins, its two turns, and where it ends. Assumes nothing.
--- Holds: domain_box, Run, Known, head_start, head_count, head_depth, Lent, Front, front, known, lent-good, lent-some, spare-length,
---   lent-room, rows-kept, room-kept, axis-fit, wait, wait-less, next-leaves, next-leaves-less, run_end, length-extents,
---   width-most, run-first, found_all, KeptLengths, kept_next
+-- Holds: domain_box, Run, Known, head_start, head_count, head_depth, Lent, Front, front, known, lent-good, lent-some,
+--   spare-length, lent-room, rows-kept, room-kept, axis-fit, wait, wait-less, next-leaves, next-leaves-less, run_end,
+--   length-extents, width-most, run-first, found_all, KeptLengths, kept_next
 use mathlib.Core.Path.{◌≡◌, refl, sym, ap, ◌∙◌}
 use Prim.Native.Nat.{ℕ, suc, ◌+◌, ◌-◌, ◌*◌, ◌/◌, ◌^◌, ◌≤◌, ◌<◌}
 use native.Mathlib.Nat.{mul-add, mul-one, mul-le-mul_left}

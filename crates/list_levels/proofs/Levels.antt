@@ -1,7 +1,7 @@
 -- Levels that stand in packed lists pass, by counts, exactly where they pass in turn, have as many rows as counted, their domain rows are those
 -- of packing, and their domains and borrowed rows keep to the limits. Assumes nothing.
--- Holds: count_most, counts_from_lem, counts-from, counts-more, levels_held, leaves-held, none-behind, LevelsHeld, Tests, levels-held,
---   held-levels
+-- Holds: count_most, counts_from_lem, counts-from, counts-more, levels_held, leaves-held, none-behind, LevelsHeld, Tests,
+--   levels-held, held-levels
 use mathlib.Core.Path.{◌≡◌, refl, sym, ap, ◌∙◌}
 use mathlib.Core.Bool.{Bool, true, false, not, ◌&&◌}
 use mathlib.Core.Logic.{⊎_elim}

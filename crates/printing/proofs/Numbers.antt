@@ -1,5 +1,4 @@
 -- The text of one number more. Assumes nothing.
--- Holds: numbers-append, numbers-more
 use Rattle.std.proofs.Common.{◌≡◌, ℕ, ◌+◌, ◌<◌, List, [], ◌∷◌, ◌++◌, length, take, slice_index, refl, sym, ap, ◌∙◌, append_assoc, append-nil}
 use Rattle.std.proofs.lemmas.List.{take_more}
 use Rattle.printing.specs.Texts.{number_text, numbers_text}

@@ -1,5 +1,5 @@
 -- Where reading stands after each read, and what the bytes that were read decide. Assumes nothing.
--- Holds: goes_on, stops, known-more, known-open, known-ended, known-failed, known-on, known-stops, open-within, ended-within, open-decides, ended-decides
+-- Holds: goes_on, stops, known-more, known-open, known-on, known-stops, open-within, ended-within, open-decides, ended-decides
 use mathlib.Core.Logic.{⊎_elim}
 use types.Run.{OneOf}
 use denote.Enum.Declared.{tag_of}

@@ -1,6 +1,6 @@
 -- The loader on a written file, and what an accepted load hands out. Assumes nothing.
--- Holds: file_tests, tests-passed, load-accepts, load-answers, load-lists, loaded-own, loaded-well, loaded-settings, loaded-count,
---   loaded-points, loaded-file, loaded-sound, load-accepted-iff
+-- Holds: file_tests, tests-passed, load-accepts, load-answers, load-lists, loaded-own, loaded-well, loaded-settings,
+--   loaded-count, loaded-points, loaded-file, loaded-sound, load-accepted-iff
 use mathlib.Core.Path.{◌≡◌, sym, ap, ap₂, subst, ◌∙◌}
 use mathlib.Core.Logic.{◌↔◌}
 use Prim.Native.Nat.{ℕ}

@@ -1,7 +1,7 @@
 -- `read_back`: what stands in the file of a tree that passes the tests, over settings and points that the build takes, reads back as
 -- these. So the file is well-formed (`written-well`), and no other settings, points and tree have it (`file-one`). Assumes nothing.
 -- Holds: taken_is, buildable-passed, passed-small, file-parts, few-small, settings-small, tree-stowed, back-settings, back_count,
---   back-points, back-tree, read-back, written-well, file-one
+--   back-points, back-tree, read_back, written-well, file-one
 use mathlib.Core.Path.{◌≡◌, refl, sym, ap, ap₂, ◌∙◌}
 use Prim.Native.Nat.{ℕ, ◌*◌, ◌≤◌}
 use native.Mathlib.Omega.{arith}

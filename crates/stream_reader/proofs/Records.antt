@@ -1,7 +1,7 @@
 -- The records one after the other: what the definition says at each step of the reading. `job-broken`, `job-low` and `job-high` are the
 -- settings, `Reading` is the state between two records with its start (`begun`) and its steps (`reading-..`). Assumes nothing.
--- Holds: settings_whole_lem, whole_long, job-broken, job-low, job-high, Reading, begun, spot, reading-cut, reading-full, reading-more,
---   reading-over, reading-done
+-- Holds: settings_whole_lem, whole_long, job-broken, job-low, job-high, Reading, begun, spot, reading-cut, reading-full,
+--   reading-more, reading-over, reading-done
 use mathlib.Core.Path.{◌≡◌, sym, ap, ◌∙◌}
 use mathlib.Core.Bool.{Bool, true, false, ◌&&◌}
 use Prim.Native.Nat.{ℕ, suc, ◌+◌, ◌-◌, ◌*◌, ◌≤◌, ◌<◌}

@@ -2,8 +2,8 @@
 -- count, and the next slot is the slot count; a second closing changes nothing; and the list from old slot to new renames the live slots
 -- in their order, each with its coordinates. Assumes nothing.
 -- Holds: Closes, closes, closed-flags-length, closed-rows, closed-sound, live-length, live-point, closed-length, closed-point,
---   new_slot, closed_is, rename-is, new-slot, new-position, new-order, new-rows, rows-renamed, close-renames, NoGaps, closed-full,
---   closed-add, closed-twice
+--   new_slot, closed_is, rename-is, new-slot, new-position, new-order, new-rows, rows-renamed, close-renames, NoGaps,
+--   closed-full, closed-add, closed-twice
 use mathlib.Core.Path.{◌≡◌, sym, ap, ap₂, ◌∙◌}
 use mathlib.Core.Bool.{true, false, not, cond, and-false}
 use mathlib.Core.List.{List, ◌++◌, map, Memᴰ, append-nil, map-id}
