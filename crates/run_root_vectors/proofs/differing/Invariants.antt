@@ -1,7 +1,5 @@
-use mathlib.Core.Logic.{⊎_elim}
 use Prim.Native.Nat.{◌≤◌, ◌/◌, ◌-◌}
 use lib.ListN.{length}
-use borrow.Author.Rules.{rules}
 use Rattle.run_root_vectors.proofs.differing.Given as goal
 
 abbrev pub invariant-loop-i : goal.invariant-loop-i

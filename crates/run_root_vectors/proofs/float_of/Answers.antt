@@ -2,7 +2,6 @@
 use mathlib.Core.Path.{sym, ◌∙◌, subst}
 use mathlib.Core.Bool.{Bool, not}
 use lib.Dec.{T}
-use borrow.Author.Rules.{rules}
 use Rattle.run_root_vectors.proofs.float_of.Goals as goal
 
 pub float_from_bits-result : goal.float_from_bits-result

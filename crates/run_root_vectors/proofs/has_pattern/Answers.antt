@@ -1,5 +1,4 @@
 -- `run_root_vectors::has_pattern` is safe: no NaN gets past its test. Assumes nothing.
-use borrow.Author.Rules.{rules}
 use Rattle.root.proofs.Steps.{equal_no_nan}
 use Rattle.run_root_vectors.proofs.has_pattern.Goals as goal
 

@@ -1,5 +1,4 @@
 use Prim.Native.Nat.{◌≤◌, ◌-◌}
-use borrow.Author.Rules.{rules}
 use Rattle.run_root_vectors.proofs.number.Given as goal
 
 abbrev pub invariant-loop-k : goal.invariant-loop-k
