@@ -1,6 +1,4 @@
-use mathlib.Core.Path.{◌≡◌, sym}
-use lib.Seq.{length-take-le}
-use borrow.Author.Rules.{rules}
+use mathlib.Core.Path.{◌≡◌}
 use Prim.Native.Nat.{◌≤◌, ◌-◌}
 use lib.ListN.{length}
 use Rattle.run_table_calls.proofs.replay.Given as goal
