@@ -59,17 +59,19 @@ pub fn read_input<R: Read>(reader: &mut R, input: &mut [u8]) -> (Front, Option<i
     (Front::Open(done), None)
 }
 
-// The same for a file of which nothing is said: how many bytes of it are at the front of `input`, or the error.
+// The same where it does not matter whether the end was seen: how many bytes are at the front of `input`, or the error. Where the bytes that
+// the reader has left are known, these are they, up to the room.
 pub fn read_count<R: Read>(reader: &mut R, input: &mut [u8]) -> io::Result<usize>
-    ensures { IfOk result (λ n. n ≤ length input.new) }
+    ensures count { IfOk result (λ n. n ≤ length input.new) }
+    ensures bytes { IfSome (R.remaining reader.old) (λ stream. IfOk result (λ n. take (length input.new) stream ≡ take n input.new)) }
 {
     let (front, error) = read_input(reader, input);
     match (front, error) {
         (_, Some(e)) => Err(e),
         (Front::Open(n), None) => Ok(n),
         (Front::Ended(n), None) => Ok(n),
-        // does not come: `read_input` puts the error beside it
-        (Front::Failed, None) => Ok(0),
+        // `read_input` puts an error beside it
+        (Front::Failed, None) => unreachable!(),
     }
 }
 
@@ -85,7 +87,9 @@ pub fn open_argument<R: Env + Files + Alloc>(rt: &R, i: usize) -> io::Result<R::
 }
 
 // The error beside a front that failed.
-pub fn cause(error: Option<io::Error>) -> io::Error {
+pub fn cause(error: Option<io::Error>) -> io::Error
+    ensures { IfSome error (λ e. result ≡ e) }
+{
     match error {
         Some(e) => e,
         None => io::Error::other("a read failed"),
