@@ -1,0 +1,2 @@
+-- Laws of refusals and answers.
+pub mod Answers
