@@ -33,6 +33,19 @@ pub struct DomainRow {
     pub depth: usize,
 }
 
+// A tree's packed lists, as they stand in the lent memory: the leaves' own rows, the domain rows, the boxes with the covers, the
+// borrowed rows, and the number of axes. They are passed by value, as `tree: Packed<'_>`. A contract reads them by
+// specs/View.antt: `packed_of tree` in a `requires`, `packed_of tree.entry` in an `ensures`, `packed_of l.tree` in an invariant
+// and `packed_of c.args.tree` in an answer are the same record that `packed` makes of the five.
+#[derive(Clone, Copy)]
+pub struct Packed<'a> {
+    pub internals: &'a [usize],
+    pub domains: &'a [usize],
+    pub boxes: &'a [f64],
+    pub borrowed: &'a [usize],
+    pub dimensions: usize,
+}
+
 // How many floats a domain row has: those of its box, and its cover.
 pub fn row_floats(dimensions: usize) -> usize
     requires { dimensions ≤ 3 }
@@ -96,7 +109,7 @@ pub fn put_own(domains: &mut [usize], k: usize, start: usize, count: usize, dept
             internal_count: count,
             borrowed_start: 0,
             borrowed_count: 0,
-            depth: depth,
+            depth,
         },
     );
 }
