@@ -1,0 +1,35 @@
+-- The lists that a caller lends, as the definition has them, and that the same ones are lent on. Definitions only.
+use Rattle.std.specs.Prelude.{◌≡◌}
+use Rattle.definition.specs.Outcome as outcome
+use Rattle.tree_lists.specs.declared.TreeLists.{TreeLists}
+use Rattle.tree_lists.specs.declared.Room.{Room}
+use Rattle.tree_lists.specs.declared.Records.{Records}
+
+-- the lists of a tree
+abbrev pub lists_in : TreeLists → outcome.TreeLists
+lists_in l =
+    record {
+      level_points = l.level_points.now;
+      internals = l.internals.now;
+      domains = l.domains.now;
+      boxes = l.boxes.now;
+      borrowed = l.borrowed.now;
+    }
+
+-- both hold the same five lists
+pub record SameLists (l m : TreeLists) : Type 0 where
+  pub level_points : m.level_points.ghost_name ≡ l.level_points.ghost_name
+  pub internals : m.internals.ghost_name ≡ l.internals.ghost_name
+  pub domains : m.domains.ghost_name ≡ l.domains.ghost_name
+  pub boxes : m.boxes.ghost_name ≡ l.boxes.ghost_name
+  pub borrowed : m.borrowed.ghost_name ≡ l.borrowed.ghost_name
+
+-- both hold the same room
+pub record SameRoom (r s : Room) : Type 0 where
+  pub floats : s.floats.ghost_name ≡ r.floats.ghost_name
+  pub wholes : s.wholes.ghost_name ≡ r.wholes.ghost_name
+
+-- both hold the same two lists
+pub record SameRecords (r s : Records) : Type 0 where
+  pub cuts : s.cuts.ghost_name ≡ r.cuts.ghost_name
+  pub planes : s.planes.ghost_name ≡ r.planes.ghost_name

@@ -1,0 +1,2 @@
+-- What the contracts over lent lists cite.
+pub mod Lent
