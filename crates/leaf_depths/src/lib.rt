@@ -9,6 +9,7 @@ ghost use Rattle.tree_tests.specs.InTurn.{depth_passes_lem};
 pub const MOST_DEPTH: usize = 21;
 
 // Whether a leaf at this depth, in a level of so many rows, may have `own` of them: the level's rows halved as often, rounded down, or one more.
+#[tactic(auto, using(std::proofs::lemmas::Bool::Decides::nat_tests), unfolding(stored::specs::Sound::deep_enough))]
 fn size_fits(rows: usize, own: usize, depth: usize) -> bool
     ensures { result ≡ deep_enough rows own depth }
 {
@@ -16,24 +17,13 @@ fn size_fits(rows: usize, own: usize, depth: usize) -> bool
         return false;
     }
     let least = rows >> depth;
-    if own == least {
-        return true;
-    }
-    own >= 1 && own - 1 == least
+    least <= own && own - least <= 1
 }
 
 // Whether the depth of a leaf passes, where the leaf before it is at `least`, and 0 stands for none. The coarse domain is at depth 0.
+#[tactic(auto, using(std::proofs::lemmas::Bool::Decides::nat_tests), unfolding(tree_tests::specs::InTurn::depth_passes_lem))]
 pub fn depth_passes(coarse: bool, rows: usize, least: usize, own: usize, depth: usize) -> bool
     ensures { result ≡ depth_passes_lem coarse rows least own depth }
 {
-    if depth < least {
-        return false;
-    }
-    if !size_fits(rows, own, depth) {
-        return false;
-    }
-    if coarse {
-        return depth == 0;
-    }
-    true
+    least <= depth && size_fits(rows, own, depth) && (!coarse || depth == 0)
 }

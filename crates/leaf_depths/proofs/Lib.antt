@@ -1,2 +1,0 @@
--- Laws of a depth that is tested.
-pub mod Ways
