@@ -1,3 +1,2 @@
--- Laws that the proofs of the finite test cite.
-mod Bounds
+-- Laws that the proof of the finite test cites.
 mod Positions

@@ -1,45 +1,40 @@
--- `first_bad` along a list, from position i on. Assumes nothing.
-use mathlib.Core.Path.{◌≡◌, refl, sym, ap, ◌∙◌}
-use mathlib.Core.Bool.{Bool, true, false, cond}
-use mathlib.Core.List.{List, [], ◌∷◌}
-use Prim.Native.Nat.{ℕ, suc, ◌+◌, ◌<◌}
-use native.Mathlib.Numerals.{add-one}
-use lib.ListN.{length, drop, get_or}
-use lib.Seq.{drop-cons, drop-length}
-use lib.Ieee.{Float, nan}
+-- `first_bad` by the library's `position`. Assumes nothing.
+use Rattle.std.proofs.Common.{◌≡◌, refl, ℕ, suc, ◌+◌, ◌<◌, Bool, true, false, not, cond, List, [], ◌∷◌, length, Option, Some, None, MatchOption, position, nat_lt, arith}
+use Rattle.std.specs.List.{position_or_len}
+use Rattle.std.specs.Float.{float_is_finite}
+use Rattle.std.proofs.lemmas.Bool.Decides.{nat_tests}
+use Rattle.std.proofs.lemmas.List.Sums.{prefix_len-le-length}
+use lib.Ieee.{Float, nan, inf, fin}
 use lib.Ieee.Scale.{finite}
 use Rattle.definition.specs.Refusals.{first_bad}
 
-cons-finite : (i : ℕ) (x : Float) (xs : List Float) → finite x ≡ true → first_bad i (x ∷ xs) ≡ first_bad (i + 1) xs
+-- the library's test
+abbrev pub bad : Float → Bool
+bad x = not (float_is_finite x)
+
+finite-library : (x : Float) → finite x ≡ float_is_finite x
+unfolding float_is_finite
+finite-library nan = refl
+finite-library (inf s) = refl
+finite-library (fin s m e) = refl
+
+bad-from : (i : ℕ) (xs : List Float) → first_bad i xs ≡ i + position_or_len bad xs
 unfolding first_bad
-cons-finite i x xs h = ap (λ (t : Bool). cond t (first_bad (suc i) xs) i) h ∙ ap (λ (k : ℕ). first_bad k xs) (sym (add-one i))
+bad-from i [] = omega arith
+bad-from i (x ∷ xs) = rw finite-library (go (float_is_finite x) (bad-from (suc i) xs))
+  where
+    go : (b : Bool) → first_bad (suc i) xs ≡ suc i + position_or_len bad xs → cond b (first_bad (suc i) xs) i ≡ i + cond (not (not b)) (1 + position_or_len bad xs) 0
+    go true e = omega (arith, e)
+    go false e = omega arith
 
-cons-bad : (i : ℕ) (x : Float) (xs : List Float) → finite x ≡ false → first_bad i (x ∷ xs) ≡ i
-unfolding first_bad
-cons-bad i x xs h = ap (λ (t : Bool). cond t (first_bad (suc i) xs) i) h
+-- what `position` finds is the first bad value
+pub bad-found : (xs : List Float) (r : Option ℕ) → r ≡ position bad xs
+    → MatchOption r (first_bad 0 xs ≡ length xs) (λ k. (k ≡ first_bad 0 xs) × (k < length xs))
+bad-found xs r e = let at : first_bad 0 xs ≡ position_or_len bad xs = omega (arith, bad-from 0 xs) in rw e (rw at (go (nat_lt n (length xs)) refl))
+  where
+    n : ℕ
+    n = position_or_len bad xs
 
-none_left : (i : ℕ) → first_bad i [] ≡ i
-unfolding first_bad
-none_left i = refl
-
--- one more position is passed
-pub bad-later :
-    (n : ℕ) (xs : List Float) (i : ℕ) → i < length xs → finite (get_or xs i nan) ≡ true → n ≡ first_bad i (drop i xs) →
-    n ≡ first_bad (i + 1) (drop (i + 1) xs)
-bad-later n xs i l h e =
-    e
-    ∙ ap (first_bad i) (drop-cons xs i nan l)
-    ∙ cons-finite i (get_or xs i nan) (drop (suc i) xs) h
-    ∙ ap (λ (k : ℕ). first_bad (i + 1) (drop k xs)) (sym (add-one i))
-
-pub bad-here :
-    (n : ℕ) (xs : List Float) (i : ℕ) → i < length xs → finite (get_or xs i nan) ≡ false → n ≡ first_bad i (drop i xs) → i ≡ n
-bad-here n xs i l h e = sym (e ∙ ap (first_bad i) (drop-cons xs i nan l) ∙ cons-bad i (get_or xs i nan) (drop (suc i) xs) h)
-
-pub bad-none : (n : ℕ) (xs : List Float) (i : ℕ) → i ≡ length xs → n ≡ first_bad i (drop i xs) → i ≡ n
-bad-none n xs i l e =
-    sym
-    (e
-    ∙ ap (λ (k : ℕ). first_bad i (drop k xs)) l
-    ∙ ap (first_bad i) (drop-length xs)
-    ∙ none_left i)
+    go : (b : Bool) → nat_lt n (length xs) ≡ b → MatchOption (cond b (Some n) None) (n ≡ length xs) (λ k. (k ≡ n) × (k < length xs))
+    go true h = (refl, grind (arith, nat_tests))
+    go false h = grind (arith, nat_tests, prefix_len-le-length (λ x. not (bad x)) xs)

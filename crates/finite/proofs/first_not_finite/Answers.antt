@@ -1,25 +1,9 @@
--- `finite::first_not_finite` meets its contract. The invariant: the values passed are finite, so the first that is not
--- stands from i on. Assumes nothing.
-use mathlib.Core.Path.{refl, sym, ◌∙◌}
-use Prim.Native.Nat.{◌-◌}
-use native.Mathlib.Nat.{le_antisymm}
-use native.Mathlib.Omega.{arith}
-use Rattle.finite.proofs.Positions.{bad-later, bad-here, bad-none}
+-- `finite::first_not_finite` meets its contract: `position` finds the first bad value. Assumes nothing.
+use Rattle.std.proofs.Common.{rules}
+use Rattle.std.proofs.lemmas.Iterator.{YieldsList-from_slice}
+use Rattle.std.proofs.lemmas.Iterator.Search.{position_from_yields_List}
+use Rattle.finite.proofs.Positions.{bad, bad-found}
 use Rattle.finite.proofs.first_not_finite.Goals as goal
 
-pub loop-i-init : goal.loop-i-init
-loop-i-init c = (omega arith, refl)
-
-pub returns-then-not-is_finite : goal.returns-then-not-is_finite
-returns-then-not-is_finite c = bad-here _ _ _ (omega arith) (sym c.is_finite.ensures ∙ c.if-not-is_finite.true)
-    c.loop-i.invariant.1
-
-pub loop-i-preserved : goal.loop-i-preserved
-loop-i-preserved c = (
-  omega arith,
-  bad-later _ _ _ (omega arith) (sym c.is_finite.ensures ∙ c.if-not-is_finite.false)
-      c.loop-i.invariant.1,
-)
-
 pub returns : goal.returns
-returns c = bad-none _ _ _ (le_antisymm c.loop-i.invariant.0 c.loop-i-test.false) c.loop-i.invariant.1
+returns c = bad-found _ _ (position_from_yields_List bad _ _ c.position.result c.position.ensures.ran (YieldsList-from_slice _ c.iter.ensures.rest) (λ x b q k. search rules))
