@@ -1,9 +1,10 @@
 -- The code's lengths and answers as those of the definition. Definitions only.
-use Rattle.std.specs.Prelude.{ℕ}
+use Rattle.std.specs.Prelude.{Result}
 use Rattle.definition.specs.Packed.{BuildSizes}
 use Rattle.definition.specs.Outcome.{Answer, zero_sizes}
 use Rattle.build_sizes.specs.declared.BuildSizes.{BuildSizes as Lengths}
-use Rattle.build_sizes.specs.declared.SizesAnswer.{SizesAnswer}
+use Rattle.refusal.specs.declared.Refusal.{Refusal}
+use Rattle.refusal.specs.Refusals.{answer_of}
 
 -- the lengths, as the definition names them
 abbrev pub sizes_of : Lengths → BuildSizes
@@ -18,10 +19,6 @@ sizes_of l =
       wholes = l.wholes;
     }
 
--- the answer: a refusal names no place
-abbrev pub sizes_report : SizesAnswer → Answer BuildSizes
-sizes_report a = record { number = a.number; place = 0; value = sizes_of a.sizes }
-
--- the answer of a refusal
-abbrev pub refused_with : ℕ → Answer BuildSizes
-refused_with k = record { number = k; place = 0; value = zero_sizes }
+-- the answer: the lengths, which are 0 for a refusal
+abbrev pub sizes_report : Result Lengths Refusal → Answer BuildSizes
+sizes_report = answer_of sizes_of zero_sizes

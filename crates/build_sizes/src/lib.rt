@@ -5,8 +5,9 @@ ghost use Rattle.std.specs.Prelude.{◌≡◌, ◌≤◌};
 ghost use Rattle.definition.specs.Packed.{build_stated};
 ghost use Rattle.definition.specs.Refusals.{most_points, most_neighbours};
 ghost use Rattle.definition.specs.Outcome.{sizes_answer};
-ghost use Rattle.build_sizes.specs.Sizes.{sizes_of, sizes_report, refused_with};
+ghost use Rattle.build_sizes.specs.Sizes.{sizes_of, sizes_report};
 
+use refusal::Refusal;
 use rows::{MOST_NEIGHBOURS, MOST_POINTS};
 
 // The lengths of the five lists, and of the two lists of working room.
@@ -19,13 +20,6 @@ pub struct BuildSizes {
     pub borrowed: usize,
     pub floats: usize,
     pub wholes: usize,
-}
-
-// What a call answers: the number of a refusal, 0 for none, and the lengths, which are 0 for a refusal.
-#[derive(Clone, Copy)]
-pub struct SizesAnswer {
-    pub number: usize,
-    pub sizes: BuildSizes,
 }
 
 // The lengths for n points on `dimensions` axes with this neighbour count.
@@ -46,46 +40,22 @@ pub fn stated_sizes(dimensions: usize, n: usize, neighbours: usize) -> BuildSize
     }
 }
 
-// A refusal: every length is 0.
-fn refusal(number: usize) -> SizesAnswer
-    ensures { sizes_report result ≡ refused_with number }
-{
-    SizesAnswer {
-        number: number,
-        sizes: BuildSizes {
-            level_points: 0,
-            internals: 0,
-            domains: 0,
-            boxes: 0,
-            borrowed: 0,
-            floats: 0,
-            wholes: 0,
-        },
-    }
-}
-
 // The lengths, asked alone. Refusals in the build's order: 1, 5, 6, 8.
-pub fn build_sizes(n: usize, dimensions: usize, neighbours: u32) -> SizesAnswer
+#[tactic(auto, unfolding(definition::specs::Outcome::sizes_answer, definition::specs::Outcome::number_of, definition::specs::Outcome::place_of, definition::specs::Outcome::value_of, definition::specs::Refusals::sizes_verdict, definition::specs::Refusals::verdict,))]
+pub fn build_sizes(n: usize, dimensions: usize, neighbours: u32) -> Result<BuildSizes, Refusal>
     ensures { sizes_report result ≡ sizes_answer dimensions n neighbours }
 {
-    if dimensions < 1 {
-        return refusal(1);
-    }
-    if 3 < dimensions {
-        return refusal(1);
+    if dimensions < 1 || 3 < dimensions {
+        return Err(Refusal::WrongDimension);
     }
     if MOST_NEIGHBOURS < neighbours {
-        return refusal(5);
+        return Err(Refusal::ManyNeighbours);
     }
     if n == 0 {
-        return refusal(6);
+        return Err(Refusal::NoPoints);
     }
     if MOST_POINTS < n {
-        return refusal(8);
+        return Err(Refusal::ManyPoints);
     }
-    let sizes = stated_sizes(dimensions, n, neighbours as usize);
-    SizesAnswer {
-        number: 0,
-        sizes: sizes,
-    }
+    Ok(stated_sizes(dimensions, n, neighbours as usize))
 }

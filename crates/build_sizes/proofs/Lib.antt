@@ -1,2 +1,0 @@
--- Laws that the proofs of the lengths cite.
-mod Verdicts
