@@ -1,22 +1,18 @@
 -- The code's answer and counts, and the lists of a tree, as those of the definition. Definitions only.
-use Rattle.std.specs.Prelude.{ℕ, List, Float}
+use Rattle.std.specs.Prelude.{ℕ, List, Float, Result}
 use Rattle.definition.specs.Packed.{Counts}
-use Rattle.definition.specs.Outcome.{Answer, TreeLists}
+use Rattle.definition.specs.Outcome.{Answer, TreeLists, zero_counts}
 use Rattle.tree_answer.specs.declared.DDMTree.{DDMTree}
-use Rattle.tree_answer.specs.declared.TreeCounts.{TreeCounts}
+use Rattle.refusal.specs.declared.Refusal.{Refusal}
+use Rattle.refusal.specs.Refusals.{answer_of}
+
+-- the counts, as the definition names them
+abbrev pub counts_given : DDMTree → Counts
+counts_given t = record { levels = t.levels; rows = t.rows; domains = t.domains }
 
 -- the answer: number and place of a refusal, and the counts
-abbrev pub tree_answer_lem : DDMTree → Answer Counts
-tree_answer_lem t =
-    record {
-      number = t.number;
-      place = t.place;
-      value = record { levels = t.levels; rows = t.rows; domains = t.domains };
-    }
-
--- the counts alone
-abbrev pub counts_given : TreeCounts → Counts
-counts_given c = record { levels = c.levels; rows = c.rows; domains = c.domains }
+abbrev pub tree_answer_lem : Result DDMTree Refusal → Answer Counts
+tree_answer_lem = answer_of counts_given zero_counts
 
 -- the lists of a tree
 abbrev pub lists_of : List ℕ → List ℕ → List ℕ → List Float → List ℕ → TreeLists

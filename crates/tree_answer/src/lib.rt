@@ -1,37 +1,27 @@
-// What a build or a load answers, and the counts of a tree by themselves.
+// The counts of a tree, which a build and a load answer with and a caller hands back.
 #![tactic(auto)]
 
 ghost use Rattle.std.specs.Prelude.{◌≡◌};
 ghost use Rattle.definition.specs.Outcome.{zero_counts};
-ghost use Rattle.tree_answer.specs.Answers.{tree_answer_lem};
+ghost use Rattle.tree_answer.specs.Answers.{counts_given};
 
-// The number of a refusal (0 for none) and its place; how many levels the tree has, and how many rows and domains each of them has.
+// How many levels the tree has, and how many rows and domains each of them has.
 #[derive(Clone, Copy)]
 pub struct DDMTree {
-    pub number: usize,
-    pub place: usize,
     pub levels: usize,
     pub rows: [usize; 4],
     pub domains: [usize; 4],
 }
 
-// The counts alone, as a caller hands them back.
-#[derive(Clone, Copy)]
-pub struct TreeCounts {
-    pub levels: usize,
-    pub rows: [usize; 4],
-    pub domains: [usize; 4],
-}
-
-// A refusal: no counts.
-pub fn refusal(number: usize, place: usize) -> DDMTree
-    ensures { tree_answer_lem result ≡ record { number = number; place = place; value = zero_counts } }
-{
-    DDMTree {
-        number: number,
-        place: place,
-        levels: 0,
-        rows: [0; 4],
-        domains: [0; 4],
+impl DDMTree {
+    // No counts: what a caller is told of a refused call.
+    pub fn none() -> DDMTree
+        ensures { counts_given result ≡ zero_counts }
+    {
+        DDMTree {
+            levels: 0,
+            rows: [0; 4],
+            domains: [0; 4],
+        }
     }
 }
