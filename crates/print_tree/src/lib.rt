@@ -5,8 +5,11 @@
 ghost use Rattle.std.specs.Prelude.{ℕ, ◌+◌, ◌<◌};
 ghost use Rattle.formats.specs.Printout.{domain_line, fine_lines, levels_text, tree_text};
 ghost use Rattle.bytes_out.specs.Wrote.{Wrote, RoomFor};
-ghost use Rattle.packed.specs.Reading.{packed, RowFits, read_leaves, Stands, read_levels};
+ghost use Rattle.packed.specs.Reading.{RowFits, read_leaves, Stands, read_levels};
+ghost use Rattle.packed.specs.View.{packed_of};
 ghost use Rattle.print_tree.specs.Unpack.{leaf_of, box_part, points_line, leaf_line, fine_level_text, coarse_level_text};
+
+use packed::Packed;
 
 // The bounds of a box; a dash for the coarse domain's.
 fn write_box(fine: bool, bounds: &[f64], out: &mut [u8], at: usize) -> usize
@@ -55,36 +58,25 @@ fn write_level(t: usize, rows: &[usize], out: &mut [u8], at: usize) -> usize
 }
 
 // The line of a domain, from the domain row number j: its number is i.
-fn write_leaf(
-    fine: bool,
-    i: usize,
-    j: usize,
-    internals: &[usize],
-    domains: &[usize],
-    boxes: &[f64],
-    borrowed: &[usize],
-    dimensions: usize,
-    out: &mut [u8],
-    at: usize,
-) -> usize
-    requires row_fits { RowFits (packed internals.now domains.now boxes.now borrowed.now dimensions) j }
-    requires room_for { RoomFor out.old at (leaf_line fine i (packed internals.now domains.now boxes.now borrowed.now dimensions) j) }
-    ensures { Wrote out.old at (leaf_line fine i (packed internals.now domains.now boxes.now borrowed.now dimensions) j) result out.new }
+fn write_leaf(fine: bool, i: usize, j: usize, tree: Packed<'_>, out: &mut [u8], at: usize) -> usize
+    requires row_fits { RowFits (packed_of tree) j }
+    requires room_for { RoomFor out.old at (leaf_line fine i (packed_of tree) j) }
+    ensures { Wrote out.old at (leaf_line fine i (packed_of tree.entry) j) result out.new }
 {
-    let row = packed::read_row(domains, j);
+    let row = packed::read_row(tree.domains, j);
     let o = row.internal_start;
     let oe = o + row.internal_count;
     let b = row.borrowed_start;
     let be = b + row.borrowed_count;
-    let x = packed::floats_before(dimensions, j);
-    let xe = x + boxes::box_width(dimensions);
-    let cover = boxes[xe];
+    let x = packed::floats_before(tree.dimensions, j);
+    let xe = x + boxes::box_width(tree.dimensions);
+    let cover = tree.boxes[xe];
     write_domain(
         i,
-        &internals[o..oe],
-        &borrowed[b..be],
+        &tree.internals[o..oe],
+        &tree.borrowed[b..be],
         fine,
-        &boxes[x..xe],
+        &tree.boxes[x..xe],
         cover,
         row.depth,
         out,
@@ -93,37 +85,14 @@ fn write_leaf(
 }
 
 // The lines of m fine domains, from the domain row number j on.
-fn write_leaves(
-    j: usize,
-    m: usize,
-    internals: &[usize],
-    domains: &[usize],
-    boxes: &[f64],
-    borrowed: &[usize],
-    dimensions: usize,
-    out: &mut [u8],
-    at: usize,
-) -> usize
-    requires by_index { (i : ℕ) → i < m → RowFits (packed internals.now domains.now boxes.now borrowed.now dimensions) (j + i) }
-    requires room_for { RoomFor out.old at (fine_lines 0 (read_leaves (packed internals.now domains.now boxes.now borrowed.now dimensions) j m)) }
-    ensures { Wrote out.old at (fine_lines 0 (read_leaves (packed internals.now domains.now boxes.now borrowed.now dimensions) j m)) result out.new }
+fn write_leaves(j: usize, m: usize, tree: Packed<'_>, out: &mut [u8], at: usize) -> usize
+    requires by_index { (i : ℕ) → i < m → RowFits (packed_of tree) (j + i) }
+    requires room_for { RoomFor out.old at (fine_lines 0 (read_leaves (packed_of tree) j m)) }
+    ensures { Wrote out.old at (fine_lines 0 (read_leaves (packed_of tree.entry) j m)) result out.new }
 {
     let mut next = at;
-    let mut i = 0;
-    while i < m {
-        next = write_leaf(
-            true,
-            i,
-            j + i,
-            internals,
-            domains,
-            boxes,
-            borrowed,
-            dimensions,
-            out,
-            next,
-        );
-        i += 1;
+    for i in 0..m {
+        next = write_leaf(true, i, j + i, tree, out, next);
     }
     next
 }
@@ -134,22 +103,16 @@ fn write_fine(
     rows: &[usize],
     j: usize,
     m: usize,
-    internals: &[usize],
-    domains: &[usize],
-    boxes: &[f64],
-    borrowed: &[usize],
-    dimensions: usize,
+    tree: Packed<'_>,
     out: &mut [u8],
     at: usize,
 ) -> usize
-    requires by_index { (i : ℕ) → i < m → RowFits (packed internals.now domains.now boxes.now borrowed.now dimensions) (j + i) }
-    requires room_for { RoomFor out.old at (fine_level_text t rows.now (packed internals.now domains.now boxes.now borrowed.now dimensions) j m) }
-    ensures { Wrote out.old at (fine_level_text t rows.now (packed internals.now domains.now boxes.now borrowed.now dimensions) j m) result out.new }
+    requires by_index { (i : ℕ) → i < m → RowFits (packed_of tree) (j + i) }
+    requires room_for { RoomFor out.old at (fine_level_text t rows.now (packed_of tree) j m) }
+    ensures { Wrote out.old at (fine_level_text t rows.now (packed_of tree.entry) j m) result out.new }
 {
     let next = write_level(t, rows, out, at);
-    write_leaves(
-        j, m, internals, domains, boxes, borrowed, dimensions, out, next,
-    )
+    write_leaves(j, m, tree, out, next)
 }
 
 // The lines of the coarse level number t, whose one domain is the domain row number j.
@@ -157,22 +120,16 @@ fn write_coarse(
     t: usize,
     rows: &[usize],
     j: usize,
-    internals: &[usize],
-    domains: &[usize],
-    boxes: &[f64],
-    borrowed: &[usize],
-    dimensions: usize,
+    tree: Packed<'_>,
     out: &mut [u8],
     at: usize,
 ) -> usize
-    requires row_fits { RowFits (packed internals.now domains.now boxes.now borrowed.now dimensions) j }
-    requires room_for { RoomFor out.old at (coarse_level_text t rows.now (packed internals.now domains.now boxes.now borrowed.now dimensions) j) }
-    ensures { Wrote out.old at (coarse_level_text t rows.now (packed internals.now domains.now boxes.now borrowed.now dimensions) j) result out.new }
+    requires row_fits { RowFits (packed_of tree) j }
+    requires room_for { RoomFor out.old at (coarse_level_text t rows.now (packed_of tree) j) }
+    ensures { Wrote out.old at (coarse_level_text t rows.now (packed_of tree.entry) j) result out.new }
 {
     let next = write_level(t, rows, out, at);
-    write_leaf(
-        false, 0, j, internals, domains, boxes, borrowed, dimensions, out, next,
-    )
+    write_leaf(false, 0, j, tree, out, next)
 }
 
 // The lines of all levels.
@@ -181,56 +138,27 @@ fn write_levels(
     rows: &[usize],
     counts: &[usize],
     level_points: &[usize],
-    internals: &[usize],
-    domains: &[usize],
-    boxes: &[f64],
-    borrowed: &[usize],
-    dimensions: usize,
+    tree: Packed<'_>,
     out: &mut [u8],
     at: usize,
 ) -> usize
-    requires stands { Stands (packed internals.now domains.now boxes.now borrowed.now dimensions) level_points.now rows.now counts.now levels }
-    requires room_for { RoomFor out.old at (levels_text 0 (read_levels (packed internals.now domains.now boxes.now borrowed.now dimensions) level_points.now rows.now counts.now levels)) }
-    ensures { Wrote out.old at (levels_text 0 (read_levels (packed internals.now domains.now boxes.now borrowed.now dimensions) level_points.now rows.now counts.now levels)) result out.new }
+    requires stands { Stands (packed_of tree) level_points.now rows.now counts.now levels }
+    requires room_for { RoomFor out.old at (levels_text 0 (read_levels (packed_of tree) level_points.now rows.now counts.now levels)) }
+    ensures { Wrote out.old at (levels_text 0 (read_levels (packed_of tree.entry) level_points.now rows.now counts.now levels)) result out.new }
 {
     let last = levels - 1;
     let mut next = at;
-    let mut t = 0;
     let mut a = 0;
     let mut j = 0;
-    while t < last {
+    for t in 0..last {
         let e = a + rows[t];
         let m = counts[t];
-        next = write_fine(
-            t,
-            &level_points[a..e],
-            j,
-            m,
-            internals,
-            domains,
-            boxes,
-            borrowed,
-            dimensions,
-            out,
-            next,
-        );
+        next = write_fine(t, &level_points[a..e], j, m, tree, out, next);
         a = e;
         j += m;
-        t += 1;
     }
     let e = a + rows[last];
-    write_coarse(
-        last,
-        &level_points[a..e],
-        j,
-        internals,
-        domains,
-        boxes,
-        borrowed,
-        dimensions,
-        out,
-        next,
-    )
+    write_coarse(last, &level_points[a..e], j, tree, out, next)
 }
 
 // The whole tree: its levels with their row and domain counts, and the packed lists.
@@ -239,31 +167,15 @@ pub fn write_tree(
     rows: &[usize],
     counts: &[usize],
     level_points: &[usize],
-    internals: &[usize],
-    domains: &[usize],
-    boxes: &[f64],
-    borrowed: &[usize],
-    dimensions: usize,
+    tree: Packed<'_>,
     out: &mut [u8],
     at: usize,
 ) -> usize
-    requires stands { Stands (packed internals.now domains.now boxes.now borrowed.now dimensions) level_points.now rows.now counts.now levels }
-    requires room_for { RoomFor out.old at (tree_text (read_levels (packed internals.now domains.now boxes.now borrowed.now dimensions) level_points.now rows.now counts.now levels)) }
-    ensures { Wrote out.old at (tree_text (read_levels (packed internals.now domains.now boxes.now borrowed.now dimensions) level_points.now rows.now counts.now levels)) result out.new }
+    requires stands { Stands (packed_of tree) level_points.now rows.now counts.now levels }
+    requires room_for { RoomFor out.old at (tree_text (read_levels (packed_of tree) level_points.now rows.now counts.now levels)) }
+    ensures { Wrote out.old at (tree_text (read_levels (packed_of tree.entry) level_points.now rows.now counts.now levels)) result out.new }
 {
     let said = print_texts::write_numbered(b"levels ", levels, out, at);
     let next = print_texts::write_byte(10, out, said);
-    write_levels(
-        levels,
-        rows,
-        counts,
-        level_points,
-        internals,
-        domains,
-        boxes,
-        borrowed,
-        dimensions,
-        out,
-        next,
-    )
+    write_levels(levels, rows, counts, level_points, tree, out, next)
 }

@@ -1,7 +1,7 @@
 -- `print_tree::write_leaf` meets its contract. Assumes nothing.
 use Rattle.print_tree.proofs.Leaves.{leaf-line}
 use Rattle.bytes_out.proofs.Wrote.{spelt, room-spelt}
-use Rattle.packed.specs.Reading.{packed}
+use Rattle.packed.specs.View.{packed_of}
 use mathlib.Core.Path.{sym}
 use Rattle.print_tree.proofs.write_leaf.Goals as goal
 
@@ -12,7 +12,7 @@ write_domain-requires c = let start = c in
     let from = c.floats_before-x in
     let width = c.box_width in
     room-spelt
-    (leaf-line a.fine a.i (packed a.internals.now a.domains.now a.boxes.now a.borrowed.now a.dimensions) a.j row.result row.ensures from.result
+    (leaf-line a.fine a.i (packed_of a.tree) a.j row.result row.ensures from.result
     width.result from.ensures width.ensures start.requires.row_fits)
     start.requires.room_for
 
@@ -23,6 +23,6 @@ returns c = let start = c in
     let from = c.floats_before-x in
     let width = c.box_width in
     spelt (sym
-    (leaf-line a.fine a.i (packed a.internals.now a.domains.now a.boxes.now a.borrowed.now a.dimensions) a.j row.result row.ensures from.result
+    (leaf-line a.fine a.i (packed_of a.tree) a.j row.result row.ensures from.result
     width.result from.ensures width.ensures start.requires.row_fits))
     c.write_domain.ensures

@@ -2,7 +2,7 @@
 use Rattle.print_tree.proofs.Levels.{front_text, fine_at, front-none, front-grows, total-none, fine-here, coarse-here, levels-whole}
 use Rattle.lists.proofs.Sums.{total-step}
 use Rattle.print_tree.proofs.Grow.{grown-room, grown}
-use Rattle.packed.specs.Reading.{packed}
+use Rattle.packed.specs.View.{packed_of}
 use Rattle.packed.proofs.Standing.{rows_inside, row_fits, domains-inside}
 use Rattle.bytes_out.proofs.Wrote.{spelt, room-spelt, room-first, room_next, wrote_then, wrote_none}
 use Rattle.lists.specs.Lists.{total}
@@ -11,7 +11,6 @@ use native.Mathlib.Nat.{add-zero}
 use Prim.Native.Nat.{ℕ, ◌+◌, ◌-◌}
 use mathlib.Core.Path.{◌≡◌, refl, sym, ap, ◌∙◌}
 use native.Mathlib.Omega.{arith}
-use borrow.Author.Rules.{rules}
 use Rattle.print_tree.proofs.write_levels.Goals as goal
 
 pub overflow_sub-last : goal.overflow_sub-last
@@ -20,15 +19,12 @@ overflow_sub-last c = omega (arith, c.requires.stands.some)
 pub loop-t-init : goal.loop-t-init
 loop-t-init c = let start = c in
     let a = start.args in
-    let p = packed a.internals.now a.domains.now a.boxes.now a.borrowed.now a.dimensions in
+    let p = packed_of a.tree in
     let s = start.requires.stands in (
       total-none a.rows.now,
       total-none a.counts.now,
       spelt (sym (front-none p a.level_points.now a.rows.now a.counts.now))
           (wrote_none _ _),
-      search rules,
-      refl,
-      refl,
     )
 
 pub bounds-rows-t : goal.bounds-rows-t
@@ -37,13 +33,13 @@ bounds-rows-t c = omega (arith, c.requires.stands.rowed)
 pub overflow_add-e : goal.overflow_add-e
 overflow_add-e c = let start = c in
     let a = start.args in
-    let p = packed a.internals.now a.domains.now a.boxes.now a.borrowed.now a.dimensions in
+    let p = packed_of a.tree in
     let s = start.requires.stands in
     let v = c.loop-t in
     omega (
       arith,
       rows_inside p a.level_points.now a.rows.now a.counts.now v.t v.a v.j v.invariant.0 v.invariant.1 a.levels s
-          (omega (arith, s.some, v.invariant.3)),
+          (omega (arith, s.some, c.loop-t-test.true)),
       start.well_formed,
     )
 
@@ -53,35 +49,35 @@ bounds-counts-t c = omega (arith, c.requires.stands.counted)
 pub offset_bounds-level_points-a : goal.offset_bounds-level_points-a
 offset_bounds-level_points-a c = let start = c in
     let a = start.args in
-    let p = packed a.internals.now a.domains.now a.boxes.now a.borrowed.now a.dimensions in
+    let p = packed_of a.tree in
     let s = start.requires.stands in
     let v = c.loop-t in
     omega (
       arith,
       rows_inside p a.level_points.now a.rows.now a.counts.now v.t v.a v.j v.invariant.0 v.invariant.1 a.levels s
-          (omega (arith, s.some, v.invariant.3)),
+          (omega (arith, s.some, c.loop-t-test.true)),
       start.well_formed,
     )
 
 pub slice_bounds-write_fine-end : goal.slice_bounds-write_fine-end
 slice_bounds-write_fine-end c = let start = c in
     let a = start.args in
-    let p = packed a.internals.now a.domains.now a.boxes.now a.borrowed.now a.dimensions in
+    let p = packed_of a.tree in
     let s = start.requires.stands in
     let v = c.loop-t in
-    rows_inside p a.level_points.now a.rows.now a.counts.now v.t v.a v.j v.invariant.0 v.invariant.1 a.levels s (omega (arith, s.some, v.invariant.3))
+    rows_inside p a.level_points.now a.rows.now a.counts.now v.t v.a v.j v.invariant.0 v.invariant.1 a.levels s (omega (arith, s.some, c.loop-t-test.true))
 
 pub write_fine-next-requires : goal.write_fine-next-requires
 write_fine-next-requires c = let start = c in
     let a = start.args in
-    let p = packed a.internals.now a.domains.now a.boxes.now a.borrowed.now a.dimensions in
+    let p = packed_of a.tree in
     let s = start.requires.stands in
     let v = c.loop-t in
     let r = room-first _ _ (room-spelt (levels-whole p a.level_points.now a.rows.now a.counts.now a.levels (a.levels - 1) s refl) start.requires.room_for) in
     let g = grown-room (front_text p a.level_points.now a.rows.now a.counts.now) (fine_at p a.level_points.now a.rows.now a.counts.now)
     (front-grows p a.level_points.now a.rows.now a.counts.now) (a.levels - 1) v.t (omega arith) r v.invariant.2 in record {
       by_index = row_fits p a.level_points.now a.rows.now a.counts.now v.t v.a v.j v.invariant.0 v.invariant.1 a.levels s
-          (omega (arith, s.some, v.invariant.3));
+          (omega (arith, s.some, c.loop-t-test.true));
       room_for = room-spelt
           (fine-here p a.level_points.now a.rows.now a.counts.now v.t v.a v.j v.invariant.0 v.invariant.1) g;
     }
@@ -89,20 +85,20 @@ write_fine-next-requires c = let start = c in
 pub overflow_add-j : goal.overflow_add-j
 overflow_add-j c = let start = c in
     let a = start.args in
-    let p = packed a.internals.now a.domains.now a.boxes.now a.borrowed.now a.dimensions in
+    let p = packed_of a.tree in
     let s = start.requires.stands in
     let v = c.loop-t in
     omega (
       arith,
       domains-inside p a.level_points.now a.rows.now a.counts.now v.t v.a v.j v.invariant.0 v.invariant.1 a.levels s
-          (omega (arith, s.some, v.invariant.3)),
+          (omega (arith, s.some, c.loop-t-test.true)),
       start.well_formed,
     )
 
 pub loop-t-preserved : goal.loop-t-preserved
 loop-t-preserved c = let start = c in
     let a = start.args in
-    let p = packed a.internals.now a.domains.now a.boxes.now a.borrowed.now a.dimensions in
+    let p = packed_of a.tree in
     let s = start.requires.stands in
     let v = c.loop-t in
     let r = room-first _ _ (room-spelt (levels-whole p a.level_points.now a.rows.now a.counts.now a.levels (a.levels - 1) s refl) start.requires.room_for) in
@@ -114,9 +110,6 @@ loop-t-preserved c = let start = c in
       g (spelt
           (sym (fine-here p a.level_points.now a.rows.now a.counts.now v.t v.a v.j v.invariant.0 v.invariant.1))
           c.write_fine-next.ensures),
-      search rules,
-      v.invariant.4,
-      search rules,
     )
 
 pub bounds-rows-last : goal.bounds-rows-last
@@ -126,10 +119,10 @@ bounds-rows-last c = let start = c in
 pub overflow_add-e-2 : goal.overflow_add-e-2
 overflow_add-e-2 c = let start = c in
     let a = start.args in
-    let p = packed a.internals.now a.domains.now a.boxes.now a.borrowed.now a.dimensions in
+    let p = packed_of a.tree in
     let s = start.requires.stands in
     let v = c.loop-t in
-    let e : v.t ≡ a.levels - 1 = omega (arith, v.invariant.3, c.loop-t-test.false) in
+    let e : v.t ≡ a.levels - 1 = omega (arith, v.auto.t-end, c.loop-t-test.false) in
     let ea : v.a ≡ total (take (a.levels - 1) a.rows.now) = v.invariant.0 ∙ ap (λ (k : ℕ). total (take k a.rows.now)) e in
     let ej : v.j ≡ total (take (a.levels - 1) a.counts.now) = v.invariant.1 ∙ ap (λ (k : ℕ). total (take k a.counts.now)) e in
     omega (arith, rows_inside p a.level_points.now a.rows.now a.counts.now (a.levels - 1) v.a v.j ea ej a.levels s (omega (arith, s.some)), start.well_formed)
@@ -137,10 +130,10 @@ overflow_add-e-2 c = let start = c in
 pub offset_bounds-level_points-a-2 : goal.offset_bounds-level_points-a-2
 offset_bounds-level_points-a-2 c = let start = c in
     let a = start.args in
-    let p = packed a.internals.now a.domains.now a.boxes.now a.borrowed.now a.dimensions in
+    let p = packed_of a.tree in
     let s = start.requires.stands in
     let v = c.loop-t in
-    let e : v.t ≡ a.levels - 1 = omega (arith, v.invariant.3, c.loop-t-test.false) in
+    let e : v.t ≡ a.levels - 1 = omega (arith, v.auto.t-end, c.loop-t-test.false) in
     let ea : v.a ≡ total (take (a.levels - 1) a.rows.now) = v.invariant.0 ∙ ap (λ (k : ℕ). total (take k a.rows.now)) e in
     let ej : v.j ≡ total (take (a.levels - 1) a.counts.now) = v.invariant.1 ∙ ap (λ (k : ℕ). total (take k a.counts.now)) e in
     omega (arith, rows_inside p a.level_points.now a.rows.now a.counts.now (a.levels - 1) v.a v.j ea ej a.levels s (omega (arith, s.some)), start.well_formed)
@@ -148,10 +141,10 @@ offset_bounds-level_points-a-2 c = let start = c in
 pub slice_bounds-write_coarse-end : goal.slice_bounds-write_coarse-end
 slice_bounds-write_coarse-end c = let start = c in
     let a = start.args in
-    let p = packed a.internals.now a.domains.now a.boxes.now a.borrowed.now a.dimensions in
+    let p = packed_of a.tree in
     let s = start.requires.stands in
     let v = c.loop-t in
-    let e : v.t ≡ a.levels - 1 = omega (arith, v.invariant.3, c.loop-t-test.false) in
+    let e : v.t ≡ a.levels - 1 = omega (arith, v.auto.t-end, c.loop-t-test.false) in
     let ea : v.a ≡ total (take (a.levels - 1) a.rows.now) = v.invariant.0 ∙ ap (λ (k : ℕ). total (take k a.rows.now)) e in
     let ej : v.j ≡ total (take (a.levels - 1) a.counts.now) = v.invariant.1 ∙ ap (λ (k : ℕ). total (take k a.counts.now)) e in
     rows_inside p a.level_points.now a.rows.now a.counts.now (a.levels - 1) v.a v.j ea ej a.levels s (omega (arith, s.some))
@@ -159,10 +152,10 @@ slice_bounds-write_coarse-end c = let start = c in
 pub write_coarse-requires : goal.write_coarse-requires
 write_coarse-requires c = let start = c in
     let a = start.args in
-    let p = packed a.internals.now a.domains.now a.boxes.now a.borrowed.now a.dimensions in
+    let p = packed_of a.tree in
     let s = start.requires.stands in
     let v = c.loop-t in
-    let e : v.t ≡ a.levels - 1 = omega (arith, v.invariant.3, c.loop-t-test.false) in
+    let e : v.t ≡ a.levels - 1 = omega (arith, v.auto.t-end, c.loop-t-test.false) in
     let ea : v.a ≡ total (take (a.levels - 1) a.rows.now) = v.invariant.0 ∙ ap (λ (k : ℕ). total (take k a.rows.now)) e in
     let ej : v.j ≡ total (take (a.levels - 1) a.counts.now) = v.invariant.1 ∙ ap (λ (k : ℕ). total (take k a.counts.now)) e in
     let w = spelt (ap (front_text p a.level_points.now a.rows.now a.counts.now) e) v.invariant.2 in
@@ -176,10 +169,10 @@ write_coarse-requires c = let start = c in
 pub returns : goal.returns
 returns c = let start = c in
     let a = start.args in
-    let p = packed a.internals.now a.domains.now a.boxes.now a.borrowed.now a.dimensions in
+    let p = packed_of a.tree in
     let s = start.requires.stands in
     let v = c.loop-t in
-    let e : v.t ≡ a.levels - 1 = omega (arith, v.invariant.3, c.loop-t-test.false) in
+    let e : v.t ≡ a.levels - 1 = omega (arith, v.auto.t-end, c.loop-t-test.false) in
     let ea : v.a ≡ total (take (a.levels - 1) a.rows.now) = v.invariant.0 ∙ ap (λ (k : ℕ). total (take k a.rows.now)) e in
     let ej : v.j ≡ total (take (a.levels - 1) a.counts.now) = v.invariant.1 ∙ ap (λ (k : ℕ). total (take k a.counts.now)) e in
     let w = spelt (ap (front_text p a.level_points.now a.rows.now a.counts.now) e) v.invariant.2 in

@@ -1,5 +1,6 @@
 -- `print_tree::write_tree` meets its contract. Assumes nothing.
-use Rattle.packed.specs.Reading.{packed, read_levels}
+use Rattle.packed.specs.Reading.{read_levels}
+use Rattle.packed.specs.View.{packed_of}
 use Rattle.print_tree.proofs.Levels.{how-many}
 use Rattle.formats.specs.Printout.{ascii}
 use Rattle.print_texts.proofs.Writing.{begin, text-room, text-added, finish}
@@ -10,7 +11,7 @@ pub write_numbered-said-requires : goal.write_numbered-said-requires
 unfolding ascii
 write_numbered-said-requires c = let start = c in
     let a = start.args in
-    let p = packed a.internals.now a.domains.now a.boxes.now a.borrowed.now a.dimensions in
+    let p = packed_of a.tree in
     let ls = read_levels p a.level_points.now a.rows.now a.counts.now a.levels in
     let e = tree-texts a.levels ls (how-many p a.level_points.now a.rows.now a.counts.now a.levels) in
     let w0 = begin (tree_texts a.levels ls) e start.requires.room_for in
@@ -20,7 +21,7 @@ pub write_byte-next-requires : goal.write_byte-next-requires
 unfolding ascii
 write_byte-next-requires c = let start = c in
     let a = start.args in
-    let p = packed a.internals.now a.domains.now a.boxes.now a.borrowed.now a.dimensions in
+    let p = packed_of a.tree in
     let ls = read_levels p a.level_points.now a.rows.now a.counts.now a.levels in
     let e = tree-texts a.levels ls (how-many p a.level_points.now a.rows.now a.counts.now a.levels) in
     let w0 = begin (tree_texts a.levels ls) e start.requires.room_for in
@@ -31,7 +32,7 @@ pub write_levels-requires : goal.write_levels-requires
 unfolding ascii
 write_levels-requires c = let start = c in
     let a = start.args in
-    let p = packed a.internals.now a.domains.now a.boxes.now a.borrowed.now a.dimensions in
+    let p = packed_of a.tree in
     let ls = read_levels p a.level_points.now a.rows.now a.counts.now a.levels in
     let e = tree-texts a.levels ls (how-many p a.level_points.now a.rows.now a.counts.now a.levels) in
     let w0 = begin (tree_texts a.levels ls) e start.requires.room_for in
@@ -46,7 +47,7 @@ pub returns : goal.returns
 unfolding ascii
 returns c = let start = c in
     let a = start.args in
-    let p = packed a.internals.now a.domains.now a.boxes.now a.borrowed.now a.dimensions in
+    let p = packed_of a.tree in
     let ls = read_levels p a.level_points.now a.rows.now a.counts.now a.levels in
     let e = tree-texts a.levels ls (how-many p a.level_points.now a.rows.now a.counts.now a.levels) in
     let w0 = begin (tree_texts a.levels ls) e start.requires.room_for in
