@@ -1,16 +1,16 @@
 -- Sets of rows as bits: no row, one row more, one less, and sets that agree. Assumes nothing.
 -- Holds: bit-tells, marked-within, marked-bit, unmarked-bit, marked-same, mark-adds, unmark-takes, held, bits-marked,
---   marked-held, asked-bit, asked-within, marked-none, marked-zeros, below-clear, below-start, below-marked, below_end
+--   marked-held, asked-bit, asked-within, marked-none, marked-zeros
 use mathlib.Core.Path.{◌≡◌, refl, sym, ap, ◌∙◌}
 use mathlib.Core.Logic.{⊎_elim}
 use mathlib.Core.Bool.{Bool, true, false, not, ◌&&◌, ◌||◌, and-false}
-use Prim.Native.Nat.{ℕ, zero, suc, ◌+◌, ◌*◌, ◌/◌, ◌%◌, ◌^◌, ◌≤◌, ◌<◌}
+use Prim.Native.Nat.{ℕ, zero, suc, ◌*◌, ◌/◌, ◌%◌, ◌^◌, ◌≤◌, ◌<◌}
 use native.Mathlib.Nat.{zero-div, mod-lt}
 use native.Mathlib.Omega.{arith}
 use mathlib.Core.List.{List}
-use lib.Dec.{eqb, ltb}
+use lib.Dec.{eqb}
 use lib.ListN.{length, get_or, replicate, length-replicate, get_or-replicate, get_or-eq_default}
-use borrow.Author.Tests.{eq-eqb, ne_eqb, lt-ltb, le-ltb}
+use borrow.Author.Tests.{eq-eqb, ne_eqb}
 use Rattle.lists.specs.Lists.{one_if}
 use Rattle.lists.proofs.Tests.{clash, le-or-lt, same_or, or-true, or-false, and-true}
 use Rattle.marks.specs.Bits.{bit_at, marking, unmarking, Marked}
@@ -125,29 +125,3 @@ marked-none ws z = record { bit = λ i h. ap (λ (x : ℕ). x / 2 ^ (i % 64) % 2
 
 pub marked-zeros : (k : ℕ) → Marked (replicate k 0) (λ i. false)
 marked-zeros k = marked-none (replicate k 0) (λ j h. get_or-replicate k j 0 0 (omega (arith, length-replicate {A = ℕ} k 0)))
-
--- ---- the rows below n
-below_more : (i j : ℕ) → ltb j i || eqb j i ≡ ltb j (i + 1)
-below_more i j = ⊎_elim
-    (λ (e : j ≡ i). rw (eq-eqb j i e, or-true) (sym (lt-ltb j (i + 1) (omega arith))))
-    (λ (n : j ≡ i → ⊥). rw (ne_eqb j i n, or-false) (⊎_elim
-    (λ (h : i ≤ j). le-ltb j i h ∙ sym (le-ltb j (i + 1) (past n h)))
-    (λ (h : j < i). lt-ltb j i h ∙ sym (lt-ltb j (i + 1) (omega arith)))
-    (le-or-lt i j)))
-    (same_or j i)
-  where
-    past : (j ≡ i → ⊥) → i ≤ j → i + 1 ≤ j
-    past n h = ⊎_elim (λ (k : j ≤ i). absurd (n (omega arith))) (λ (k : i < j). omega arith) (le-or-lt j i)
-
--- before row i the rows below i are marked, and its bit is 0
-pub below-clear : {ws : List ℕ} (i : ℕ) → i < 64 * length ws → Marked ws (λ j. ltb j i) → bit_at ws i ≡ 0
-below-clear i h m = unmarked-bit m i h (le-ltb i i (omega arith))
-
-pub below-start : {ws : List ℕ} → Marked ws (λ i. false) → Marked ws (λ i. ltb i 0)
-below-start m = marked-same m (λ i. ltb i 0) (λ i. sym (le-ltb i 0 (omega arith)))
-
-pub below-marked : {ws : List ℕ} (i : ℕ) → Marked ws (λ j. ltb j i || eqb j i) → Marked ws (λ j. ltb j (i + 1))
-below-marked i m = marked-same m (λ j. ltb j (i + 1)) (below_more i)
-
-pub below_end : {ws : List ℕ} (i n : ℕ) → i ≤ n → n ≤ i → Marked ws (λ j. ltb j i) → Marked ws (λ j. ltb j n)
-below_end i n h g m = let e : i ≡ n = omega arith in rw e at m

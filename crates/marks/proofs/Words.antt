@@ -1,13 +1,16 @@
 -- A bit of a number that is 0 becomes 1 by adding its power, one that is 1 becomes 0 by taking it away, and the other bits stay. Assumes nothing.
--- Holds: rest_lt, added, bit-set, bit-higher, word_fits, bit-lower, other-bit, bit-there, bit-cleared, other-cleared, one_shl,
---   fits-64
+-- Holds: rest_lt, added, bit-set, bit-higher, bit-lower, other-bit, bit-there, bit-cleared, other-cleared, or-adds, and-takes
 use mathlib.Core.Path.{◌≡◌, sym, ap, subst, ◌∙◌}
 use Prim.Native.Nat.{ℕ, suc, ◌+◌, ◌-◌, ◌*◌, ◌/◌, ◌%◌, ◌^◌, ◌≤◌, ◌<◌}
-use native.Mathlib.Nat.{pow-succ', mul_comm, add-mul, one-mul, mul-le-mul_right, mod-lt}
+use native.Mathlib.Nat.{pow-succ', mul_comm, add-mul, zero-mul, one-mul, mul-le-mul_right, mod-lt}
 use native.Mathlib.Omega.{arith}
 use mathlib.Core.Logic.{⊎_elim}
 use lib.Dec.{lit<}
-use lib.Pow.{pow_pos, pow-add, split, high, shr-shr, shr_lt, shl_exact}
+use lib.Pow.{pow_pos, pow-add, pow-lt, split, high, shr-shr, shl_exact}
+use lib.Bits.{bit_and}
+use Rattle.std.specs.Int.RustNames.{bit_or}
+use Rattle.std.proofs.lemmas.Nat.{and_comm, and-not, or_disjoint}
+use Rattle.std.proofs.lemmas.Nat.Bits.{and_pow}
 use Rattle.lists.proofs.Tests.{le-or-lt}
 
 -- the bits below k
@@ -34,11 +37,6 @@ module _ (w k : ℕ) (clear : w / 2 ^ k % 2 ≡ 0) where
   bit-higher i =
       sym (shr-shr (w + 2 ^ k) k (1 + i)) ∙ ap (λ (x : ℕ). x / 2 ^ (1 + i)) one_up ∙ sym (shr-shr (w / 2 ^ k + 1) 1 i)
       ∙ ap (λ (x : ℕ). x / 2 ^ i) halved ∙ shr-shr (w / 2 ^ k) 1 i ∙ shr-shr w k (1 + i)
-
-  pub word_fits : (m : ℕ) → w < 2 ^ (suc m + k) → w + 2 ^ k < 2 ^ (suc m + k)
-  word_fits m h =
-      let even : w / 2 ^ k + 2 ≤ 2 ^ suc m = omega (arith, shr_lt (suc m) k h, pow-succ' 2 m, clear) in
-      omega (arith, split w k, rest_lt w k, add-mul (w / 2 ^ k) 2 (2 ^ k), mul-le-mul_right (2 ^ k) even, pow-add 2 (suc m) k)
 
 pub bit-lower : (w j i : ℕ) → (w + 2 ^ (j + suc i)) / 2 ^ j % 2 ≡ w / 2 ^ j % 2
 bit-lower w j i =
@@ -84,10 +82,16 @@ module _ (w k : ℕ) (there : w / 2 ^ k % 2 ≡ 1) where
 -- ---- words of 64 bits
 
 -- `1 << k` is 2 ^ k
-pub one_shl : (k : ℕ) → k < 64 → (1 * 2 ^ k) % 2 ^ 64 ≡ 2 ^ k
+one_shl : (k : ℕ) → k < 64 → (1 * 2 ^ k) % 2 ^ 64 ≡ 2 ^ k
 one_shl k h = shl_exact {a = 1} 1 k 64 (lit< tt) (omega arith) ∙ one-mul (2 ^ k)
 
-pub fits-64 : (w k : ℕ) → k < 64 → w < 2 ^ 64 → w / 2 ^ k % 2 ≡ 0 → w + 2 ^ k < 2 ^ 64
-fits-64 w k h l clear =
-    let e : suc (63 - k) + k ≡ 64 = omega arith in
-    subst (λ (x : ℕ). w + 2 ^ k < 2 ^ x) e (word_fits w k clear (63 - k) (subst (λ (x : ℕ). w < 2 ^ x) (sym e) l))
+-- `x | 1 << k` adds the power of a bit that is 0
+pub or-adds : (x k : ℕ) → k < 64 → x / 2 ^ k % 2 ≡ 0 → bit_or x (1 * 2 ^ k % 2 ^ 64) ≡ x + 2 ^ k
+or-adds x k h clear = ap (λ (y : ℕ). bit_or x y) (one_shl k h) ∙ or_disjoint x (2 ^ k) (and_pow x k ∙ ap (λ (b : ℕ). b * 2 ^ k) clear ∙ zero-mul (2 ^ k))
+
+-- `x & !(1 << k)` takes the power of a bit that is 1 away
+pub and-takes : (x k : ℕ) → k < 64 → x < 2 ^ 64 → x / 2 ^ k % 2 ≡ 1 → bit_and x (2 ^ 64 - 1 - 1 * 2 ^ k % 2 ^ 64) ≡ x - 2 ^ k
+and-takes x k h g there =
+    let own : bit_and (2 ^ k) x ≡ 2 ^ k = and_comm (2 ^ k) x ∙ and_pow x k ∙ ap (λ (b : ℕ). b * 2 ^ k) there ∙ one-mul (2 ^ k) in
+    let rest : bit_and (2 ^ 64 - 1 - 2 ^ k) x + bit_and (2 ^ k) x ≡ x = and-not 64 (2 ^ k) x (pow-lt h) g in
+    ap (λ (y : ℕ). bit_and x (2 ^ 64 - 1 - y)) (one_shl k h) ∙ and_comm x (2 ^ 64 - 1 - 2 ^ k) ∙ omega (arith, own, rest)

@@ -4,17 +4,17 @@
 ghost use Rattle.std.specs.Prelude.{◌≡◌, Bool, false, not, ◌&&◌, ◌||◌, ℕ, ◌*◌, ◌≤◌, ◌<◌, eqb, ltb, length};
 ghost use Rattle.marks.specs.Bits.{bit_at, marking, unmarking, Marked, TakenOut};
 
+// How many rows a word has.
+const WORD: usize = usize::BITS as usize;
+
 // Whether row i is marked; past the words no row is.
 pub fn is_marked(words: &[usize], i: usize) -> bool
     ensures { (p : ℕ → Bool) → Marked words.now p → result ≡ p i }
 {
-    let at = i / 64;
-    if words.len() <= at {
+    let Some(&word) = words.get(i / WORD) else {
         return false;
-    }
-    let word = words[at];
-    let bit = i % 64;
-    (word >> bit) % 2 == 1
+    };
+    (word >> (i % WORD)) & 1 == 1
 }
 
 // Marks row i, which is not marked yet.
@@ -23,9 +23,7 @@ pub fn mark(words: &mut [usize], i: usize)
     ensures { (words.new ≡ marking words.old i)
         × ((p : ℕ → Bool) → Marked words.old p → Marked words.new (λ j. p j || eqb j i)) }
 {
-    let at = i / 64;
-    let bit = i % 64;
-    words[at] = words[at] + (1usize << bit);
+    words[i / WORD] |= 1 << (i % WORD);
 }
 
 // Takes the mark of row i away.
@@ -34,9 +32,7 @@ pub fn unmark(words: &mut [usize], i: usize)
     ensures { (words.new ≡ unmarking words.old i)
         × ((p : ℕ → Bool) → Marked words.old p → Marked words.new (λ j. p j && not (eqb j i))) }
 {
-    let at = i / 64;
-    let bit = i % 64;
-    words[at] = words[at] - (1usize << bit);
+    words[i / WORD] &= !(1 << (i % WORD));
 }
 
 // Takes row i out of two sets where it is in the first, and says whether it was.
@@ -56,11 +52,7 @@ pub fn take_out(left: &mut [usize], listed: &mut [usize], i: usize) -> bool
 pub fn clear(words: &mut [usize])
     ensures { Marked words.new (λ i. false) }
 {
-    let mut i = 0;
-    while i < words.len() {
-        words[i] = 0;
-        i += 1;
-    }
+    words.fill(0);
 }
 
 // Marks the rows below n, where none is marked yet.
@@ -68,9 +60,7 @@ pub fn mark_below(words: &mut [usize], n: usize)
     requires { Marked words.old (λ i. false) × (n ≤ 64 * length words.old) }
     ensures { Marked words.new (λ i. ltb i n) }
 {
-    let mut row = 0;
-    while row < n {
+    for row in 0..n {
         mark(words, row);
-        row += 1;
     }
 }

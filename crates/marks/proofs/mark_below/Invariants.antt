@@ -1,12 +1,8 @@
 use mathlib.Core.Path.{◌≡◌}
-use Prim.Native.Nat.{◌-◌, ◌≤◌}
 use lib.Dec.{ltb}
 use lib.ListN.{length}
 use Rattle.marks.specs.Bits.{Marked}
 use Rattle.marks.proofs.mark_below.Given as goal
 
 abbrev pub invariant-loop-row : goal.invariant-loop-row
-invariant-loop-row l = (l.row ≤ l.n) × (length l.words ≡ length l.initial.words) × Marked l.words (λ j. ltb j l.row)
-
-abbrev pub decreases-loop-row : goal.decreases-loop-row
-decreases-loop-row l = l.n - l.row
+invariant-loop-row l = (length l.words ≡ length l.initial.words) × Marked l.words (λ j. ltb j l.row)
