@@ -1,16 +1,15 @@
 -- The cases of `root`, by its tests: NaN, a number below zero, a zero, the infinity, and a finite number above zero.
 -- Assumes nothing.
 -- Holds: nan-nan, negative-nan, zero-itself, FiniteCase, finite-left, infinite-itself
-use mathlib.Core.Path.{◌≡◌, refl, sym, ap, ◌∙◌, subst}
+use mathlib.Core.Path.{◌≡◌, refl, sym, ap, ◌∙◌}
 use mathlib.Core.Bool.{Bool, true, false, ◌&&◌, ◌||◌, beq, true≢false, false≢true}
 use Prim.Native.Nat.{ℕ, zero, suc, ◌+◌, ◌*◌, ◌<◌}
 use native.Mathlib.Nat.{zero-mul}
 use native.Mathlib.Omega.{arith}
 use borrow.Author.Tests.{ltb-true, eqb-true}
-use lib.Dec.{T, eqb}
+use lib.Dec.{eqb}
 use lib.IntN.{ℤ}
-use lib.Ieee.{Float, nan, inf, fin, up, down, lt, eq, ne, of_bits}
-use lib.Ieee.Compare.{differs_from_itself}
+use lib.Ieee.{Float, nan, inf, fin, up, down, lt, eq, of_bits, is_nan}
 use Rattle.lists.proofs.Tests.{and-fst}
 use Rattle.definition.specs.Number.{square_root_lem, plus_zero}
 use Rattle.root_laws.proofs.Refusal.{zero-size, above_zero, negative-below}
@@ -19,12 +18,11 @@ not-below-zero : (a : ℕ) (e : ℤ) → a < 0 * down e → ⊥
 not-below-zero a e h = let z = zero-mul (down e) in omega arith
 
 -- ---- NaN, and numbers below zero
-nan-root : nan ≡ square_root_lem nan
-unfolding square_root_lem
-nan-root = refl
-
-pub nan-nan : (x : Float) → ne x x ≡ true → nan ≡ square_root_lem x
-nan-nan x h = subst (λ (y : Float). nan ≡ square_root_lem y) (sym (differs_from_itself x (subst T (sym h) tt))) nan-root
+pub nan-nan : (x : Float) → is_nan x ≡ true → nan ≡ square_root_lem x
+unfolding is_nan square_root_lem
+nan-nan nan h = refl
+nan-nan (inf s) h = absurd (false≢true h)
+nan-nan (fin s m e) h = absurd (false≢true h)
 
 pub negative-nan : (x : Float) → lt x plus_zero ≡ true → nan ≡ square_root_lem x
 unfolding lt of_bits square_root_lem
@@ -70,20 +68,20 @@ pub record FiniteCase (x : Float) : Type 0 where
   pub e : ℤ
   pub is : x ≡ fin false (suc m) e
 
--- a number that is not negative, no zero and below the infinity
-pub finite-left : (x : Float) → lt x plus_zero ≡ false → eq x plus_zero ≡ false → lt x (inf false) ≡ true → FiniteCase x
-unfolding lt eq of_bits
-finite-left nan p q r = absurd (false≢true r)
-finite-left (inf true) p q r = absurd (true≢false p)
-finite-left (inf false) p q r = absurd (false≢true r)
-finite-left (fin s zero e) p q r = absurd (true≢false (sym (zero-equals s e) ∙ q))
-finite-left (fin true (suc m) e) p q r = absurd (true≢false (sym (negative-below m e) ∙ p))
-finite-left (fin false (suc m) e) p q r = record { m = m; e = e; is = refl }
+-- a number that is not negative, no NaN, no zero and not the infinity
+pub finite-left : (x : Float) → lt x plus_zero ≡ false → is_nan x ≡ false → eq x plus_zero ≡ false → eq x (inf false) ≡ false → FiniteCase x
+unfolding lt eq of_bits is_nan
+finite-left nan p n q r = absurd (true≢false n)
+finite-left (inf true) p n q r = absurd (true≢false p)
+finite-left (inf false) p n q r = absurd (true≢false r)
+finite-left (fin s zero e) p n q r = absurd (true≢false (sym (zero-equals s e) ∙ q))
+finite-left (fin true (suc m) e) p n q r = absurd (true≢false (sym (negative-below m e) ∙ p))
+finite-left (fin false (suc m) e) p n q r = record { m = m; e = e; is = refl }
 
--- not below the infinity
-pub infinite-itself : (x : Float) → ne x x ≡ false → lt x (inf false) ≡ false → x ≡ square_root_lem x
-unfolding lt ne square_root_lem
-infinite-itself nan n r = absurd (true≢false n)
-infinite-itself (inf true) n r = absurd (true≢false r)
-infinite-itself (inf false) n r = refl
-infinite-itself (fin s m e) n r = absurd (true≢false r)
+-- the infinity
+pub infinite-itself : (x : Float) → eq x (inf false) ≡ true → x ≡ square_root_lem x
+unfolding eq square_root_lem
+infinite-itself nan r = absurd (false≢true r)
+infinite-itself (inf true) r = absurd (false≢true r)
+infinite-itself (inf false) r = refl
+infinite-itself (fin s m e) r = absurd (false≢true r)

@@ -7,12 +7,7 @@ ghost use Rattle.definition.specs.Outcome.{root_answer};
 ghost use Rattle.root_laws.specs.Steps.{Leading, NearRoot, RootBits};
 ghost use Rattle.root.specs.Answers.{root_report};
 
-// What a call of the root answers: the root, or that it is refused (number 15).
-#[derive(Clone, Copy)]
-pub enum RootAnswer {
-    Value(f64),
-    Refused,
-}
+use refusal::Refusal;
 
 // A significand m with its leading digit at bit 52, and an exponent.
 #[derive(Clone, Copy)]
@@ -21,18 +16,11 @@ struct Lead {
     e: u64,
 }
 
-// The upper 64 bits of u * v, by the products of their halves.
+// The upper 64 bits of u * v.
 fn upper(u: u64, v: u64) -> u64
     ensures { result ≡ u * v / 2 ^ 64 }
 {
-    let a = u / 0x0001_0000_0000;
-    let b = u % 0x0001_0000_0000;
-    let c = v / 0x0001_0000_0000;
-    let d = v % 0x0001_0000_0000;
-    let x = a * d;
-    let y = b * c;
-    let low = b * d / 0x0001_0000_0000 + x % 0x0001_0000_0000 + y % 0x0001_0000_0000;
-    a * c + x / 0x0001_0000_0000 + y / 0x0001_0000_0000 + low / 0x0001_0000_0000
+    ((u as u128 * v as u128) >> 64) as u64
 }
 
 // Whether q * (q + 1) is at least n * 2^52. Both factors are scaled by 2^6, so that the product's upper half decides.
@@ -49,15 +37,10 @@ fn pick(lo: u64, hi: u64, p: u64, k: u64) -> u64
     ensures { (lo ≤ result) × (result < hi) }
 {
     if k == 0 {
-        return lo + (hi - lo) / 2;
+        lo + (hi - lo) / 2
+    } else {
+        p.clamp(lo, hi - 1)
     }
-    if p < lo {
-        return lo;
-    }
-    if hi <= p {
-        return hi - 1;
-    }
-    p
 }
 
 // The number nearest to the root of n * 2^52. The guess g speeds the search, and nothing is asked of it:
@@ -70,11 +53,10 @@ fn near_root(n: u64, g: u64) -> u64
     let mut hi: u64 = 0x001f_ffff_ffff_ffff;
     let mut p = g;
     let mut k: u64 = 4;
+    // a bisection: no counted loop
     while lo < hi {
         let mid = pick(lo, hi, p, k);
-        if 0 < k {
-            k -= 1;
-        }
+        k = k.saturating_sub(1);
         if enough(n, mid) {
             hi = mid;
             p = mid - 1;
@@ -99,14 +81,10 @@ fn guess(b: u64) -> u64
     let y3 = y2 * (1.5 - h * y2 * y2);
     let z = f * y3;
     let w = z + 0.5 * y3 * (f - z * z);
-    if w != w {
+    if w.is_nan() {
         return 0;
     }
-    let c = f64::to_bits(w);
-    if c < 0x3fe0_0000_0000_0000 {
-        return 0;
-    }
-    c - 0x3fe0_0000_0000_0000
+    w.to_bits().saturating_sub(0x3fe0_0000_0000_0000)
 }
 
 // The significand and the exponent of the finite value above zero with the pattern b: in units of 2^-2148 it is m * 2^e.
@@ -117,7 +95,7 @@ fn leading(b: u64) -> Lead
     let t = b & 0x000f_ffff_ffff_ffff;
     let x = b >> 52;
     if x == 0 {
-        let z = u64::leading_zeros(t) - 11;
+        let z = t.leading_zeros() - 11;
         return Lead {
             m: t << z,
             e: 1074 - z as u64,
@@ -135,45 +113,34 @@ fn root_bits(b: u64) -> u64
     requires { (0 < b) × (b < 2047 * 2 ^ 52) }
     ensures { RootBits b result }
 {
-    let l = leading(b);
-    let m = l.m;
-    let e = l.e;
-    if e % 2 == 1 {
-        let q = near_root(m * 2, guess(m + 0x3ff0_0000_0000_0000));
-        (e / 2 - 26) * 0x0010_0000_0000_0000 + q
+    let Lead { m, e } = leading(b);
+    let q = if e % 2 == 1 {
+        near_root(m * 2, guess(m + 0x3ff0_0000_0000_0000))
     } else {
-        let q = near_root(m, guess(m + 0x3fe0_0000_0000_0000));
-        (e / 2 - 26) * 0x0010_0000_0000_0000 + q
-    }
+        near_root(m, guess(m + 0x3fe0_0000_0000_0000))
+    };
+    (e / 2 - 26) * 0x0010_0000_0000_0000 + q
 }
 
 // The root of any x: NaN for NaN and for a number below zero.
 pub fn root(x: f64) -> f64
     ensures { result ≡ square_root_lem x }
 {
-    if x != x {
-        return 0.0 / 0.0;
+    if x < 0.0 || x.is_nan() {
+        return f64::NAN;
     }
-    if x < 0.0 {
-        return 0.0 / 0.0;
-    }
-    if x == 0.0 {
+    if x == 0.0 || x == f64::INFINITY {
         return x;
     }
-    let top = f64::from_bits(0x7ff0_0000_0000_0000);
-    if x < top {
-        let b = f64::to_bits(x);
-        return f64::from_bits(root_bits(b));
-    }
-    x
+    f64::from_bits(root_bits(x.to_bits()))
 }
 
 // The root of x, with the refusal: NaN and the numbers below zero have none.
-pub fn square_root(x: f64) -> RootAnswer
+pub fn square_root(x: f64) -> Result<f64, Refusal>
     ensures { root_report result ≡ root_answer x }
 {
-    if x != x || x < 0.0 {
-        return RootAnswer::Refused;
+    if x.is_nan() || x < 0.0 {
+        return Err(Refusal::NoRoot);
     }
-    RootAnswer::Value(root(x))
+    Ok(root(x))
 }

@@ -1,7 +1,6 @@
 -- `root::guess` is safe. Its contract says nothing of the result. Assumes nothing.
 use native.Mathlib.Omega.{arith}
 use Prim.Native.Nat.{◌-◌, ◌/◌}
-use Rattle.root.proofs.Steps.{equal_no_nan}
 use Rattle.root_laws.proofs.Patterns.{no_nan}
 use Rattle.root.proofs.guess.Goals as goal
 
@@ -10,6 +9,3 @@ float_from_bits-f c = no_nan c.args.b c.requires
 
 pub float_from_bits-a : goal.float_from_bits-a
 float_from_bits-a c = no_nan (0x5fe6_eb50_c7b5_37a9 - c.args.b / 2) (omega arith)
-
-pub float_to_bits-c : goal.float_to_bits-c
-float_to_bits-c c = equal_no_nan _ c.if-w.false

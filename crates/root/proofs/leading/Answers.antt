@@ -24,24 +24,9 @@ shift b p h = short (digits b) (subst (λ (x : ℕ). 0 < x) (sym (is b)) (small-
 pub overflow_sub-z : goal.overflow_sub-z
 overflow_sub-z c = omega (arith, shift c.args.b c.requires.0 c.if-x-eq0.true)
 
-pub overflow_cast-result : goal.overflow_cast-result
-overflow_cast-result c = let s = shift c.args.b c.requires.0 c.if-x-eq0.true in omega arith
-
-pub overflow_shl-result : goal.overflow_shl-result
-overflow_shl-result c = let s = shift c.args.b c.requires.0 c.if-x-eq0.true in omega arith
-
-pub overflow_cast-result-then-x-eq0 : goal.overflow_cast-result-then-x-eq0
-overflow_cast-result-then-x-eq0 c = let s = shift c.args.b c.requires.0 c.if-x-eq0.true in omega arith
-
-pub overflow_sub-result : goal.overflow_sub-result
-overflow_sub-result c = let s = shift c.args.b c.requires.0 c.if-x-eq0.true in omega arith
-
 pub returns-then-x-eq0 : goal.returns-then-x-eq0
 returns-then-x-eq0 c = lead-small c.args.b (digits c.args.b) (is c.args.b) c.requires.0
     c.if-x-eq0.true
-
-pub overflow_add-result : goal.overflow_add-result
-overflow_add-result c = let s = under c.args.b in omega arith
 
 pub returns : goal.returns
 returns c = lead-large c.args.b (digits c.args.b) (is c.args.b) c.requires.1
