@@ -1,8 +1,14 @@
 -- Runs of records in a stored tree. Definitions only.
-use Rattle.std.specs.Prelude.{ℕ, Bool, List, ◌++◌, map}
+use Rattle.std.specs.Prelude.{ℕ, Bool, List, ◌++◌, map, Float}
 use Rattle.lists.specs.Lists.{joined}
 use Rattle.definition.specs.Tree.{Leaf, Level}
-use Rattle.stored.specs.File.{level_bytes}
+use Rattle.config.specs.declared.DDMParams.{DDMParams}
+use Rattle.config.specs.Params.{settings_of_lem}
+use Rattle.packed.specs.Reading.{Packed, read_levels}
+use Rattle.tree_answer.specs.declared.DDMTree.{DDMTree}
+use Rattle.tree_answer.specs.Answers.{counts_given, lists_of}
+use Rattle.stored.specs.File.{level_bytes, file_bytes}
+use Rattle.stored.specs.Outcome.{tree_held}
 use Rattle.store_records.specs.Records.{domain_record}
 
 -- the records of domains, one after the other
@@ -15,3 +21,13 @@ level_of rows fs = record { points = rows; leaves = fs }
 -- a level's record, and those of its domains after it
 unfoldable pub level_records : Bool → Level → List ℕ
 level_records coarse l = level_bytes l ++ domain_records coarse l.leaves
+
+-- the levels that stand in the lists with these counts
+abbrev pub levels_in : DDMTree → List ℕ → Packed → List Level
+levels_in counts level_points p = read_levels p level_points counts.rows counts.domains counts.levels
+
+-- the file of the tree that stands there
+abbrev pub file_of : DDMParams → List Float → DDMTree → List ℕ → Packed → List ℕ
+file_of params cs counts level_points p =
+    file_bytes (settings_of_lem p.dimension params) cs
+    (tree_held p.dimension (counts_given counts) (lists_of level_points p.internals p.domains p.boxes p.borrowed))

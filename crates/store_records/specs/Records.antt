@@ -2,6 +2,7 @@
 use Rattle.std.specs.Prelude.{ℕ, Bool, cond, List, [], ◌∷◌, ◌++◌, length, Float}
 use Rattle.definition.specs.Tree.{Leaf}
 use Rattle.formats.specs.Bytes.{Mark, mark_bytes, number_bytes, numbers_bytes}
+use Rattle.packed.specs.Reading.{Packed, box_at_lem, cover_at}
 use Rattle.stored.specs.File.{level_mark, domain_bytes}
 
 -- how a level's record, and a domain's, begins: its mark and two counts
@@ -19,6 +20,10 @@ bounds_given coarse box = cond coarse [] box
 -- the floats that it has
 abbrev pub floats_given : Bool → List Float → Float → List Float
 floats_given coarse box cover = bounds_given coarse box ++ cover ∷ []
+
+-- those of the domain row number j
+abbrev pub row_floats_given : Bool → Packed → ℕ → List Float
+row_floats_given coarse p j = floats_given coarse (box_at_lem p.dimension p.boxes j) (cover_at p.dimension p.boxes j)
 
 -- a domain's record
 unfoldable pub domain_record : Bool → Leaf → List ℕ

@@ -1,19 +1,21 @@
 // The records of a stored tree, each written to a lent list of bytes from an offset on. Each function answers with the offset after
 // what it wrote.
+// A writer that holds the list and the offset is no plainer: each contract would also have to say that it still holds the caller's list.
 #![tactic(auto)]
 
 ghost use Rattle.std.specs.Prelude.{◌+◌, ◌*◌, ◌≤◌, ◌<◌, length};
 ghost use Rattle.lists.specs.Lists.{part};
-ghost use Rattle.definition.specs.Packed.{row_floats_lem};
 ghost use Rattle.formats.specs.Bytes.{mark_of, numbers_bytes, floats_bytes};
 ghost use Rattle.config.specs.Params.{settings_of_lem};
 ghost use Rattle.bytes_out.specs.Wrote.{Wrote, RoomFor};
-ghost use Rattle.packed.specs.Reading.{packed, RowFits, box_at_lem, cover_at, read_leaf};
+ghost use Rattle.packed.specs.Reading.{RowFits, read_leaf};
+ghost use Rattle.packed.specs.View.{packed_of};
 ghost use Rattle.stored.specs.File.{head_bytes_lem, point_bytes};
-ghost use Rattle.store_records.specs.Records.{counts_bytes, level_record, floats_given, domain_record};
+ghost use Rattle.store_records.specs.Records.{counts_bytes, level_record, row_floats_given, domain_record};
 
 use bytes_in::{FLOAT, MARK, NUMBER};
 use config::DDMParams;
+use packed::Packed;
 
 // The first byte of every mark, and the second one of the head's, a point's, a level's and a domain's.
 const TREE: u8 = 0x54;
@@ -62,25 +64,18 @@ fn put_counts(kind: u8, first: usize, second: usize, out: &mut [u8], at: usize) 
 }
 
 // The floats of the domain row number j, its box and its cover; of the coarse domain's the cover alone.
-fn put_row_floats(
-    boxes: &[f64],
-    dimensions: usize,
-    j: usize,
-    coarse: bool,
-    out: &mut [u8],
-    at: usize,
-) -> usize
-    requires dimensions_bound { (dimensions ≤ 3) × (row_floats_lem dimensions * (j + 1) ≤ length boxes.now) }
-    requires room_for { RoomFor out.old at (floats_bytes (floats_given coarse (box_at_lem dimensions boxes.now j) (cover_at dimensions boxes.now j))) }
-    ensures { Wrote out.old at (floats_bytes (floats_given coarse (box_at_lem dimensions boxes.now j) (cover_at dimensions boxes.now j))) result out.new }
+fn put_row_floats(tree: Packed<'_>, j: usize, coarse: bool, out: &mut [u8], at: usize) -> usize
+    requires row_fits { RowFits (packed_of tree) j }
+    requires room_for { RoomFor out.old at (floats_bytes (row_floats_given coarse (packed_of tree) j)) }
+    ensures { Wrote out.old at (floats_bytes (row_floats_given coarse (packed_of tree.entry) j)) result out.new }
 {
-    let start = packed::floats_before(dimensions, j);
-    let width = boxes::box_width(dimensions);
-    let floats = packed::row_floats(dimensions);
+    let start = packed::floats_before(tree.dimensions, j);
+    let width = boxes::box_width(tree.dimensions);
+    let floats = packed::row_floats(tree.dimensions);
     if coarse {
-        return put_reals(boxes, start + width, packed::COVER, out, at);
+        return put_reals(tree.boxes, start + width, packed::COVER, out, at);
     }
-    put_reals(boxes, start, floats, out, at)
+    put_reals(tree.boxes, start, floats, out, at)
 }
 
 // ---- records
@@ -125,29 +120,19 @@ pub fn put_level(
 }
 
 // The domain of the domain row number j.
-pub fn put_domain(
-    internals: &[usize],
-    domains: &[usize],
-    boxes: &[f64],
-    borrowed: &[usize],
-    dimensions: usize,
-    j: usize,
-    coarse: bool,
-    out: &mut [u8],
-    at: usize,
-) -> usize
-    requires row_fits { RowFits (packed internals.now domains.now boxes.now borrowed.now dimensions) j }
-    requires room_for { RoomFor out.old at (domain_record coarse (read_leaf (packed internals.now domains.now boxes.now borrowed.now dimensions) j)) }
-    ensures { Wrote out.old at (domain_record coarse (read_leaf (packed internals.now domains.now boxes.now borrowed.now dimensions) j)) result out.new }
+pub fn put_domain(tree: Packed<'_>, j: usize, coarse: bool, out: &mut [u8], at: usize) -> usize
+    requires row_fits { RowFits (packed_of tree) j }
+    requires room_for { RoomFor out.old at (domain_record coarse (read_leaf (packed_of tree) j)) }
+    ensures { Wrote out.old at (domain_record coarse (read_leaf (packed_of tree.entry) j)) result out.new }
 {
-    let row = packed::read_row(domains, j);
+    let row = packed::read_row(tree.domains, j);
     let own = row.internal_count;
     let lent = row.borrowed_count;
     let depth = row.depth;
     let counted = put_counts(DOMAIN, own, lent, out, at);
-    let owned = put_rows(internals, row.internal_start, own, out, counted);
-    let listed = put_rows(borrowed, row.borrowed_start, lent, out, owned);
-    let covered = put_row_floats(boxes, dimensions, j, coarse, out, listed);
+    let owned = put_rows(tree.internals, row.internal_start, own, out, counted);
+    let listed = put_rows(tree.borrowed, row.borrowed_start, lent, out, owned);
+    let covered = put_row_floats(tree, j, coarse, out, listed);
     bytes_out::put_short(depth, out, covered);
     covered + NUMBER
 }

@@ -3,7 +3,7 @@ use Rattle.store_records.proofs.Remains.{begin, restated, room-now, part-written
 use Rattle.store_bytes.proofs.Turns.{turn, no-turn}
 use Rattle.store_bytes.proofs.Runs.{domain_at_lem, domain-run}
 use Rattle.lists.specs.Lists.{joined, from}
-use Rattle.packed.specs.Reading.{packed}
+use Rattle.packed.specs.View.{packed_of}
 use Prim.Native.Nat.{◌+◌, ◌-◌}
 use mathlib.Core.Path.{ap}
 use mathlib.Core.List.{[], map}
@@ -14,9 +14,9 @@ use Rattle.store_bytes.proofs.put_domains.Goals as goal
 pub loop-i-init : goal.loop-i-init
 loop-i-init c = let start = c in
     let a = start.args in
-    let p = packed a.internals.now a.domains.now a.boxes.now a.borrowed.now a.dimensions in
+    let p = packed_of a.tree in
     let f = domain_at_lem a.coarse p in
-    (begin (map f (from (a.j + 0) (a.m - 0))) (domain-run a.coarse p a.j a.m) start.requires.room_for, search rules, search rules)
+    (begin (map f (from (a.j + 0) (a.m - 0))) (domain-run a.coarse p a.j a.m) start.requires.room_for)
 
 pub overflow_add-j : goal.overflow_add-j
 overflow_add-j c = omega (arith, (c.requires.by_index c.loop-i.i c.loop-i-test.true).row)
@@ -24,11 +24,11 @@ overflow_add-j c = omega (arith, (c.requires.by_index c.loop-i.i c.loop-i-test.t
 pub put_domain-next-requires : goal.put_domain-next-requires
 put_domain-next-requires c = let start = c in
     let a = start.args in
-    let p = packed a.internals.now a.domains.now a.boxes.now a.borrowed.now a.dimensions in
+    let p = packed_of a.tree in
     let f = domain_at_lem a.coarse p in
     let v = c.loop-i in
     let go = c.loop-i-test.true in
-    let w = restated _ (ap joined (turn f (a.j + v.i) (a.j + (v.i + 1)) v.i a.m (omega arith) go)) v.invariant.0 in
+    let w = restated _ (ap joined (turn f (a.j + v.i) (a.j + (v.i + 1)) v.i a.m (omega arith) go)) v.invariant in
     record {
       row_fits = start.requires.by_index v.i go;
       room_for = room-now w;
@@ -37,16 +37,16 @@ put_domain-next-requires c = let start = c in
 pub loop-i-preserved : goal.loop-i-preserved
 loop-i-preserved c = let start = c in
     let a = start.args in
-    let p = packed a.internals.now a.domains.now a.boxes.now a.borrowed.now a.dimensions in
+    let p = packed_of a.tree in
     let f = domain_at_lem a.coarse p in
     let v = c.loop-i in
-    let w = restated _ (ap joined (turn f (a.j + v.i) (a.j + (v.i + 1)) v.i a.m (omega arith) c.loop-i-test.true)) v.invariant.0 in
-    (part-written w c.put_domain-next.ensures, search rules, search rules)
+    let w = restated _ (ap joined (turn f (a.j + v.i) (a.j + (v.i + 1)) v.i a.m (omega arith) c.loop-i-test.true)) v.invariant in
+    (part-written w c.put_domain-next.ensures)
 
 pub returns : goal.returns
 returns c = let start = c in
     let a = start.args in
-    let p = packed a.internals.now a.domains.now a.boxes.now a.borrowed.now a.dimensions in
+    let p = packed_of a.tree in
     let f = domain_at_lem a.coarse p in
     let v = c.loop-i in
-    done (restated [] (ap joined (no-turn f (a.j + v.i) v.i a.m (search rules))) v.invariant.0)
+    done (restated [] (ap joined (no-turn f (a.j + v.i) v.i a.m (search rules))) v.invariant)

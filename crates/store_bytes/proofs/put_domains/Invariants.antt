@@ -1,17 +1,13 @@
 use Rattle.store_records.proofs.Remains.{Remains}
 use Rattle.store_bytes.proofs.Runs.{domain_at_lem}
 use Rattle.lists.specs.Lists.{from}
-use Rattle.packed.specs.Reading.{packed, read_leaves}
+use Rattle.packed.specs.Reading.{read_leaves}
+use Rattle.packed.specs.View.{packed_of}
 use Rattle.store_bytes.specs.Runs.{domain_records}
-use lib.ListN.{length}
-use Prim.Native.Nat.{◌+◌, ◌-◌, ◌≤◌}
-use mathlib.Core.Path.{◌≡◌}
+use Prim.Native.Nat.{◌+◌, ◌-◌}
 use mathlib.Core.List.{map}
 use Rattle.store_bytes.proofs.put_domains.Given as goal
 
 abbrev pub invariant-loop-i : goal.invariant-loop-i
-invariant-loop-i l = let p = packed l.internals l.domains l.boxes l.borrowed l.dimensions in
-    Remains l.initial.out l.at (domain_records l.coarse (read_leaves p l.j l.m)) l.out l.next (map (domain_at_lem l.coarse p) (from (l.j + l.i) (l.m - l.i))) × (l.i ≤ l.m) × (length l.out ≡ length l.initial.out)
-
-abbrev pub decreases-loop-i : goal.decreases-loop-i
-decreases-loop-i l = l.m - l.i
+invariant-loop-i l = let p = packed_of l.tree in
+    Remains l.initial.out l.at (domain_records l.coarse (read_leaves p l.j l.m)) l.out l.next (map (domain_at_lem l.coarse p) (from (l.j + l.i) (l.m - l.i)))

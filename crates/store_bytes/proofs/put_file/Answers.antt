@@ -10,8 +10,8 @@ use Rattle.store_bytes.proofs.put_file.Goals as goal
 pub put_front-next-requires : goal.put_front-next-requires
 put_front-next-requires c = let start = c in
     let a = start.args in
-    let s = settings_of_lem a.dimensions a.params in
-    let l = lists_of a.level_points.now a.internals.now a.domains.now a.boxes.now a.borrowed.now in
+    let s = settings_of_lem a.tree.dimensions a.params in
+    let l = lists_of a.level_points.now a.tree.internals.now a.tree.domains.now a.tree.boxes.now a.tree.borrowed.now in
     let e = file-run s a.points.now (counts_given a.counts) l in
     let w0 = begin _ e (front-room a.out.now _ start.requires.borrowed_in_bounds) in
     record {
@@ -22,8 +22,8 @@ put_front-next-requires c = let start = c in
 pub put_levels-requires : goal.put_levels-requires
 put_levels-requires c = let start = c in
     let a = start.args in
-    let s = settings_of_lem a.dimensions a.params in
-    let l = lists_of a.level_points.now a.internals.now a.domains.now a.boxes.now a.borrowed.now in
+    let s = settings_of_lem a.tree.dimensions a.params in
+    let l = lists_of a.level_points.now a.tree.internals.now a.tree.domains.now a.tree.boxes.now a.tree.borrowed.now in
     let e = file-run s a.points.now (counts_given a.counts) l in
     let w0 = begin _ e (front-room a.out.now _ start.requires.borrowed_in_bounds) in
     let w1 = part-written w0 c.put_front-next.ensures in
@@ -35,8 +35,8 @@ put_levels-requires c = let start = c in
 pub returns : goal.returns
 returns c = let start = c in
     let a = start.args in
-    let s = settings_of_lem a.dimensions a.params in
-    let l = lists_of a.level_points.now a.internals.now a.domains.now a.boxes.now a.borrowed.now in
+    let s = settings_of_lem a.tree.dimensions a.params in
+    let l = lists_of a.level_points.now a.tree.internals.now a.tree.domains.now a.tree.boxes.now a.tree.borrowed.now in
     let e = file-run s a.points.now (counts_given a.counts) l in
     let w0 = begin _ e (front-room a.out.now _ start.requires.borrowed_in_bounds) in
     let w1 = part-written w0 c.put_front-next.ensures in

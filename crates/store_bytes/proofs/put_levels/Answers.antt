@@ -2,11 +2,12 @@
 use Rattle.store_records.proofs.Remains.{begin, restated, room-now, part-written, done}
 use Rattle.store_bytes.proofs.Levels.{no-level, levels-all, turn-here}
 use Rattle.lists.proofs.Sums.{total-nil, total-step}
-use Rattle.packed.specs.Reading.{packed, read_level}
+use Rattle.packed.specs.Reading.{read_level}
+use Rattle.packed.specs.View.{packed_of}
 use Rattle.packed.proofs.Standing.{rows_inside, row_fits, domains-inside}
 use lib.ListN.{get_or}
-use Prim.Native.Nat.{ℕ, ◌+◌, ◌-◌}
-use mathlib.Core.Path.{refl, sym, ap, ◌∙◌}
+use Prim.Native.Nat.{ℕ, ◌+◌}
+use mathlib.Core.Path.{sym, ap, ◌∙◌}
 use mathlib.Core.List.{[]}
 use native.Mathlib.Omega.{arith}
 use borrow.Author.Rules.{rules}
@@ -15,61 +16,51 @@ use Rattle.store_bytes.proofs.put_levels.Goals as goal
 pub loop-t-init : goal.loop-t-init
 loop-t-init c = let start = c in
     let a = start.args in
-    let p = packed a.internals.now a.domains.now a.boxes.now a.borrowed.now a.dimensions in (
+    let p = packed_of a.tree in (
       sym total-nil,
       sym total-nil,
-      begin _ (levels-all p a.level_points.now a.rows.now a.counts.now a.levels) start.requires.room_for,
-      search rules,
-      refl,
+      begin _ (levels-all p a.level_points.now a.counts.rows a.counts.domains a.counts.levels) start.requires.room_for,
     )
-
-pub bounds-rows-t : goal.bounds-rows-t
-bounds-rows-t c = omega (arith, c.requires.stands.rowed)
-
-pub bounds-counts-t : goal.bounds-counts-t
-bounds-counts-t c = omega (arith, c.requires.stands.counted)
 
 pub put_whole_level-next-requires : goal.put_whole_level-next-requires
 put_whole_level-next-requires c = let start = c in
     let a = start.args in
-    let p = packed a.internals.now a.domains.now a.boxes.now a.borrowed.now a.dimensions in
+    let p = packed_of a.tree in
     let v = c.loop-t in
-    let w = restated _ (turn-here p a.level_points.now a.rows.now a.counts.now v.t v.a v.j v.invariant.0 v.invariant.1 a.levels start.requires.stands c.loop-t-test.true) v.invariant.2 in record {
-      count_in_bounds = rows_inside p a.level_points.now a.rows.now a.counts.now v.t v.a v.j v.invariant.0 v.invariant.1 a.levels start.requires.stands c.loop-t-test.true;
-      by_index = row_fits p a.level_points.now a.rows.now a.counts.now v.t v.a v.j v.invariant.0 v.invariant.1 a.levels start.requires.stands c.loop-t-test.true;
+    let w = restated _ (turn-here p a.level_points.now a.counts.rows a.counts.domains v.t v.a v.j v.invariant.0 v.invariant.1 a.counts.levels start.requires.stands c.loop-t-test.true) v.invariant.2 in record {
+      count_in_bounds = rows_inside p a.level_points.now a.counts.rows a.counts.domains v.t v.a v.j v.invariant.0 v.invariant.1 a.counts.levels start.requires.stands c.loop-t-test.true;
+      by_index = row_fits p a.level_points.now a.counts.rows a.counts.domains v.t v.a v.j v.invariant.0 v.invariant.1 a.counts.levels start.requires.stands c.loop-t-test.true;
       room_for = room-now w;
     }
 
 pub overflow_add-a : goal.overflow_add-a
 overflow_add-a c = let start = c in
     let a = start.args in
-    let p = packed a.internals.now a.domains.now a.boxes.now a.borrowed.now a.dimensions in
+    let p = packed_of a.tree in
     let v = c.loop-t in
-    omega (arith, rows_inside p a.level_points.now a.rows.now a.counts.now v.t v.a v.j v.invariant.0 v.invariant.1 a.levels start.requires.stands c.loop-t-test.true, start.well_formed)
+    omega (arith, rows_inside p a.level_points.now a.counts.rows a.counts.domains v.t v.a v.j v.invariant.0 v.invariant.1 a.counts.levels start.requires.stands c.loop-t-test.true, start.well_formed)
 
 pub overflow_add-j : goal.overflow_add-j
 overflow_add-j c = let start = c in
     let a = start.args in
-    let p = packed a.internals.now a.domains.now a.boxes.now a.borrowed.now a.dimensions in
+    let p = packed_of a.tree in
     let v = c.loop-t in
-    omega (arith, domains-inside p a.level_points.now a.rows.now a.counts.now v.t v.a v.j v.invariant.0 v.invariant.1 a.levels start.requires.stands c.loop-t-test.true, start.well_formed)
+    omega (arith, domains-inside p a.level_points.now a.counts.rows a.counts.domains v.t v.a v.j v.invariant.0 v.invariant.1 a.counts.levels start.requires.stands c.loop-t-test.true, start.well_formed)
 
 pub loop-t-preserved : goal.loop-t-preserved
 loop-t-preserved c = let start = c in
     let a = start.args in
-    let p = packed a.internals.now a.domains.now a.boxes.now a.borrowed.now a.dimensions in
+    let p = packed_of a.tree in
     let v = c.loop-t in
-    let w = restated _ (turn-here p a.level_points.now a.rows.now a.counts.now v.t v.a v.j v.invariant.0 v.invariant.1 a.levels start.requires.stands c.loop-t-test.true) v.invariant.2 in (
-      ap (λ (k : ℕ). k + get_or a.rows.now v.t 0) v.invariant.0 ∙ sym (total-step a.rows.now v.t),
-      ap (λ (k : ℕ). k + get_or a.counts.now v.t 0) v.invariant.1 ∙ sym (total-step a.counts.now v.t),
+    let w = restated _ (turn-here p a.level_points.now a.counts.rows a.counts.domains v.t v.a v.j v.invariant.0 v.invariant.1 a.counts.levels start.requires.stands c.loop-t-test.true) v.invariant.2 in (
+      ap (λ (k : ℕ). k + get_or a.counts.rows v.t 0) v.invariant.0 ∙ sym (total-step a.counts.rows v.t),
+      ap (λ (k : ℕ). k + get_or a.counts.domains v.t 0) v.invariant.1 ∙ sym (total-step a.counts.domains v.t),
       part-written w c.put_whole_level-next.ensures,
-      search rules,
-      search rules,
     )
 
 pub returns : goal.returns
 returns c = let start = c in
     let a = start.args in
-    let p = packed a.internals.now a.domains.now a.boxes.now a.borrowed.now a.dimensions in
+    let p = packed_of a.tree in
     let v = c.loop-t in
-    done (restated [] (no-level (read_level p a.level_points.now a.rows.now a.counts.now) v.t a.levels (search rules)) v.invariant.2)
+    done (restated [] (no-level (read_level p a.level_points.now a.counts.rows a.counts.domains) v.t a.counts.levels (search rules)) v.invariant.2)

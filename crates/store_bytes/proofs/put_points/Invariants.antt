@@ -1,15 +1,10 @@
 use Rattle.store_records.proofs.Remains.{Remains}
 use Rattle.lists.specs.Lists.{joined, from}
 use Rattle.stored.specs.File.{point_bytes}
-use lib.ListN.{length}
-use Prim.Native.Nat.{◌-◌, ◌≤◌}
-use mathlib.Core.Path.{◌≡◌}
+use Prim.Native.Nat.{◌-◌}
 use mathlib.Core.List.{map}
 use Rattle.store_bytes.proofs.put_points.Given as goal
 
 abbrev pub invariant-loop-i : goal.invariant-loop-i
 invariant-loop-i l = let f = point_bytes l.dimensions l.points in
-    Remains l.initial.out l.at (joined (map f (from 0 l.n))) l.out l.next (map f (from l.i (l.n - l.i))) × (l.i ≤ l.n) × (length l.out ≡ length l.initial.out)
-
-abbrev pub decreases-loop-i : goal.decreases-loop-i
-decreases-loop-i l = l.n - l.i
+    Remains l.initial.out l.at (joined (map f (from 0 l.n))) l.out l.next (map f (from l.i (l.n - l.i)))

@@ -2,7 +2,8 @@
 use Rattle.store_records.proofs.Remains.{begin, room-now, part-written, done}
 use Rattle.store_bytes.proofs.Runs.{level-run}
 use Rattle.lists.specs.Lists.{part}
-use Rattle.packed.specs.Reading.{packed, read_leaves}
+use Rattle.packed.specs.Reading.{read_leaves}
+use Rattle.packed.specs.View.{packed_of}
 use Rattle.store_records.specs.Records.{level_record}
 use Rattle.store_bytes.specs.Runs.{domain_records}
 use mathlib.Core.List.{[], ◌∷◌}
@@ -11,7 +12,7 @@ use Rattle.store_bytes.proofs.put_whole_level.Goals as goal
 pub put_level-next-requires : goal.put_level-next-requires
 put_level-next-requires c = let start = c in
     let a = start.args in
-    let p = packed a.internals.now a.domains.now a.boxes.now a.borrowed.now a.dimensions in
+    let p = packed_of a.tree in
     let rows = part a.level_points.now a.start a.count in
     let w0 = begin (level_record rows a.m ∷ domain_records a.coarse (read_leaves p a.j a.m) ∷ []) (level-run a.coarse p rows a.j a.m) start.requires.room_for in
     record {
@@ -22,7 +23,7 @@ put_level-next-requires c = let start = c in
 pub put_domains-requires : goal.put_domains-requires
 put_domains-requires c = let start = c in
     let a = start.args in
-    let p = packed a.internals.now a.domains.now a.boxes.now a.borrowed.now a.dimensions in
+    let p = packed_of a.tree in
     let rows = part a.level_points.now a.start a.count in
     let w0 = begin (level_record rows a.m ∷ domain_records a.coarse (read_leaves p a.j a.m) ∷ []) (level-run a.coarse p rows a.j a.m) start.requires.room_for in
     let w1 = part-written w0 c.put_level-next.ensures in
@@ -34,7 +35,7 @@ put_domains-requires c = let start = c in
 pub returns : goal.returns
 returns c = let start = c in
     let a = start.args in
-    let p = packed a.internals.now a.domains.now a.boxes.now a.borrowed.now a.dimensions in
+    let p = packed_of a.tree in
     let rows = part a.level_points.now a.start a.count in
     let w0 = begin (level_record rows a.m ∷ domain_records a.coarse (read_leaves p a.j a.m) ∷ []) (level-run a.coarse p rows a.j a.m) start.requires.room_for in
     let w1 = part-written w0 c.put_level-next.ensures in

@@ -2,7 +2,7 @@
 use Rattle.store_records.proofs.Remains.{begin, room-now, part-written, done}
 use Rattle.store_records.proofs.Fields.{number-wrote, number-room}
 use Rattle.store_records.proofs.Parts.{domain_parts, domain-parts}
-use Rattle.packed.specs.Reading.{packed}
+use Rattle.packed.specs.View.{packed_of}
 use native.Mathlib.Omega.{arith}
 use borrow.Author.Rules.{rules}
 use Rattle.store_records.proofs.put_domain.Goals as goal
@@ -11,7 +11,7 @@ pub put_counts-counted-requires : goal.put_counts-counted-requires
 put_counts-counted-requires c = let start = c in
     let a = start.args in
     let row = c.read_row-row in
-    let p = packed a.internals.now a.domains.now a.boxes.now a.borrowed.now a.dimensions in
+    let p = packed_of a.tree in
     let w0 = begin (domain_parts a.coarse p a.j start.requires.row_fits row.result row.ensures)
     (domain-parts a.coarse p a.j start.requires.row_fits row.result row.ensures) start.requires.room_for in
     room-now w0
@@ -20,7 +20,7 @@ pub put_rows-owned-requires : goal.put_rows-owned-requires
 put_rows-owned-requires c = let start = c in
     let a = start.args in
     let row = c.read_row-row in
-    let p = packed a.internals.now a.domains.now a.boxes.now a.borrowed.now a.dimensions in
+    let p = packed_of a.tree in
     let w0 = begin (domain_parts a.coarse p a.j start.requires.row_fits row.result row.ensures)
     (domain-parts a.coarse p a.j start.requires.row_fits row.result row.ensures) start.requires.room_for in
     let w1 = part-written w0 c.put_counts-counted.ensures in
@@ -33,7 +33,7 @@ pub put_rows-listed-requires : goal.put_rows-listed-requires
 put_rows-listed-requires c = let start = c in
     let a = start.args in
     let row = c.read_row-row in
-    let p = packed a.internals.now a.domains.now a.boxes.now a.borrowed.now a.dimensions in
+    let p = packed_of a.tree in
     let w0 = begin (domain_parts a.coarse p a.j start.requires.row_fits row.result row.ensures)
     (domain-parts a.coarse p a.j start.requires.row_fits row.result row.ensures) start.requires.room_for in
     let w1 = part-written w0 c.put_counts-counted.ensures in
@@ -47,14 +47,14 @@ pub put_row_floats-covered-requires : goal.put_row_floats-covered-requires
 put_row_floats-covered-requires c = let start = c in
     let a = start.args in
     let row = c.read_row-row in
-    let p = packed a.internals.now a.domains.now a.boxes.now a.borrowed.now a.dimensions in
+    let p = packed_of a.tree in
     let w0 = begin (domain_parts a.coarse p a.j start.requires.row_fits row.result row.ensures)
     (domain-parts a.coarse p a.j start.requires.row_fits row.result row.ensures) start.requires.room_for in
     let w1 = part-written w0 c.put_counts-counted.ensures in
     let w2 = part-written w1 c.put_rows-owned.ensures in
     let w3 = part-written w2 c.put_rows-listed.ensures in
     record {
-      dimensions_bound = (start.requires.row_fits.axes, start.requires.row_fits.floats);
+      row_fits = start.requires.row_fits;
       room_for = room-now w3;
     }
 
@@ -62,7 +62,7 @@ pub put_short-requires : goal.put_short-requires
 put_short-requires c = let start = c in
     let a = start.args in
     let row = c.read_row-row in
-    let p = packed a.internals.now a.domains.now a.boxes.now a.borrowed.now a.dimensions in
+    let p = packed_of a.tree in
     let w0 = begin (domain_parts a.coarse p a.j start.requires.row_fits row.result row.ensures)
     (domain-parts a.coarse p a.j start.requires.row_fits row.result row.ensures) start.requires.room_for in
     let w1 = part-written w0 c.put_counts-counted.ensures in
@@ -75,7 +75,7 @@ pub overflow_add-result : goal.overflow_add-result
 overflow_add-result c = let start = c in
     let a = start.args in
     let row = c.read_row-row in
-    let p = packed a.internals.now a.domains.now a.boxes.now a.borrowed.now a.dimensions in
+    let p = packed_of a.tree in
     let w0 = begin (domain_parts a.coarse p a.j start.requires.row_fits row.result row.ensures)
     (domain-parts a.coarse p a.j start.requires.row_fits row.result row.ensures) start.requires.room_for in
     let w1 = part-written w0 c.put_counts-counted.ensures in
@@ -89,7 +89,7 @@ pub returns : goal.returns
 returns c = let start = c in
     let a = start.args in
     let row = c.read_row-row in
-    let p = packed a.internals.now a.domains.now a.boxes.now a.borrowed.now a.dimensions in
+    let p = packed_of a.tree in
     let w0 = begin (domain_parts a.coarse p a.j start.requires.row_fits row.result row.ensures)
     (domain-parts a.coarse p a.j start.requires.row_fits row.result row.ensures) start.requires.room_for in
     let w1 = part-written w0 c.put_counts-counted.ensures in

@@ -11,8 +11,8 @@ put_reals-requires c = let m = c in
     let a = start.args in
     let x = m.floats_before-start in
     let w = m.box_width-width in record {
-      count_in_bounds = omega (arith, x.ensures, w.ensures, start.requires.dimensions_bound);
-      room_for = room-spelt (cover-given a.coarse a.dimensions a.boxes.now a.j start.requires.dimensions_bound.1 x.result x.ensures w.result c.if-coarse.true w.ensures) start.requires.room_for;
+      count_in_bounds = omega (arith, x.ensures, w.ensures, start.requires.row_fits.axes, start.requires.row_fits.floats);
+      room_for = room-spelt (cover-given a.coarse a.tree.dimensions a.tree.boxes.now a.j start.requires.row_fits.floats x.result x.ensures w.result c.if-coarse.true w.ensures) start.requires.room_for;
     }
 
 pub returns-then-coarse : goal.returns-then-coarse
@@ -22,7 +22,7 @@ returns-then-coarse c = let taken = c in
     let a = start.args in
     let x = m.floats_before-start in
     let w = m.box_width-width in
-    spelt (sym (cover-given a.coarse a.dimensions a.boxes.now a.j start.requires.dimensions_bound.1 x.result x.ensures w.result taken.if-coarse.true w.ensures)) c.put_reals.ensures
+    spelt (sym (cover-given a.coarse a.tree.dimensions a.tree.boxes.now a.j start.requires.row_fits.floats x.result x.ensures w.result taken.if-coarse.true w.ensures)) c.put_reals.ensures
 
 pub put_reals-requires-2 : goal.put_reals-requires-2
 put_reals-requires-2 c = let m = c in
@@ -30,8 +30,8 @@ put_reals-requires-2 c = let m = c in
     let a = start.args in
     let x = m.floats_before-start in
     let n = m.row_floats-floats in record {
-      count_in_bounds = omega (arith, x.ensures, n.ensures, start.requires.dimensions_bound);
-      room_for = room-spelt (all-given a.coarse a.dimensions a.boxes.now a.j start.requires.dimensions_bound.1 x.result x.ensures n.result c.if-coarse.false n.ensures) start.requires.room_for;
+      count_in_bounds = omega (arith, x.ensures, n.ensures, start.requires.row_fits.axes, start.requires.row_fits.floats);
+      room_for = room-spelt (all-given a.coarse a.tree.dimensions a.tree.boxes.now a.j start.requires.row_fits.floats x.result x.ensures n.result c.if-coarse.false n.ensures) start.requires.room_for;
     }
 
 pub returns : goal.returns
@@ -41,4 +41,4 @@ returns c = let left = c in
     let a = start.args in
     let x = m.floats_before-start in
     let n = m.row_floats-floats in
-    spelt (sym (all-given a.coarse a.dimensions a.boxes.now a.j start.requires.dimensions_bound.1 x.result x.ensures n.result left.if-coarse.false n.ensures)) c.put_reals-2.ensures
+    spelt (sym (all-given a.coarse a.tree.dimensions a.tree.boxes.now a.j start.requires.row_fits.floats x.result x.ensures n.result left.if-coarse.false n.ensures)) c.put_reals-2.ensures
