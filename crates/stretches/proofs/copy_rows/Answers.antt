@@ -1,15 +1,12 @@
 -- `stretches::copy_rows` meets its contract. Assumes nothing.
-use borrow.Author.Rules.{rules}
-use mathlib.Core.Path.{◌≡◌}
-use native.Mathlib.Omega.{arith}
-use Rattle.lists.proofs.Put.{copy-none, copy_more}
+use mathlib.Core.Path.{ap, ◌∙◌}
+use lib.ListN.{length}
+use Rattle.lists.specs.Lists.{put}
+use Rattle.lists.proofs.Put.{part-back, part-lent, length_part}
 use Rattle.stretches.proofs.copy_rows.Goals as goal
 
-pub loop-i-init : goal.loop-i-init
-loop-i-init c = (search rules, search rules, copy-none _ _ _ _)
-
-pub loop-i-preserved : goal.loop-i-preserved
-loop-i-preserved c = (search rules, search rules, rw c.loop-i.invariant.2 (copy_more _ _ _ _ _ 0 (omega arith) (omega arith)))
-
 pub returns : goal.returns
-returns c = let e : c.loop-i.i ≡ c.args.count = omega arith in rw (← e) c.loop-i.invariant.2
+returns g c = let e = c.copy_from_slice.ensures in
+    let a = c.args in
+    part-back _ _ _ _ (e.len ∙ ap length (part-lent a.out.now a.at a.count) ∙ length_part _ _ _ c.requires.1)
+    ∙ ap (put a.out.now a.at) (e.after ∙ part-lent _ _ _)
