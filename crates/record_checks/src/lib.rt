@@ -7,12 +7,12 @@ ghost use Rattle.definition.specs.Refusals.{most_points, most_neighbours, build_
 ghost use Rattle.definition.specs.DepthFirst.{record_short_lem, depth_first_verdict};
 ghost use Rattle.config.specs.Params.{settings_of_lem};
 ghost use Rattle.build_sizes.specs.Sizes.{sizes_of};
-ghost use Rattle.build_checks.specs.Verdicts.{verdict_of};
+ghost use Rattle.refusal.specs.Refusals.{verdict_of};
 ghost use Rattle.record_checks.specs.Lengths.{record_sizes_of};
 
-use build_checks::Checked;
 use build_sizes::BuildSizes;
 use config::DDMParams;
+use refusal::Refusal;
 
 // The most nodes of a tree's records, for each point.
 const NODES: usize = 12;
@@ -25,15 +25,13 @@ pub struct RecordSizes {
 }
 
 // Whether one of the two lists is shorter than n points ask for.
+#[tactic(auto, unfolding(definition::specs::DepthFirst::record_short_lem))]
 pub fn record_short(lent: RecordSizes, n: usize) -> bool
     requires { n ≤ most_points }
     ensures { result ≡ record_short_lem (record_sizes_of lent) n }
 {
     let stated = NODES * n;
-    if lent.cuts < stated {
-        return true;
-    }
-    lent.planes < stated
+    lent.cuts < stated || lent.planes < stated
 }
 
 // Whether one of the nine lists is shorter than n points on `dimensions` axes with this neighbour count ask for.
@@ -47,10 +45,7 @@ fn any_short(
     requires { (dimensions ≤ 3) × (n ≤ most_points) × (neighbours ≤ most_neighbours) }
     ensures { result ≡ (build_short (sizes_of lent) (build_stated dimensions n neighbours) || record_short_lem (record_sizes_of record_lent) n) }
 {
-    if build_checks::is_short(lent, dimensions, n, neighbours) {
-        return true;
-    }
-    record_short(record_lent, n)
+    build_checks::is_short(lent, dimensions, n, neighbours) || record_short(record_lent, n)
 }
 
 // The tests of the build over all points, with lists of these lengths.
@@ -60,13 +55,10 @@ pub fn check_depth_first(
     params: DDMParams,
     lent: BuildSizes,
     record_lent: RecordSizes,
-) -> Checked
+) -> Result<(), Refusal>
     ensures { verdict_of result ≡ depth_first_verdict (settings_of_lem dimensions params) points.now (sizes_of lent) (record_sizes_of record_lent) }
 {
-    let number = build_checks::first_fault(points.len(), dimensions, params);
-    if 0 < number {
-        return Checked::Refused(number, 0);
-    }
+    build_checks::first_fault(points.len(), dimensions, params)?;
     let n = points.len() / dimensions;
     let short = any_short(
         lent,
