@@ -1,2 +1,0 @@
--- Laws of the test of a stretch.
-pub mod Stretches
