@@ -1,62 +1,40 @@
--- The turns of the bisection. Assumes nothing.
--- Holds: Between, between-all, between-low, between-high, between-one
+-- The rows of an ascending list below a row, and where they end. Assumes nothing.
 use mathlib.Core.Path.{◌≡◌, ap, ◌∙◌}
+use mathlib.Core.Bool.{true, false}
 use mathlib.Core.List.{List, Memᴰ}
-use Prim.Native.Nat.{ℕ, ◌+◌, ◌≤◌, ◌<◌}
+use Prim.Native.Nat.{ℕ, ◌≤◌, ◌<◌}
 use native.Mathlib.Omega.{arith}
-use native.Mathlib.Decide.{dec_lt}
+use native.Mathlib.Nat.{eq-or-lt_of_le}
+use mathlib.Core.Logic.{⊎_elim}
+use borrow.Author.Tests.{lt-ltb, ltb-true}
+use Rattle.std.proofs.lemmas.List.Sorted.{IsNonDecreasingBy-from_default, IsPartitionedBy-ltb}
+use Rattle.lists.proofs.Tests.{clash, le-or-lt}
+use lib.Dec.{ltb}
 use lib.ListN.{length, get_or}
+use Rattle.std.specs.List.Sorted.{IsPartitionedBy, IsPartitionPoint}
 use Rattle.lists.specs.Ascends.{Ascends}
 use Rattle.lists.proofs.Members.{mem_index}
 use Rattle.lists.proofs.Ascends.{ascends-at}
 
--- the row's position is from low up and below high
-pub record Between (l : List ℕ) (row low high : ℕ) : Type 0 where
-  pub at : ℕ
-  pub lower : low ≤ at
-  pub upper : at < high
-  pub within : high ≤ length l
-  pub is : get_or l at 0 ≡ row
-
 module _ (l : List ℕ) (up : Ascends l) (row : ℕ) where
-  pub between-all : Memᴰ row l → Between l row 0 (length l)
-  between-all i =
-      let r = mem_index l 0 i in
-      record { at = r.0; lower = omega arith; upper = r.1; within = omega arith; is = r.2 }
+  rising : (i j : ℕ) → i ≤ j → j < length l → get_or l i 0 ≤ get_or l j 0
+  rising i j h g = ⊎_elim (λ (e : i ≡ j). rw e (omega arith)) (λ (b : i < j). let a = ascends-at l i j up b g in omega arith) (eq-or-lt_of_le h)
 
-  module _ (low high : ℕ) (b : Between l row low high) where
-    pub between-low : (middle : ℕ) → low < middle → middle < high → row < get_or l middle 0 → Between l row low middle
-    between-low middle h g t = record {
-      at = b.at;
-      lower = b.lower;
-      upper = go (dec_lt b.at middle);
-      within = (let w = b.within in omega arith);
-      is = b.is;
-    }
-      where
-        go : Dec (b.at < middle) → b.at < middle
-        go (yes y) = y
-        go (no n) = go2 (dec_lt middle b.at)
-          where
-            go2 : Dec (middle < b.at) → b.at < middle
-            go2 (yes y) =
-                let a = ascends-at l middle b.at up y (let u = b.upper in let w = b.within in omega arith) in
-                let e = b.is in absurd (omega arith)
-            go2 (no m) = let q : middle ≡ b.at = omega arith in let e : get_or l middle 0 ≡ row = ap (λ (i : ℕ). get_or l i 0) q ∙ b.is in absurd (omega arith)
+  -- those below the row come first
+  pub lower-first : IsPartitionedBy (λ y. ltb y row) l
+  lower-first = IsPartitionedBy-ltb (λ y. y) l row (IsNonDecreasingBy-from_default (λ y. y) l 0 rising)
 
-    pub between-high : (middle : ℕ) → low < middle → middle < high → get_or l middle 0 ≤ row → Between l row middle high
-    between-high middle h g t = record { at = b.at; lower = go (dec_lt b.at middle); upper = b.upper; within = b.within; is = b.is }
-      where
-        go : Dec (b.at < middle) → middle ≤ b.at
-        go (yes y) =
-            let a = ascends-at l b.at middle up y (let w = b.within in omega arith) in
-            let e = b.is in absurd (omega arith)
-        go (no n) = omega arith
+  -- and they end at the row
+  pub lower-end : Memᴰ row l → (n : ℕ) → IsPartitionPoint (λ y. ltb y row ≡ true) (λ y. ltb y row ≡ false) l n → (n < length l) × (get_or l n 0 ≡ row)
+  lower-end i n p = let e = same in (omega (arith, r.1), ap (λ (k : ℕ). get_or l k 0) e ∙ r.2)
+    where
+      r : (k : ℕ) × (k < length l) × (get_or l k 0 ≡ row)
+      r = let m = mem_index l 0 i in (m.0, m.1, m.2)
 
-    pub between-one : high ≤ low + 1 → (low < length l) × (get_or l low 0 ≡ row)
-    between-one h =
-        let u = b.upper in
-        let w = b.within in
-        let o = b.lower in
-        let e : low ≡ b.at = omega arith in
-        (omega arith, ap (λ (i : ℕ). get_or l i 0) e ∙ b.is)
+      same : n ≡ r.0
+      same = ⊎_elim
+          (λ (h : n ≤ r.0). ⊎_elim (λ (e : n ≡ r.0). e) (λ (b : n < r.0).
+          let a = ascends-at l n r.0 up b r.1 in
+          absurd (clash (lt-ltb (get_or l n 0) row (omega (arith, r.2))) (p.1 n 0 (omega arith) (omega (arith, r.1))))) (eq-or-lt_of_le h))
+          (λ (b : r.0 < n). absurd (let t = ltb-true (get_or l r.0 0) row (p.0 r.0 0 (omega arith) b) in omega (arith, r.2)))
+          (le-or-lt n r.0)

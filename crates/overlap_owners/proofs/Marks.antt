@@ -3,19 +3,18 @@
 use mathlib.Core.Path.{◌≡◌, refl, sym, ap, ◌∙◌, subst}
 use mathlib.Core.Logic.{⊎_elim}
 use mathlib.Core.Bool.{Bool, true, false, cond, ◌||◌}
-use mathlib.Core.List.{List, [], ◌∷◌, ◌++◌, Memᴰ}
+use mathlib.Core.List.{List, [], Memᴰ}
 use Prim.Native.Nat.{ℕ, ◌+◌, ◌≤◌, ◌<◌}
 use native.Mathlib.Omega.{arith}
 use native.Mathlib.Nat.{eq-or-lt_of_le}
-use native.Mathlib.Numerals.{add-one}
 use borrow.Author.Tests.{eqb-true, eqb-false, eq-eqb}
 use lib.Dec.{eqb}
-use lib.ListN.{length, get_or, set}
+use lib.ListN.{length, get_or, set, take}
 use lib.Seq.{get_or-set_same, get_or-set_other}
-use Rattle.lists.specs.Lists.{any_of, member, part}
+use Rattle.lists.specs.Lists.{any_of, member}
+use Rattle.std.proofs.lemmas.List.{take_more}
 use Rattle.lists.specs.Ascends.{Ascends}
 use Rattle.lists.proofs.Tests.{same_test, cond-true, cond-false, or-false, or-true}
-use Rattle.lists.proofs.Put.{part-snoc}
 use Rattle.lists.proofs.Members.{mem-at, member-mem, mem-member, not-member, member-snoc}
 use Rattle.lists.proofs.Ascends.{ascends_same}
 use Rattle.packed.specs.Reading.{own_at, read_own}
@@ -24,32 +23,29 @@ use Rattle.overlap_owners.specs.Own.{Leaves, Written, Owned}
 use Rattle.overlap_owners.proofs.Read.{shared-active, shared-held, shared-apart}
 
 -- ---- one row more
-module _ (active : List ℕ) (up : Ascends active) (internals : List ℕ) (start count leaf : ℕ) (old : List ℕ) (fits : start + count ≤ length internals) where
-  pub stretch-none : Written active (part internals start 0) leaf old old
-  unfolding member any_of part
+module _ (active : List ℕ) (up : Ascends active) (rows : List ℕ) (leaf : ℕ) (old : List ℕ) where
+  pub stretch-none : Written active (take 0 rows) leaf old old
+  unfolding member any_of
   stretch-none p h = refl
 
-  module _ (new : List ℕ) (k : ℕ) (w : Written active (part internals start k) leaf old new) (here : k < count)
-      (q : ℕ) (q-in : q < length active) (q-is : get_or active q 0 ≡ get_or internals (start + k) 0) (room : length active ≤ length new) where
-    longer : part internals start (k + 1) ≡ part internals start k ++ get_or internals (start + k) 0 ∷ []
-    longer = rw add-one (part-snoc internals start k 0 (omega arith))
+  module _ (new : List ℕ) (k : ℕ) (w : Written active (take k rows) leaf old new) (here : k < length rows)
+      (q : ℕ) (q-in : q < length active) (q-is : get_or active q 0 ≡ get_or rows k 0) (room : length active ≤ length new) where
+    tested : (p : ℕ) → member (get_or active p 0) (take (k + 1) rows) ≡ member (get_or active p 0) (take k rows) || eqb (get_or active q 0) (get_or active p 0)
+    tested p = ap (member (get_or active p 0)) (take_more rows k 0 here) ∙ member-snoc (get_or active p 0) (take k rows) (get_or rows k 0)
+        ∙ ap (λ (x : ℕ). member (get_or active p 0) (take k rows) || eqb x (get_or active p 0)) (sym q-is)
 
-    tested : (p : ℕ) → member (get_or active p 0) (part internals start (k + 1)) ≡ member (get_or active p 0) (part internals start k) || eqb (get_or active q 0) (get_or active p 0)
-    tested p = ap (member (get_or active p 0)) longer ∙ member-snoc (get_or active p 0) (part internals start k) (get_or internals (start + k) 0)
-        ∙ ap (λ (x : ℕ). member (get_or active p 0) (part internals start k) || eqb x (get_or active p 0)) (sym q-is)
-
-    pub stretch-more : Written active (part internals start (k + 1)) leaf old (set new q leaf)
+    pub stretch-more : Written active (take (k + 1) rows) leaf old (set new q leaf)
     stretch-more p h = go (eqb (get_or active q 0) (get_or active p 0)) refl
       where
-        go : (b : Bool) → eqb (get_or active q 0) (get_or active p 0) ≡ b → get_or (set new q leaf) p 0 ≡ cond (member (get_or active p 0) (part internals start (k + 1))) leaf (get_or old p 0)
+        go : (b : Bool) → eqb (get_or active q 0) (get_or active p 0) ≡ b → get_or (set new q leaf) p 0 ≡ cond (member (get_or active p 0) (take (k + 1) rows)) leaf (get_or old p 0)
         go true e =
             let s : q ≡ p = ascends_same active q p up q-in h (eqb-true (get_or active q 0) (get_or active p 0) e) in
-            let t : member (get_or active p 0) (part internals start (k + 1)) ≡ true = tested p ∙ ap (λ (b : Bool). member (get_or active p 0) (part internals start k) || b) e ∙ or-true (member (get_or active p 0) (part internals start k)) in
+            let t : member (get_or active p 0) (take (k + 1) rows) ≡ true = tested p ∙ ap (λ (b : Bool). member (get_or active p 0) (take k rows) || b) e ∙ or-true (member (get_or active p 0) (take k rows)) in
             ap (λ (i : ℕ). get_or (set new q leaf) i 0) (sym s) ∙ get_or-set_same new q leaf 0 (omega arith)
-            ∙ sym (cond-true (member (get_or active p 0) (part internals start (k + 1))) leaf (get_or old p 0) t)
+            ∙ sym (cond-true (member (get_or active p 0) (take (k + 1) rows)) leaf (get_or old p 0) t)
         go false e =
             let n : p ≡ q → ⊥ = λ s. eqb-false (get_or active q 0) (get_or active p 0) e (ap (λ (i : ℕ). get_or active i 0) (sym s)) in
-            let t : member (get_or active p 0) (part internals start (k + 1)) ≡ member (get_or active p 0) (part internals start k) = tested p ∙ ap (λ (b : Bool). member (get_or active p 0) (part internals start k) || b) e ∙ or-false (member (get_or active p 0) (part internals start k)) in
+            let t : member (get_or active p 0) (take (k + 1) rows) ≡ member (get_or active p 0) (take k rows) = tested p ∙ ap (λ (b : Bool). member (get_or active p 0) (take k rows) || b) e ∙ or-false (member (get_or active p 0) (take k rows)) in
             get_or-set_other new q p leaf 0 n ∙ w p h ∙ sym (ap (λ (b : Bool). cond b leaf (get_or old p 0)) t)
 
 -- ---- the leaves one after the other

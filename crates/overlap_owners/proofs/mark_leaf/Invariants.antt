@@ -1,12 +1,6 @@
-use Prim.Native.Nat.{◌-◌, ◌≤◌}
-use mathlib.Core.Path.{◌≡◌}
-use lib.ListN.{length}
-use Rattle.lists.specs.Lists.{part}
+use lib.ListN.{take}
 use Rattle.overlap_owners.specs.Own.{Written}
 use Rattle.overlap_owners.proofs.mark_leaf.Given as goal
 
-abbrev pub invariant-loop-k : goal.invariant-loop-k
-invariant-loop-k l = (l.k ≤ l.count) × (length l.wholes ≡ length l.initial.wholes) × Written l.active (part l.internals l.start l.k) l.leaf l.initial.wholes l.wholes
-
-abbrev pub decreases-loop-k : goal.decreases-loop-k
-decreases-loop-k l = l.count - l.k
+abbrev pub invariant-loop-row : goal.invariant-loop-row
+invariant-loop-row l = Written l.active (take l.row-index l.rows) l.leaf l.initial.wholes l.wholes
