@@ -4,7 +4,7 @@
 ghost use Rattle.std.specs.Prelude.{◌≡◌, [], length};
 ghost use Rattle.lists.specs.Lists.{part};
 ghost use Rattle.definition.specs.Refusals.{stretch_verdict};
-ghost use Rattle.definition.specs.Outcome.{asked_verdict, rows_asked, value_of};
+ghost use Rattle.definition.specs.Outcome.{number_of, row_test_lem, rows_asked, value_of};
 ghost use Rattle.packed.specs.Rows.{plain_row};
 ghost use Rattle.refusal.specs.Refusals.{verdict_of};
 ghost use Rattle.leaf_rows.specs.Asked.{which_of};
@@ -58,14 +58,14 @@ pub fn rows_of<'a>(
 }
 
 // The test of the row: 12 where the stretch that is asked for ends past its list.
-#[tactic(auto, unfolding(definition::specs::Outcome::asked_verdict))]
+#[tactic(auto, unfolding(definition::specs::Outcome::row_test_lem, definition::specs::Outcome::asked_verdict))]
 pub fn row_test(
     internals: &[usize],
     borrowed: &[usize],
     which: Which,
     row: DomainRow,
 ) -> Result<(), Refusal>
-    ensures { verdict_of result ≡ asked_verdict (which_of which) (plain_row row) internals.now borrowed.now }
+    ensures { number_of (verdict_of result) ≡ row_test_lem (which_of which) (plain_row row) internals.now borrowed.now }
 {
     match which {
         Which::Own => stretch_test(internals.len(), row.internal_start, row.internal_count),
