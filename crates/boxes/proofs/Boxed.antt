@@ -1,10 +1,10 @@
 -- Boxes by value as lists. Assumes nothing.
--- Holds: box_with, three, lower-changed, upper-changed, box_read, box-written, Filled, filled_none, filled_more, filled-all
-use mathlib.Core.Path.{◌≡◌, refl, sym, ap, ap₂, subst, ◌∙◌}
+-- Holds: box_with, lower-changed, upper-changed, box_read, box-written, Filled, filled_none, filled_more, filled-all
+use mathlib.Core.Path.{◌≡◌, refl, ap, ap₂, subst, ◌∙◌}
 use mathlib.Core.List.{List, ◌++◌, map}
 use Prim.Native.Nat.{ℕ, ◌+◌, ◌≤◌, ◌<◌}
 use native.Mathlib.Omega.{arith}
-use lib.ListN.{length, set, take, length-map, length-set}
+use lib.ListN.{length, set, take, length-set}
 use lib.Seq.{length-take-le}
 use lib.Ieee.{Float}
 use Rattle.lists.specs.Lists.{part, put, from}
@@ -18,10 +18,6 @@ use Rattle.boxes.specs.declared.Extents.{Extents}
 -- a box of these bounds
 abbrev pub box_with : List Float → List Float → ℕ → Extents
 box_with l u d = record { lower = l; upper = u; dimensions = d }
-
--- what the check knows of an array that a struct holds
-pub three : (l : List Float) → length (map (λ v. v) l) ≡ 3 → length l ≡ 3
-three l h = sym (length-map l (λ v. v)) ∙ h
 
 -- a bound changed
 module _ (l u : List Float) (d axis : ℕ) (v : Float) (e : length l ≡ 3) (h : axis < d) (k : d ≤ 3) where

@@ -1,4 +1,3 @@
 -- Laws of boxes.
 pub mod Boxed
-mod Turns
 mod Halves

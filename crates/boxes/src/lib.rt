@@ -57,44 +57,19 @@ impl Extents {
     }
 }
 
-// The `count` floats of the list from `at` on.
-fn read_bounds(list: &[f64], at: usize, count: usize) -> [f64; 3]
-    requires { (at + count ≤ length list.now) × (count ≤ 3) }
-    ensures { take count result ≡ part list.now at count }
-{
-    let mut bounds = [0.0; 3];
-    let mut k = 0;
-    while k < count {
-        bounds[k] = list[at + k];
-        k += 1;
-    }
-    bounds
-}
-
 // The box that stands in the list from `at` on.
 pub fn read_box(list: &[f64], at: usize, dimensions: usize) -> Extents
     requires { (at + box_width_lem dimensions ≤ length list.now) × (dimensions ≤ 3) }
     ensures { (result.dimensions ≡ dimensions) × (floats_of result ≡ part list.now at (box_width_lem dimensions)) }
 {
-    let lower = read_bounds(list, at, dimensions);
-    let upper = read_bounds(list, at + dimensions, dimensions);
-    Extents {
-        lower,
-        upper,
+    let mut b = Extents {
+        lower: [0.0; 3],
+        upper: [0.0; 3],
         dimensions,
-    }
-}
-
-// Writes the first `count` of the bounds to the list from `at` on.
-fn write_bounds(bounds: [f64; 3], count: usize, out: &mut [f64], at: usize)
-    requires { (at + count ≤ length out.old) × (count ≤ 3) }
-    ensures { out.new ≡ put out.old at (take count bounds) }
-{
-    let mut k = 0;
-    while k < count {
-        out[at + k] = bounds[k];
-        k += 1;
-    }
+    };
+    stretches::copy_rows(list, at, dimensions, &mut b.lower, 0);
+    stretches::copy_rows(list, at + dimensions, dimensions, &mut b.upper, 0);
+    b
 }
 
 // Writes the box to the list from `at` on.
@@ -102,11 +77,8 @@ pub fn write_box(b: Extents, out: &mut [f64], at: usize)
     requires { (at + box_width_lem b.dimensions ≤ length out.old) × (b.dimensions ≤ 3) }
     ensures { out.new ≡ put out.old at (floats_of b) }
 {
-    let d = b.dimensions;
-    let lower = b.lower;
-    let upper = b.upper;
-    write_bounds(lower, d, out, at);
-    write_bounds(upper, d, out, at + d);
+    stretches::copy_rows(&b.lower, 0, b.dimensions, out, at);
+    stretches::copy_rows(&b.upper, 0, b.dimensions, out, at + b.dimensions);
 }
 
 // Writes the boxes of the two halves of a domain to a list, from `at` on. Each is the domain's box with one bound changed: on the
@@ -125,9 +97,5 @@ pub fn put_zeros(boxes: &mut [f64], at: usize, count: usize)
     requires { at + count ≤ length boxes.old }
     ensures { boxes.new ≡ put boxes.old at (replicate count plus_zero) }
 {
-    let mut i = 0;
-    while i < count {
-        boxes[at + i] = 0.0;
-        i += 1;
-    }
+    stretches::fill_part(boxes, at, count, 0.0);
 }
