@@ -6,15 +6,12 @@ ghost use Rattle.definition.specs.Refusals.{verdict};
 ghost use Rattle.definition.specs.Outcome.{TreeLists};
 ghost use Rattle.stored.specs.Outcome.{own_tests};
 ghost use Rattle.config.specs.Params.{settings_of_lem};
-ghost use Rattle.build_checks.specs.Verdicts.{verdict_of};
+ghost use Rattle.refusal.specs.Refusals.{verdict_of};
 ghost use Rattle.tree_checks.specs.Lent.{Lent};
 
-use build_checks::Checked;
 use build_sizes::BuildSizes;
 use config::DDMParams;
-
-// A length that no list is asked to have.
-const ANY: usize = 0xffff_ffff_ffff_ffff;
+use refusal::Refusal;
 
 // The lengths of the five lists.
 #[derive(Clone, Copy)]
@@ -27,17 +24,29 @@ pub struct TreeSizes {
 }
 
 // The tests of a build over these points, with lists of these lengths. No working room is lent, so none of it is too short.
-pub fn check_tree(points: &[f64], dimensions: usize, params: DDMParams, lent: TreeSizes) -> Checked
+pub fn check_tree(
+    points: &[f64],
+    dimensions: usize,
+    params: DDMParams,
+    lent: TreeSizes,
+) -> Result<(), Refusal>
     ensures { (l : TreeLists) → Lent lent l → verdict_of result ≡ verdict (own_tests (settings_of_lem dimensions params) points.now l) }
 {
+    let TreeSizes {
+        level_points,
+        internals,
+        domains,
+        boxes,
+        borrowed,
+    } = lent;
     let sizes = BuildSizes {
-        level_points: lent.level_points,
-        internals: lent.internals,
-        domains: lent.domains,
-        boxes: lent.boxes,
-        borrowed: lent.borrowed,
-        floats: ANY,
-        wholes: ANY,
+        level_points,
+        internals,
+        domains,
+        boxes,
+        borrowed,
+        floats: usize::MAX,
+        wholes: usize::MAX,
     };
     build_checks::check_build(points, dimensions, params, sizes)
 }

@@ -1,9 +1,6 @@
 -- `tree_checks::check_tree` meets its contract. Assumes nothing.
 use mathlib.Core.Path.{refl, ◌∙◌}
 use Rattle.tree_checks.proofs.NoRoom.{build-is-own}
-use Rattle.tree_checks.proofs.check_tree.Reads as reads
-use Rattle.tree_checks.proofs.check_tree.Lts as lts
-use Rattle.build_checks.proofs.check_build.Reads as check-build-reads
 use Rattle.tree_checks.proofs.check_tree.Goals as goal
 
 pub returns : goal.returns
