@@ -1,8 +1,8 @@
 -- The digits of a number: each text is that of the number without its last digit_of_lem, and the last digit_of_lem. Assumes nothing.
--- Holds: digit_low, digit-high, hex-onto, hex-none, hex-step, one-digit, more-digits, same-fuel, decimal-onto, decimal-one,
+-- Holds: hex-onto, hex-none, hex-step, one-digit, more-digits, same-fuel, decimal-onto, decimal-one,
 --   decimal_step, bits_text, bits-text
 use mathlib.Core.Path.{◌≡◌, refl, sym, ap, ap₂, ◌∙◌}
-use Prim.Native.Nat.{ℕ, zero, suc, ◌+◌, ◌/◌, ◌%◌, ◌^◌, ◌-◌, ◌≤◌, ◌<◌}
+use Prim.Native.Nat.{ℕ, zero, suc, ◌/◌, ◌%◌, ◌^◌, ◌-◌, ◌≤◌, ◌<◌}
 use native.Mathlib.Nat.{mod-eq_of_lt, pow-succ'}
 use native.Mathlib.Decide.{dec_lt}
 use native.Mathlib.Omega.{arith}
@@ -10,12 +10,6 @@ use mathlib.Core.List.{List, [], ◌∷◌, ◌++◌, append_assoc}
 use borrow.Author.Tests.{lt-ltb, le-ltb}
 use lib.Ieee.{Float, to_bits, binary64}
 use Rattle.formats.specs.Printout.{digit_of_lem, decimal, decimal_onto, hex_onto}
-
-pub digit_low : (n : ℕ) → n < 10 → digit_of_lem n ≡ 48 + n
-digit_low n h = rw (lt-ltb n 10 h)
-
-pub digit-high : (n : ℕ) → 10 ≤ n → digit_of_lem n ≡ 87 + n
-digit-high n h = rw (le-ltb n 10 h)
 
 pub hex-onto : (k n : ℕ) (after : List ℕ) → hex_onto k n after ≡ hex_onto k n [] ++ after
 unfolding hex_onto

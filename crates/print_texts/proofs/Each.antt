@@ -1,5 +1,5 @@
 -- The texts of a list's elements, one after the other. Assumes nothing.
--- Holds: each_none, each_all, each-room, more_room, each_more, row_text, float_text, floats-text, valued-text, rows-dash,
+-- Holds: each_none, each_all, each-room, more_room, each_more, floats-text, valued-text, rows-dash,
 --   rows-listed
 use mathlib.Core.Path.{◌≡◌, refl, sym}
 use Prim.Native.Nat.{ℕ, ◌+◌, ◌≤◌, ◌<◌}
@@ -7,10 +7,11 @@ use native.Mathlib.Omega.{arith}
 use mathlib.Core.List.{List, [], ◌∷◌, ◌++◌, map, map-append}
 use lib.ListN.{length, get_or, take, drop, take-append-drop}
 use lib.Seq.{take_all}
-use lib.Ieee.{Float, to_bits, binary64}
+use lib.Ieee.{Float}
 use Rattle.lists.specs.Lists.{joined}
 use Rattle.lists.proofs.Joined.{joined-append, joined-map-more}
-use Rattle.formats.specs.Printout.{rows_text, floats_text, decimal, hex_onto, ascii}
+use Rattle.formats.specs.Printout.{rows_text, floats_text, ascii}
+use Rattle.print_texts.specs.Texts.{row_text, float_text}
 use Rattle.bytes_out.specs.Wrote.{Wrote, RoomFor}
 use Rattle.bytes_out.proofs.Wrote.{spelt, room-spelt, room-first, room_next, wrote_then}
 
@@ -41,12 +42,6 @@ module _ {A : Type 0} (f : A → List ℕ) where
     each_more v = spelt (sym (joined-map-more f xs i d g)) (wrote_then w step_room v)
 
 -- ---- rows, and floats
-abbrev pub row_text : ℕ → List ℕ
-row_text j = 32 ∷ decimal j
-
-abbrev pub float_text : Float → List ℕ
-float_text x = 32 ∷ hex_onto 16 (to_bits binary64 x) []
-
 pub floats-text : (xs : List Float) → floats_text xs ≡ joined (map float_text xs)
 unfolding floats_text
 floats-text xs = refl
@@ -60,7 +55,7 @@ unfolding rows_text ascii
 rows-dash [] e = refl
 rows-dash (x ∷ xs) e = absurd (omega arith)
 
-pub rows-listed : (xs : List ℕ) → (length xs ≡ 0 → ⊥) → rows_text xs ≡ joined (map row_text xs)
+pub rows-listed : (xs : List ℕ) → 0 < length xs → rows_text xs ≡ joined (map row_text xs)
 unfolding rows_text
-rows-listed [] h = absurd (h refl)
+rows-listed [] h = absurd (omega arith)
 rows-listed (x ∷ xs) h = refl

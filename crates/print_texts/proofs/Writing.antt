@@ -12,7 +12,8 @@ use Rattle.lists.specs.Lists.{joined}
 use Rattle.formats.specs.Printout.{ascii, decimal, refusal_text}
 use Rattle.bytes_out.specs.Wrote.{Wrote, RoomFor}
 use Rattle.bytes_out.proofs.Wrote.{spelt, room-spelt, room-first, room_next, wrote_then, wrote_none}
-use Rattle.print_texts.specs.Refusals.{refusal_of}
+use Rattle.refusal.specs.declared.Refusal.{Refusal}
+use Rattle.refusal.specs.Refusals.{refusal_number, refusal_place, as_refusal}
 
 -- the first k of the texts ts are written, and there is room for all
 pub record Writing (l : List ℕ) (at : ℕ) (ts : List (List ℕ)) (k r : ℕ) (m : List ℕ) : Type 0 where
@@ -50,6 +51,6 @@ finish ts e w = spelt (ap joined (take-length ts) ∙ sym e) w.done
 abbrev pub refusal_texts : ℕ → ℕ → List (List ℕ)
 refusal_texts k p = (ascii "refused " ++ decimal k) ∷ (ascii " at " ++ decimal p) ∷ ascii "\n" ∷ []
 
-pub refusal-texts : (k p : ℕ) → refusal_text (refusal_of k p) ≡ joined (refusal_texts k p)
+pub refusal-texts : (r : Refusal) (k p : ℕ) → k ≡ refusal_number r → p ≡ refusal_place r → refusal_text (as_refusal r) ≡ joined (refusal_texts k p)
 unfolding joined refusal_text
-refusal-texts k p = simp (append_assoc, append-nil)
+refusal-texts r k p e h = rw (e, h) (simp (append_assoc, append-nil))

@@ -1,2 +1,2 @@
 -- What the contracts of the texts cite beside the definition.
-pub mod Refusals
+pub mod Texts

@@ -1,12 +1,15 @@
 // The printout's texts, each appended to a lent list of bytes at a position. Each answers with the next position.
+// A writer that holds the list and the position is no plainer: each contract would also have to say that it still holds the caller's list.
 #![tactic(auto)]
 
-ghost use Rattle.std.specs.Prelude.{◌≡◌, [], ◌∷◌, ◌++◌, ◌<◌};
-ghost use Rattle.std.specs.Float.Ieee.{to_bits};
-ghost use Rattle.std.specs.Float.{binary64};
+ghost use Rattle.std.specs.Prelude.{◌≡◌, ℕ, List, [], ◌∷◌, ◌++◌, ◌<◌, map};
+ghost use Rattle.lists.specs.Lists.{joined};
 ghost use Rattle.formats.specs.Printout.{digit_of_lem, decimal, hex_onto, rows_text, floats_text, refusal_text};
 ghost use Rattle.bytes_out.specs.Wrote.{Wrote, RoomFor};
-ghost use Rattle.print_texts.specs.Refusals.{refusal_of};
+ghost use Rattle.refusal.specs.Refusals.{as_refusal};
+ghost use Rattle.print_texts.specs.Texts.{row_text, float_text};
+
+use refusal::Refusal;
 
 // One byte.
 pub fn write_byte(b: u8, out: &mut [u8], at: usize) -> usize
@@ -22,12 +25,9 @@ pub fn write_text(text: &[u8], out: &mut [u8], at: usize) -> usize
     requires { RoomFor out.old at text.now }
     ensures { Wrote out.old at text.now result out.new }
 {
-    let mut i = 0;
-    while i < text.len() {
-        out[at + i] = text[i];
-        i += 1;
-    }
-    at + i
+    let end = at + text.len();
+    out[at..end].copy_from_slice(text);
+    end
 }
 
 // The digit of a number below 16.
@@ -35,7 +35,7 @@ fn digit_of(n: u8) -> u8
     requires { n < 16 }
     ensures { result ≡ digit_of_lem n }
 {
-    if n < 10 { 48 + n } else { 87 + n }
+    if n < 10 { b'0' + n } else { b'a' - 10 + n }
 }
 
 // A number in decimal.
@@ -64,53 +64,64 @@ fn write_hex(k: usize, n: u64, out: &mut [u8], at: usize) -> usize
     write_byte(low, out, next)
 }
 
-// A space and the number.
-fn write_row(n: usize, out: &mut [u8], at: usize) -> usize
-    requires { RoomFor out.old at (32 ∷ decimal n) }
-    ensures { Wrote out.old at (32 ∷ decimal n) result out.new }
-{
-    let next = write_byte(32, out, at);
-    write_decimal(n, out, next)
+// What is printed in lists: the rows, and the floats.
+trait Printed: Copy {
+    ghost text: { Self → List ℕ };
+
+    // A space and the value.
+    fn write(self, out: &mut [u8], at: usize) -> usize
+        requires { RoomFor out.old at (text self) }
+        ensures { Wrote out.old at (text self) result out.new };
 }
 
-// A space and the number, for each; a dash where there is none.
+impl Printed for usize {
+    ghost text = { row_text };
+
+    fn write(self, out: &mut [u8], at: usize) -> usize {
+        let next = write_byte(b' ', out, at);
+        write_decimal(self, out, next)
+    }
+}
+
+// A float by the 16 hexadecimal digits of its bits.
+impl Printed for f64 {
+    ghost text = { float_text };
+
+    fn write(self, out: &mut [u8], at: usize) -> usize {
+        let next = write_byte(b' ', out, at);
+        write_hex(16, bytes_out::bits_of(self), out, next)
+    }
+}
+
+// The texts of a list's values, one after the other.
+fn write_each<T: Printed>(xs: &[T], out: &mut [u8], at: usize) -> usize
+    requires { RoomFor out.old at (joined (map T.text xs.now)) }
+    ensures { Wrote out.old at (joined (map T.text xs.now)) result out.new }
+{
+    let mut next = at;
+    for &x in xs {
+        next = x.write(out, next);
+    }
+    next
+}
+
+// The rows; a dash where there is none.
 fn write_rows(rows: &[usize], out: &mut [u8], at: usize) -> usize
     requires { RoomFor out.old at (rows_text rows.now) }
     ensures { Wrote out.old at (rows_text rows.now) result out.new }
 {
-    if rows.len() == 0 {
+    if rows.is_empty() {
         return write_text(b" -", out, at);
     }
-    let mut next = at;
-    let mut i = 0;
-    while i < rows.len() {
-        next = write_row(rows[i], out, next);
-        i += 1;
-    }
-    next
+    write_each(rows, out, at)
 }
 
-// A space and the 16 hexadecimal digits of the bits.
-fn write_float(x: f64, out: &mut [u8], at: usize) -> usize
-    requires { RoomFor out.old at (32 ∷ hex_onto 16 (to_bits binary64 x) []) }
-    ensures { Wrote out.old at (32 ∷ hex_onto 16 (to_bits binary64 x) []) result out.new }
-{
-    let next = write_byte(32, out, at);
-    write_hex(16, bytes_out::bits_of(x), out, next)
-}
-
-// The same for each float.
+// The floats.
 pub fn write_floats(floats: &[f64], out: &mut [u8], at: usize) -> usize
     requires { RoomFor out.old at (floats_text floats.now) }
     ensures { Wrote out.old at (floats_text floats.now) result out.new }
 {
-    let mut next = at;
-    let mut i = 0;
-    while i < floats.len() {
-        next = write_float(floats[i], out, next);
-        i += 1;
-    }
-    next
+    write_each(floats, out, at)
 }
 
 // A text and a number.
@@ -137,15 +148,15 @@ pub fn write_valued(label: &[u8], x: f64, out: &mut [u8], at: usize) -> usize
     ensures { Wrote out.old at (label.now ++ floats_text (x ∷ [])) result out.new }
 {
     let next = write_text(label, out, at);
-    write_float(x, out, next)
+    x.write(out, next)
 }
 
 // The line of a refusal.
-pub fn write_refusal(number: usize, place: usize, out: &mut [u8], at: usize) -> usize
-    requires { RoomFor out.old at (refusal_text (refusal_of number place)) }
-    ensures { Wrote out.old at (refusal_text (refusal_of number place)) result out.new }
+pub fn write_refusal(refusal: Refusal, out: &mut [u8], at: usize) -> usize
+    requires { RoomFor out.old at (refusal_text (as_refusal refusal)) }
+    ensures { Wrote out.old at (refusal_text (as_refusal refusal)) result out.new }
 {
-    let said = write_numbered(b"refused ", number, out, at);
-    let done = write_numbered(b" at ", place, out, said);
-    write_byte(10, out, done)
+    let said = write_numbered(b"refused ", refusal.number(), out, at);
+    let done = write_numbered(b" at ", refusal.place(), out, said);
+    write_byte(b'\n', out, done)
 }

@@ -1,5 +1,6 @@
 // The printout of a tree, line by line, from the packed lists: each part is appended to a lent list of bytes at a position, and
-// the answer is the next position.
+// the answer is the next position. A writer that holds the list and the position is no plainer: each contract would also have to
+// say that it still holds the caller's list.
 #![tactic(auto)]
 
 ghost use Rattle.std.specs.Prelude.{ℕ, ◌+◌, ◌<◌};
@@ -44,7 +45,7 @@ fn write_domain(
     let bounded = write_box(fine, bounds, out, boxed);
     let covered = print_texts::write_valued(b" cover", cover, out, bounded);
     let done = print_texts::write_numbered(b" depth ", depth, out, covered);
-    print_texts::write_byte(10, out, done)
+    print_texts::write_byte(b'\n', out, done)
 }
 
 // The line of the level number t.
@@ -54,7 +55,7 @@ fn write_level(t: usize, rows: &[usize], out: &mut [u8], at: usize) -> usize
 {
     let named = print_texts::write_numbered(b"level ", t, out, at);
     let done = print_texts::write_listed(b" points", rows, out, named);
-    print_texts::write_byte(10, out, done)
+    print_texts::write_byte(b'\n', out, done)
 }
 
 // The line of a domain, from the domain row number j: its number is i.
@@ -176,6 +177,6 @@ pub fn write_tree(
     ensures { Wrote out.old at (tree_text (read_levels (packed_of tree.entry) level_points.now rows.now counts.now levels)) result out.new }
 {
     let said = print_texts::write_numbered(b"levels ", levels, out, at);
-    let next = print_texts::write_byte(10, out, said);
+    let next = print_texts::write_byte(b'\n', out, said);
     write_levels(levels, rows, counts, level_points, tree, out, next)
 }
