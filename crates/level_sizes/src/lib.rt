@@ -9,29 +9,14 @@ ghost use Rattle.config.specs.Params.{threshold_policy};
 ghost use Rattle.level_sizes.specs.Answers.{size_report};
 
 use config::SizePolicy;
+use refusal::Refusal;
 use rows::MOST_POINTS;
 
-// The size of the next level, or why there is none. `size_report` gives document 01's number of each refusal.
-#[derive(Clone, Copy)]
-pub enum LevelSize {
-    Points(usize),
-    ZeroThreshold,
-    TooManyPoints,
-    NotAboveThreshold,
-    WrongReductions,
-}
-
-// The ceiling of n / 32, held between 512 and 4,096. The two holds are tried first, so that n + 31 fits.
+// The ceiling of n / 32, held between 512 and 4,096.
 fn auto_threshold(n: usize) -> u32
     ensures { result ≡ threshold auto n }
 {
-    if n <= 16_384 {
-        return 512;
-    }
-    if 131_040 < n {
-        return 4_096;
-    }
-    ((n + 31) / 32) as u32
+    n.div_ceil(32).clamp(512, 4_096) as u32
 }
 
 // The coarse threshold c for n points.
@@ -50,41 +35,14 @@ pub fn get_num_level_reductions(n: usize, c: u32, f: u32) -> u32
     requires { n ≤ most_points }
     ensures { result ≡ reductions n c f }
 {
-    let factor = f as usize;
-    let covered = c as usize;
-    if n <= covered {
-        return 0;
-    }
-    let covered1 = covered * factor;
-    if n <= covered1 {
-        return 1;
-    }
-    let covered2 = covered1 * factor;
-    if n <= covered2 {
-        return 2;
-    }
-    let covered3 = covered2 * factor;
-    if n <= covered3 {
-        return 3;
+    let mut covered = c as usize;
+    for k in 0..4 {
+        if n <= covered {
+            return k;
+        }
+        covered *= f as usize;
     }
     4
-}
-
-// b^r, for r up to 3.
-fn power(b: usize, r: u32) -> usize
-    requires { (b ≤ most_points) × (r ≤ 3) }
-    ensures { result ≡ b ^ r }
-{
-    if r == 0 {
-        return 1;
-    }
-    if r == 1 {
-        return b;
-    }
-    if r == 2 {
-        return b * b;
-    }
-    b * b * b
 }
 
 // The least m with m^r at least c * a^(r-1), by halving: no root is taken, so nothing is rounded.
@@ -92,16 +50,16 @@ fn exact_size(a: usize, c: usize, r: u32) -> usize
     requires { (a ≤ most_points) × (c < a) × (1 ≤ r) × (r ≤ 3) }
     ensures { result ≡ exact_size_lem a c r }
 {
-    let goal = c * power(a, r - 1);
+    let goal = c * a.pow(r - 1);
     let mut lo = 0;
     let mut hi = a;
+    // a bisection: no counted loop
     while lo < hi {
         let mid = lo + (hi - lo) / 2;
-        let next = mid + 1;
-        if goal <= power(mid, r) {
+        if goal <= mid.pow(r) {
             hi = mid;
         } else {
-            lo = next;
+            lo = mid + 1;
         }
     }
     lo
@@ -113,29 +71,25 @@ pub fn level_size(a: usize, c: usize, r: u32) -> usize
     requires { (a ≤ most_points) × (1 ≤ c) × (c < a) × (1 ≤ r) × (r ≤ 3) }
     ensures { result ≡ level_size_lem a c r }
 {
-    let m = exact_size(a, c, r);
-    if m < a { m } else { a - 1 }
+    exact_size(a, c, r).min(a - 1)
 }
 
 // The size of the next level, asked alone. Document 01's refusals come in its order: 4, 8, 14, 9.
-pub fn get_num_level_coarse_points(a: usize, c: u32, r: u32) -> LevelSize
+pub fn get_num_level_coarse_points(a: usize, c: u32, r: u32) -> Result<usize, Refusal>
     ensures { size_report result ≡ size_answer a c r }
 {
     let threshold = c as usize;
     if threshold == 0 {
-        return LevelSize::ZeroThreshold;
+        return Err(Refusal::ZeroThreshold);
     }
     if MOST_POINTS < a {
-        return LevelSize::TooManyPoints;
+        return Err(Refusal::ManyPoints);
     }
     if a <= threshold {
-        return LevelSize::NotAboveThreshold;
+        return Err(Refusal::NotAboveThreshold);
     }
-    if r == 0 {
-        return LevelSize::WrongReductions;
+    if r == 0 || 3 < r {
+        return Err(Refusal::WrongReductions);
     }
-    if 3 < r {
-        return LevelSize::WrongReductions;
-    }
-    LevelSize::Points(level_size(a, threshold, r))
+    Ok(level_size(a, threshold, r))
 }

@@ -4,10 +4,6 @@ use Rattle.definition.specs.Levels.{level_size_lem}
 use Rattle.definition.proofs.Sizes.{exact-ge}
 use Rattle.level_sizes.proofs.level_size.Goals as goal
 
-pub returns-then-m-a : goal.returns-then-m-a
+pub returns : goal.returns
 unfolding level_size_lem
-returns-then-m-a c = let s = c in omega (arith, exact-ge s.args.a s.args.c s.args.r (omega arith) (omega arith))
-
-pub returns-else-m-a : goal.returns-else-m-a
-unfolding level_size_lem
-returns-else-m-a c = let s = c in omega (arith, exact-ge s.args.a s.args.c s.args.r (omega arith) (omega arith))
+returns c = let s = c in omega (arith, exact-ge s.args.a s.args.c s.args.r (omega arith) (omega arith))
