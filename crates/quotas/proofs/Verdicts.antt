@@ -10,8 +10,11 @@ use Rattle.definition.specs.Quotas.{held_seats, quotas, quotas_for}
 use Rattle.definition.specs.Packed.{quota_stated}
 use Rattle.definition.specs.Refusals.{accepted, refused, verdict, most_points, quota_short, quota_verdict}
 use Rattle.definition.specs.Outcome.{Answer, Shared, number_of, place_of, value_of, written, list_after, RoomAfter, quota_call, quota_answer, quota_output}
-use Rattle.level_sizes.specs.Answers.{size_reports, refuses}
-use Rattle.quotas.specs.Answers.{no_seats}
+use Rattle.std.specs.Prelude.{Ok, Err}
+use Rattle.refusal.specs.declared.Refusal.{Refusal}
+use Rattle.refusal.specs.declared.Refusal.TheVariants.{ManyPoints, ShortList}
+use Rattle.refusal.specs.Refusals.{as_refusal}
+use Rattle.quotas.specs.Answers.{quota_report_lem}
 use Rattle.quotas.specs.Outcome.{SeatsShared}
 
 -- the outcome, by what the call answers and leaves
@@ -20,21 +23,21 @@ Outcome sizes s out wholes answer out' wholes' = SeatsShared sizes s out out' wh
 
 module _ (sizes : List ℕ) (s : ℕ) (out wholes : List ℕ) where
   -- a refusal: nothing is written
-  refusal : (k : ℕ) → quota_call sizes out wholes ≡ refused (record { number = k; place = 0 }) → Outcome sizes s out wholes (refuses k no_seats) out wholes
+  refusal : (r : Refusal) → quota_call sizes out wholes ≡ refused (as_refusal r) → Outcome sizes s out wholes (quota_report_lem (Err r)) out wholes
   unfolding quota_answer quota_output number_of place_of value_of list_after RoomAfter
-  refusal k e = record { answers = simp e; output = simp e; wholes_free = simp e refl }
+  refusal r e = record { answers = simp e; output = simp e; wholes_free = simp e refl }
 
-  pub refused-8 : most_points < total sizes → Outcome sizes s out wholes (refuses 8 no_seats) out wholes
+  pub refused-8 : most_points < total sizes → Outcome sizes s out wholes (quota_report_lem (Err ManyPoints)) out wholes
   unfolding quota_verdict verdict
-  refused-8 h = refusal 8 (simp (lt-ltb _ _ h))
+  refused-8 h = refusal ManyPoints (simp (lt-ltb _ _ h))
 
-  pub refused-11-out : total sizes ≤ most_points → length out < length sizes → Outcome sizes s out wholes (refuses 11 no_seats) out wholes
+  pub refused-11-out : total sizes ≤ most_points → length out < length sizes → Outcome sizes s out wholes (quota_report_lem (Err ShortList)) out wholes
   unfolding quota_verdict verdict quota_short quota_stated
-  refused-11-out h l = refusal 11 (simp (le-ltb _ _ h, lt-ltb _ _ l))
+  refused-11-out h l = refusal ShortList (simp (le-ltb _ _ h, lt-ltb _ _ l))
 
-  pub refused-11-wholes : total sizes ≤ most_points → length sizes ≤ length out → length wholes < length sizes → Outcome sizes s out wholes (refuses 11 no_seats) out wholes
+  pub refused-11-wholes : total sizes ≤ most_points → length sizes ≤ length out → length wholes < length sizes → Outcome sizes s out wholes (quota_report_lem (Err ShortList)) out wholes
   unfolding quota_verdict verdict quota_short quota_stated
-  refused-11-wholes h l m = refusal 11 (simp (le-ltb _ _ h, le-ltb _ _ l, lt-ltb _ _ m))
+  refused-11-wholes h l m = refusal ShortList (simp (le-ltb _ _ h, le-ltb _ _ l, lt-ltb _ _ m))
 
   passed : total sizes ≤ most_points → length sizes ≤ length out → length sizes ≤ length wholes → quota_call sizes out wholes ≡ accepted
   unfolding quota_verdict verdict quota_short quota_stated
@@ -43,7 +46,7 @@ module _ (sizes : List ℕ) (s : ℕ) (out wholes : List ℕ) where
   -- an accepted call: the quotas stand at the front of the output
   pub seated : (n t : ℕ) (out' wholes' : List ℕ) → total sizes ≤ most_points → length sizes ≤ length out → length sizes ≤ length wholes
       → n ≡ length sizes → t ≡ held_seats sizes s → out' ≡ written (quotas_for sizes t) out → length wholes' ≡ length wholes
-      → Outcome sizes s out wholes (size_reports (record { leaves = n; seats = t })) out' wholes'
+      → Outcome sizes s out wholes (quota_report_lem (Ok (record { leaves = n; seats = t }))) out' wholes'
   unfolding quota_answer quota_output number_of place_of value_of list_after RoomAfter quotas
   seated n t out' wholes' h l m en et eo er =
       let e = passed h l m in

@@ -1,13 +1,11 @@
 -- A lent list whose front was written. Assumes nothing.
--- Holds: length-written, take-written, written_over, put_written
+-- Holds: length-written, take-written, written_over
 use Prim.Native.Nat.{ℕ, ◌≤◌}
 use mathlib.Core.Path.{◌≡◌}
 use mathlib.Core.List.{List}
 use native.Mathlib.Omega.{arith}
 use lib.ListN.{length, take, drop, length-append, length-drop}
 use lib.Seq.{take_at, drop-append_seam}
-use Rattle.lists.specs.Lists.{put}
-use Rattle.lists.proofs.Put.{put-zero}
 use Rattle.definition.specs.Outcome.{written}
 
 module _ {A : Type 0} where
@@ -23,8 +21,3 @@ module _ {A : Type 0} where
   pub written_over : (xs ys old : List A) → length xs ≡ length ys → written xs (written ys old) ≡ written xs old
   unfolding written
   written_over xs ys old e = rw (e, drop-append_seam ys (drop (length ys) old))
-
-  -- a store at the front
-  pub put_written : (old xs : List A) → put old 0 xs ≡ written xs old
-  unfolding written
-  put_written old xs = put-zero old xs

@@ -1,15 +1,17 @@
--- Document 01's numbers and values for each case of the answer. Definitions only.
+-- What an answer of the quotas stands for: document 01's number and what it reports. Definitions only.
+use Rattle.std.specs.Prelude.{Result}
 use Rattle.definition.specs.Outcome.{Answer, Shared}
-use Rattle.level_sizes.specs.Answers.{size_reports, refuses}
-use Rattle.quotas.specs.declared.QuotaAnswer.{QuotaAnswer}
-use Rattle.quotas.specs.declared.QuotaAnswer.TheVariants.{Seated, TooManyPoints, ShortList}
+use Rattle.refusal.specs.declared.Refusal.{Refusal}
+use Rattle.refusal.specs.Refusals.{answer_of}
+use Rattle.quotas.specs.declared.Seated.{Seated}
 
--- what a refusal size_reports
+-- what an accepted call reports, and what a refused one does
+abbrev pub as_shared : Seated → Shared
+as_shared s = record { leaves = s.leaves; seats = s.seats }
+
 abbrev pub no_seats : Shared
 no_seats = record { leaves = 0; seats = 0 }
 
 -- what a call of `get_domain_coarse_quotas` answers
-abbrev pub quota_report_lem : QuotaAnswer → Answer Shared
-quota_report_lem (Seated n s) = size_reports (record { leaves = n; seats = s })
-quota_report_lem TooManyPoints = refuses 8 no_seats
-quota_report_lem ShortList = refuses 11 no_seats
+abbrev pub quota_report_lem : Result Seated Refusal → Answer Shared
+quota_report_lem answer = answer_of as_shared no_seats answer

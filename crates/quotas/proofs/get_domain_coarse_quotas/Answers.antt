@@ -1,9 +1,9 @@
 -- `quotas::get_domain_coarse_quotas` meets its contract: the tests that led to each `return` say which outcome is due.
 -- Assumes nothing.
-use mathlib.Core.Path.{◌≡◌, refl, ap, ◌∙◌}
-use mathlib.Core.List.{List}
+use mathlib.Core.Path.{◌≡◌, refl, sym, ap, ◌∙◌}
+use mathlib.Core.List.{List, ◌++◌}
 use Prim.Native.Nat.{ℕ, ◌≤◌}
-use lib.ListN.{length, take}
+use lib.ListN.{length, take, drop}
 use native.Mathlib.Omega.{arith}
 use Rattle.lists.specs.Lists.{total}
 use Rattle.definition.specs.Quotas.{quotas_for}
@@ -11,38 +11,55 @@ use Rattle.definition.specs.Outcome.{written}
 use Rattle.definition.proofs.Fairness.{quotas-length}
 use Rattle.quotas.proofs.Written.{length-written, take-written, written_over}
 use Rattle.quotas.proofs.Verdicts.{refused-8, refused-11-out, refused-11-wholes, seated}
+use Rattle.quotas.proofs.get_domain_coarse_quotas.Goals.{then-quotas-leaves-via-then-quotas-leaves, then-quotas-leaves-via-else-quotas-leaves+then-wholes-leaves}
 use Rattle.quotas.proofs.get_domain_coarse_quotas.Goals as goal
 
 -- the sizes stand at the front of the output, and then their quotas
-module _ (sizes old mid : List ℕ) where
-  copied : mid ≡ written sizes old → take (length sizes) mid ≡ sizes
-  copied e = ap (take (length sizes)) e ∙ take-written sizes old (length sizes) refl
+module _ (sizes old front : List ℕ) (e : front ≡ sizes) where
+  mid : List ℕ
+  mid = front ++ drop (length sizes) old
 
-  shared : (new : List ℕ) (s : ℕ) → mid ≡ written sizes old → s ≤ total sizes → new ≡ written (quotas_for (take (length sizes) mid) s) mid → new ≡ written (quotas_for sizes s) old
-  shared new s e h g =
-      g ∙ ap (λ (l : List ℕ). written (quotas_for l s) mid) (copied e) ∙ ap (written (quotas_for sizes s)) e ∙ written_over (quotas_for sizes s) sizes old (quotas-length sizes s h)
+  placed : mid ≡ written sizes old
+  unfolding mid written
+  placed = ap (λ (l : List ℕ). l ++ drop (length sizes) old) e
 
-pub returns-then-rows-gt-MOST_POINTS : goal.returns-then-rows-gt-MOST_POINTS
-returns-then-rows-gt-MOST_POINTS c = refused-8 _ _ _ _ (omega arith)
+  long : length sizes ≤ length old → length sizes ≤ length (front ++ drop (length sizes) old)
+  unfolding mid
+  long h = omega (arith, ap length placed, length-written sizes old h)
 
-pub returns-then-quotas-sizes : goal.returns-then-quotas-sizes
-returns-then-quotas-sizes c = refused-11-out _ _ _ _ (omega arith) (omega arith)
+  copied : take (length sizes) (front ++ drop (length sizes) old) ≡ sizes
+  unfolding mid
+  copied = ap (take (length sizes)) placed ∙ take-written sizes old (length sizes) refl
 
-pub returns-then-wholes-sizes : goal.returns-then-wholes-sizes
-returns-then-wholes-sizes c = refused-11-wholes _ _ _ _ (omega arith) (omega arith) (omega arith)
+  shared : (new : List ℕ) (s : ℕ) → s ≤ total sizes → new ≡ written (quotas_for (take (length sizes) (front ++ drop (length sizes) old)) s) (front ++ drop (length sizes) old)
+      → new ≡ written (quotas_for sizes s) old
+  unfolding mid
+  shared new s h g =
+      g ∙ ap (λ (l : List ℕ). written (quotas_for l s) mid) copied ∙ ap (written (quotas_for sizes s)) placed ∙ written_over (quotas_for sizes s) sizes old (quotas-length sizes s h)
+
+pub returns-in_default : goal.returns-in_default
+returns-in_default c = refused-8 _ _ _ _ c.in_default.ensures
+
+pub returns-then-quotas-leaves : goal.returns-then-quotas-leaves
+returns-then-quotas-leaves c = let i = c.in-Some.ensures in
+    elim c.then-quotas-leaves.branch [
+      | then-quotas-leaves-via-then-quotas-leaves w ↦ refused-11-out _ _ _ _ (omega arith) w.if-quotas-leaves.true
+      | then-quotas-leaves-via-else-quotas-leaves+then-wholes-leaves w ↦ refused-11-wholes _ _ _ _ (omega arith) w.if-quotas-leaves.false w.if-wholes-leaves.true
+    ]
 
 pub share_in_place-requires : goal.share_in_place-requires
-share_in_place-requires c = let s = c in
-    let e = c.copy_sizes.ensures in
-    let h : length s.args.sizes.now ≤ length s.args.quotas.now = omega arith in (
-      omega (arith, ap length e, length-written s.args.sizes.now s.args.quotas.now h),
-      omega (arith, ap total (copied s.args.sizes.now s.args.quotas.now _ e)),
-      omega arith,
+share_in_place-requires c = let a = c.args in
+    let i = c.in-Some.ensures in
+    let e = c.copy_from_slice.ensures.after in (
+      long a.sizes.now a.quotas.now _ e c.if-quotas-leaves.false,
+      i.0 ∙ sym (ap total (copied a.sizes.now a.quotas.now _ e)),
+      i.1,
       omega arith,
     )
 
 pub returns : goal.returns
-returns c = let s = c in
-    let e = c.copy_sizes.ensures in
-    seated _ _ _ _ _ _ _ _ (omega arith) (omega arith) (omega arith) refl (omega arith)
-    (shared s.args.sizes.now s.args.quotas.now _ _ _ e (omega arith) c.share_in_place.ensures) refl
+returns c = let a = c.args in
+    let i = c.in-Some.ensures in
+    let s = c.min-seats.ensures in
+    seated _ _ _ _ _ _ _ _ (omega arith) c.if-quotas-leaves.false c.if-wholes-leaves.false refl (omega arith)
+    (shared a.sizes.now a.quotas.now _ c.copy_from_slice.ensures.after _ _ (omega arith) c.share_in_place.ensures) refl

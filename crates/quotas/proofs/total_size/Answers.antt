@@ -1,22 +1,22 @@
 -- `quotas::total_size` meets its contract: `sum` is the total of the sizes passed, and stays within the limit. Assumes nothing.
 use mathlib.Core.Path.{ap}
-use Prim.Native.Nat.{◌+◌, ◌-◌}
+use Prim.Native.Nat.{◌+◌}
 use native.Mathlib.Omega.{arith}
 use lib.Seq.{take_all}
 use Rattle.lists.specs.Lists.{total}
 use Rattle.lists.proofs.Sums.{total-nil, total-step, total-front}
 use Rattle.quotas.proofs.total_size.Goals as goal
 
-pub loop-i-init : goal.loop-i-init
-loop-i-init c = omega (arith, total-nil)
+pub loop-w-init : goal.loop-w-init
+loop-w-init c = (omega (arith, total-nil), omega arith)
 
 pub returns-then-sum-w : goal.returns-then-sum-w
 returns-then-sum-w c = let l = c.args.sizes.now in
-    let i = c.loop-i.i in
+    let i = c.loop-w.w-index in
     omega (arith, total-step l i, total-front (i + 1) l)
 
-pub loop-i-preserved : goal.loop-i-preserved
-loop-i-preserved c = omega (arith, total-step c.args.sizes.now c.loop-i.i)
+pub loop-w-preserved : goal.loop-w-preserved
+loop-w-preserved c = (omega (arith, total-step c.args.sizes.now c.loop-w.w-index), omega arith)
 
 pub returns : goal.returns
-returns c = omega (arith, ap total (take_all c.loop-i.i c.args.sizes.now (omega arith)))
+returns c = (omega (arith, ap total (take_all c.loop-w.w-index c.args.sizes.now (omega arith))), omega arith)

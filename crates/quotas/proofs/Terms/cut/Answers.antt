@@ -1,7 +1,7 @@
--- `quotas::cut` meets its contract, by halving: more than `left` remainders are above each number below `lo`, and at most `left`
+-- `quotas::Terms::cut` meets its contract, by halving: more than `left` remainders are above each number below `lo`, and at most `left`
 -- are above `hi`. Assumes nothing.
 use mathlib.Core.Path.{◌≡◌}
-use Prim.Native.Nat.{ℕ, ◌+◌, ◌-◌, ◌<◌}
+use Prim.Native.Nat.{ℕ, ◌+◌, ◌<◌}
 use native.Mathlib.Omega.{arith}
 use lib.ListN.{length}
 use lib.Dec.{ltb}
@@ -12,7 +12,7 @@ use Rattle.definition.specs.Quotas.{remainder_at}
 use Rattle.definition.specs.SeatCut.{above}
 use Rattle.quotas.specs.Sharing.{capacities}
 use Rattle.quotas.proofs.OneLeaf.{top-cut}
-use Rattle.quotas.proofs.cut.Goals as goal
+use Rattle.quotas.proofs.Terms.cut.Goals as goal
 
 -- where more than `left` are above a number, more are above each up to it
 more-next : (n : ℕ) (r : ℕ → ℕ) (left mid k : ℕ) → k ≡ above n r mid → left < k → (s : ℕ) → s < mid + 1 → left < above n r s
@@ -21,7 +21,7 @@ more-next n r left mid k e h s l =
 
 pub loop-lo-init : goal.loop-lo-init
 loop-lo-init c = let a = c.args in
-    (omega arith, omega arith, (λ s h. absurd (omega arith)), top-cut a.sizes.now a.first a.rest a.pool c.requires a.left)
+    (omega arith, omega arith, (λ s h. absurd (omega arith)), top-cut a.sizes.now a.self.first a.self.rest a.self.pool c.requires a.left)
 
 pub count_above-requires : goal.count_above-requires
 count_above-requires c = c.requires
@@ -33,7 +33,7 @@ loop-lo-preserved-then-count_above-left c = let i = c.loop-lo.invariant in
 pub loop-lo-preserved : goal.loop-lo-preserved
 loop-lo-preserved c = let a = c.args in
     let i = c.loop-lo.invariant in
-    (omega arith, omega arith, more-next (length (capacities a.sizes.now a.first)) (remainder_at (capacities a.sizes.now a.first) a.rest) _ _ _ c.count_above.ensures c.if-count_above-left.false, i.3)
+    (omega arith, omega arith, more-next (length (capacities a.sizes.now a.self.first)) (remainder_at (capacities a.sizes.now a.self.first) a.self.rest) _ _ _ c.count_above.ensures c.if-count_above-left.false, i.3)
 
 pub returns : goal.returns
 returns c = let i = c.loop-lo.invariant in
