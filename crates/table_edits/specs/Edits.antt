@@ -1,21 +1,24 @@
 -- The code's answers to an edit as those of the definition, and the complete outcome of an edit. Definitions only.
-use Rattle.std.specs.Prelude.{ℕ, ◌≡◌, List, Float}
+use Rattle.std.specs.Prelude.{ℕ, ◌≡◌, List, Float, Result, Ok, Err}
 use Rattle.definition.specs.Outcome.{Answer}
 use Rattle.definition.specs.Table.{Head, Table, add_answer_lem, add_table, retire_answer_lem, retire_table}
+use Rattle.refusal.specs.declared.Refusal.{Refusal}
+use Rattle.refusal.specs.Refusals.{answer_of}
 use Rattle.table_checks.specs.Tables.{head_of}
-use Rattle.table_edits.specs.declared.EditAnswer.{EditAnswer}
+use Rattle.table_edits.specs.declared.Edited.{Edited}
 
 -- number and place of a refusal, and the slot
-abbrev pub edit_answer : EditAnswer → Answer ℕ
-edit_answer r = record { number = r.number; place = r.place; value = r.slot }
+abbrev pub edit_answer : Result Edited Refusal → Answer ℕ
+edit_answer = answer_of (λ e. e.slot) 0
 
--- the head's counters
-abbrev pub head_after : EditAnswer → Head
-head_after r = head_of r.slots r.live
+-- the head's counters after an edit: those of its answer, and after a refused one the given ones
+abbrev pub head_after : ℕ → ℕ → Result Edited Refusal → Head
+head_after slots live (Ok e) = head_of e.slots e.live
+head_after slots live (Err r) = head_of slots live
 
--- a refused edit names no slot and keeps the head
-abbrev pub refusal : ℕ → ℕ → ℕ → ℕ → EditAnswer
-refusal number place slots live = record { number = number; place = place; slot = 0; slots = slots; live = live }
+-- the table after it
+abbrev pub table_after : ℕ → ℕ → List ℕ → List Float → Result Edited Refusal → Table
+table_after slots live flags coordinates r = record { head = head_after slots live r; flags = flags; coordinates = coordinates }
 
 -- The complete outcome of a call: its answer, and the table after it, head, flags and coordinates.
 pub record Added (d : ℕ) (t t' : Table) (point : List Float) (answer : Answer ℕ) : Type 0 where

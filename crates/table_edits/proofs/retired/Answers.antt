@@ -1,22 +1,31 @@
 -- `table_edits::retired` meets its contract. Assumes nothing.
+use Rattle.std.proofs.lemmas.Result.{err_from_is_err_and}
 use Rattle.table_checks.specs.Tables.{table_of}
-use Rattle.table_edits.proofs.Retires.{in-flags, retire-kept, retire-written}
+use Rattle.table_edits.proofs.Retires.{retire-kept, retire-high, slot-in, retire-free, live-some, retire-done}
 use Rattle.table_edits.proofs.retired.Goals as goal
+use Rattle.table_edits.proofs.retired.Goals.{then-slots-slot-via-then-slots-slot, then-slots-slot-via-else-slots-slot+then-flags-slot-eq0}
 
-pub returns-then-answer-ne0 : goal.returns-then-answer-ne0
-returns-then-answer-ne0 c = let a = c.args in
-    let t = table_of a.slots a.live a.flags.now a.coordinates.now in
-    let r = c.retire_answer-answer in
-    retire-kept a.dimensions t a.slot r.result r.ensures.answer r.ensures.head c.if-answer-ne0.true
+pub returns-in_err-table_fault : goal.returns-in_err-table_fault
+returns-in_err-table_fault c = let a = c.args in
+    let p = err_from_is_err_and c.from_residual.result c.from_residual.ensures.1 in
+    rw (p.1, p.2) (retire-kept a.dimensions (table_of a.slots a.live a.flags.now a.coordinates.now) a.slot _ c.in_err-table_fault.ensures.verdict)
 
 pub bounds-flags-slot : goal.bounds-flags-slot
 bounds-flags-slot c = let a = c.args in
+    slot-in a.dimensions (table_of a.slots a.live a.flags.now a.coordinates.now) a.slot c.in_ok-table_fault.ensures.verdict c.if-slots-slot.false
+
+pub returns-then-slots-slot : goal.returns-then-slots-slot
+returns-then-slots-slot c = let a = c.args in
     let t = table_of a.slots a.live a.flags.now a.coordinates.now in
-    let r = c.retire_answer-answer in
-    in-flags a.dimensions t a.slot r.result r.ensures.answer c.if-answer-ne0.false
+    elim c.then-slots-slot.branch [
+      | then-slots-slot-via-then-slots-slot w ↦ retire-high a.dimensions t a.slot c.in_ok-table_fault.ensures.verdict w.if-slots-slot.true
+      | then-slots-slot-via-else-slots-slot+then-flags-slot-eq0 w ↦ retire-free a.dimensions t a.slot c.in_ok-table_fault.ensures.verdict w.if-slots-slot.false w.if-flags-slot-eq0.true
+    ]
+
+pub overflow_sub-result : goal.overflow_sub-result
+overflow_sub-result c = let a = c.args in
+    live-some a.dimensions (table_of a.slots a.live a.flags.now a.coordinates.now) a.slot c.in_ok-table_fault.ensures.verdict c.if-slots-slot.false c.if-flags-slot-eq0.false
 
 pub returns : goal.returns
 returns c = let a = c.args in
-    let t = table_of a.slots a.live a.flags.now a.coordinates.now in
-    let r = c.retire_answer-answer in
-    retire-written a.dimensions t a.slot r.result r.ensures.answer r.ensures.head c.if-answer-ne0.false
+    retire-done a.dimensions (table_of a.slots a.live a.flags.now a.coordinates.now) a.slot c.in_ok-table_fault.ensures.verdict c.if-slots-slot.false c.if-flags-slot-eq0.false
