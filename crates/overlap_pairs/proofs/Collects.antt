@@ -1,5 +1,5 @@
 -- The turns of the loop over the active rows. Assumes nothing.
--- Holds: collect-none, collect-room, collect-owners, collect-long, collect-more, row_room
+-- Holds: collect-none, collect-room, collect-owners, collect-more, row_room
 use mathlib.Core.Path.{◌≡◌, refl, sym, ap, ◌∙◌, subst}
 use mathlib.Core.Logic.{inl, inr, ⊎_elim}
 use mathlib.Core.List.{List, [], ◌++◌, Memᴰ}
@@ -12,7 +12,7 @@ use Rattle.lists.specs.Lists.{put, part}
 use Rattle.lists.specs.Ascends.{Ascends}
 use Rattle.lists.proofs.Ascends.{ascends_same}
 use Rattle.lists.proofs.All.{all-at}
-use Rattle.lists.proofs.Put.{length-put, part-nil, get_d-put-before, part-grown}
+use Rattle.lists.proofs.Put.{part-nil, get_d-put-before, part-grown}
 use Rattle.lists.proofs.Members.{mem-left, mem-right}
 use Rattle.definition.specs.Overlaps.{nearest}
 use Rattle.nearest_scan.specs.Near.{Found}
@@ -73,9 +73,6 @@ module _ (d : ℕ) (cs : List Float) (neighbours : ℕ) (active : List ℕ) (up 
 
     own_at : (i : ℕ) → i < a → get_or wholes i 0 ≡ own i
     own_at i h = c.stay i h
-
-    pub collect-long : length wholes' ≡ length wholes
-    collect-long = let h = short in ap length list ∙ length-put wholes n xs (omega arith)
 
     -- ---- what is new
     new-only : (z : ℕ) → Memᴰ z xs → PairCode d cs neighbours active own (p + 1) z

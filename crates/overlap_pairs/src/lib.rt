@@ -1,39 +1,51 @@
 // The pairs of rows that two leaves lend each other, each as a number: the leaf that borrows, and the position of the row.
 #![tactic(auto)]
 
-ghost use Rattle.std.specs.Prelude.{◌≡◌, ◌+◌, ◌*◌, ◌<◌, ◌≤◌, length, get_or};
+ghost use Rattle.std.specs.Prelude.{◌≡◌, ℕ, ◌+◌, ◌*◌, ◌%◌, ◌<◌, ◌≤◌, length, get_or};
 ghost use Rattle.lists.specs.Lists.{put};
 ghost use Rattle.definition.specs.Refusals.{most_neighbours};
-ghost use Rattle.rows.specs.Rows.{GoodRows};
-ghost use Rattle.overlap_pairs.specs.Pairs.{pairs_of, PairRoom, Taken, Owners, Collected};
+ghost use Rattle.rows.specs.Rows.{most_leaves, GoodRows};
+ghost use Rattle.overlap_pairs.specs.Pairs.{code, pairs_of, PairRoom, Taken, Owners, Collected};
 
-// A leaf and a position as one number: leaf * POSITIONS + position.
+// How many positions there are at most.
 const POSITIONS: usize = rows::MOST_LEAVES;
 
 // Room for the nearest rows: the neighbours of a row.
 const NEAREST: usize = rows::MOST_NEIGHBOURS as usize;
 
+// A leaf and a position as one number: in order of the leaves, and then of the positions.
+pub fn code(leaf: usize, position: usize) -> usize
+    requires { (leaf ≤ most_leaves) × (position < most_leaves) }
+    ensures { result ≡ code leaf position }
+{
+    leaf * POSITIONS + position
+}
+
+// The position in such a number.
+pub fn position_of(code: usize) -> usize
+    ensures { result ≡ code % most_leaves }
+{
+    code % POSITIONS
+}
+
 // The row at position p takes those at the positions `near`, besides itself. Where two leaves own the two rows, each leaf gets the other's row:
-// their numbers are written from n on. The owners of the a active rows stand at the front of `wholes`.
-fn send(near: &[usize], a: usize, p: usize, wholes: &mut [usize], n: usize) -> usize
-    requires { PairRoom near.now a p wholes.old n }
+// their numbers are written from n on. The owners of the active rows stand at the front of `wholes`.
+fn send(near: &[usize], p: usize, wholes: &mut [usize], n: usize) -> usize
+    requires { (a : ℕ) × PairRoom near.now a p wholes.old n }
     ensures { (result ≡ n + length (pairs_of (λ i. get_or wholes.old i 0) p near.now))
         × (wholes.new ≡ put wholes.old n (pairs_of (λ i. get_or wholes.old i 0) p near.now)) }
 {
     let mine = wholes[p];
-    let mut w = n;
-    let mut k: usize = 0;
-    while k < near.len() {
-        let q = near[k];
-        k += 1;
+    let mut end = n;
+    for &q in near {
         let other = wholes[q];
         if mine != other {
-            wholes[w] = mine * POSITIONS + q;
-            wholes[w + 1] = other * POSITIONS + p;
-            w += 2;
+            wholes[end] = code(mine, q);
+            wholes[end + 1] = code(other, p);
+            end += 2;
         }
     }
-    w
+    end
 }
 
 // What the row at position p sends.
@@ -55,7 +67,7 @@ fn send_row(
     let count = nearest_scan::nearest(
         points, dimensions, neighbours, active, active[p], &mut near, &mut far,
     );
-    send(&near[..count], active.len(), p, wholes, n)
+    send(&near[..count], p, wholes, n)
 }
 
 // What all active rows send, behind their owners: the answer is where it ends.
@@ -71,10 +83,8 @@ pub fn collect(
     ensures { Collected dimensions points.now neighbours active.now wholes.old (length active.now) wholes.new result }
 {
     let mut n = active.len();
-    let mut p: usize = 0;
-    while p < active.len() {
+    for p in 0..active.len() {
         n = send_row(points, dimensions, neighbours, active, p, wholes, n);
-        p += 1;
     }
     n
 }

@@ -1,50 +1,46 @@
 -- `overlap_pairs::collect` meets its contract. The loop has collected what the positions passed send: `Collected`. Assumes nothing.
-use Prim.Native.Nat.{ℕ, ◌+◌, ◌-◌, ◌*◌, ◌≤◌}
-use mathlib.Core.Path.{◌≡◌, refl, ◌∙◌, subst}
+use Prim.Native.Nat.{ℕ, ◌+◌, ◌*◌, ◌≤◌}
+use mathlib.Core.Path.{◌≡◌, subst}
 use lib.ListN.{length}
 use Rattle.overlap_pairs.specs.Pairs.{Collected}
-use Rattle.overlap_pairs.proofs.Collects.{collect-none, collect-room, collect-owners, collect-long, collect-more}
+use Rattle.overlap_pairs.proofs.Collects.{collect-none, collect-room, collect-owners, collect-more}
 use native.Mathlib.Omega.{arith}
 use Rattle.overlap_pairs.proofs.collect.Goals as goal
 
 pub loop-p-init : goal.loop-p-init
 loop-p-init c = let s = c in
     let a = s.args in
-    (omega arith, refl, collect-none a.dimensions a.points.now a.neighbours a.active.now s.requires.0.ascends a.wholes.now)
+    collect-none a.dimensions a.points.now a.neighbours a.active.now s.requires.0.ascends a.wholes.now
 
 pub send_row-n-requires : goal.send_row-n-requires
 send_row-n-requires c = let s = c in
     let a = s.args in
     let l = c.loop-p in
-    let k = l.invariant.2 in
+    let k = l.invariant in
     let t = c.loop-p-test.true in
     let o = collect-room a.dimensions a.points.now a.neighbours a.active.now s.requires.0.ascends a.wholes.now l.p l.n t k.few in (
       s.requires.0,
       s.requires.1,
       t,
-      collect-owners a.dimensions a.points.now a.neighbours a.active.now s.requires.0.ascends a.wholes.now l.wholes l.p l.n k l.invariant.1 s.requires.2,
+      collect-owners a.dimensions a.points.now a.neighbours a.active.now s.requires.0.ascends a.wholes.now l.wholes l.p l.n k l.auto.wholes s.requires.2,
       k.start,
-      omega (arith, l.invariant.1, s.requires.3),
+      omega (arith, l.auto.wholes, s.requires.3),
     )
 
 pub loop-p-preserved : goal.loop-p-preserved
 loop-p-preserved c = let s = c in
     let a = s.args in
     let l = c.loop-p in
-    let k = l.invariant.2 in
+    let k = l.invariant in
     let t = c.loop-p-test.true in
     let o = collect-room a.dimensions a.points.now a.neighbours a.active.now s.requires.0.ascends a.wholes.now l.p l.n t k.few in
     let f = c.send_row-n in
-    let r : l.n + 2 * a.neighbours ≤ length l.wholes = omega (arith, l.invariant.1, s.requires.3) in (
-      omega arith,
-      collect-long a.dimensions a.points.now a.neighbours a.active.now s.requires.0.ascends a.wholes.now l.wholes l.p
-          l.n k t r f.new.wholes f.result f.ensures ∙ l.invariant.1,
-      collect-more a.dimensions a.points.now a.neighbours a.active.now s.requires.0.ascends a.wholes.now l.wholes l.p l.n k t r f.new.wholes f.result f.ensures,
-    )
+    let r : l.n + 2 * a.neighbours ≤ length l.wholes = omega (arith, l.auto.wholes, s.requires.3) in
+    collect-more a.dimensions a.points.now a.neighbours a.active.now s.requires.0.ascends a.wholes.now l.wholes l.p l.n k t r f.new.wholes f.result f.ensures
 
 pub returns : goal.returns
 returns c = let s = c in
     let a = s.args in
     let l = c.loop-p in
     let e : l.p ≡ length a.active.now = omega arith in
-    subst (λ (x : ℕ). Collected a.dimensions a.points.now a.neighbours a.active.now a.wholes.now x l.wholes l.n) e l.invariant.2
+    subst (λ (x : ℕ). Collected a.dimensions a.points.now a.neighbours a.active.now a.wholes.now x l.wholes l.n) e l.invariant
