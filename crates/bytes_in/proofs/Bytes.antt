@@ -1,17 +1,18 @@
 -- Numbers and marks of bytes: a field by its parts, and when a record stands whole. Assumes nothing.
--- Holds: byte-is, field-add, four_bytes, two-halves, record-cut, record-first, record-other, record-room
+-- Holds: byte-is, field-add, four_bytes, two-halves, record-room
 use mathlib.Core.Path.{◌≡◌, refl, sym, ap, ◌∙◌}
-use mathlib.Core.Bool.{true, false}
-use Prim.Native.Nat.{ℕ, zero, suc, ◌+◌, ◌-◌, ◌*◌, ◌^◌, ◌≤◌, ◌<◌}
-use native.Mathlib.Nat.{zero-add, add-zero, suc-add, pow-zero, pow-succ', one-mul, mul-zero, mul_assoc}
+use mathlib.Core.Bool.{true}
+use Prim.Native.Nat.{ℕ, zero, suc, ◌+◌, ◌*◌, ◌^◌, ◌≤◌, ◌<◌}
+use native.Mathlib.Nat.{zero-add, suc-add, pow-zero, pow-succ', one-mul, mul-zero, mul_assoc}
 use native.Mathlib.Omega.{arith}
 use mathlib.Core.List.{List, [], ◌∷◌}
 use lib.ListN.{length, get_or, drop, length-drop}
-use lib.Seq.{drop-cons, drop-drop, get_or-drop}
-use lib.Dec.{leb, eqb}
-use borrow.Author.Tests.{le-leb, lt-leb, leb-true, eq-eqb, ne_eqb}
+use lib.Seq.{drop-cons, drop-drop}
+use lib.Dec.{leb}
+use borrow.Author.Tests.{leb-true}
+use Rattle.std.specs.Int.{w32, from_le_bytes}
 use Rattle.lists.proofs.Tests.{and-fst}
-use Rattle.formats.specs.Bytes.{little, field, Mark, mark_of, marked_by, whole}
+use Rattle.formats.specs.Bytes.{little, field, Mark, marked_by, whole}
 
 -- ---- a field
 pub byte-is : (bs : List ℕ) (at : ℕ) → at < length bs → get_or bs at 0 ≡ field 1 at bs
@@ -36,25 +37,24 @@ pub field-add : (i k at : ℕ) (bs : List ℕ) → field (i + k) at bs ≡ field
 field-add i k at bs = little-add i k (drop at bs) ∙ ap (λ (l : List ℕ). little i (drop at bs) + 256 ^ i * little k l) (drop-drop i at bs)
 
 module _ (at : ℕ) (bs : List ℕ) where
-  pub four_bytes : field 1 at bs + 256 * (field 1 (at + 1) bs + 256 * (field 1 (at + 2) bs + 256 * field 1 (at + 3) bs)) ≡ field 4 at bs
-  four_bytes = omega (arith, field-add 1 1 at bs, field-add 2 1 at bs, field-add 3 1 at bs)
+  pub four_bytes : at + 4 ≤ length bs
+      → from_le_bytes w32 (get_or bs at 0 ∷ get_or bs (at + 1) 0 ∷ get_or bs (at + 2) 0 ∷ get_or bs (at + 3) 0 ∷ []) ≡ field 4 at bs
+  four_bytes h =
+      omega (
+        arith,
+        byte-is bs at (omega arith),
+        byte-is bs (at + 1) (omega arith),
+        byte-is bs (at + 2) (omega arith),
+        byte-is bs (at + 3) (omega arith),
+        field-add 1 1 at bs,
+        field-add 2 1 at bs,
+        field-add 3 1 at bs,
+      )
 
   pub two-halves : field 4 at bs + 0x1_0000_0000 * field 4 (at + 4) bs ≡ field 8 at bs
   two-halves = sym (field-add 4 4 at bs)
 
 -- ---- a record
-module _ (at size a b : ℕ) (bs : List ℕ) where
-  pub record-cut : length bs - at < size → false ≡ whole (mark_of a b) size (drop at bs)
-  record-cut h = rw (length-drop at bs, lt-leb size (length bs - at) h)
-
-  module _ (h : size ≤ length bs - at) where
-    pub record-first : get_or bs at 0 ≡ a → eqb (get_or bs (at + 1) 0) b ≡ whole (mark_of a b) size (drop at bs)
-    record-first e =
-        rw (length-drop at bs, le-leb size (length bs - at) h, get_or-drop at bs 0 0, get_or-drop at bs 1 0, add-zero at, eq-eqb (get_or bs at 0) a e)
-
-    pub record-other : (get_or bs at 0 ≡ a → ⊥) → false ≡ whole (mark_of a b) size (drop at bs)
-    record-other e = rw (length-drop at bs, le-leb size (length bs - at) h, get_or-drop at bs 0 0, add-zero at, ne_eqb (get_or bs at 0) a e)
-
 -- one that stands whole ends within the list
 pub record-room : (m : Mark) (size at : ℕ) (bs : List ℕ) → at ≤ length bs → whole m size (drop at bs) ≡ true → at + size ≤ length bs
 record-room m size at bs h e =

@@ -5,7 +5,7 @@ use mathlib.Core.Bool.{Bool, true, false, not, cond}
 use Prim.Native.Nat.{ℕ, zero, suc, ◌+◌, ◌/◌, ◌%◌, ◌<◌}
 use native.Mathlib.Omega.{arith}
 use lib.Dec.{T, leb, ltb, eqb}
-use lib.Ieee.{Float, nan, inf, fin, prec, hid, top, low, is_nan, nan_bits, of_fields, of_bits, odd, div, binary64}
+use lib.Ieee.{Float, nan, inf, fin, prec, hid, top, low, is_nan, nan_bits, of_fields, of_bits, odd, binary64}
 use lib.Ieee.Bits.{nan_bits_above, nan_bits_is}
 use lib.Ieee.Scale.{finite}
 use borrow.Author.Tests.{le-leb, leb-true, eq-eqb, eqb-true}
@@ -24,12 +24,12 @@ is-nan nan e = refl
 is-nan (inf s) e = absurd (subst T (sym e) tt)
 is-nan (fin s m x) e = absurd (subst T (sym e) tt)
 
-zero_by_zero : div binary64 (of_bits binary64 0) (of_bits binary64 0) ≡ nan
-unfolding div of_bits
-zero_by_zero = refl
+nan-bits : of_bits binary64 0x7ff8_0000_0000_0000 ≡ nan
+unfolding of_bits
+nan-bits = refl
 
-pub the_nan : (b : ℕ) (t : Bool) → t ≡ is_nan (of_bits binary64 b) → t ≡ true → div binary64 (of_bits binary64 0) (of_bits binary64 0) ≡ of_bits binary64 b
-the_nan b t e h = zero_by_zero ∙ is-nan (of_bits binary64 b) (sym e ∙ h)
+pub the_nan : (b : ℕ) (t : Bool) → t ≡ is_nan (of_bits binary64 b) → t ≡ true → of_bits binary64 0x7ff8_0000_0000_0000 ≡ of_bits binary64 b
+the_nan b t e h = nan-bits ∙ is-nan (of_bits binary64 b) (sym e ∙ h)
 
 -- ---- finite: below infinity's
 odd-finite : (d : ℕ) (s : Bool) (q k l : ℕ) → finite (odd d s q k l) ≡ true

@@ -1,7 +1,7 @@
 // Numbers, floats and marks out of a list of bytes.
 #![tactic(auto)]
 
-ghost use Rattle.std.specs.Prelude.{◌≡◌, not, ◌+◌, ◌*◌, ◌%◌, ◌^◌, ◌≤◌, ◌<◌, leb, length, drop};
+ghost use Rattle.std.specs.Prelude.{◌≡◌, not, ℕ, List, map, ◌+◌, ◌*◌, ◌%◌, ◌^◌, ◌≤◌, ◌<◌, leb, length, drop};
 ghost use Rattle.std.specs.Float.Ieee.{of_bits, is_nan};
 ghost use Rattle.std.specs.Float.{binary64};
 ghost use Rattle.std.specs.Float.Ieee.Scale.{finite};
@@ -35,11 +35,7 @@ pub fn number_at(input: &[u8], at: usize) -> usize
     requires { at + number_size ≤ length input.now }
     ensures { (result ≡ number_at at input.now) × (result < 2 ^ 32) }
 {
-    let a = byte_at(input, at);
-    let b = byte_at(input, at + 1);
-    let c = byte_at(input, at + 2);
-    let d = byte_at(input, at + 3);
-    a + 256 * (b + 256 * (c + 256 * d))
+    u32::from_le_bytes([input[at], input[at + 1], input[at + 2], input[at + 3]]) as usize
 }
 
 // The bits in the eight bytes from `at` on, the lowest byte first.
@@ -64,7 +60,7 @@ pub fn float_of(bits: u64) -> f64
     ensures { result ≡ of_bits binary64 bits }
 {
     if bits_are_nan(bits) {
-        0.0 / 0.0
+        f64::NAN
     } else {
         f64::from_bits(bits)
     }
@@ -83,27 +79,65 @@ pub fn record_at(input: &[u8], at: usize, size: usize, a: u8, b: u8) -> bool
     requires { (at ≤ length input.now) × (mark_size ≤ size) }
     ensures { result ≡ whole (mark_of a b) size (drop at input.now) }
 {
-    if input.len() - at < size {
-        return false;
-    }
-    if input[at] == a {
-        return input[at + 1] == b;
-    }
-    false
+    size <= input.len() - at && input[at] == a && input[at + 1] == b
 }
 
 // ---- fields one after the other
+
+// What stands in records with a fixed number of bytes: numbers, and floats.
+trait Field: Copy {
+    ghost SIZE: { ℕ };
+
+    // The value in the bytes from a place on.
+    ghost read: { ℕ → List ℕ → Self };
+
+    const SIZE: usize;
+
+    fn read_at(input: &[u8], at: usize) -> Self
+        requires { at + SIZE ≤ length input.now }
+        ensures { result ≡ read at input.now };
+}
+
+impl Field for usize {
+    ghost SIZE = { number_size };
+
+    ghost read = { number_at };
+
+    const SIZE: usize = NUMBER;
+
+    fn read_at(input: &[u8], at: usize) -> usize {
+        number_at(input, at)
+    }
+}
+
+impl Field for f64 {
+    ghost SIZE = { float_size };
+
+    ghost read = { float_at };
+
+    const SIZE: usize = FLOAT;
+
+    fn read_at(input: &[u8], at: usize) -> f64 {
+        float_at(input, at)
+    }
+}
+
+// Reads `count` fields from `at` on, and stores them from the index k on.
+fn read_fields<T: Field>(input: &[u8], at: usize, count: usize, out: &mut [T], k: usize)
+    requires { (at + T.SIZE * count ≤ length input.now) × (k + count ≤ length out.old) }
+    ensures { out.new ≡ put out.old k (map (λ i. T.read (at + T.SIZE * i) input.now) (from 0 count)) }
+{
+    for i in 0..count {
+        out[k + i] = T::read_at(input, at + T::SIZE * i);
+    }
+}
 
 // Reads `count` numbers from `at` on, and stores them from the index k on.
 pub fn read_numbers(input: &[u8], at: usize, count: usize, out: &mut [usize], k: usize)
     requires { (at + number_size * count ≤ length input.now) × (k + count ≤ length out.old) }
     ensures { out.new ≡ put out.old k (numbers_at count at input.now) }
 {
-    let mut i = 0;
-    while i < count {
-        out[k + i] = number_at(input, at + NUMBER * i);
-        i += 1;
-    }
+    read_fields(input, at, count, out, k);
 }
 
 // The same of floats.
@@ -111,11 +145,7 @@ pub fn read_floats(input: &[u8], at: usize, count: usize, out: &mut [f64], k: us
     requires { (at + float_size * count ≤ length input.now) × (k + count ≤ length out.old) }
     ensures { out.new ≡ put out.old k (floats_at count at input.now) }
 {
-    let mut i = 0;
-    while i < count {
-        out[k + i] = float_at(input, at + FLOAT * i);
-        i += 1;
-    }
+    read_fields(input, at, count, out, k);
 }
 
 // Whether each of `count` floats from `at` on has bits below `limit`, the sign apart.
@@ -123,13 +153,11 @@ fn bits_below(limit: u64, input: &[u8], at: usize, count: usize) -> bool
     requires { at + float_size * count ≤ length input.now }
     ensures { result ≡ not (any_of (λ i. leb limit (field float_size (at + float_size * i) input.now % 0x8000_0000_0000_0000)) (from 0 count)) }
 {
-    let mut i = 0;
-    while i < count {
+    for i in 0..count {
         let bits = bits_at(input, at + FLOAT * i);
         if limit <= bits % SIGN {
             return false;
         }
-        i += 1;
     }
     true
 }

@@ -1,6 +1,6 @@
 use mathlib.Core.Path.{◌≡◌}
 use mathlib.Core.Bool.{Bool, false}
-use Prim.Native.Nat.{ℕ, ◌+◌, ◌*◌, ◌-◌, ◌%◌, ◌≤◌}
+use Prim.Native.Nat.{ℕ, ◌+◌, ◌*◌, ◌%◌}
 use mathlib.Core.List.{List}
 use lib.Dec.{leb}
 use Rattle.lists.specs.Lists.{any_of, from}
@@ -12,7 +12,4 @@ abbrev pub above : ℕ → List ℕ → ℕ → ℕ → Bool
 above limit input at i = leb limit (field float_size (at + float_size * i) input % 0x8000_0000_0000_0000)
 
 abbrev pub invariant-loop-i : goal.invariant-loop-i
-invariant-loop-i l = (l.i ≤ l.count) × (any_of (above l.limit l.input l.at) (from 0 l.i) ≡ false)
-
-abbrev pub decreases-loop-i : goal.decreases-loop-i
-decreases-loop-i l = l.count - l.i
+invariant-loop-i l = any_of (above l.limit l.input l.at) (from 0 l.i) ≡ false
