@@ -17,11 +17,9 @@ pub fn distance_sq_at(p: &[f64], a: usize, q: &[f64], b: usize, dimensions: usiz
     ensures { result ≡ distance_sq_lem dimensions (point_at p.now a) (point_at q.now b) }
 {
     let mut sum = 0.0;
-    let mut k = 0;
-    while k < dimensions {
+    for k in 0..dimensions {
         let d = p[a + k] - q[b + k];
-        sum = sum + d * d;
-        k += 1;
+        sum += d * d;
     }
     sum
 }
@@ -31,9 +29,13 @@ pub fn distance_sq(points: &[f64], dimensions: usize, i: GlobalIdx, j: GlobalIdx
     requires { Inside dimensions points.now i.0 × Inside dimensions points.now j.0 }
     ensures { result ≡ rows_sq dimensions points.now i.0 j.0 }
 {
-    let a = i.0;
-    let b = j.0;
-    distance_sq_at(points, a * dimensions, points, b * dimensions, dimensions)
+    distance_sq_at(
+        points,
+        i.0 * dimensions,
+        points,
+        j.0 * dimensions,
+        dimensions,
+    )
 }
 
 // The distance of two rows.

@@ -1,22 +1,21 @@
 // Where the least and the greatest of some values stand. Of equal values the first wins; 0 where there is none.
-ghost use Rattle.std.specs.Prelude.{◌≡◌, cond, length, get_or};
+ghost use Rattle.std.specs.Prelude.{◌≡◌, ◌-◌, Bool, Float, length, get_or};
 ghost use Rattle.std.specs.Float.{nan};
-ghost use Rattle.lists.specs.Lists.{from};
+ghost use Rattle.lists.specs.Lists.{best, from};
 ghost use Rattle.definition.specs.Keys.{keyed, nearest_row, farthest_row};
+ghost use Rattle.extents.specs.Bests.{Decides};
 
-use extents::is_beyond;
-
-// The place of the greatest value, or of the least where `upper` is false.
-fn place(values: &[f64], upper: bool) -> usize
-    ensures { result ≡ cond upper farthest_row nearest_row (keyed (λ i. get_or values.now i nan) (from 0 (length values.now))) }
+// The first place whose value no other is better than.
+fn place<F: Fn(f64, f64) -> bool>(values: &[f64], better: F) -> usize
+    requires { F.IsAlwaysCallable better }
+    ensures { (b : Float → Float → Bool) → Decides F.Fn better b
+        → result ≡ best (λ i j. b (get_or values.now i nan) (get_or values.now j nan)) 0 (from 1 (length values.now - 1)) }
 {
     let mut best = 0;
-    let mut i = 1;
-    while i < values.len() {
-        if is_beyond(values[i], values[best], upper) {
+    for i in 1..values.len() {
+        if better(values[i], values[best]) {
             best = i;
         }
-        i += 1;
     }
     best
 }
@@ -25,12 +24,12 @@ fn place(values: &[f64], upper: bool) -> usize
 pub fn argmin(values: &[f64]) -> usize
     ensures { result ≡ nearest_row (keyed (λ i. get_or values.now i nan) (from 0 (length values.now))) }
 {
-    place(values, false)
+    place(values, |v, w| v < w)
 }
 
 // The place of the greatest value.
 pub fn argmax(values: &[f64]) -> usize
     ensures { result ≡ farthest_row (keyed (λ i. get_or values.now i nan) (from 0 (length values.now))) }
 {
-    place(values, true)
+    place(values, |v, w| w < v)
 }

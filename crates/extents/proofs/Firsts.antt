@@ -1,18 +1,38 @@
 -- The best value of some rows, found from the front on. Assumes nothing.
--- Holds: best_in, bound-yes, bound-no, bound-first, bound-end
+-- Holds: later-below, later-end, later-row, best_in, bound-yes, bound-no, bound-first, bound-end, least-is, greatest-is
 use mathlib.Core.Path.{◌≡◌, refl, sym, ap, ◌∙◌}
 use mathlib.Core.Bool.{Bool, true, false, cond}
 use mathlib.Core.List.{List, [], ◌∷◌, map}
-use Prim.Native.Nat.{ℕ, ◌+◌, ◌≤◌, ◌<◌}
+use Prim.Native.Nat.{ℕ, ◌+◌, ◌-◌, ◌≤◌, ◌<◌}
 use native.Mathlib.Nat.{not-suc-le-zero}
-use lib.ListN.{length, get_or, take, length-map}
-use lib.Seq.{take_all}
-use lib.Ieee.{Float, nan}
+use native.Mathlib.Omega.{arith}
+use lib.ListN.{length, get_or, take, drop, length-map, length-drop}
+use lib.Seq.{take_all, length-take-le, get_or-take, get_or-drop}
+use lib.Ieee.{Float, nan, lt}
 use Rattle.lists.specs.Lists.{best}
 use Rattle.lists.proofs.Map.{get_d-map-in}
 use Rattle.lists.proofs.Best.{best-yes, best-no}
 use Rattle.definition.specs.Points.{least_of, greatest_of}
-use Rattle.extents.specs.Sides.{beyond}
+use Rattle.extents.specs.Bests.{best_of}
+
+-- The rows behind the first, as they are lent.
+module _ (rows : List ℕ) (k : ℕ) where
+  abbrev pub later : List ℕ
+  later = take (length rows - 1) (drop 1 rows)
+
+  length-later : length later ≡ length rows - 1
+  length-later = length-take-le (length rows - 1) (drop 1 rows) (omega (arith, length-drop 1 rows))
+
+  pub later-below : k < length later → k + 1 < length rows
+  later-below h = omega (arith, length-later)
+
+  pub later-end : length later ≤ k → length rows ≤ k + 1
+  later-end h = omega (arith, length-later)
+
+  pub later-row : k < length later → get_or later k 0 ≡ get_or rows (k + 1) 0
+  later-row h =
+      let e : 1 + k ≡ k + 1 = omega arith in
+      get_or-take (length rows - 1) (drop 1 rows) k 0 (omega (arith, length-later)) ∙ get_or-drop 1 rows k 0 ∙ ap (λ (i : ℕ). get_or rows i 0) e
 
 either : {A : Type 0} (b : Bool) (x : A) → cond b x x ≡ x
 either true x = refl
@@ -52,13 +72,19 @@ again : (better : Float → Float → Bool) (x : Float) (xs : List Float) → be
 unfolding best
 again better x xs = ap (λ (y : Float). best better y xs) (either (better x x) x)
 
-pub bound-end : (upper : Bool) (f : ℕ → Float) (rows : List ℕ) (t : ℕ) (m : Float) → 0 < length rows → length rows ≤ t
-    → m ≡ best_in (beyond upper) f rows t → m ≡ cond upper greatest_of least_of (map f rows)
-unfolding least_of greatest_of
-bound-end upper f [] t m p h e = absurd (not-suc-le-zero p)
-bound-end upper f (r ∷ rows) t m p h e =
-    e ∙ best-whole (beyond upper) f (r ∷ rows) t h ∙ again (beyond upper) (f r) (map f rows) ∙ side upper
-  where
-    side : (u : Bool) → best (beyond u) (f r) (map f rows) ≡ cond u greatest_of least_of (f r ∷ map f rows)
-    side true = refl
-    side false = refl
+-- a comparison's best of them all
+pub bound-end : (better : Float → Float → Bool) (f : ℕ → Float) (rows : List ℕ) (t : ℕ) (m : Float) → 0 < length rows → length rows ≤ t
+    → m ≡ best_in better f rows t → m ≡ best_of better (map f rows)
+bound-end better f [] t m p h e = absurd (not-suc-le-zero p)
+bound-end better f (r ∷ rows) t m p h e = e ∙ best-whole better f (r ∷ rows) t h ∙ again better (f r) (map f rows)
+
+-- the two comparisons that the definition has
+pub least-is : (xs : List Float) → best_of (λ v w. lt v w) xs ≡ least_of xs
+unfolding least_of
+least-is [] = refl
+least-is (x ∷ xs) = refl
+
+pub greatest-is : (xs : List Float) → best_of (λ v w. lt w v) xs ≡ greatest_of xs
+unfolding greatest_of
+greatest-is [] = refl
+greatest-is (x ∷ xs) = refl

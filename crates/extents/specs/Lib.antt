@@ -1,2 +1,2 @@
 -- What the contracts of bounds cite beside the definition.
-pub mod Sides
+pub mod Bests

@@ -1,36 +1,39 @@
 // The extents of some rows. Of equal zeros the sign met first stays.
-ghost use Rattle.std.specs.Prelude.{◌≡◌, cond, ◌≤◌, ◌<◌, length};
+ghost use Rattle.std.specs.Prelude.{◌≡◌, Bool, ◌≤◌, ◌<◌, Float, length};
 ghost use Rattle.lists.specs.Ascends.{All};
-ghost use Rattle.definition.specs.Points.{least_of, greatest_of, column, lower_bound_lem, upper_bound_lem, extents};
+ghost use Rattle.definition.specs.Points.{coordinate, column, lower_bound_lem, upper_bound_lem, extents};
 ghost use Rattle.rows.specs.Rows.{Inside};
 ghost use Rattle.boxes.specs.Boxes.{floats_of};
-ghost use Rattle.extents.specs.Sides.{beyond};
+ghost use Rattle.extents.specs.Bests.{Decides, best_of};
 
 use boxes::Extents;
 
-// Whether v is above w, or below it where `upper` is false.
-pub fn is_beyond(v: f64, w: f64, upper: bool) -> bool
-    ensures { result ≡ beyond upper v w }
+// The coordinate of a row on one axis.
+fn coordinate_of(points: &[f64], dimensions: usize, axis: usize, row: usize) -> f64
+    requires { (axis < dimensions) × Inside dimensions points.now row }
+    ensures { result ≡ coordinate dimensions points.now row axis }
 {
-    if upper {
-        return w < v;
-    }
-    v < w
+    points[row * dimensions + axis]
 }
 
-// The greatest coordinate of the rows on one axis, or the least where `upper` is false.
-fn bound(points: &[f64], dimensions: usize, axis: usize, rows: &[usize], upper: bool) -> f64
-    requires { (axis < dimensions) × (0 < length rows.now) × All (Inside dimensions points.now) rows.now }
-    ensures { result ≡ cond upper greatest_of least_of (column dimensions points.now rows.now axis) }
+// The first coordinate of the rows on one axis that no other is better than.
+fn bound<F: Fn(f64, f64) -> bool>(
+    points: &[f64],
+    dimensions: usize,
+    axis: usize,
+    rows: &[usize],
+    better: F,
+) -> f64
+    requires rows { (axis < dimensions) × (0 < length rows.now) × All (Inside dimensions points.now) rows.now }
+    requires callable { F.IsAlwaysCallable better }
+    ensures { (b : Float → Float → Bool) → Decides F.Fn better b → result ≡ best_of b (column dimensions points.now rows.now axis) }
 {
-    let mut best = points[rows[0] * dimensions + axis];
-    let mut t = 1;
-    while t < rows.len() {
-        let v = points[rows[t] * dimensions + axis];
-        if is_beyond(v, best, upper) {
+    let mut best = coordinate_of(points, dimensions, axis, rows[0]);
+    for &row in &rows[1..] {
+        let v = coordinate_of(points, dimensions, axis, row);
+        if better(v, best) {
             best = v;
         }
-        t += 1;
     }
     best
 }
@@ -40,7 +43,7 @@ pub fn lower_bound(points: &[f64], dimensions: usize, axis: usize, rows: &[usize
     requires { (axis < dimensions) × (0 < length rows.now) × All (Inside dimensions points.now) rows.now }
     ensures { result ≡ lower_bound_lem dimensions points.now rows.now axis }
 {
-    bound(points, dimensions, axis, rows, false)
+    bound(points, dimensions, axis, rows, |v, w| v < w)
 }
 
 // The greatest coordinate of the rows on one axis.
@@ -48,7 +51,7 @@ pub fn upper_bound(points: &[f64], dimensions: usize, axis: usize, rows: &[usize
     requires { (axis < dimensions) × (0 < length rows.now) × All (Inside dimensions points.now) rows.now }
     ensures { result ≡ upper_bound_lem dimensions points.now rows.now axis }
 {
-    bound(points, dimensions, axis, rows, true)
+    bound(points, dimensions, axis, rows, |v, w| w < v)
 }
 
 // The box of the rows: their least and greatest coordinate on each axis.
@@ -58,11 +61,9 @@ pub fn get_pointarray_extents(points: &[f64], dimensions: usize, rows: &[usize])
 {
     let mut lower = [0.0; 3];
     let mut upper = [0.0; 3];
-    let mut axis = 0;
-    while axis < dimensions {
+    for axis in 0..dimensions {
         lower[axis] = lower_bound(points, dimensions, axis, rows);
         upper[axis] = upper_bound(points, dimensions, axis, rows);
-        axis += 1;
     }
     Extents {
         lower,

@@ -3,4 +3,4 @@
 
 mod bounds;
 
-pub use bounds::{get_pointarray_extents, is_beyond, lower_bound, upper_bound};
+pub use bounds::{get_pointarray_extents, lower_bound, upper_bound};

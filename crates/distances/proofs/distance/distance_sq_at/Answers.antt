@@ -1,6 +1,5 @@
 -- `distances::distance_sq_at` meets its contract. The invariant: the sum is that of the axes passed. Assumes nothing.
 use mathlib.Core.Path.{refl}
-use Prim.Native.Nat.{◌-◌}
 use native.Mathlib.Omega.{arith}
 use Rattle.definition.specs.Points.{distance_sq_lem}
 use Rattle.distances.proofs.Turns.{distance-more, distance-all}
@@ -8,11 +7,11 @@ use Rattle.distances.proofs.distance.distance_sq_at.Goals as goal
 
 pub loop-k-init : goal.loop-k-init
 unfolding distance_sq_lem
-loop-k-init c = (omega arith, refl)
+loop-k-init c = refl
 
 pub loop-k-preserved : goal.loop-k-preserved
-loop-k-preserved c = (omega arith, distance-more _ _ _ _ c.loop-k.invariant.1)
+loop-k-preserved c = distance-more _ _ _ _ c.loop-k.invariant
 
 pub returns : goal.returns
 returns c = let l = c.loop-k in
-    distance-all _ _ _ _ _ l.invariant.0 c.loop-k-test.false l.invariant.1
+    distance-all _ _ _ _ _ (omega arith) c.loop-k-test.false l.invariant

@@ -1,10 +1,6 @@
 use mathlib.Core.Path.{◌≡◌}
-use Prim.Native.Nat.{◌≤◌, ◌-◌}
 use Rattle.definition.specs.Points.{point_at, distance_sq_lem}
 use Rattle.distances.proofs.distance.distance_sq_at.Given as goal
 
 abbrev pub invariant-loop-k : goal.invariant-loop-k
-invariant-loop-k l = (l.k ≤ l.dimensions) × (l.sum ≡ distance_sq_lem l.k (point_at l.p l.a) (point_at l.q l.b))
-
-abbrev pub decreases-loop-k : goal.decreases-loop-k
-decreases-loop-k l = l.dimensions - l.k
+invariant-loop-k l = l.sum ≡ distance_sq_lem l.k (point_at l.p l.a) (point_at l.q l.b)

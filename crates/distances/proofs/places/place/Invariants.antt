@@ -1,12 +1,10 @@
-use Prim.Native.Nat.{◌-◌}
+use mathlib.Core.Bool.{Bool}
+use Prim.Native.Nat.{◌<◌}
 use lib.ListN.{length, get_or}
-use lib.Ieee.{nan}
-use Rattle.extents.specs.Sides.{beyond}
+use lib.Ieee.{Float, nan}
+use Rattle.extents.specs.Bests.{Decides}
 use Rattle.distances.proofs.Firsts.{Place}
 use Rattle.distances.proofs.places.place.Given as goal
 
 abbrev pub invariant-loop-i : goal.invariant-loop-i
-invariant-loop-i l = Place (λ a b. beyond l.upper (get_or l.values a nan) (get_or l.values b nan)) (length l.values) l.best l.i
-
-abbrev pub decreases-loop-i : goal.decreases-loop-i
-decreases-loop-i l = length l.values - l.i
+invariant-loop-i g l = (l.best < l.i) × ((b : Float → Float → Bool) → Decides g.F.Fn l.better b → Place (λ i j. b (get_or l.values i nan) (get_or l.values j nan)) (length l.values) l.best l.i)

@@ -1,6 +1,5 @@
 -- `extents::get_pointarray_extents` meets its contract. Assumes nothing.
 use mathlib.Core.Path.{refl}
-use Prim.Native.Nat.{◌-◌}
 use Rattle.boxes.proofs.Boxed.{filled_none, filled_more, filled-all}
 use Rattle.extents.proofs.bounds.get_pointarray_extents.Goals as goal
 

@@ -1,9 +1,5 @@
-use Prim.Native.Nat.{◌-◌}
 use Rattle.boxes.proofs.Boxed.{Filled}
 use Rattle.extents.proofs.bounds.get_pointarray_extents.Given as goal
 
 abbrev pub invariant-loop-axis : goal.invariant-loop-axis
 invariant-loop-axis l = Filled l.points l.dimensions l.rows l.lower l.upper l.axis
-
-abbrev pub decreases-loop-axis : goal.decreases-loop-axis
-decreases-loop-axis l = l.dimensions - l.axis
