@@ -1,5 +1,5 @@
 -- The refusals of a sampling, and what holds where it is accepted. Assumes nothing.
--- Holds: bad-found, bad-nowhere, SampleAccepted, accepted-call, rows-numbered, call-ready, call-written, call-covered,
+-- Holds: bad-found, bad-nowhere, SampleAccepted, call-accepted, rows-numbered, call-ready, call-written, call-covered,
 --   call-refused, call-sampled
 use mathlib.Core.Path.{◌≡◌, refl, sym, ap, ap₂, ◌∙◌}
 use mathlib.Core.Bool.{Bool, true, false, not, cond, ◌||◌}
@@ -21,16 +21,16 @@ use Rattle.lists.proofs.Put.{put-zero}
 use Rattle.lists.proofs.Members.{none_any}
 use Rattle.lists.proofs.Tests.{or-none}
 use Rattle.definition.specs.Packed.{sample_stated}
-use Rattle.definition.specs.Refusals.{on, Verdict, accepted, refused, wrong_dimension_lem, coordinates_missing, first_bad, not_finite_lem, most_points, sample_short, sample_verdict}
+use Rattle.definition.specs.Refusals.{on, accepted, refused, wrong_dimension_lem, coordinates_missing, first_bad, not_finite_lem, most_points, sample_short, sample_verdict}
 use Rattle.definition.specs.Sampling.{sample, cover_of}
 use Rattle.definition.specs.Outcome.{number_of, place_of, value_of, written, list_after, RoomAfter, sample_call, sample_of, sample_cover_lem, sample_answer, sample_output}
 use Rattle.rows.specs.Rows.{GoodRows}
 use Rattle.rows.proofs.AllRows.{all-rows-good}
 use Rattle.definition_laws.proofs.Accepted.{passes, right-dimension}
-use Rattle.sampling.specs.declared.SampleAnswer.TheVariants.{Sampled, Refused}
-use Rattle.sampling.specs.declared.SampleTests.{SampleTests}
-use Rattle.sampling.specs.declared.SampleTests.TheVariants.{Passed, Failed}
-use Rattle.sampling.specs.Answers.{sample_lent, shown, sample_report_lem}
+use Rattle.std.specs.Prelude.{Ok, Err}
+use Rattle.refusal.specs.declared.Refusal.{Refusal}
+use Rattle.refusal.specs.Refusals.{as_refusal}
+use Rattle.sampling.specs.Answers.{sample_lent, sample_report_lem}
 use Rattle.sampling.specs.Outcome.{RowsSampled}
 
 -- ---- 10: the first coordinate that is not finite stands inside the list where there is one
@@ -58,18 +58,10 @@ bad-none i (x ∷ xs) h = go (finite x) h (bad-none (suc i) xs)
 pub bad-found : (cs : List Float) (p : ℕ) → p ≡ first_bad 0 cs → p < length cs → any_of (λ x. not (finite x)) cs ≡ true
 bad-found cs p e h = bad-some 0 cs (omega (arith, e))
 
-pub bad-nowhere : (cs : List Float) (p : ℕ) → p ≡ first_bad 0 cs → length cs ≤ p → any_of (λ x. not (finite x)) cs ≡ false
-bad-nowhere cs p e h = bad-none 0 cs (omega (arith, e))
+pub bad-nowhere : (cs : List Float) → first_bad 0 cs ≡ length cs → any_of (λ x. not (finite x)) cs ≡ false
+bad-nowhere cs e = bad-none 0 cs (omega (arith, e))
 
 -- ---- an accepted call
-zero_one : {A : Type 0} → ◌≡◌ {A = ℕ} 0 1 → A
-zero_one e = absurd (omega arith)
-
-passed_is : (v : Verdict) → shown v ≡ Passed → v ≡ accepted
-unfolding shown
-passed_is accepted e = refl
-passed_is (refused r) e = let z : ◌≡◌ {A = ℕ} 0 1 = cc in zero_one z
-
 above_zero : (n : ℕ) → (n ≡ 0 → ⊥) → 0 < n
 above_zero zero h = absurd (h refl)
 above_zero (suc n) h = omega arith
@@ -85,7 +77,7 @@ pub record SampleAccepted (d : ℕ) (cs : List Float) (wanted seed o f w : ℕ) 
   pub wholes : length cs / d ≤ w
   pub finites : All (λ x. finite x ≡ true) cs
 
-call-accepted : (d : ℕ) (cs : List Float) (wanted seed o f w : ℕ) → sample_verdict d cs wanted seed (sample_lent o f w) ≡ accepted → SampleAccepted d cs wanted seed o f w
+pub call-accepted : (d : ℕ) (cs : List Float) (wanted seed o f w : ℕ) → sample_verdict d cs wanted seed (sample_lent o f w) ≡ accepted → SampleAccepted d cs wanted seed o f w
 unfolding sample_verdict sample_short sample_stated
 call-accepted d cs wanted seed o f w e =
     let n = length cs / d in
@@ -111,14 +103,6 @@ call-accepted d cs wanted seed o f w e =
       wholes = ltb-false w n s.1;
       finites = all-of (λ x. finite x ≡ true) cs (λ x m. not-false (finite x) (none_any bad cs p7.0 m));
     }
-
--- what holds once the tests are passed
-pub accepted-call : (d : ℕ) (cs : List Float) (wanted seed o f w : ℕ) (x : SampleTests)
-    → x ≡ shown (sample_verdict d cs wanted seed (sample_lent o f w)) → x ≡ Passed
-    → (sample_verdict d cs wanted seed (sample_lent o f w) ≡ accepted) × SampleAccepted d cs wanted seed o f w
-accepted-call d cs wanted seed o f w x e h =
-    let c = passed_is (sample_verdict d cs wanted seed (sample_lent o f w)) (sym e ∙ h) in
-    (c, call-accepted d cs wanted seed o f w c)
 
 -- ---- all rows of the point list
 
@@ -157,27 +141,19 @@ module _ (d : ℕ) (cs : List Float) (wanted seed o f w : ℕ) (a : SampleAccept
 
 -- ---- the outcome of a call
 module _ (d : ℕ) (cs : List Float) (wanted seed : ℕ) (out : List ℕ) (floats : List Float) (wholes : List ℕ) where
-  failed-is : (v : Verdict) (number place : ℕ) → shown v ≡ Failed number place → v ≡ refused (record { number = number; place = place })
-  unfolding shown
-  failed-is accepted number place e = let z : ◌≡◌ {A = ℕ} 0 1 = cc in zero_one z
-  failed-is (refused r) number place e =
-      let n : r.number ≡ number = cc in
-      let p : r.place ≡ place = cc in
-      rw (← n, ← p)
-
   -- a refusal leaves each list as it was
-  pub call-refused : (number place : ℕ) → shown (sample_call d cs wanted seed out floats wholes) ≡ Failed number place
-      → RowsSampled d cs wanted seed out out floats floats wholes wholes (sample_report_lem (Refused number place))
-  unfolding sample_report_lem sample_answer sample_output number_of place_of value_of list_after RoomAfter
-  call-refused number place h =
-      let e = failed-is (sample_call d cs wanted seed out floats wholes) number place h in
+  pub call-refused : (r : Refusal) → refused (as_refusal r) ≡ sample_call d cs wanted seed out floats wholes
+      → RowsSampled d cs wanted seed out out floats floats wholes wholes (sample_report_lem (Err r))
+  unfolding sample_answer sample_output number_of place_of value_of list_after RoomAfter
+  call-refused r h =
+      let e = sym h in
       record { answers = simp e; output = simp e; floats_free = simp e refl; wholes_free = simp e refl }
 
   -- an accepted call writes the sample, tells its cover, and keeps the lengths of its working room
   pub call-sampled : (cover : Float) → sample_call d cs wanted seed out floats wholes ≡ accepted → cover ≡ sample_cover_lem d cs wanted seed
       → (new : List ℕ) → new ≡ written (sample_of d cs wanted seed) out
       → (floats' : List Float) → length floats' ≡ length floats → (wholes' : List ℕ) → length wholes' ≡ length wholes
-      → RowsSampled d cs wanted seed out new floats floats' wholes wholes' (sample_report_lem (Sampled wanted cover))
-  unfolding sample_report_lem sample_answer sample_output number_of place_of value_of list_after RoomAfter
+      → RowsSampled d cs wanted seed out new floats floats' wholes wholes' (sample_report_lem (Ok (record { rows = wanted; cover = cover })))
+  unfolding sample_answer sample_output number_of place_of value_of list_after RoomAfter
   call-sampled cover e w new h floats' f wholes' g =
       record { answers = simp e (rw w); output = simp e h; floats_free = simp e f; wholes_free = simp e g }

@@ -2,69 +2,48 @@
 #![tactic(auto)]
 
 ghost use Rattle.std.specs.Prelude.{◌≡◌, ◌||◌, ◌≤◌, eqb, ltb, leb};
+ghost use Rattle.refusal.specs.Refusals.{verdict_of};
 ghost use Rattle.definition.specs.Packed.{sample_stated};
 ghost use Rattle.definition.specs.Refusals.{wrong_dimension_lem, most_points, sample_short, sample_verdict};
-ghost use Rattle.sampling.specs.Answers.{sample_lent, shown, sample_report_lem};
+ghost use Rattle.sampling.specs.Answers.{sample_lent, sample_report_lem};
 ghost use Rattle.sampling.specs.Outcome.{RowsSampled};
 
 use distances::LocalIdx;
+use refusal::Refusal;
 use rows::MOST_POINTS;
 
-// What a sampling answers: the count of rows written and their cover, or a refusal's number and place.
+// The count of rows written, and their cover.
 #[derive(Clone, Copy)]
-pub enum SampleAnswer {
-    Sampled { rows: usize, cover: f64 },
-    Refused(u8, usize),
-}
-
-// What the tests of a call find: no refusal, or its number and place.
-#[derive(Clone, Copy)]
-enum SampleTests {
-    Passed,
-    Failed(u8, usize),
+pub struct Sampled {
+    pub rows: usize,
+    pub cover: f64,
 }
 
 // Whether the dimension is not 1, 2 or 3.
 fn wrong_dimension(dimensions: usize) -> bool
     ensures { result ≡ wrong_dimension_lem dimensions }
 {
-    if dimensions < 1 {
-        return true;
-    }
-    if 3 < dimensions {
-        return true;
-    }
-    false
+    dimensions < 1 || 3 < dimensions
 }
 
 // Whether none is wanted, more than there are, or the seed is no row.
 fn wrong_choice(rows: usize, wanted: usize, seed: usize) -> bool
     ensures { result ≡ (eqb wanted 0 || ltb rows wanted || leb rows seed) }
 {
-    if wanted == 0 {
-        return true;
-    }
-    if rows < wanted {
-        return true;
-    }
-    rows <= seed
+    wanted == 0 || rows < wanted || rows <= seed
 }
 
 // Whether a lent list is shorter than stated.
+#[tactic(auto, unfolding(definition::specs::Refusals::sample_short, definition::specs::Packed::sample_stated))]
 fn lists_short(rows: usize, wanted: usize, output: usize, floats: usize, wholes: usize) -> bool
     requires { rows ≤ most_points }
     ensures { result ≡ sample_short (sample_lent output floats wholes) (sample_stated rows wanted) }
 {
-    if output < wanted {
-        return true;
-    }
-    if floats < 2 * rows {
-        return true;
-    }
-    wholes < rows
+    output < wanted || floats < 2 * rows || wholes < rows
 }
 
 // The refusal of a sampling, if there is one. `output`, `floats` and `wholes` are the lengths of the lent lists.
+#[tactic(auto, using(std::proofs::lemmas::Bool::Decides::nat_tests), unfolding(definition::specs::Refusals::sample_verdict, definition::specs::Refusals::verdict))]
 fn sampling_verdict(
     points: &[f64],
     dimensions: usize,
@@ -73,34 +52,33 @@ fn sampling_verdict(
     output: usize,
     floats: usize,
     wholes: usize,
-) -> SampleTests
-    ensures { result ≡ shown (sample_verdict dimensions points.now wanted seed (sample_lent output floats wholes)) }
+) -> Result<(), Refusal>
+    ensures { verdict_of result ≡ sample_verdict dimensions points.now wanted seed (sample_lent output floats wholes) }
 {
     if wrong_dimension(dimensions) {
-        return SampleTests::Failed(1, 0);
+        return Err(Refusal::WrongDimension);
     }
     let count = points.len();
     if count == 0 {
-        return SampleTests::Failed(6, 0);
+        return Err(Refusal::NoPoints);
     }
     if count % dimensions != 0 {
-        return SampleTests::Failed(7, 0);
+        return Err(Refusal::MissingCoordinate);
     }
     let rows = count / dimensions;
     if MOST_POINTS < rows {
-        return SampleTests::Failed(8, 0);
+        return Err(Refusal::ManyPoints);
     }
     if wrong_choice(rows, wanted, seed) {
-        return SampleTests::Failed(13, 0);
+        return Err(Refusal::WrongChoice);
     }
     if lists_short(rows, wanted, output, floats, wholes) {
-        return SampleTests::Failed(11, 0);
+        return Err(Refusal::ShortList);
     }
-    let place = finite::first_not_finite(points);
-    if place < count {
-        return SampleTests::Failed(10, place);
+    match finite::first_not_finite(points) {
+        Some(position) => Err(Refusal::NotFinite(position)),
+        None => Ok(()),
     }
-    SampleTests::Passed
 }
 
 // Farthest point sampling of all rows, from the row `seed` on: `wanted` rows are written to the front of `out`. The cover
@@ -114,11 +92,11 @@ pub fn farthest_point_sampling(
     out: &mut [usize],
     floats: &mut [f64],
     wholes: &mut [usize],
-) -> SampleAnswer
+) -> Result<Sampled, Refusal>
     ensures { RowsSampled dimensions points.now wanted seed out.old out.new
         floats.old floats.new wholes.old wholes.new (sample_report_lem result) }
 {
-    let tests = sampling_verdict(
+    sampling_verdict(
         points,
         dimensions,
         wanted,
@@ -126,26 +104,21 @@ pub fn farthest_point_sampling(
         out.len(),
         floats.len(),
         wholes.len(),
+    )?;
+    let rows = points.len() / dimensions;
+    stretches::number_rows(wholes, rows);
+    let cover = sampling_rounds::sample_rows(
+        points,
+        dimensions,
+        &wholes[..rows],
+        wanted,
+        LocalIdx(seed),
+        out,
+        0,
+        floats,
     );
-    match tests {
-        SampleTests::Failed(number, place) => SampleAnswer::Refused(number, place),
-        SampleTests::Passed => {
-            let rows = points.len() / dimensions;
-            stretches::number_rows(wholes, rows);
-            let cover = sampling_rounds::sample_rows(
-                points,
-                dimensions,
-                &wholes[..rows],
-                wanted,
-                LocalIdx(seed),
-                out,
-                0,
-                floats,
-            );
-            SampleAnswer::Sampled {
-                rows: wanted,
-                cover: cover,
-            }
-        }
-    }
+    Ok(Sampled {
+        rows: wanted,
+        cover,
+    })
 }
