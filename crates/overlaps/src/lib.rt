@@ -11,28 +11,24 @@ ghost use Rattle.packed.specs.Reading.{read_own};
 ghost use Rattle.overlaps.specs.Codes.{codes_from, coded_rows, Distinct, Reached, Positions, Encoded};
 ghost use Rattle.overlaps.specs.Borrowed.{borrowed_lists, with_borrowed, Stage};
 
-// A leaf and a position as one number: leaf * POSITIONS + position.
-const POSITIONS: usize = rows::MOST_LEAVES;
+use overlap_pairs::{code, position_of};
 
 // Moves each number of a list in order, once, to the front. The answer is how many there are.
 fn drop_repeats(codes: &mut [usize]) -> usize
     requires { Sorted (λ x y. x ≤ y) codes.old }
     ensures { (result ≤ length codes.old) × Distinct codes.old (take result codes.new) }
 {
-    if codes.len() == 0 {
+    if codes.is_empty() {
         return 0;
     }
-    let mut w: usize = 1;
-    let mut r: usize = 1;
-    while r < codes.len() {
-        let x = codes[r];
-        r += 1;
-        if codes[w - 1] != x {
-            codes[w] = x;
-            w += 1;
+    let mut kept = 1;
+    for r in 1..codes.len() {
+        if codes[kept - 1] != codes[r] {
+            codes[kept] = codes[r];
+            kept += 1;
         }
     }
-    w
+    kept
 }
 
 // Writes the row of each number, from `bat` on.
@@ -40,10 +36,9 @@ fn write_rows(codes: &[usize], active: &[usize], borrowed: &mut [usize], bat: us
     requires { (bat + length codes.now ≤ length borrowed.old) × ((k : ℕ) → k < length codes.now → get_or codes.now k 0 % most_leaves < length active.now) }
     ensures { borrowed.new ≡ put borrowed.old bat (coded_rows active.now codes.now) }
 {
-    let mut k: usize = 0;
-    while k < codes.len() {
-        borrowed[bat + k] = active[codes[k] % POSITIONS];
-        k += 1;
+    // by the index: of a zip with `borrowed.iter_mut()` a proof does not know what was written
+    for (k, &c) in codes.iter().enumerate() {
+        borrowed[bat + k] = active[position_of(c)];
     }
 }
 
@@ -52,14 +47,12 @@ fn reach(codes: &[usize], from: usize, limit: usize) -> usize
     requires { from ≤ length codes.now }
     ensures { Reached codes.now from limit result }
 {
-    let mut k = from;
-    while k < codes.len() {
+    for k in from..codes.len() {
         if limit <= codes[k] {
             return k;
         }
-        k += 1;
     }
-    k
+    codes.len()
 }
 
 // Writes where the borrowed rows of each leaf start, counted from `bat` on, and how many they are, to the last two columns of the m
@@ -69,13 +62,11 @@ fn write_columns(codes: &[usize], domains: &mut [usize], first: usize, m: usize,
     ensures { (ls : List (List ℕ)) → Positions m most_leaves ls → codes.now ≡ codes_from 0 ls
         → domains.new ≡ with_borrowed bat ls first domains.old }
 {
-    let mut leaf: usize = 0;
-    let mut s: usize = 0;
-    while leaf < m {
-        let e = reach(codes, s, (leaf + 1) * POSITIONS);
-        packed::put_borrowed(domains, first + leaf, bat + s, e - s);
-        s = e;
-        leaf += 1;
+    let mut start = 0;
+    for leaf in 0..m {
+        let end = reach(codes, start, code(leaf + 1, 0));
+        packed::put_borrowed(domains, first + leaf, bat + start, end - start);
+        start = end;
     }
 }
 

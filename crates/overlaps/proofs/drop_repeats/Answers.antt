@@ -1,27 +1,25 @@
 -- `overlaps::drop_repeats` meets its contract. Assumes nothing.
-use Prim.Native.Nat.{◌-◌}
+use mathlib.Core.Path.{sym, ◌∙◌}
+use borrow.Author.Tests.{eqb-true, eqb-false}
 use native.Mathlib.Omega.{arith}
 use Rattle.overlaps.proofs.Drops.{drop-first, drop-same, drop-new, drop-end, drop-none}
+use Rattle.overlaps.proofs.drop_repeats.Goals.{then-codes-kept, else-codes-kept}
 use Rattle.overlaps.proofs.drop_repeats.Goals as goal
 
-pub returns-then-codes-eq0 : goal.returns-then-codes-eq0
-returns-then-codes-eq0 c = (omega arith, drop-none c.args.codes.now c.args.codes.now c.if-codes-eq0.true)
+pub returns-then-is_empty : goal.returns-then-is_empty
+returns-then-is_empty c = (omega arith, drop-none c.args.codes.now c.args.codes.now (eqb-true _ _ (sym c.is_empty.ensures ∙ c.if-is_empty.true)))
 
 pub loop-r-init : goal.loop-r-init
-loop-r-init c = drop-first c.args.codes.now (omega (arith, c.if-codes-eq0.false))
-
-pub loop-r-preserved-then-codes-w : goal.loop-r-preserved-then-codes-w
-loop-r-preserved-then-codes-w c = let v = c.loop-r in
-    drop-new c.args.codes.now v.codes v.w v.r v.invariant (omega arith) c.requires c.if-codes-w.true
+loop-r-init c = let n = eqb-false _ _ (sym c.is_empty.ensures ∙ c.if-is_empty.false) in drop-first c.args.codes.now (omega (arith, n))
 
 pub loop-r-preserved : goal.loop-r-preserved
 loop-r-preserved c = let v = c.loop-r in
-    drop-same c.args.codes.now v.codes v.w v.r v.invariant (omega arith) c.if-codes-w.false
-
-pub shape_of-codes : goal.shape_of-codes
-shape_of-codes c = c.loop-r.invariant.long
+    elim c.if-codes-kept.branch [
+      | then-codes-kept w ↦ rw (w.codes-is, w.kept-is) (drop-new c.args.codes.now v.codes v.kept v.r v.invariant c.loop-r-test.true c.requires w.if-codes-kept.true)
+      | else-codes-kept w ↦ rw (w.codes-is, w.kept-is) (drop-same c.args.codes.now v.codes v.kept v.r v.invariant c.loop-r-test.true w.if-codes-kept.false)
+    ]
 
 pub returns : goal.returns
 returns c = let v = c.loop-r in
     let i = v.invariant in
-    (omega arith, drop-end c.args.codes.now v.codes v.w v.r v.invariant (omega arith))
+    (omega arith, drop-end c.args.codes.now v.codes v.kept v.r v.invariant (omega arith))

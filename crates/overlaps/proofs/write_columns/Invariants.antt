@@ -1,4 +1,4 @@
-use Prim.Native.Nat.{ℕ, ◌-◌, ◌≤◌}
+use Prim.Native.Nat.{ℕ, ◌≤◌}
 use mathlib.Core.Path.{◌≡◌}
 use mathlib.Core.List.{List}
 use lib.ListN.{length}
@@ -8,7 +8,4 @@ use Rattle.rows.specs.Rows.{most_leaves}
 use Rattle.overlaps.proofs.write_columns.Given as goal
 
 abbrev pub invariant-loop-leaf : goal.invariant-loop-leaf
-invariant-loop-leaf l = (l.leaf ≤ l.m) × (l.s ≤ length l.codes) × (length l.domains ≡ length l.initial.domains) × ((ls : List (List ℕ)) → Positions l.m most_leaves ls → l.codes ≡ codes_from 0 ls → Columned l.codes l.first l.bat l.initial.domains l.domains l.leaf l.s ls)
-
-abbrev pub decreases-loop-leaf : goal.decreases-loop-leaf
-decreases-loop-leaf l = l.m - l.leaf
+invariant-loop-leaf l = (l.start ≤ length l.codes) × ((ls : List (List ℕ)) → Positions l.m most_leaves ls → l.codes ≡ codes_from 0 ls → Columned l.codes l.first l.bat l.initial.domains l.domains l.leaf l.start ls)
