@@ -31,14 +31,12 @@ pub fn longest_axis(points: &[f64], dimensions: usize, rows: &[usize]) -> usize
 {
     let mut longest = 0;
     let mut e = extent_on(points, dimensions, 0, rows);
-    let mut axis = 1;
-    while axis < dimensions {
+    for axis in 1..dimensions {
         let v = extent_on(points, dimensions, axis, rows);
         if e < v {
             longest = axis;
             e = v;
         }
-        axis += 1;
     }
     longest
 }

@@ -2,10 +2,9 @@
 -- `e` is its extent. Assumes nothing.
 use mathlib.Core.Path.{◌≡◌, ◌∙◌}
 use mathlib.Core.Bool.{Bool}
-use Prim.Native.Nat.{ℕ, ◌-◌}
+use Prim.Native.Nat.{ℕ}
 use native.Mathlib.Omega.{arith}
 use lib.Ieee.{lt}
-use borrow.Author.Rules.{rules}
 use Rattle.lists.proofs.Best.{best-below-first, best-below-yes, best-below-no}
 use Rattle.definition.specs.Points.{extent}
 use Rattle.definition.specs.Cut.{longest_axis_lem}
@@ -13,7 +12,7 @@ use Rattle.cut.proofs.longest_axis.Goals.{then-e-v, else-e-v}
 use Rattle.cut.proofs.longest_axis.Goals as goal
 
 pub loop-axis-init : goal.loop-axis-init
-loop-axis-init c = (search rules, search rules, best-below-first _, c.extent_on-e.ensures)
+loop-axis-init c = (best-below-first _, c.extent_on-e.ensures)
 
 pub loop-axis-preserved : goal.loop-axis-preserved
 loop-axis-preserved c = let s = c in
@@ -22,10 +21,10 @@ loop-axis-preserved c = let s = c in
     let i = s.loop-axis.invariant in
     let v = c.extent_on-v.ensures in
     elim c.if-e-v.branch [
-      | then-e-v w ↦ (omega arith, omega arith, w.longest-is ∙ best-below-yes better s.loop-axis.axis s.loop-axis.longest i.0 i.2 (rw (v, i.3) at w.if-e-v.true), w.e-is ∙ v ∙ rw w.longest-is)
-      | else-e-v w ↦ (omega arith, omega arith, w.longest-is ∙ best-below-no better s.loop-axis.axis s.loop-axis.longest i.0 i.2 (rw (v, i.3) at w.if-e-v.false), w.e-is ∙ i.3 ∙ rw w.longest-is)
+      | then-e-v w ↦ (w.longest-is ∙ best-below-yes better s.loop-axis.axis s.loop-axis.longest c.loop-axis.auto.axis i.0 (rw (v, i.1) at w.if-e-v.true), w.e-is ∙ v ∙ rw w.longest-is)
+      | else-e-v w ↦ (w.longest-is ∙ best-below-no better s.loop-axis.axis s.loop-axis.longest c.loop-axis.auto.axis i.0 (rw (v, i.1) at w.if-e-v.false), w.e-is ∙ i.1 ∙ rw w.longest-is)
     ]
 
 pub returns : goal.returns
 unfolding longest_axis_lem
-returns c = let e : c.loop-axis.axis ≡ c.args.dimensions = omega arith in rw e at c.loop-axis.invariant.2
+returns c = let e : c.loop-axis.axis ≡ c.args.dimensions = omega arith in rw e at c.loop-axis.invariant.0

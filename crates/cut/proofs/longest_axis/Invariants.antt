@@ -1,13 +1,9 @@
 use mathlib.Core.Path.{◌≡◌}
-use Prim.Native.Nat.{◌-◌, ◌≤◌}
+use Prim.Native.Nat.{◌-◌}
 use lib.Ieee.{lt}
 use Rattle.lists.specs.Lists.{best, from}
 use Rattle.definition.specs.Points.{extent}
 use Rattle.cut.proofs.longest_axis.Given as goal
 
 abbrev pub invariant-loop-axis : goal.invariant-loop-axis
-invariant-loop-axis l = (1 ≤ l.axis) × (l.axis ≤ l.dimensions)
-    × (l.longest ≡ best (λ a b. lt (extent l.dimensions l.points l.rows b) (extent l.dimensions l.points l.rows a)) 0 (from 1 (l.axis - 1))) × (l.e ≡ extent l.dimensions l.points l.rows l.longest)
-
-abbrev pub decreases-loop-axis : goal.decreases-loop-axis
-decreases-loop-axis l = l.dimensions - l.axis
+invariant-loop-axis l = (l.longest ≡ best (λ a b. lt (extent l.dimensions l.points l.rows b) (extent l.dimensions l.points l.rows a)) 0 (from 1 (l.axis - 1))) × (l.e ≡ extent l.dimensions l.points l.rows l.longest)
