@@ -14,11 +14,8 @@ fn centroid_axis(points: &[f64], dimensions: usize, rows: &[usize], axis: usize)
     ensures { result ≡ centroid dimensions points.now rows.now axis }
 {
     let mut sum = 0.0;
-    let mut i = 0;
-    while i < rows.len() {
-        let row = rows[i];
-        sum = sum + points[row * dimensions + axis];
-        i += 1;
+    for &row in rows {
+        sum += points[row * dimensions + axis];
     }
     sum / rows.len() as f64
 }
@@ -29,10 +26,8 @@ fn get_centroid(points: &[f64], dimensions: usize, rows: &[usize]) -> [f64; 3]
     ensures { (a : ℕ) → a < dimensions → get_or result a nan ≡ centroid dimensions points.now rows.now a }
 {
     let mut center = [0.0; 3];
-    let mut axis = 0;
-    while axis < dimensions {
+    for axis in 0..dimensions {
         center[axis] = centroid_axis(points, dimensions, rows, axis);
-        axis += 1;
     }
     center
 }
@@ -48,8 +43,7 @@ pub fn sampling_seed(points: &[f64], dimensions: usize, rows: &[usize]) -> Local
     let mut best = 0;
     let mut low = distances::distance_sq_at(&center, 0, points, first * dimensions, dimensions);
     let mut near = root::root(low);
-    let mut i = 1;
-    while i < rows.len() {
+    for i in 1..rows.len() {
         let row = rows[i];
         let square = distances::distance_sq_at(&center, 0, points, row * dimensions, dimensions);
         if square < low {
@@ -60,7 +54,6 @@ pub fn sampling_seed(points: &[f64], dimensions: usize, rows: &[usize]) -> Local
                 best = i;
             }
         }
-        i += 1;
     }
     LocalIdx(best)
 }

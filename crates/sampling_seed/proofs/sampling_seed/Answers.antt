@@ -1,8 +1,7 @@
 -- `sampling_seed::sampling_seed` meets its contract. The loop's invariant: `Nearest`. Assumes nothing.
 use mathlib.Core.Path.{◌≡◌}
 use mathlib.Core.Bool.{true}
-use Prim.Native.Nat.{ℕ, ◌≤◌, ◌-◌}
-use native.Mathlib.Nat.{le_antisymm}
+use Prim.Native.Nat.{ℕ, ◌≤◌}
 use native.Mathlib.Omega.{arith}
 use Rattle.root_laws.specs.Sorts.{good}
 use Rattle.rows.proofs.Good.{good-at}
@@ -35,10 +34,8 @@ loop-i-init c = let s = c in
     let a = s.args in
     let m = c.get_centroid-center in
     let v = from_center a.dimensions a.points.now a.rows.now in
-    let g = center-good a.dimensions a.points.now a.rows.now s.requires.0 s.requires.2 in (
-      s.requires.2,
-      nearest-start v _ _ (g 0 s.requires.2) (center-square _ _ _ m.result 0 _ m.ensures c.distance_sq_at-low.ensures) c.root-near.ensures,
-    )
+    let g = center-good a.dimensions a.points.now a.rows.now s.requires.0 s.requires.2 in
+    nearest-start v _ _ (g 0 s.requires.2) (center-square _ _ _ m.result 0 _ m.ensures c.distance_sq_at-low.ensures) c.root-near.ensures
 
 pub overflow_mul-row : goal.overflow_mul-row
 overflow_mul-row c = let s = c in
@@ -66,11 +63,11 @@ loop-i-preserved c = let s = c in
     let e : q.result ≡ v l.i = center-square _ _ _ m.result l.i _ m.ensures q.ensures in
     let good-to : (j : ℕ) → j ≤ l.i → good (v j) ≡ true = λ j b. g j (omega (arith, h)) in
     elim c.if-square-low.branch [
-      | then-square-low+then-apart-near w ↦ (omega (arith, h), rw (w.best-is, w.low-is, w.near-is) (nearest-less v l.best l.near l.low l.i q.result l.invariant.1 e good-to w.root-apart.result w.root-apart.ensures w.if-apart-near.true))
-      | then-square-low+else-apart-near w ↦ (omega (arith, h), rw (w.best-is, w.low-is, w.near-is) (nearest-tie v l.best l.near l.low l.i q.result l.invariant.1 e good-to w.root-apart.result w.root-apart.ensures w.if-apart-near.false))
-      | else-square-low w ↦ (omega (arith, h), rw (w.best-is, w.low-is, w.near-is) (nearest-far v l.best l.near l.low l.i q.result l.invariant.1 e good-to w.if-square-low.false))
+      | then-square-low+then-apart-near w ↦ (rw (w.best-is, w.low-is, w.near-is) (nearest-less v l.best l.near l.low l.i q.result l.invariant e good-to w.root-apart.result w.root-apart.ensures w.if-apart-near.true))
+      | then-square-low+else-apart-near w ↦ (rw (w.best-is, w.low-is, w.near-is) (nearest-tie v l.best l.near l.low l.i q.result l.invariant e good-to w.root-apart.result w.root-apart.ensures w.if-apart-near.false))
+      | else-square-low w ↦ (rw (w.best-is, w.low-is, w.near-is) (nearest-far v l.best l.near l.low l.i q.result l.invariant e good-to w.if-square-low.false))
     ]
 
 pub returns : goal.returns
 returns c = let l = c.loop-i in
-    nearest-end _ _ _ _ _ _ _ l.invariant.1 (le_antisymm l.invariant.0 c.loop-i-test.false)
+    nearest-end _ _ _ _ _ _ _ l.invariant (omega arith)

@@ -1,10 +1,5 @@
-use Prim.Native.Nat.{◌≤◌, ◌-◌}
-use lib.ListN.{length}
 use Rattle.sampling_seed.proofs.Nearest.{from_center, Nearest}
 use Rattle.sampling_seed.proofs.sampling_seed.Given as goal
 
 abbrev pub invariant-loop-i : goal.invariant-loop-i
-invariant-loop-i l = (l.i ≤ length l.rows) × Nearest (from_center l.dimensions l.points l.rows) l.best l.near l.low l.i
-
-abbrev pub decreases-loop-i : goal.decreases-loop-i
-decreases-loop-i l = length l.rows - l.i
+invariant-loop-i l = Nearest (from_center l.dimensions l.points l.rows) l.best l.near l.low l.i
