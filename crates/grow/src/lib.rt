@@ -9,7 +9,7 @@ ghost use Rattle.definition.specs.Refusals.{accepted};
 ghost use Rattle.definition.specs.Outcome.{build_call};
 ghost use Rattle.definition.specs.Record.{whole_of, float_of};
 ghost use Rattle.config.specs.Params.{settings_of_lem};
-ghost use Rattle.tree_answer.specs.Answers.{tree_answer_lem, lists_of};
+ghost use Rattle.tree_answer.specs.Answers.{counts_given, lists_of};
 ghost use Rattle.levels_loop.specs.Records.{records_by, RecordRoom};
 
 use config::DDMParams;
@@ -35,7 +35,7 @@ pub fn grow(
 ) -> DDMTree
     requires wholes_value { build_call (settings_of_lem dimensions params) points.now (lists_of level_points.old internals.old domains.old boxes.old borrowed.old) floats.old wholes.old ≡ accepted }
     requires record_room { RecordRoom engine (point_count dimensions points.now) cuts.old planes.old }
-    ensures counts { tree_answer_lem result ≡ record { number = 0; place = 0; value = counts_of (levels (settings_of_lem dimensions params) points.now) } }
+    ensures counts { counts_given result ≡ counts_of (levels (settings_of_lem dimensions params) points.now) }
     ensures level_points { level_points.new ≡ put level_points.old 0 (packed_level_points (levels (settings_of_lem dimensions params) points.now)) }
     ensures internals { internals.new ≡ put internals.old 0 (packed_internals (levels (settings_of_lem dimensions params) points.now)) }
     ensures domains { domains.new ≡ put domains.old 0 (packed_domains (levels (settings_of_lem dimensions params) points.now)) }

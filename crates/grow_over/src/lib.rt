@@ -11,10 +11,11 @@ ghost use Rattle.config.specs.Params.{settings_of_lem};
 ghost use Rattle.fine_level.specs.Fine.{Given};
 ghost use Rattle.levels_loop.specs.After.{Space};
 ghost use Rattle.levels_loop.specs.Records.{records_by, RecordRoom};
-ghost use Rattle.tree_answer.specs.Answers.{tree_answer_lem};
+ghost use Rattle.tree_answer.specs.Answers.{counts_given};
 
 use config::DDMParams;
 use cut_engine::Engine;
+use levels_loop::Counts;
 use tree_answer::DDMTree;
 
 // The tree over the n rows that stand at the front of the level points, by this engine, written to the fronts of the five lists; its
@@ -40,7 +41,7 @@ pub fn grow_over(
         × Given dimensions points.now params.leaf_threshold params.overlap_knn (part level_points.old 0 n) }
     requires space { Space dimensions params.overlap_knn n most_fine level_points.old internals.old domains.old boxes.old borrowed.old floats.old wholes.old 0 0 0 }
     requires record_room { RecordRoom engine n cuts.old planes.old }
-    ensures counts { tree_answer_lem result ≡ record { number = 0; place = 0; value = counts_of (levels_over (settings_of_lem dimensions params) points.now (part level_points.old 0 n)) } }
+    ensures counts { counts_given result ≡ counts_of (levels_over (settings_of_lem dimensions params) points.now (part level_points.old 0 n)) }
     ensures level_points { level_points.new ≡ put level_points.old 0 (packed_level_points (levels_over (settings_of_lem dimensions params) points.now (part level_points.old 0 n))) }
     ensures internals { internals.new ≡ put internals.old 0 (packed_internals (levels_over (settings_of_lem dimensions params) points.now (part level_points.old 0 n))) }
     ensures domains { domains.new ≡ put domains.old 0 (packed_domains (levels_over (settings_of_lem dimensions params) points.now (part level_points.old 0 n))) }
@@ -49,10 +50,13 @@ pub fn grow_over(
     ensures cuts { cuts.new ≡ put cuts.old 0 (map whole_of (records_by engine (settings_of_lem dimensions params) points.now (levels_over (settings_of_lem dimensions params) points.now (part level_points.old 0 n)))) }
     ensures planes { planes.new ≡ put planes.old 0 (map float_of (records_by engine (settings_of_lem dimensions params) points.now (levels_over (settings_of_lem dimensions params) points.now (part level_points.old 0 n)))) }
 {
-    let policy = params.coarse_threshold;
-    let c = level_sizes::resolved_coarse_threshold(policy, n);
+    let c = level_sizes::resolved_coarse_threshold(params.coarse_threshold, n);
     let k = level_sizes::get_num_level_reductions(n, c, params.coarse_reduction_factor);
-    let counts = levels_loop::all_levels(
+    let Counts {
+        levels,
+        rows,
+        domains: leaves,
+    } = levels_loop::all_levels(
         engine,
         points,
         dimensions,
@@ -71,13 +75,9 @@ pub fn grow_over(
         cuts,
         planes,
     );
-    let rows = counts.rows;
-    let each = counts.domains;
     DDMTree {
-        number: 0,
-        place: 0,
-        levels: counts.levels,
-        rows: rows,
-        domains: each,
+        levels,
+        rows,
+        domains: leaves,
     }
 }

@@ -6,7 +6,7 @@ use Rattle.lists.specs.Lists.{put, part}
 use Rattle.lists.proofs.Put.{length_part}
 use Rattle.definition.specs.Levels.{threshold}
 use Rattle.definition.specs.Tree.{Level}
-use Rattle.definition.specs.Packed.{Counts, counts_of, packed_level_points, packed_internals, packed_domains, packed_boxes, packed_borrowed}
+use Rattle.definition.specs.Packed.{counts_of, packed_level_points, packed_internals, packed_domains, packed_boxes, packed_borrowed}
 use Rattle.definition.specs.Record.{whole_of, float_of}
 use Rattle.definition.proofs.Sizes.{reductions-few}
 use Rattle.config.specs.Params.{settings_of_lem}
@@ -18,8 +18,8 @@ get_num_level_reductions-k-requires c = let P = c.args in
     let pre = c.requires in
     omega (arith, length_part P.level_points.now 0 P.n (omega (arith, pre.space.level_points)), pre.bound.2.good.few)
 
-pub all_levels-counts-requires : goal.all_levels-counts-requires
-all_levels-counts-requires c = let P = c.args in
+pub all_levels-levels-requires : goal.all_levels-levels-requires
+all_levels-levels-requires c = let P = c.args in
     let pre = c.requires in
     let s = settings_of_lem P.dimensions P.params in
     let ec = c.resolved_coarse_threshold-c.ensures in
@@ -37,9 +37,9 @@ returns c = let P = c.args in
     let rows = part P.level_points.now 0 P.n in
     let ec = c.resolved_coarse_threshold-c.ensures in
     let ek = c.get_num_level_reductions-k.ensures in
-    let w = c.all_levels-counts.ensures in
+    let w = c.all_levels-levels.ensures in
     let t = tree_is s cs rows P.n _ _ (length_part P.level_points.now 0 P.n (omega (arith, pre.space.level_points))) ec ek in record {
-      counts = ap (λ (v : Counts). record { number = 0; place = 0; value = v }) (counts_whole _ _ _ _ _ _ _ _ _ _ w.counts.0 w.counts.1 w.counts.2 ∙ ap counts_of (sym t));
+      counts = counts_whole _ _ _ _ _ _ _ _ _ _ w.counts.0 w.counts.1 w.counts.2 ∙ ap counts_of (sym t);
       level_points = w.level_points ∙ ap (λ (ls : List Level). put P.level_points.now 0 (packed_level_points ls)) (sym t);
       internals = w.internals ∙ ap (λ (ls : List Level). put P.internals.now 0 (packed_internals ls)) (sym t);
       domains = w.domains ∙ ap (λ (ls : List Level). put P.domains.now 0 (packed_domains ls)) (sym t);
