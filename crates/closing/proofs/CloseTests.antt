@@ -1,61 +1,22 @@
--- What closing tries first: 1, 11 for the coordinates or another list, and 27, out of what every edit tries. Assumes nothing.
--- Holds: is_short, close-same, close-1, close-11, none-lacks, closable
-use mathlib.Core.Path.{◌≡◌, refl, sym, ap, ◌∙◌}
-use mathlib.Core.Bool.{Bool, true, false, cond, ◌||◌}
+-- What a table has that passes what closing tries first. Assumes nothing.
+-- Holds: is_short, none-lacks, closable
+use mathlib.Core.Path.{◌≡◌}
+use mathlib.Core.Bool.{Bool, false, ◌||◌}
 use mathlib.Core.List.{[], ◌∷◌}
-use Prim.Native.Nat.{ℕ, zero, suc, ◌*◌}
+use Prim.Native.Nat.{ℕ, ◌*◌}
 use borrow.Author.Tests.{ltb-false}
 use lib.ListN.{length}
-use native.Mathlib.Omega.{arith}
 use Rattle.lists.proofs.Tests.{or-none}
-use Rattle.definition.specs.Refusals.{Verdict, accepted, refused, on, verdict, wrong_dimension_lem}
-use Rattle.definition.specs.Table.{Table, capacity, unsound, coordinates_short, table_tests}
+use Rattle.definition.specs.Refusals.{accepted, on, verdict, wrong_dimension_lem}
+use Rattle.definition.specs.Table.{Table, capacity, unsound, coordinates_short}
 use Rattle.definition.specs.Closing.{edit_tests}
 use Rattle.definition_laws.proofs.Accepted.{passes, right-dimension}
-use Rattle.build_checks.specs.Verdicts.{numbered_verdict}
 use Rattle.table_edits.proofs.TableTests.{Editable}
 use Rattle.table_laws.proofs.Live.{sound-table}
 
--- ---- the first refusal, by its number
-abbrev refusing : ℕ → Verdict
-refusing k = refused (record { number = k; place = 0 })
-
-number : Verdict → ℕ
-number accepted = 0
-number (refused r) = r.number
-
-number-is : (k : ℕ) → number (numbered_verdict k) ≡ k
-unfolding number
-number-is zero = refl
-number-is (suc k) = refl
-
-only-1 : (w s u : Bool) → refusing 1 ≡ cond w (refusing 1) (cond s (refusing 11) (cond u (refusing 27) accepted)) → refusing 1 ≡ cond w (refusing 1) (refusing 11)
-unfolding number
-only-1 true s u e = refl
-only-1 false true u e = absurd (omega (arith, ap number e))
-only-1 false false true e = absurd (omega (arith, ap number e))
-only-1 false false false e = absurd (omega (arith, ap number e))
-
-not-1 : (k : ℕ) (w : Bool) (rest : Verdict) → numbered_verdict k ≡ cond w (refusing 1) rest → (k ≡ 1 → ⊥) → refusing 11 ≡ cond w (refusing 1) (refusing 11)
-unfolding number
-not-1 k true rest e h = let n : k ≡ 1 = sym (number-is k) ∙ ap number e in absurd (h n)
-not-1 k false rest e h = refl
-
-module _ (d : ℕ) (t : Table) (lacking : Bool) where
-  -- 11: another list, or the coordinates
-  abbrev pub is_short : Bool
-  is_short = lacking || coordinates_short d t
-
-  pub close-same : lacking ≡ false → (k : ℕ) → numbered_verdict k ≡ verdict (table_tests d t) → numbered_verdict k ≡ verdict (edit_tests d t is_short)
-  close-same e k h = rw e h
-
-  pub close-1 : lacking ≡ true → numbered_verdict 1 ≡ verdict (table_tests d t) → numbered_verdict 1 ≡ verdict (edit_tests d t is_short)
-  unfolding verdict
-  close-1 e h = rw e (only-1 (wrong_dimension_lem d) (coordinates_short d t) (unsound t.head t.flags) h)
-
-  pub close-11 : lacking ≡ true → (k : ℕ) → (k ≡ 1 → ⊥) → numbered_verdict k ≡ verdict (table_tests d t) → numbered_verdict 11 ≡ verdict (edit_tests d t is_short)
-  unfolding verdict
-  close-11 e k n h = rw e (not-1 k (wrong_dimension_lem d) _ h n)
+-- 11: another list, or the coordinates
+abbrev pub is_short : ℕ → Table → Bool → Bool
+is_short d t lacking = lacking || coordinates_short d t
 
 -- ---- what a table has that passes
 module _ (d : ℕ) (t : Table) (lacking : Bool) (e : verdict (edit_tests d t (is_short d t lacking)) ≡ accepted) where

@@ -2,7 +2,7 @@
 -- Holds: CloseRoom, close-refused, close-room, close-done
 use mathlib.Core.Path.{◌≡◌, sym, ap, ◌∙◌}
 use mathlib.Core.Bool.{Bool}
-use mathlib.Core.List.{List, [], ◌++◌}
+use mathlib.Core.List.{List, ◌++◌}
 use Prim.Native.Nat.{ℕ, ◌+◌, ◌-◌, ◌*◌, ◌≤◌}
 use native.Mathlib.Omega.{arith}
 use native.Mathlib.Nat.{mul-le-mul_right, add-mul}
@@ -13,15 +13,12 @@ use lib.Ieee.{Float}
 use Rattle.lists.specs.Lists.{put}
 use Rattle.lists.proofs.Put.{put-zero, put-next-at}
 use Rattle.definition.specs.Number.{plus_zero}
-use Rattle.definition.specs.Refusals.{Test, accepted, refused, verdict}
+use Rattle.definition.specs.Refusals.{Refusal, Test, accepted, refused, verdict}
 use Rattle.definition.specs.Outcome.{number_of, place_of, value_of, written, list_after}
 use Rattle.definition.specs.Table.{Table, live_slots_lem}
 use Rattle.definition.specs.Closing.{edit_tests, rename_list, live_coordinates, close_verdict, closed, close_answer, close_table, close_rename}
-use Rattle.build_checks.specs.Verdicts.{numbered_verdict}
 use Rattle.table_checks.specs.Tables.{table_of}
-use Rattle.table_edits.specs.Edits.{edit_answer, refusal}
-use Rattle.table_edits.specs.declared.EditAnswer.{EditAnswer}
-use Rattle.table_edits.proofs.TableTests.{stops_at, Editable, live_below}
+use Rattle.table_edits.proofs.TableTests.{Editable, live_below}
 use Rattle.closing.proofs.CloseTests.{is_short, none-lacks, closable}
 use Rattle.closing.specs.Passed.{live_below_lem, live_parts, renames}
 use Rattle.closing.specs.Outcome.{Closed}
@@ -42,66 +39,58 @@ module _ (d : ℕ) (t : Table) (rename : List ℕ) where
     pub live-few : t.head.live ≤ t.head.slots
     pub parted : t.head.live * d + (t.head.slots - t.head.live) * d ≡ t.head.slots * d
 
-  module _ (k : ℕ) (e : numbered_verdict k ≡ verdict tests) where
-    pub close-refused : (k ≡ 0 → ⊥) → (a : EditAnswer) → a ≡ refusal k 0 t.head.slots t.head.live
-        → Closed d t (table_of a.slots a.live t.flags t.coordinates) rename rename (edit_answer a)
-    unfolding close_verdict close_answer close_table close_rename number_of place_of value_of list_after
-    close-refused h a f =
-        let v : refused (record { number = k; place = 0 }) ≡ verdict tests = stops_at tests [] k e h in
-        record { answers = rw (f, ← v); table = rw (f, ← v); renamed = rw (← v) }
+  pub close-refused : (r : Refusal) → refused r ≡ verdict tests → Closed d t t rename rename (record { number = r.number; place = r.place; value = 0 })
+  unfolding close_verdict close_answer close_table close_rename number_of place_of value_of list_after
+  close-refused r v = record { answers = rw (← v); table = rw (← v); renamed = rw (← v) }
 
-    module _ (z : k ≡ 0) where
-      passed : accepted ≡ verdict tests
-      passed = rw z at e
+  module _ (passed : accepted ≡ verdict tests) where
+    able : Editable d t
+    able = closable d t lacking (sym passed)
 
-      able : Editable d t
-      able = closable d t lacking (sym passed)
+    pub close-room : CloseRoom
+    close-room =
+        let few = live_below d t able in
+        let whole : t.head.live + (t.head.slots - t.head.live) ≡ t.head.slots = omega (arith, few) in
+        record {
+          in-flags = omega (arith, able.sound.within);
+          in-coordinates = omega (arith, mul-le-mul_right d able.sound.within, able.room);
+          in-rename = ltb-false (length rename) t.head.slots (none-lacks d t lacking (sym passed));
+          live-few = few;
+          parted = sym (add-mul t.head.live (t.head.slots - t.head.live) d) ∙ ap (λ (n : ℕ). n * d) whole;
+        }
 
-      pub close-room : CloseRoom
-      close-room =
-          let few = live_below d t able in
-          let whole : t.head.live + (t.head.slots - t.head.live) ≡ t.head.slots = omega (arith, few) in
-          record {
-            in-flags = omega (arith, able.sound.within);
-            in-coordinates = omega (arith, mul-le-mul_right d able.sound.within, able.room);
-            in-rename = ltb-false (length rename) t.head.slots (none-lacks d t lacking (sym passed));
-            live-few = few;
-            parted = sym (add-mul t.head.live (t.head.slots - t.head.live) d) ∙ ap (λ (n : ℕ). n * d) whole;
-          }
+    live-is : length (live_below_lem t.flags t.head.slots) ≡ t.head.live
+    unfolding live_slots_lem
+    live-is = sym able.sound.counted
 
-      live-is : length (live_below_lem t.flags t.head.slots) ≡ t.head.live
-      unfolding live_slots_lem
-      live-is = sym able.sound.counted
+    flags-left : put (put t.flags 0 (replicate t.head.live 1)) t.head.live (replicate (t.head.slots - t.head.live) 0)
+        ≡ written (replicate t.head.live 1 ++ replicate (t.head.slots - t.head.live) 0) t.flags
+    unfolding written
+    flags-left =
+        put-next-at t.flags 0 (replicate t.head.live 1) (replicate (t.head.slots - t.head.live) 0) t.head.live (omega arith) (omega (arith, length-replicate {A = ℕ} t.head.live 1))
+        ∙ put-zero t.flags _
 
-      flags-left : put (put t.flags 0 (replicate t.head.live 1)) t.head.live (replicate (t.head.slots - t.head.live) 0)
-          ≡ written (replicate t.head.live 1 ++ replicate (t.head.slots - t.head.live) 0) t.flags
-      unfolding written
-      flags-left =
-          put-next-at t.flags 0 (replicate t.head.live 1) (replicate (t.head.slots - t.head.live) 0) t.head.live (omega arith) (omega (arith, length-replicate {A = ℕ} t.head.live 1))
-          ∙ put-zero t.flags _
+    coordinates-left : put (put t.coordinates 0 (live_parts d t.coordinates t.flags t.head.slots)) (t.head.live * d) (replicate ((t.head.slots - t.head.live) * d) plus_zero)
+        ≡ written (live_coordinates d t ++ replicate ((t.head.slots - t.head.live) * d) plus_zero) t.coordinates
+    unfolding written live_coordinates live_slots_lem
+    coordinates-left =
+        let many = parts-length d t.coordinates t.flags t.head.slots close-room.in-coordinates ∙ ap (λ (n : ℕ). n * d) live-is in
+        put-next-at t.coordinates 0 (live_parts d t.coordinates t.flags t.head.slots) (replicate ((t.head.slots - t.head.live) * d) plus_zero) (t.head.live * d) (omega arith) (omega (arith, many))
+        ∙ put-zero t.coordinates _
 
-      coordinates-left : put (put t.coordinates 0 (live_parts d t.coordinates t.flags t.head.slots)) (t.head.live * d) (replicate ((t.head.slots - t.head.live) * d) plus_zero)
-          ≡ written (live_coordinates d t ++ replicate ((t.head.slots - t.head.live) * d) plus_zero) t.coordinates
-      unfolding written live_coordinates live_slots_lem
-      coordinates-left =
-          let many = parts-length d t.coordinates t.flags t.head.slots close-room.in-coordinates ∙ ap (λ (n : ℕ). n * d) live-is in
-          put-next-at t.coordinates 0 (live_parts d t.coordinates t.flags t.head.slots) (replicate ((t.head.slots - t.head.live) * d) plus_zero) (t.head.live * d) (omega arith) (omega (arith, many))
-          ∙ put-zero t.coordinates _
+    renames-left : put rename 0 (renames t.flags t.head.slots t.head.slots) ≡ written (rename_list t.head t.flags) rename
+    unfolding written rename_list
+    renames-left = put-zero rename _
 
-      renames-left : put rename 0 (renames t.flags t.head.slots t.head.slots) ≡ written (rename_list t.head t.flags) rename
-      unfolding written rename_list
-      renames-left = put-zero rename _
-
-      -- the pass, the cleared flags and the cleared coordinates, one after the other
-      pub close-done : (flags₁ flags₂ : List ℕ) (cs₁ cs₂ : List Float) (rename₁ : List ℕ) → flags₁ ≡ put t.flags 0 (replicate (length (live_below_lem t.flags t.head.slots)) 1)
-          → cs₁ ≡ put t.coordinates 0 (live_parts d t.coordinates t.flags t.head.slots) → rename₁ ≡ put rename 0 (renames t.flags t.head.slots t.head.slots)
-          → flags₂ ≡ put flags₁ t.head.live (replicate (t.head.slots - t.head.live) 0) → cs₂ ≡ put cs₁ (t.head.live * d) (replicate ((t.head.slots - t.head.live) * d) plus_zero)
-          → (a : EditAnswer) → a.number ≡ 0 → a.place ≡ 0 → a.slot ≡ t.head.live → a.slots ≡ t.head.live → a.live ≡ t.head.live
-          → Closed d t (table_of a.slots a.live flags₂ cs₂) rename rename₁ (edit_answer a)
-      unfolding close_verdict closed close_answer close_table close_rename number_of place_of value_of list_after
-      close-done flags₁ flags₂ cs₁ cs₂ rename₁ f c r f' c' a n p s ss l =
-          record {
-            answers = rw (← passed, n, p, s);
-            table = rw (← passed, ss, l, ← flags-left, ← coordinates-left, f', c', f, c, live-is);
-            renamed = r ∙ rw (← passed) renames-left;
-          }
+    -- the pass, the cleared flags and the cleared coordinates, one after the other
+    pub close-done : (flags₁ flags₂ : List ℕ) (cs₁ cs₂ : List Float) (rename₁ : List ℕ) → flags₁ ≡ put t.flags 0 (replicate (length (live_below_lem t.flags t.head.slots)) 1)
+        → cs₁ ≡ put t.coordinates 0 (live_parts d t.coordinates t.flags t.head.slots) → rename₁ ≡ put rename 0 (renames t.flags t.head.slots t.head.slots)
+        → flags₂ ≡ put flags₁ t.head.live (replicate (t.head.slots - t.head.live) 0) → cs₂ ≡ put cs₁ (t.head.live * d) (replicate ((t.head.slots - t.head.live) * d) plus_zero)
+        → Closed d t (table_of t.head.live t.head.live flags₂ cs₂) rename rename₁ (record { number = 0; place = 0; value = t.head.live })
+    unfolding close_verdict closed close_answer close_table close_rename number_of place_of value_of list_after
+    close-done flags₁ flags₂ cs₁ cs₂ rename₁ f c r f' c' =
+        record {
+          answers = rw (← passed);
+          table = rw (← passed, ← flags-left, ← coordinates-left, f', c', f, c, live-is);
+          renamed = r ∙ rw (← passed) renames-left;
+        }

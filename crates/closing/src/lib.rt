@@ -6,24 +6,21 @@ ghost use Rattle.lists.specs.Lists.{one_if, put, part};
 ghost use Rattle.definition.specs.Refusals.{verdict};
 ghost use Rattle.definition.specs.Table.{flagged, coordinates_short};
 ghost use Rattle.definition.specs.Closing.{edit_tests};
-ghost use Rattle.build_checks.specs.Verdicts.{numbered_verdict};
+ghost use Rattle.refusal.specs.Refusals.{verdict_of};
 ghost use Rattle.table_checks.specs.Tables.{table_of};
-ghost use Rattle.table_edits.specs.Edits.{edit_answer};
+ghost use Rattle.table_edits.specs.Edits.{edit_answer, table_after};
 ghost use Rattle.closing.specs.Outcome.{Closed};
 ghost use Rattle.closing.specs.Passed.{live_below_lem, live_parts, renames};
 
-use table_edits::EditAnswer;
+use refusal::Refusal;
+use table_edits::Edited;
 
-// Copies a point down, one coordinate after the other: what was written is not read again.
+// Copies a point down within the list.
 fn move_point(coordinates: &mut [f64], from: usize, to: usize, dimensions: usize)
     requires { (to ≤ from) × (from + dimensions ≤ length coordinates.old) }
     ensures { coordinates.new ≡ put coordinates.old to (part coordinates.old from dimensions) }
 {
-    let mut i = 0;
-    while i < dimensions {
-        coordinates[to + i] = coordinates[from + i];
-        i += 1;
-    }
+    coordinates.copy_within(from..from + dimensions, to);
 }
 
 // One slot of the pass: its new slot is noted, and a live one moves down to slot `to`. Returns where the next live one goes.
@@ -67,27 +64,14 @@ fn move_down(
     ensures coordinates { coordinates.new ≡ put coordinates.old 0 (live_parts dimensions coordinates.old flags.old slots) }
     ensures rename { rename.new ≡ put rename.old 0 (renames flags.old slots slots) }
 {
-    let mut i = 0;
     let mut to = 0;
-    while i < slots {
+    for i in 0..slots {
         to = move_slot(i, to, slots, flags, coordinates, dimensions, rename);
-        i += 1;
     }
 }
 
-// Clears `count` flags, from `at` on.
-fn clear_flags(flags: &mut [u8], at: usize, count: usize)
-    requires { at + count ≤ length flags.old }
-    ensures { flags.new ≡ put flags.old at (replicate count 0) }
-{
-    let mut i = 0;
-    while i < count {
-        flags[at + i] = 0;
-        i += 1;
-    }
-}
-
-// What closing tries: 1, 11 for the coordinates or another lent list that is short, and 27. The number of the first, or 0.
+// What closing tries: 1, 11 for another lent list that is short or for the coordinates, and 27.
+#[tactic(auto, unfolding(definition::specs::Refusals::verdict))]
 fn close_fault(
     slots: usize,
     live: usize,
@@ -95,17 +79,17 @@ fn close_fault(
     coordinates: &[f64],
     dimensions: usize,
     lacking: bool,
-) -> usize
-    ensures { numbered_verdict result ≡ verdict (edit_tests dimensions (table_of slots live flags.now coordinates.now) (lacking || coordinates_short dimensions (table_of slots live flags.now coordinates.now))) }
+) -> Result<(), Refusal>
+    ensures { verdict_of result ≡ verdict (edit_tests dimensions (table_of slots live flags.now coordinates.now) (lacking || coordinates_short dimensions (table_of slots live flags.now coordinates.now))) }
 {
-    let fault = table_edits::table_fault(slots, live, flags, coordinates, dimensions);
-    if !lacking {
-        return fault.number;
+    if dimensions < 1 || 3 < dimensions {
+        return Err(Refusal::WrongDimension);
     }
-    if fault.number == 1 {
-        return 1;
+    if lacking {
+        return Err(Refusal::ShortList);
     }
-    11
+    table_edits::table_fault(slots, live, flags, coordinates, dimensions)?;
+    Ok(())
 }
 
 // Closes the gaps of the table: 1, 11 and 27 are tried before anything is written. The answer's slot is the new slot count.
@@ -116,35 +100,18 @@ pub fn closed(
     coordinates: &mut [f64],
     dimensions: usize,
     rename: &mut [usize],
-) -> EditAnswer
-    ensures { Closed dimensions (table_of slots live flags.old coordinates.old) (table_of result.slots result.live flags.new coordinates.new) rename.old rename.new (edit_answer result) }
+) -> Result<Edited, Refusal>
+    ensures { Closed dimensions (table_of slots live flags.old coordinates.old) (table_after slots live flags.new coordinates.new result) rename.old rename.new (edit_answer result) }
 {
-    let fault = close_fault(
-        slots,
-        live,
-        flags,
-        coordinates,
-        dimensions,
-        rename.len() < slots,
-    );
-    if fault != 0 {
-        return EditAnswer {
-            number: fault,
-            place: 0,
-            slot: 0,
-            slots,
-            live,
-        };
-    }
+    let lacking = rename.len() < slots;
+    close_fault(slots, live, flags, coordinates, dimensions, lacking)?;
     move_down(slots, flags, coordinates, dimensions, rename);
     let gone = slots - live;
-    clear_flags(flags, live, gone);
+    stretches::fill_part(flags, live, gone, 0);
     boxes::put_zeros(coordinates, live * dimensions, gone * dimensions);
-    EditAnswer {
-        number: 0,
-        place: 0,
+    Ok(Edited {
         slot: live,
         slots: live,
-        live: live,
-    }
+        live,
+    })
 }

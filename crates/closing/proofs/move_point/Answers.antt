@@ -1,23 +1,14 @@
--- `closing::move_point` meets its contract. The loop's invariant: the coordinates passed are copied. Assumes nothing.
-use mathlib.Core.Path.{◌≡◌}
-use Prim.Native.Nat.{◌-◌}
+-- `closing::move_point` meets its contract. Assumes nothing.
+use mathlib.Core.Path.{◌≡◌, refl, ◌∙◌}
+use Prim.Native.Nat.{◌+◌, ◌-◌}
 use native.Mathlib.Omega.{arith}
-use borrow.Author.Rules.{rules}
-use lib.Ieee.{nan}
-use Rattle.lists.proofs.Put.{copy-none}
-use Rattle.closing.proofs.Moves.{copy-down}
+use Rattle.lists.specs.Lists.{put, part}
+use Rattle.lists.proofs.Put.{length_part}
 use Rattle.closing.proofs.move_point.Goals as goal
 
-pub loop-i-init : goal.loop-i-init
-loop-i-init c = (search rules, search rules, copy-none _ _ _ _)
-
-pub loop-i-preserved : goal.loop-i-preserved
-loop-i-preserved c = let P = c.args in
-    let l = c.loop-i in
-    (search rules, search rules, copy-down P.coordinates.now l.coordinates P.from P.to l.i nan (omega arith) (omega arith) l.invariant.2)
-
 pub returns : goal.returns
-returns c = let P = c.args in
-    let l = c.loop-i in
-    let e : l.i ≡ P.dimensions = omega arith in
-    rw (← e) l.invariant.2
+unfolding put part
+returns c = let a = c.args in
+    let n : a.from + a.dimensions - a.from ≡ a.dimensions = omega arith in
+    let l = length_part a.coordinates.now a.from a.dimensions c.requires.1 in
+    c.copy_within.ensures.after ∙ rw (n, l) refl

@@ -1,0 +1,2 @@
+-- What the contracts of the calls on a table cite.
+pub mod Answers
