@@ -1,6 +1,7 @@
 // The table of wells with its head: thin functions over those on plain numbers and lists.
 #![tactic(auto)]
 
+ghost use Rattle.std.specs.Prelude.{◌≡◌};
 ghost use Rattle.table_checks.specs.Tables.{table_of};
 ghost use Rattle.table_edits.specs.Edits.{Added, Retired};
 ghost use Rattle.closing.specs.Outcome.{Closed};
@@ -67,7 +68,14 @@ pub fn close(
 ) -> Result<usize, Refusal>
     ensures { Closed dimensions (table_of head.old.slots head.old.live flags.old coordinates.old) (table_of head.new.slots head.new.live flags.new coordinates.new) rename.old rename.new (slot_answer result) }
 {
-    let edited = closing::closed(head.slots, head.live, flags, coordinates, dimensions, rename)?;
+    let edited = closing::closed(
+        head.slots,
+        head.live,
+        flags,
+        coordinates,
+        dimensions,
+        rename,
+    )?;
     head.take(edited);
     Ok(edited.slot)
 }
