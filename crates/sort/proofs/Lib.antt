@@ -1,2 +1,2 @@
 -- Laws of sorting.
-pub mod Heaps
+mod Moves
