@@ -1,5 +1,5 @@
 -- What the depth-first cut writes, put together: a leaf; two domains one after the other; a cut before its halves. Assumes nothing.
--- Holds: entry-put, table-put, table_kept, leaf-written, written_on, written_of, two-of, written-two, written-cut
+-- Holds: table-put, table_kept, leaf-written, written_on, written_of, two-of, written-two, written-cut
 use mathlib.Core.Path.{◌≡◌, refl, sym, ap, subst, ◌∙◌}
 use mathlib.Core.List.{List, [], ◌∷◌, ◌++◌, map, map-append}
 use Prim.Native.Nat.{ℕ, suc, ◌+◌, ◌*◌, ◌≤◌, ◌<◌}
@@ -20,11 +20,6 @@ use Rattle.definition.specs.Record.{Cuts, uncut, cut_at, whole_of, float_of, nod
 use Rattle.record_laws.specs.Table.{Entry, entry_width, entry_numbers, entries_under, boxes_under, unnumbered, node_count, leaf_count}
 use Rattle.cut_nodes.specs.Written.{Written, WrittenTwo}
 use Rattle.record_laws.proofs.Entries.{leaf-count-leaf, leaf-count-cut, node-count-at, node-count-leaf, node-count-cut, entries-count, boxes-under-leaf, boxes-under-cut}
-
--- an entry, as it is written
-pub entry-put : (w : List ℕ) (i x y z : ℕ) → i + 3 ≤ length w → put (set w i x) (i + 1) (y ∷ z ∷ []) ≡ put w i (x ∷ y ∷ z ∷ [])
-entry-put w i x y z h =
-    ap (λ (l : List ℕ). put l (i + 1) (y ∷ z ∷ [])) (set-put w i x (omega arith)) ∙ put-next-at w i (x ∷ []) (y ∷ z ∷ []) (i + 1) (omega arith) refl
 
 -- ---- the table stands behind the ordering's room
 pub table-put : (w : List ℕ) (base i : ℕ) (xs : List ℕ) → base ≤ length w → drop base (put w (base + i) xs) ≡ put (drop base w) i xs

@@ -41,16 +41,15 @@ fn put_leaf(
     ensures written { (rows : List ℕ) → length rows ≡ count → Written whole.dimensions base (uncut (domain_of rows whole depth)) from.place from.leaves result.place result.leaves
         wholes.old wholes.new floats.old floats.new cuts.old cuts.new planes.old planes.new }
 {
-    let place = from.place;
-    let k = from.leaves;
-    let entry = base + node::ENTRY * k;
-    wholes[entry] = depth;
-    stretches::put_pair(wholes, entry + 1, count, place);
-    boxes::write_box(whole, floats, boxes::box_width(whole.dimensions) * k);
+    let Next { place, leaves } = from;
+    let entry = base + node::ENTRY * leaves;
+    wholes[entry..entry + node::ENTRY].copy_from_slice(&[depth, count, place]);
+    let at = boxes::bounds_before(whole.dimensions, leaves);
+    boxes::write_box(whole, floats, at);
     node::write_node(cuts, planes, place, Node::Leaf(0));
     Next {
         place: place + 1,
-        leaves: k + 1,
+        leaves: leaves + 1,
     }
 }
 
@@ -74,9 +73,11 @@ pub fn cut_node(
 {
     let count = rows.len();
     let at = cut::cut_stretch(points, dimensions, rows, &mut wholes[..count]);
-    let axis = at.axis;
-    let plane = at.value;
-    node::write_node(cuts, planes, place, Node::Cut { axis, plane });
+    let node = Node::Cut {
+        axis: at.axis,
+        plane: at.value,
+    };
+    node::write_node(cuts, planes, place, node);
     at
 }
 
