@@ -2,7 +2,7 @@
 // the record are written in that order, and the leaves, from left to right, to a table and a list of boxes.
 #![tactic(auto)]
 
-ghost use Rattle.std.specs.Prelude.{◌≡◌, ◌+◌, ◌-◌, ◌/◌, ◌^◌, ◌≤◌, ◌<◌, length};
+ghost use Rattle.std.specs.Prelude.{◌≡◌, ◌+◌, ◌^◌, ◌≤◌, ◌<◌, length};
 ghost use Rattle.definition.specs.Points.{box_width_lem};
 ghost use Rattle.rows.specs.Rows.{GoodRows};
 ghost use Rattle.boxes.specs.Boxes.{floats_of};
@@ -36,14 +36,14 @@ pub fn split(
 {
     let count = rows.len();
     let half = count / 2;
-    let place = from.place;
+    let Next { place, leaves } = from;
     let at = cut_nodes::cut_node(points, dimensions, rows, wholes, cuts, planes, place);
     let left = whole.with_upper(at.axis, at.value);
     let right = whole.with_lower(at.axis, at.value);
     let below = depth + 1;
     let next = Next {
         place: place + 1,
-        leaves: from.leaves,
+        leaves,
     };
     if half < leaf {
         return cut_nodes::put_leaves(
