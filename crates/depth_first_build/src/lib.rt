@@ -5,11 +5,11 @@ ghost use Rattle.config.specs.Params.{settings_of_lem};
 ghost use Rattle.tree_answer.specs.Answers.{tree_answer_lem, lists_of};
 ghost use Rattle.depth_first_build.specs.Outcome.{records_of, BuiltDepthFirst};
 
-use build_checks::Checked;
 use build_sizes::BuildSizes;
 use config::DDMParams;
 use cut_engine::Engine;
 use record_checks::RecordSizes;
+use refusal::Refusal;
 use tree_answer::DDMTree;
 
 // The build over all points, depth first. A refused call writes to no list. An accepted one writes the tree of a build to the fronts of
@@ -28,7 +28,7 @@ pub fn build_depth_first(
     wholes: &mut [usize],
     cuts: &mut [usize],
     planes: &mut [f64],
-) -> DDMTree
+) -> Result<DDMTree, Refusal>
     ensures { BuiltDepthFirst (settings_of_lem dimensions params) points.now
         (lists_of level_points.old internals.old domains.old boxes.old borrowed.old)
         (lists_of level_points.new internals.new domains.new boxes.new borrowed.new)
@@ -48,23 +48,20 @@ pub fn build_depth_first(
         cuts: cuts.len(),
         planes: planes.len(),
     };
-    let checked = record_checks::check_depth_first(points, dimensions, params, lent, record_lent);
-    match checked {
-        Checked::Refused(number, place) => tree_answer::refusal(number, place),
-        Checked::Accepted => grow::grow(
-            Engine::DepthFirst,
-            points,
-            dimensions,
-            params,
-            level_points,
-            internals,
-            domains,
-            boxes,
-            borrowed,
-            floats,
-            wholes,
-            cuts,
-            planes,
-        ),
-    }
+    record_checks::check_depth_first(points, dimensions, params, lent, record_lent)?;
+    Ok(grow::grow(
+        Engine::DepthFirst,
+        points,
+        dimensions,
+        params,
+        level_points,
+        internals,
+        domains,
+        boxes,
+        borrowed,
+        floats,
+        wholes,
+        cuts,
+        planes,
+    ))
 }
