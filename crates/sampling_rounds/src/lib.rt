@@ -20,26 +20,12 @@ struct Peak {
     second: f64,
 }
 
-// The lesser of two values; y where neither is less.
+// The lesser of two values; y where neither is less. `f64::min` is another function: its value differs where one is NaN, and is
+// left open where the two are equal.
 fn lesser_of(x: f64, y: f64) -> f64
     ensures { result ≡ lesser x y }
 {
-    if x < y {
-        return x;
-    }
-    y
-}
-
-// The first `count` squares become infinite.
-fn clear(floats: &mut [f64], count: usize)
-    requires { count ≤ length floats.old }
-    ensures { (i : ℕ) → i < count → get_or floats.new i nan ≡ inf false }
-{
-    let mut i = 0;
-    while i < count {
-        floats[i] = 1.0 / 0.0;
-        i += 1;
-    }
+    if x < y { x } else { y }
 }
 
 // Takes the squared distances to the row at `last` into the least ones, and gives the greatest of these.
@@ -56,14 +42,12 @@ fn lessen(
     ensures values { (i : ℕ) → i < length rows.now → get_or floats.new i nan ≡ lessened dimensions points.now rows.now last.0 floats.old i }
     ensures peak { Peaked (lessened dimensions points.now rows.now last.0 floats.old) (length rows.now) result.place result.most result.second }
 {
-    let from = last.0;
-    let row = rows[from];
+    let row = GlobalIdx(rows[last.0]);
     let mut place = 0;
     let mut most = -1.0;
     let mut second = -1.0;
-    let mut i = 0;
-    while i < rows.len() {
-        let square = distances::distance_sq(points, dimensions, GlobalIdx(row), GlobalIdx(rows[i]));
+    for (i, &other) in rows.iter().enumerate() {
+        let square = distances::distance_sq(points, dimensions, row, GlobalIdx(other));
         let value = lesser_of(square, floats[i]);
         floats[i] = value;
         if most < value {
@@ -71,12 +55,11 @@ fn lessen(
             most = value;
             place = i;
         }
-        i += 1;
     }
     Peak {
-        place: place,
-        most: most,
-        second: second,
+        place,
+        most,
+        second,
     }
 }
 
@@ -95,8 +78,7 @@ fn look_back(floats: &[f64], best: usize) -> usize
     if root::root(near) < top {
         low = near;
     }
-    let mut i = 0;
-    while i < best {
+    for i in 0..best {
         let value = floats[i];
         if low < value {
             if root::root(value) < top {
@@ -105,7 +87,6 @@ fn look_back(floats: &[f64], best: usize) -> usize
                 return i;
             }
         }
-        i += 1;
     }
     best
 }
@@ -164,8 +145,7 @@ fn worst_distance(
     requires open { (i : ℕ) × ((i < length rows.now) × (good (get_or floats.old i nan) ≡ true)) }
     ensures { Worst (lessened dimensions points.now rows.now last.0 floats.old) (length rows.now) result }
 {
-    let peak = lessen(points, dimensions, rows, last, floats);
-    let square = peak.most;
+    let square = lessen(points, dimensions, rows, last, floats).most;
     root::root(square)
 }
 
@@ -187,17 +167,13 @@ pub fn sample_rows(
     ensures sampled { out.new ≡ put out.old at (sample dimensions points.now rows.now wanted (get_or rows.now seed.0 0)) }
     ensures cover { result ≡ cover_of dimensions points.now rows.now (sample dimensions points.now rows.now wanted (get_or rows.now seed.0 0)) }
 {
-    clear(floats, rows.len());
-    let first = seed.0;
-    out[at] = rows[first];
-    floats[first] = -1.0;
+    floats[..rows.len()].fill(f64::INFINITY);
+    out[at] = rows[seed.0];
+    floats[seed.0] = -1.0;
     let mut last = seed;
-    let mut k = 1;
-    while k < wanted {
+    for k in 1..wanted {
         last = next_place(points, dimensions, rows, last, floats);
-        let place = last.0;
-        out[at + k] = rows[place];
-        k += 1;
+        out[at + k] = rows[last.0];
     }
     if wanted == rows.len() {
         return 0.0;

@@ -1,7 +1,6 @@
 -- `sampling_rounds::look_back` meets its contract. The loop's invariant: `Looked`. Assumes nothing.
 use mathlib.Core.List.{List}
-use Prim.Native.Nat.{ℕ, ◌+◌, ◌≤◌, ◌-◌, ◌<◌}
-use native.Mathlib.Nat.{le_antisymm}
+use Prim.Native.Nat.{ℕ}
 use native.Mathlib.Omega.{arith}
 use lib.ListN.{get_or}
 use lib.Ieee.{Float, nan}
@@ -15,16 +14,13 @@ use Rattle.sampling_rounds.proofs.look_back.Goals as goal
 abbrev value : List Float → ℕ → Float
 value floats i = get_or floats i nan
 
-here : {i b : ℕ} → i < b → i + 1 ≤ b
-here h = omega arith
-
 pub loop-i-init : goal.loop-i-init
 loop-i-init c = let s = c in
     let g = s.requires.nan_value in
     let t = c.root-top.ensures in
     elim c.if-root-top.branch [
-      | then-root-top w ↦ (omega arith, (s.requires.best_in_bounds, rw w.low-is (looked-near _ _ _ (root-good _ g) (near-good _ g) (rw (← c.root.ensures, ← t) w.if-root-top.true))))
-      | else-root-top w ↦ (omega arith, (s.requires.best_in_bounds, rw w.low-is (looked-none _ _)))
+      | then-root-top w ↦ (s.requires.best_in_bounds, rw w.low-is (looked-near _ _ _ (root-good _ g) (near-good _ g) (rw (← c.root.ensures, ← t) w.if-root-top.true)))
+      | else-root-top w ↦ (s.requires.best_in_bounds, rw w.low-is (looked-none _ _))
     ]
 
 pub returns-else-root-top-2 : goal.returns-else-root-top-2
@@ -32,8 +28,8 @@ returns-else-root-top-2 c = let s = c in
     let l = c.loop-i in
     let v = value s.args.floats.now in
     let h = c.loop-i-test.true in
-    looked-here v s.args.best l.i l.low l.invariant.1.1 l.invariant.0
-    (kept-good l.low (v l.i) l.invariant.1.1.kept (s.requires.by_index l.i h) c.if-low-value.true)
+    looked-here v s.args.best l.i l.low l.invariant.1 (omega arith)
+    (kept-good l.low (v l.i) l.invariant.1.kept (s.requires.by_index l.i h) c.if-low-value.true)
     (rw (← c.root-then-low-value.ensures, ← c.root-top.ensures) c.if-root-top-2.false)
 
 pub loop-i-preserved : goal.loop-i-preserved
@@ -42,20 +38,17 @@ loop-i-preserved c = let s = c in
     let v = value s.args.floats.now in
     let h = c.loop-i-test.true in
     let r = square_root_lem (v s.args.best) in
-    let q = l.invariant.1.1 in
+    let q = l.invariant.1 in
     elim c.if-low-value.branch [
       | then-low-value+then-root-top-2 w ↦ (
-        here h,
-        (
-          l.invariant.1.0,
-          rw w.low-is (looked-less v r l.low l.i q (root-good _ s.requires.nan_value)
-              (kept-good l.low (v l.i) q.kept (s.requires.by_index l.i h) w.if-low-value.true) (rw (← w.root-then-low-value.ensures, ← c.root-top.ensures) w.if-root-top-2.true)),
-        ),
+        l.invariant.0,
+        rw w.low-is (looked-less v r l.low l.i q (root-good _ s.requires.nan_value)
+            (kept-good l.low (v l.i) q.kept (s.requires.by_index l.i h) w.if-low-value.true) (rw (← w.root-then-low-value.ensures, ← c.root-top.ensures) w.if-root-top-2.true)),
       )
-      | else-low-value w ↦ (here h, (l.invariant.1.0, rw w.low-is (looked-low v r l.low l.i q w.if-low-value.false)))
+      | else-low-value w ↦ (l.invariant.0, rw w.low-is (looked-low v r l.low l.i q w.if-low-value.false))
     ]
 
 pub returns : goal.returns
 returns c = let s = c in
     let l = c.loop-i in
-    looked-all (value s.args.floats.now) s.args.best s.requires.nan_value l.i l.low l.invariant.1.1 (le_antisymm l.invariant.0 c.loop-i-test.false)
+    looked-all (value s.args.floats.now) s.args.best s.requires.nan_value l.i l.low l.invariant.1 (omega arith)

@@ -1,5 +1,5 @@
 use mathlib.Core.List.{List}
-use Prim.Native.Nat.{ℕ, ◌≤◌, ◌-◌, ◌<◌}
+use Prim.Native.Nat.{ℕ, ◌<◌}
 use lib.ListN.{length, get_or}
 use lib.Ieee.{Float, nan}
 use Rattle.definition.specs.Number.{square_root_lem}
@@ -10,7 +10,4 @@ abbrev value : List Float → ℕ → Float
 value floats i = get_or floats i nan
 
 abbrev pub invariant-loop-i : goal.invariant-loop-i
-invariant-loop-i l = (l.i ≤ l.best) × ((l.best < length l.floats) × Looked (value l.floats) (square_root_lem (value l.floats l.best)) l.low l.i)
-
-abbrev pub decreases-loop-i : goal.decreases-loop-i
-decreases-loop-i l = l.best - l.i
+invariant-loop-i l = (l.best < length l.floats) × Looked (value l.floats) (square_root_lem (value l.floats l.best)) l.low l.i

@@ -1,104 +1,72 @@
--- `sampling_rounds::sample_rows` meets its contract. The loop's invariant: `Choosing`, and the lists keep their lengths.
--- Assumes nothing.
-use mathlib.Core.Path.{◌≡◌, refl, sym, ◌∙◌}
-use Prim.Native.Nat.{ℕ, ◌+◌, ◌≤◌, ◌<◌, ◌-◌}
-use native.Mathlib.Nat.{le_antisymm}
+-- `sampling_rounds::sample_rows` meets its contract. The loop's invariant: `Choosing`. Assumes nothing.
+use mathlib.Core.Path.{◌≡◌, refl, ap, ◌∙◌}
+use mathlib.Core.Bool.{false}
+use mathlib.Core.List.{List, ◌++◌}
+use Prim.Native.Nat.{ℕ, ◌≤◌, ◌<◌}
 use native.Mathlib.Omega.{arith}
-use lib.ListN.{length, get_or, set, length-set}
-use lib.Seq.{get_or-set_same, get_or-set_other}
-use lib.Ieee.{nan}
+use lib.ListN.{length, get_or, set, take, drop, replicate, get_or-append, length-append, length-drop, length-set}
+use lib.Seq.{get_or-set_same, get_or-set_other, length-take-le}
+use lib.Ieee.{Float, nan, inf, div, of_bits}
+use Rattle.std.proofs.lemmas.List.{get_or-replicate, length-replicate}
 use Rattle.sampling_rounds.specs.Rounds.{minus_one}
 use Rattle.sampling_rounds.proofs.Choosing.{choosing-start, choosing-kept, choosing-open, choosing-more, choosing-end, choosing-all, choosing-worst}
 use Rattle.sampling_rounds.proofs.sample_rows.Goals as goal
 
--- the lists keep their lengths, which are enough
-abbrev Sizes : ℕ → ℕ → ℕ → ℕ → ℕ → ℕ → Type 0
-Sizes o l o₀ l₀ end n = ((o ≡ o₀) × (l ≡ l₀)) × ((end ≤ o) × (n ≤ l))
+-- the first n squares are infinite
+module _ (n : ℕ) (old new : List Float) (h : n ≤ length old) (e : new ≡ replicate (length (take n old)) (inf false)) where
+  size : length new ≡ n
+  size = ap length e ∙ length-replicate (length (take n old)) (inf false) ∙ length-take-le n old h
+
+  filled : (i : ℕ) → i < n → get_or (new ++ drop n old) i nan ≡ inf false
+  filled i b =
+      get_or-append new (drop n old) nan i (omega (arith, size))
+      ∙ ap (λ (l : List Float). get_or l i nan) e
+      ∙ get_or-replicate (length (take n old)) i (inf false) nan (omega (arith, length-take-le n old h))
+
+  long : length (new ++ drop n old) ≡ length old
+  long = omega (arith, size, length-append new (drop n old), length-drop n old)
 
 pub loop-k-init : goal.loop-k-init
-loop-k-init c = let s = c in
-    let a = s.args in
-    let cl = c.clear in
-    let r = s.requires.room in
-    let q : a.seed.0 < length cl.new.floats = omega (arith, s.requires, cl.auto.floats) in (
-      omega (arith, s.requires),
-      (
-        ((refl, refl), (simp length-set r.0, simp length-set (omega (arith, r, cl.auto.floats)))),
-        choosing-start _ _ _ s.requires.rows a.wanted a.out.now a.at a.seed.0 (set cl.new.floats a.seed.0 minus_one)
-            (omega (arith, s.requires)) s.requires.wanted.2
-            (get_or-set_same cl.new.floats a.seed.0 minus_one nan q)
-            (λ i h n. get_or-set_other cl.new.floats a.seed.0 i minus_one nan n ∙ cl.ensures i h),
-      ),
-    )
+unfolding div of_bits
+loop-k-init c =
+    let a = c.args in
+    let r = c.requires.room in
+    let n = length a.rows.now in
+    let e = c.fill.ensures.after (λ y e. e) in
+    let floats = c.fill.new.self ++ drop n a.floats.now in
+    let q = long n a.floats.now _ r.1 e in
+    choosing-start _ _ _ c.requires.rows a.wanted a.out.now a.at a.seed.0 (set floats a.seed.0 minus_one)
+    (omega (arith, c.requires)) c.requires.wanted.2
+    (get_or-set_same floats a.seed.0 minus_one nan (omega (arith, q, c.requires)))
+    (λ i h k. get_or-set_other floats a.seed.0 i minus_one nan k ∙ filled n a.floats.now _ r.1 e i h)
 
-pub next_place-last-requires : goal.next_place-last-requires
-next_place-last-requires c = let s = c in
-    let l = c.loop-k in
-    let t = choosing-kept _ _ _ s.requires.rows _ _ _ _ _ _ _ _ l.invariant.1.1 in
-    let o = choosing-open _ _ _ s.requires.rows _ _ _ _ _ _ _ _ l.invariant.1.1 (omega (arith, s.requires, c.loop-k-test.true)) in
-    record {
-      rows = s.requires.rows;
-      room = (l.invariant.1.1.within, l.invariant.1.0.1.1);
-      kept = t;
-      «open» = o;
-    }
+pub next_place-last-requires-clause-kept : goal.next_place-last-requires-clause-kept
+next_place-last-requires-clause-kept c = choosing-kept _ _ _ c.requires.rows _ _ _ _ _ _ _ _ c.loop-k.invariant
 
-pub bounds-out-at-in-loop-k : goal.bounds-out-at-in-loop-k
-bounds-out-at-in-loop-k c = omega (arith, c.loop-k.invariant.1.0, c.loop-k-test.true)
+pub next_place-last-requires-clause-open : goal.next_place-last-requires-clause-open
+next_place-last-requires-clause-open c = choosing-open _ _ _ c.requires.rows _ _ _ _ _ _ _ _ c.loop-k.invariant (omega (arith, c.requires, c.loop-k-test.true))
 
 pub loop-k-preserved : goal.loop-k-preserved
-loop-k-preserved c = let s = c in
+loop-k-preserved c =
     let l = c.loop-k in
     let h = c.loop-k-test.true in
-    let z = l.invariant.1.0 in
-    let np = c.next_place-last in (
-      omega (arith, h),
-      (
-        ((length-set l.out (s.args.at + l.k) (get_or s.args.rows.now np.result.0 0) ∙ z.0.0, np.auto.floats ∙ z.0.1), (simp length-set z.1.0, omega (arith, z, np.auto.floats))),
-        choosing-more _ _ _ s.requires.rows _ _ _ _ _ _ _ _ l.invariant.1.1 np.result.0 np.new.floats h
-            (omega (arith, h, z)) np.ensures,
-      ),
-    )
+    let p = c.next_place-last in
+    choosing-more _ _ _ c.requires.rows _ _ _ _ _ _ _ _ l.invariant p.result.0 p.new.floats h (simp length-set (omega (arith, h, c.requires))) p.ensures
 
-pub shape_of-out-then-wanted-rows : goal.shape_of-out-then-wanted-rows
-shape_of-out-then-wanted-rows c = c.loop-k.invariant.1.0.0.0 ∙ simp length-set
+pub returns-then-wanted-rows-clause-sampled : goal.returns-then-wanted-rows-clause-sampled
+returns-then-wanted-rows-clause-sampled c = choosing-end _ _ _ c.requires.rows _ _ _ _ _ _ _ _ c.loop-k.invariant c.args.out.now _ refl (omega arith)
 
-pub shape_of-floats-then-wanted-rows : goal.shape_of-floats-then-wanted-rows
-shape_of-floats-then-wanted-rows c = c.loop-k.invariant.1.0.0.1 ∙ simp length-set c.clear.auto.floats
+pub returns-then-wanted-rows-clause-cover : goal.returns-then-wanted-rows-clause-cover
+returns-then-wanted-rows-clause-cover c = choosing-all _ _ _ c.requires.rows _ _ _ _ _ _ _ _ c.loop-k.invariant (omega arith) (omega arith)
 
-pub returns-then-wanted-rows : goal.returns-then-wanted-rows
-returns-then-wanted-rows c = let s = c in
-    let l = c.loop-k in
-    let w = le_antisymm c.loop-k-test.false l.invariant.0 in record {
-      sampled = choosing-end _ _ _ s.requires.rows _ _ _ _ _ _ _ _ l.invariant.1.1 s.args.out.now _ refl w;
-      cover = choosing-all _ _ _ s.requires.rows _ _ _ _ _ _ _ _ l.invariant.1.1 w (sym w ∙ c.if-wanted-rows.true);
-    }
+pub worst_distance-requires-clause-kept : goal.worst_distance-requires-clause-kept
+worst_distance-requires-clause-kept c = choosing-kept _ _ _ c.requires.rows _ _ _ _ _ _ _ _ c.loop-k.invariant
 
-pub worst_distance-requires : goal.worst_distance-requires
-worst_distance-requires c = let s = c in
-    let l = c.loop-k in
-    let t = choosing-kept _ _ _ s.requires.rows _ _ _ _ _ _ _ _ l.invariant.1.1 in
-    let o = choosing-open _ _ _ s.requires.rows _ _ _ _ _ _ _ _ l.invariant.1.1 (omega (arith, s.requires, l.invariant.0, c.loop-k-test.false, c.if-wanted-rows.false)) in
-    record {
-      rows = s.requires.rows;
-      room = (omega (arith, s.requires, l.invariant.1.1.within), l.invariant.1.0.1.1);
-      kept = t;
-      «open» = o;
-    }
+pub worst_distance-requires-clause-open : goal.worst_distance-requires-clause-open
+worst_distance-requires-clause-open c = choosing-open _ _ _ c.requires.rows _ _ _ _ _ _ _ _ c.loop-k.invariant (omega arith)
 
-pub shape_of-out : goal.shape_of-out
-shape_of-out c = c.loop-k.invariant.1.0.0.0 ∙ simp length-set
+pub returns-clause-sampled : goal.returns-clause-sampled
+returns-clause-sampled c = choosing-end _ _ _ c.requires.rows _ _ _ _ _ _ _ _ c.loop-k.invariant c.args.out.now _ refl (omega arith)
 
-pub shape_of-floats : goal.shape_of-floats
-shape_of-floats c = c.worst_distance.auto.floats
-    ∙ c.loop-k.invariant.1.0.0.1
-    ∙ simp length-set c.clear.auto.floats
-
-pub returns : goal.returns
-returns c = let s = c in
-    let l = c.loop-k in
-    let d = c.worst_distance in
-    let w = le_antisymm c.loop-k-test.false l.invariant.0 in record {
-      sampled = choosing-end _ _ _ s.requires.rows _ _ _ _ _ _ _ _ l.invariant.1.1 s.args.out.now _ refl w;
-      cover = choosing-worst _ _ _ s.requires.rows _ _ _ _ _ _ _ _ l.invariant.1.1 d.result w d.ensures;
-    }
+pub returns-clause-cover : goal.returns-clause-cover
+returns-clause-cover c = choosing-worst _ _ _ c.requires.rows _ _ _ _ _ _ _ _ c.loop-k.invariant c.worst_distance.result (omega arith) c.worst_distance.ensures

@@ -6,7 +6,7 @@ use Rattle.sampling_rounds.proofs.worst_distance.Goals as goal
 
 pub returns : goal.returns
 returns c = let s = c in
-    let le = c.lessen-peak in
+    let le = c.lessen-square in
     let a = s.args in
     let v = lessened a.dimensions a.points.now a.rows.now a.last.0 a.floats.now in
     let left = s.requires.«open» in
