@@ -9,10 +9,12 @@ ghost use Rattle.packed.specs.Reading.{own_in_lem, borrowed_in, boxes_in, read_o
 ghost use Rattle.cut_engine.specs.Engines.{nodes_for};
 ghost use Rattle.coarse_points.specs.Sent.{sent_rows, sent_covers, SendsUp};
 ghost use Rattle.covers.specs.Covered.{covered};
-ghost use Rattle.fine_level.specs.Fine.{next_at, Room};
+ghost use Rattle.tree_lists.specs.Lent.{SameLists, SameRoom, SameRecords};
+ghost use Rattle.fine_level.specs.Fine.{next_at, Room as LevelRoom};
 ghost use Rattle.fine_level.specs.Planned.{divided_by, leaves_by, nodes_by, active_at, GivenBy, FitsAt, RecordFits};
 
 use cut_engine::Engine;
+use tree_lists::{Records, Room, TreeLists};
 
 // What every level of a build shares: how it is cut, the axes, the leaf threshold and the neighbour count.
 #[derive(Clone, Copy)]
@@ -48,65 +50,79 @@ fn divide(
     points: &[f64],
     plan: Plan,
     place: Place,
-    active: &[usize],
-    internals: &mut [usize],
-    domains: &mut [usize],
-    boxes: &mut [f64],
-    borrowed: &mut [usize],
-    floats: &mut [f64],
-    wholes: &mut [usize],
-    cuts: &mut [usize],
-    planes: &mut [f64],
+    lists: &mut TreeLists<'_>,
+    room: &mut Room<'_>,
+    records: &mut Records<'_>,
 ) -> Parts
-    requires given_by { GivenBy plan points.now active.now }
-    requires fits_at { FitsAt plan place (length active.now) internals.old domains.old boxes.old borrowed.old }
-    requires room { Room plan.neighbours (length active.now) floats.old wholes.old }
-    requires record_fits { RecordFits plan place (length active.now) cuts.old planes.old }
-    ensures counts { (result.leaves ≡ length (divided_by plan points.now active.now)) × (result.borrowed ≡ length (borrowed_in (divided_by plan points.now active.now)))
-        × (result.nodes ≡ length (nodes_by plan points.now active.now)) × (result.nodes ≤ nodes_for plan.engine (length active.now)) }
-    ensures internals { internals.new ≡ put internals.old place.from (own_in_lem (divided_by plan points.now active.now)) }
-    ensures domains { domains.new ≡ put domains.old (row_numbers * place.first) (stretches place.from place.bat (divided_by plan points.now active.now)) }
-    ensures boxes { boxes.new ≡ put boxes.old (row_floats_lem plan.dimensions * place.first) (joined (map (λ f. f.box) (divided_by plan points.now active.now))) }
-    ensures borrowed { borrowed.new ≡ put borrowed.old place.bat (borrowed_in (divided_by plan points.now active.now)) }
-    ensures cuts { cuts.new ≡ put cuts.old place.node (map whole_of (nodes_by plan points.now active.now)) }
-    ensures planes { planes.new ≡ put planes.old place.node (map float_of (nodes_by plan points.now active.now)) }
+    requires given_by { (place.from + place.a ≤ length lists.old.level_points.now) × GivenBy plan points.now (active_at place lists.old.level_points.now) }
+    requires fits_at { FitsAt plan place place.a lists.old.internals.now lists.old.domains.now lists.old.boxes.now lists.old.borrowed.now }
+    requires room { LevelRoom plan.neighbours place.a room.old.floats.now room.old.wholes.now }
+    requires record_fits { RecordFits plan place place.a records.old.cuts.now records.old.planes.now }
+    ensures same { SameLists lists.old lists.new × SameRoom room.old room.new × SameRecords records.old records.new }
+    ensures counts { (result.leaves ≡ length (divided_by plan points.now (active_at place lists.old.level_points.now))) × (result.borrowed ≡ length (borrowed_in (divided_by plan points.now (active_at place lists.old.level_points.now))))
+        × (result.nodes ≡ length (nodes_by plan points.now (active_at place lists.old.level_points.now))) × (result.nodes ≤ nodes_for plan.engine place.a) }
+    ensures level_points { lists.new.level_points.now ≡ lists.old.level_points.now }
+    ensures internals { lists.new.internals.now ≡ put lists.old.internals.now place.from (own_in_lem (divided_by plan points.now (active_at place lists.old.level_points.now))) }
+    ensures domains { lists.new.domains.now ≡ put lists.old.domains.now (row_numbers * place.first) (stretches place.from place.bat (divided_by plan points.now (active_at place lists.old.level_points.now))) }
+    ensures boxes { lists.new.boxes.now ≡ put lists.old.boxes.now (row_floats_lem plan.dimensions * place.first) (joined (map (λ f. f.box) (divided_by plan points.now (active_at place lists.old.level_points.now)))) }
+    ensures borrowed { lists.new.borrowed.now ≡ put lists.old.borrowed.now place.bat (borrowed_in (divided_by plan points.now (active_at place lists.old.level_points.now))) }
+    ensures cuts { records.new.cuts.now ≡ put records.old.cuts.now place.node (map whole_of (nodes_by plan points.now (active_at place lists.old.level_points.now))) }
+    ensures planes { records.new.planes.now ≡ put records.old.planes.now place.node (map float_of (nodes_by plan points.now (active_at place lists.old.level_points.now))) }
 {
-    let engine = plan.engine;
-    let first = place.first;
+    let Plan {
+        engine,
+        dimensions,
+        leaf,
+        neighbours,
+    } = plan;
+    let Place {
+        from,
+        a,
+        first,
+        bat,
+        node,
+    } = place;
+    let end = from + a;
+    let level_points: &mut [usize] = lists.level_points;
+    let internals: &mut [usize] = lists.internals;
+    let domains: &mut [usize] = lists.domains;
+    let boxes: &mut [f64] = lists.boxes;
+    let wholes: &mut [usize] = room.wholes;
+    let active: &mut [usize] = &mut level_points[from..end];
     let cut = cut_engine::cut_level(
         engine,
         points,
-        plan.dimensions,
-        plan.leaf,
+        dimensions,
+        leaf,
         active,
         internals,
-        place.from,
+        from,
         domains,
-        place.first,
+        first,
         &mut boxes[first..],
-        floats,
+        room.floats,
         wholes,
-        cuts,
-        planes,
-        place.node,
+        records.cuts,
+        records.planes,
+        node,
     );
-    let m = cut.leaves;
-    let b = overlaps::overlaps(
+    let leaves = cut.leaves;
+    let borrowed = overlaps::overlaps(
         points,
-        plan.dimensions,
-        plan.neighbours,
+        dimensions,
+        neighbours,
         active,
         internals,
         domains,
-        place.first,
-        m,
-        borrowed,
-        place.bat,
+        first,
+        leaves,
+        lists.borrowed,
+        bat,
         wholes,
     );
     Parts {
-        leaves: m,
-        borrowed: b,
+        leaves,
+        borrowed,
         nodes: cut.nodes,
     }
 }
@@ -117,23 +133,24 @@ fn send_up(
     points: &[f64],
     dimensions: usize,
     size: usize,
-    level_points: &mut [usize],
-    from: usize,
-    a: usize,
-    internals: &[usize],
-    domains: &[usize],
-    first: usize,
+    place: Place,
     m: usize,
-    boxes: &mut [f64],
-    floats: &mut [f64],
-    wholes: &mut [usize],
+    lists: &mut TreeLists<'_>,
+    room: &mut Room<'_>,
 ) -> usize
-    requires sends_up { SendsUp dimensions points.now (part level_points.old from a) internals.now domains.now first m }
-    requires size_le_a { (size ≤ a) × (from + a + size ≤ length level_points.old) × (m ≤ length wholes.old) × (a + m ≤ length floats.old) × (row_floats_lem dimensions * (first + m) ≤ length boxes.old) }
-    ensures number { (result ≡ length (sent_rows dimensions points.now (part level_points.old from a) (read_own internals.now domains.now first m) size)) × (result ≡ size) }
-    ensures list { level_points.new ≡ put level_points.old (from + a) (sent_rows dimensions points.now (part level_points.old from a) (read_own internals.now domains.now first m) size) }
-    ensures boxes { boxes.new ≡ put boxes.old (row_floats_lem dimensions * first) (covered dimensions boxes.old (row_floats_lem dimensions * first) (sent_covers dimensions points.now (read_own internals.now domains.now first m) size)) }
+    requires sends_up { SendsUp dimensions points.now (part lists.old.level_points.now place.from place.a) lists.old.internals.now lists.old.domains.now place.first m }
+    requires size_le_a { (size ≤ place.a) × (place.from + place.a + size ≤ length lists.old.level_points.now) × (m ≤ length room.old.wholes.now) × (place.a + m ≤ length room.old.floats.now) × (row_floats_lem dimensions * (place.first + m) ≤ length lists.old.boxes.now) }
+    ensures same { SameLists lists.old lists.new × SameRoom room.old room.new }
+    ensures kept { (lists.new.internals.now ≡ lists.old.internals.now) × (lists.new.domains.now ≡ lists.old.domains.now) × (lists.new.borrowed.now ≡ lists.old.borrowed.now) }
+    ensures number { (result ≡ length (sent_rows dimensions points.now (part lists.old.level_points.now place.from place.a) (read_own lists.old.internals.now lists.old.domains.now place.first m) size)) × (result ≡ size) }
+    ensures list { lists.new.level_points.now ≡ put lists.old.level_points.now (place.from + place.a) (sent_rows dimensions points.now (part lists.old.level_points.now place.from place.a) (read_own lists.old.internals.now lists.old.domains.now place.first m) size) }
+    ensures boxes { lists.new.boxes.now ≡ put lists.old.boxes.now (row_floats_lem dimensions * place.first) (covered dimensions lists.old.boxes.now (row_floats_lem dimensions * place.first) (sent_covers dimensions points.now (read_own lists.old.internals.now lists.old.domains.now place.first m) size)) }
 {
+    let Place { from, a, first, .. } = place;
+    let level_points: &mut [usize] = lists.level_points;
+    let internals: &mut [usize] = lists.internals;
+    let domains: &mut [usize] = lists.domains;
+    let floats: &mut [f64] = room.floats;
     let next = coarse_points::coarse_points(
         points,
         dimensions,
@@ -146,10 +163,11 @@ fn send_up(
         first,
         m,
         floats,
-        wholes,
+        room.wholes,
     );
     let stop = a + m;
-    covers::put_covers(boxes, dimensions, first, &floats[a..stop]);
+    let covers: &mut [f64] = &mut floats[a..stop];
+    covers::put_covers(lists.boxes, dimensions, first, covers);
     next
 }
 
@@ -170,69 +188,41 @@ pub fn fine_level(
     plan: Plan,
     size: usize,
     place: Place,
-    level_points: &mut [usize],
-    internals: &mut [usize],
-    domains: &mut [usize],
-    boxes: &mut [f64],
-    borrowed: &mut [usize],
-    floats: &mut [f64],
-    wholes: &mut [usize],
-    cuts: &mut [usize],
-    planes: &mut [f64],
+    lists: &mut TreeLists<'_>,
+    room: &mut Room<'_>,
+    records: &mut Records<'_>,
 ) -> Written
-    requires a_in_bounds { (place.from + 2 * place.a ≤ length level_points.old) × (size ≤ place.a) × GivenBy plan points.now (active_at place level_points.old) }
-    requires fits_at { FitsAt plan place place.a internals.old domains.old boxes.old borrowed.old }
-    requires room { Room plan.neighbours place.a floats.old wholes.old }
-    requires record_fits { RecordFits plan place place.a cuts.old planes.old }
-    ensures counts { (result.leaves ≡ length (leaves_by plan points.now size (active_at place level_points.old)))
-        × (result.borrowed ≡ length (borrowed_in (leaves_by plan points.now size (active_at place level_points.old))))
-        × (result.next ≡ length (next_at plan.dimensions points.now plan.leaf size (active_at place level_points.old)))
-        × (result.nodes ≡ length (nodes_by plan points.now (active_at place level_points.old))) × (result.nodes ≤ nodes_for plan.engine place.a) }
-    ensures level_points { level_points.new ≡ put level_points.old (place.from + place.a) (next_at plan.dimensions points.now plan.leaf size (active_at place level_points.old)) }
-    ensures internals { internals.new ≡ put internals.old place.from (own_in_lem (leaves_by plan points.now size (active_at place level_points.old))) }
-    ensures domains { domains.new ≡ put domains.old (row_numbers * place.first) (stretches place.from place.bat (leaves_by plan points.now size (active_at place level_points.old))) }
-    ensures boxes { boxes.new ≡ put boxes.old (row_floats_lem plan.dimensions * place.first) (boxes_in (leaves_by plan points.now size (active_at place level_points.old))) }
-    ensures borrowed { borrowed.new ≡ put borrowed.old place.bat (borrowed_in (leaves_by plan points.now size (active_at place level_points.old))) }
-    ensures cuts { cuts.new ≡ put cuts.old place.node (map whole_of (nodes_by plan points.now (active_at place level_points.old))) }
-    ensures planes { planes.new ≡ put planes.old place.node (map float_of (nodes_by plan points.now (active_at place level_points.old))) }
+    requires a_in_bounds { (place.from + 2 * place.a ≤ length lists.old.level_points.now) × (size ≤ place.a) × GivenBy plan points.now (active_at place lists.old.level_points.now) }
+    requires fits_at { FitsAt plan place place.a lists.old.internals.now lists.old.domains.now lists.old.boxes.now lists.old.borrowed.now }
+    requires room { LevelRoom plan.neighbours place.a room.old.floats.now room.old.wholes.now }
+    requires record_fits { RecordFits plan place place.a records.old.cuts.now records.old.planes.now }
+    ensures same { SameLists lists.old lists.new × SameRoom room.old room.new × SameRecords records.old records.new }
+    ensures counts { (result.leaves ≡ length (leaves_by plan points.now size (active_at place lists.old.level_points.now)))
+        × (result.borrowed ≡ length (borrowed_in (leaves_by plan points.now size (active_at place lists.old.level_points.now))))
+        × (result.next ≡ length (next_at plan.dimensions points.now plan.leaf size (active_at place lists.old.level_points.now)))
+        × (result.nodes ≡ length (nodes_by plan points.now (active_at place lists.old.level_points.now))) × (result.nodes ≤ nodes_for plan.engine place.a) }
+    ensures level_points { lists.new.level_points.now ≡ put lists.old.level_points.now (place.from + place.a) (next_at plan.dimensions points.now plan.leaf size (active_at place lists.old.level_points.now)) }
+    ensures internals { lists.new.internals.now ≡ put lists.old.internals.now place.from (own_in_lem (leaves_by plan points.now size (active_at place lists.old.level_points.now))) }
+    ensures domains { lists.new.domains.now ≡ put lists.old.domains.now (row_numbers * place.first) (stretches place.from place.bat (leaves_by plan points.now size (active_at place lists.old.level_points.now))) }
+    ensures boxes { lists.new.boxes.now ≡ put lists.old.boxes.now (row_floats_lem plan.dimensions * place.first) (boxes_in (leaves_by plan points.now size (active_at place lists.old.level_points.now))) }
+    ensures borrowed { lists.new.borrowed.now ≡ put lists.old.borrowed.now place.bat (borrowed_in (leaves_by plan points.now size (active_at place lists.old.level_points.now))) }
+    ensures cuts { records.new.cuts.now ≡ put records.old.cuts.now place.node (map whole_of (nodes_by plan points.now (active_at place lists.old.level_points.now))) }
+    ensures planes { records.new.planes.now ≡ put records.old.planes.now place.node (map float_of (nodes_by plan points.now (active_at place lists.old.level_points.now))) }
 {
-    let from = place.from;
-    let a = place.a;
-    let end = from + a;
-    let parts = divide(
-        points,
-        plan,
-        place,
-        &level_points[from..end],
-        internals,
-        domains,
-        boxes,
-        borrowed,
-        floats,
-        wholes,
-        cuts,
-        planes,
-    );
-    let m = parts.leaves;
+    let parts = divide(points, plan, place, lists, room, records);
     let next = send_up(
         points,
         plan.dimensions,
         size,
-        level_points,
-        from,
-        a,
-        internals,
-        domains,
-        place.first,
-        m,
-        boxes,
-        floats,
-        wholes,
+        place,
+        parts.leaves,
+        lists,
+        room,
     );
     Written {
-        leaves: m,
+        leaves: parts.leaves,
         borrowed: parts.borrowed,
-        next: next,
+        next,
         nodes: parts.nodes,
     }
 }

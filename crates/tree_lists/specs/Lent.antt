@@ -1,5 +1,5 @@
 -- The lists that a caller lends, as the definition has them, and that the same ones are lent on. Definitions only.
-use Rattle.std.specs.Prelude.{◌≡◌}
+use Rattle.std.specs.Prelude.{◌≡◌, length}
 use Rattle.definition.specs.Outcome as outcome
 use Rattle.tree_lists.specs.declared.TreeLists.{TreeLists}
 use Rattle.tree_lists.specs.declared.Room.{Room}
@@ -16,20 +16,29 @@ lists_in l =
       borrowed = l.borrowed.now;
     }
 
--- both hold the same five lists
+-- both hold the same five lists, each as long as it was
 pub record SameLists (l m : TreeLists) : Type 0 where
   pub level_points : m.level_points.ghost_name ≡ l.level_points.ghost_name
+  pub level_points_len : length m.level_points.now ≡ length l.level_points.now
   pub internals : m.internals.ghost_name ≡ l.internals.ghost_name
+  pub internals_len : length m.internals.now ≡ length l.internals.now
   pub domains : m.domains.ghost_name ≡ l.domains.ghost_name
+  pub domains_len : length m.domains.now ≡ length l.domains.now
   pub boxes : m.boxes.ghost_name ≡ l.boxes.ghost_name
+  pub boxes_len : length m.boxes.now ≡ length l.boxes.now
   pub borrowed : m.borrowed.ghost_name ≡ l.borrowed.ghost_name
+  pub borrowed_len : length m.borrowed.now ≡ length l.borrowed.now
 
--- both hold the same room
+-- both hold the same room, as long as it was
 pub record SameRoom (r s : Room) : Type 0 where
   pub floats : s.floats.ghost_name ≡ r.floats.ghost_name
+  pub floats_len : length s.floats.now ≡ length r.floats.now
   pub wholes : s.wholes.ghost_name ≡ r.wholes.ghost_name
+  pub wholes_len : length s.wholes.now ≡ length r.wholes.now
 
--- both hold the same two lists
+-- both hold the same two lists, each as long as it was
 pub record SameRecords (r s : Records) : Type 0 where
   pub cuts : s.cuts.ghost_name ≡ r.cuts.ghost_name
+  pub cuts_len : length s.cuts.now ≡ length r.cuts.now
   pub planes : s.planes.ghost_name ≡ r.planes.ghost_name
+  pub planes_len : length s.planes.now ≡ length r.planes.now
