@@ -1,5 +1,6 @@
 -- The middle row of a list of rows, and the search for it. Definitions only.
 use Rattle.std.specs.Prelude.{ℕ, ◌/◌, ◌≤◌, ◌<◌, ◌≡◌, Bool, cond, length, take, Float}
+use Rattle.std.specs.Fn.{Shared}
 use mathlib.Core.List.{List, [], ◌∷◌, Memᴰ}
 use Rattle.lists.specs.Lists.{count}
 use Rattle.definition.specs.Points.{coordinate}
@@ -26,6 +27,10 @@ pub record Ranked (d : ℕ) (cs : List Float) (axis : ℕ) (rows : List ℕ) (q 
 -- whether row i comes before row p, or after it
 abbrev pub on_side : ℕ → List Float → ℕ → ℕ → Bool → ℕ → Bool
 on_side d cs axis p low i = cond low (before (key_on d cs axis i) (key_on d cs axis p)) (before (key_on d cs axis p) (key_on d cs axis i))
+
+-- each call of f at a row answers what t says of it
+abbrev pub Tells : {F : Type 0} → Shared F (ℕ × Unit {0}) Bool → F → (ℕ → Bool) → Type 0
+Tells g f t = (i : ℕ) (r : Bool) → g.post f (i, tt) r → r ≡ t i
 
 -- what a round of the search asks: the row with k others before it is looked for among the first m rows, by the row at the index `at`
 pub record Round (d : ℕ) (cs : List Float) (axis : ℕ) (rows : List ℕ) (m k at : ℕ) : Type 0 where

@@ -1,21 +1,19 @@
 // The middle row of a list of rows, found without sorting them all.
 #![tactic(auto)]
 
-ghost use Rattle.std.specs.Prelude.{◌≡◌, true, ◌+◌, ◌*◌, ◌≤◌, ◌<◌, length, take};
+ghost use Rattle.std.specs.Prelude.{◌≡◌, ℕ, Bool, true, ◌+◌, ◌*◌, ◌≤◌, ◌<◌, length, take};
+ghost use Rattle.lists.specs.Ascends.{All};
 ghost use Rattle.lists.specs.Lists.{count, keep, put};
 ghost use Rattle.rows.specs.Rows.{FiniteOn, GoodRows};
-ghost use Rattle.middle_row.specs.Middle.{MiddleRow, on_side, Round, Narrows};
+ghost use Rattle.middle_row.specs.Middle.{MiddleRow, on_side, Tells, Round, Narrows};
 
 // How many of the rows come before row p.
 fn count_before(points: &[f64], d: usize, axis: usize, rows: &[usize], p: usize) -> usize
     requires { FiniteOn d points.now axis rows.now × (p * d + axis < length points.now) }
     ensures { result ≡ count (on_side d points.now axis p true) rows.now }
 {
-    let mut n: usize = 0;
-    let mut t: usize = 0;
-    while t < rows.len() {
-        let r = rows[t];
-        t += 1;
+    let mut n = 0;
+    for &r in rows {
         if argsort::comes_before(points, d, axis, r, p) {
             n += 1;
         }
@@ -23,37 +21,17 @@ fn count_before(points: &[f64], d: usize, axis: usize, rows: &[usize], p: usize)
     n
 }
 
-// Whether row i comes before row p, or after it where `low` is false.
-fn beside(points: &[f64], d: usize, axis: usize, i: usize, p: usize, low: bool) -> bool
-    requires { (i * d + axis < length points.now) × (p * d + axis < length points.now) }
-    ensures { result ≡ on_side d points.now axis p low i }
+// Moves those of the first m rows that pass a test to the front, in their order. The answer is how many they are.
+fn keep_front<F: Fn(usize) -> bool>(rows: &mut [usize], m: usize, passes: F) -> usize
+    requires fits { m ≤ length rows.old }
+    requires callable { All (λ i. F.pre passes i) (take m rows.old) }
+    ensures number { (t : ℕ → Bool) → Tells F.Fn passes t → result ≡ length (keep t (take m rows.old)) }
+    ensures rows { (t : ℕ → Bool) → Tells F.Fn passes t → rows.new ≡ put rows.old 0 (keep t (take m rows.old)) }
 {
-    if low {
-        return argsort::comes_before(points, d, axis, i, p);
-    }
-    argsort::comes_before(points, d, axis, p, i)
-}
-
-// Moves the rows on one side of row p among the first m rows to the front, in their order. The answer is how many they are.
-fn keep_side(
-    points: &[f64],
-    d: usize,
-    axis: usize,
-    rows: &mut [usize],
-    m: usize,
-    p: usize,
-    low: bool,
-) -> usize
-    requires { (m ≤ length rows.old) × FiniteOn d points.now axis (take m rows.old) × (p * d + axis < length points.now) }
-    ensures number { result ≡ length (keep (on_side d points.now axis p low) (take m rows.old)) }
-    ensures rows { rows.new ≡ put rows.old 0 (keep (on_side d points.now axis p low) (take m rows.old)) }
-{
-    let mut n: usize = 0;
-    let mut t: usize = 0;
-    while t < m {
+    let mut n = 0;
+    for t in 0..m {
         let r = rows[t];
-        t += 1;
-        if beside(points, d, axis, r, p, low) {
+        if passes(r) {
             rows[n] = r;
             n += 1;
         }
@@ -88,12 +66,12 @@ fn narrow(
         return Search { count: 1, rank: 0 };
     }
     if k < c {
-        let n = keep_side(points, d, axis, rows, m, p, true);
-        return Search { count: n, rank: k };
+        let count = keep_front(rows, m, |r| argsort::comes_before(points, d, axis, r, p));
+        return Search { count, rank: k };
     }
-    let n = keep_side(points, d, axis, rows, m, p, false);
+    let count = keep_front(rows, m, |r| argsort::comes_before(points, d, axis, p, r));
     Search {
-        count: n,
+        count,
         rank: k - c - 1,
     }
 }
@@ -110,7 +88,8 @@ pub fn middle(points: &[f64], d: usize, axis: usize, rows: &mut [usize]) -> usiz
     let mut m = rows.len();
     let mut k = m / 2;
     let mut left = 8 * m;
-    let mut round: usize = 0;
+    let mut round = 0;
+    // a search that may end early: no counted loop
     while 32 < m && m <= left {
         let at = (m / 2 + round * 2654435761) % m;
         let s = narrow(points, d, axis, rows, m, k, at);

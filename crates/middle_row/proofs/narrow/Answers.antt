@@ -1,5 +1,12 @@
 -- `middle_row::narrow` meets its contract. Assumes nothing.
+use borrow.Author.Rules.{rules}
+use Rattle.lists.proofs.All.{all-imp}
+use Rattle.argsort.proofs.Orders.{row_inside}
 use mathlib.Core.Path.{sym}
+use mathlib.Core.Bool.{Bool, true, false}
+use Prim.Native.Nat.{ℕ}
+use lib.ListN.{get_or}
+use Rattle.middle_row.specs.Middle.{on_side}
 use Rattle.middle_row.proofs.Rounds.{round-front, round-finite, round-inside, round-found, round-low, round-high}
 use Rattle.middle_row.proofs.narrow.Goals as goal
 
@@ -12,20 +19,24 @@ count_before-c-requires c = let r = c.requires in (round-finite r, round-inside 
 pub returns-then-c-k : goal.returns-then-c-k
 returns-then-c-k c = round-found c.requires _ c.count_before-c.ensures c.if-c-k.true
 
-pub keep_side-n-requires : goal.keep_side-n-requires
-keep_side-n-requires c = let r = c.requires in (r.fits, round-finite r, round-inside r)
+pub keep_front-count-requires : goal.keep_front-count-requires
+keep_front-count-requires c = let r = c.requires in record { fits = r.fits; callable = all-imp _ _ _ (λ i f. let a = row_inside c.args.d c.args.points.now c.args.axis i f in let b = round-inside r in search rules) (round-finite r) }
 
 pub returns-then-k-c : goal.returns-then-k-c
 returns-then-k-c c = let n = c.count_before-c.ensures in
-    let k = c.keep_side-n.ensures in
+    let k = c.keep_front-count.ensures in
+    let p = get_or c.args.rows.now c.args.at 0 in
+    let low : ℕ → Bool = on_side c.args.d c.args.points.now c.args.axis p true in
     round-low c.requires _ n
-    c.if-k-c.true _ _ k.number k.rows
+    c.if-k-c.true _ _ (k.number low (λ i r q. search rules)) (k.rows low (λ i r q. search rules))
 
-pub keep_side-n-requires-2 : goal.keep_side-n-requires-2
-keep_side-n-requires-2 c = let r = c.requires in (r.fits, round-finite r, round-inside r)
+pub keep_front-count-requires-2 : goal.keep_front-count-requires-2
+keep_front-count-requires-2 c = let r = c.requires in record { fits = r.fits; callable = all-imp _ _ _ (λ i f. let a = row_inside c.args.d c.args.points.now c.args.axis i f in let b = round-inside r in search rules) (round-finite r) }
 
 pub returns : goal.returns
 returns c = let n = c.count_before-c.ensures in
-    let k = c.keep_side-n-2.ensures in
+    let k = c.keep_front-count-2.ensures in
+    let p = get_or c.args.rows.now c.args.at 0 in
+    let high : ℕ → Bool = on_side c.args.d c.args.points.now c.args.axis p false in
     round-high c.requires _ n
-    c.if-c-k.false c.if-k-c.false _ _ k.number k.rows
+    c.if-c-k.false c.if-k-c.false _ _ (k.number high (λ i r q. search rules)) (k.rows high (λ i r q. search rules))
