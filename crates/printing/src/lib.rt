@@ -36,12 +36,11 @@ fn print_first<W: Write>(out: &mut W, list: &[usize], most: usize) -> io::Result
     ensures count { IfOk result (λ r. r ≡ min most (length list.now)) }
     ensures bytes { OnOk result (Appends (W.contents out.old) (W.contents out.new) (numbers_text (take most list.now))) }
 {
-    let mut i = 0;
-    while i < list.len() && i < most {
-        print_number(out, list[i])?;
-        i += 1;
+    let count = most.min(list.len());
+    for &n in &list[..count] {
+        print_number(out, n)?;
     }
-    Ok(i)
+    Ok(count)
 }
 
 // Writes a space and each number of the list. The answer is how many they are.
