@@ -16,10 +16,7 @@ pub fn byte(record: &[u8], at: usize) -> usize
 pub fn number(record: &[u8], at: usize) -> usize
     ensures { result < 2 ^ 32 }
 {
-    if record.len() < bytes_in::NUMBER {
-        return 0;
-    }
-    if record.len() - bytes_in::NUMBER < at {
+    if record.len() < bytes_in::NUMBER || record.len() - bytes_in::NUMBER < at {
         return 0;
     }
     bytes_in::number_at(record, at)
@@ -27,10 +24,7 @@ pub fn number(record: &[u8], at: usize) -> usize
 
 // The bits of eight bytes.
 pub fn bits(record: &[u8], at: usize) -> u64 {
-    if record.len() < bytes_in::FLOAT {
-        return 0;
-    }
-    if record.len() - bytes_in::FLOAT < at {
+    if record.len() < bytes_in::FLOAT || record.len() - bytes_in::FLOAT < at {
         return 0;
     }
     bytes_in::bits_at(record, at)

@@ -44,10 +44,10 @@ fn setting(record: &[u8], at: usize) -> u32 {
 }
 
 fn policy(record: &[u8]) -> SizePolicy {
-    if fields::byte(record, POLICY) == 0 {
-        return SizePolicy::Auto;
+    match fields::byte(record, POLICY) {
+        0 => SizePolicy::Auto,
+        _ => SizePolicy::Fixed(setting(record, THRESHOLD)),
     }
-    SizePolicy::Fixed(setting(record, THRESHOLD))
 }
 
 pub fn params(record: &[u8]) -> DDMParams {
@@ -76,23 +76,10 @@ pub struct Lengths {
 pub fn fit(size: Lengths) -> bool
     ensures { result ≡ true → Fitting size × (size.points ≤ 15) }
 {
-    if POINTS < size.points {
-        return false;
-    }
-    if LEVEL_POINTS < size.level_points {
-        return false;
-    }
-    if INTERNALS < size.internals {
-        return false;
-    }
-    if DOMAINS < size.domains {
-        return false;
-    }
-    if BOXES < size.boxes {
-        return false;
-    }
-    if BORROWED < size.borrowed {
-        return false;
-    }
-    true
+    size.points <= POINTS
+        && size.level_points <= LEVEL_POINTS
+        && size.internals <= INTERNALS
+        && size.domains <= DOMAINS
+        && size.boxes <= BOXES
+        && size.borrowed <= BORROWED
 }

@@ -2,6 +2,7 @@
 ghost use Rattle.std.specs.Prelude.{◌^◌, ◌≤◌};
 
 use crate::{fields, fronts};
+use refusal::Refusal;
 use tree_answer::DDMTree;
 
 // The bytes of an answer.
@@ -17,17 +18,19 @@ fn counts_agree(counts: [usize; 4], record: &[u8], at: usize) -> bool
         && counts[3] == fields::number(record, at + 12)
 }
 
-// Whether an answer stands from `at` on.
-pub fn answer_agrees(tree: DDMTree, record: &[u8], at: usize) -> bool
+// Whether the answer of a call stands from `at` on. A refused one has no counts.
+pub fn answer_agrees(answer: Result<DDMTree, Refusal>, record: &[u8], at: usize) -> bool
     requires { at ≤ 2 ^ 40 }
 {
-    let rows = tree.rows;
-    let domains = tree.domains;
-    tree.number == fields::byte(record, at)
-        && tree.place == fields::number(record, at + 1)
+    let (number, place, tree) = match answer {
+        Ok(tree) => (0, 0, tree),
+        Err(refusal) => (refusal.number(), refusal.place(), DDMTree::none()),
+    };
+    number == fields::byte(record, at)
+        && place == fields::number(record, at + 1)
         && tree.levels == fields::number(record, at + 5)
-        && counts_agree(rows, record, at + 9)
-        && counts_agree(domains, record, at + 25)
+        && counts_agree(tree.rows, record, at + 9)
+        && counts_agree(tree.domains, record, at + 25)
 }
 
 // Whether the five lists stand from `at` on, and the record ends there.
@@ -43,10 +46,10 @@ pub fn lists_agree(
     requires { at ≤ 2 ^ 38 }
 {
     let places = fronts::list_places(record, at, 0);
-    fronts::numbers_agree(level_points, record, places.level_points)
-        && fronts::numbers_agree(internals, record, places.internals)
-        && fronts::numbers_agree(domains, record, places.domains)
-        && fronts::floats_agree(boxes, record, places.boxes)
-        && fronts::numbers_agree(borrowed, record, places.borrowed)
+    fronts::agree(level_points, record, places.level_points)
+        && fronts::agree(internals, record, places.internals)
+        && fronts::agree(domains, record, places.domains)
+        && fronts::agree(boxes, record, places.boxes)
+        && fronts::agree(borrowed, record, places.borrowed)
         && places.next == record.len()
 }
