@@ -9,29 +9,29 @@ use lib.Ieee.{Float}
 use Rattle.formats.specs.Stream.{job, broken, stream_points, job_in}
 use Rattle.stream_laws.specs.Sizes.{JobLimits, WithinLimits}
 use Rattle.stream_laws.proofs.Stream.{job-limits}
-use Rattle.print_texts.specs.Refusals.{refusal_of}
-use Rattle.settings_record.specs.declared.Settings.{Settings}
+use Rattle.std.specs.Prelude.{Result, Ok, Err}
+use Rattle.refusal.specs.declared.Refusal.{Refusal}
+use Rattle.refusal.specs.Refusals.{as_refusal}
 use Rattle.settings_record.specs.Reading.{settings_are}
-use Rattle.stream_reader.specs.declared.Read.{Read}
-use Rattle.stream_reader.specs.declared.Read.TheVariants.{Whole, Broken}
+use Rattle.stream_reader.specs.declared.Job.{Job}
 use Rattle.stream_reader.specs.Reading.{job_of, Within}
 
-module _ (r : Read) (cs : List Float) (bs : List ℕ) (h : job_of r cs ≡ job_in bs) where
-  pub broken-read : (number place : ℕ) → r ≡ Broken number place → broken (refusal_of number place) ≡ job_in bs
-  broken-read number place e = ap (λ (x : Read). job_of x cs) (sym e) ∙ h
+module _ (r : Result Job Refusal) (cs : List Float) (bs : List ℕ) (h : job_of r cs ≡ job_in bs) where
+  pub broken-read : (x : Refusal) → r ≡ Err x → broken (as_refusal x) ≡ job_in bs
+  broken-read x e = ap (λ (y : Result Job Refusal). job_of y cs) (sym e) ∙ h
 
-  module _ (s : Settings) (n : ℕ) (e : r ≡ Whole s n) where
-    pub whole-read : job (settings_are s) (take (n * s.dimensions) cs) ≡ job_in bs
-    whole-read = ap (λ (x : Read). job_of x cs) (sym e) ∙ h
+  module _ (j : Job) (e : r ≡ Ok j) where
+    pub whole-read : job (settings_are j.settings) (take (j.points * j.settings.dimensions) cs) ≡ job_in bs
+    whole-read = ap (λ (y : Result Job Refusal). job_of y cs) (sym e) ∙ h
 
-    pub limits-read : JobLimits (settings_are s) (take (n * s.dimensions) cs)
+    pub limits-read : JobLimits (settings_are j.settings) (take (j.points * j.settings.dimensions) cs)
     limits-read = go r e (rw (← h) at (job-limits bs))
       where
-        go : (x : Read) → x ≡ Whole s n → WithinLimits (job_of x cs) → JobLimits (settings_are s) (take (n * s.dimensions) cs)
+        go : (x : Result Job Refusal) → x ≡ Ok j → WithinLimits (job_of x cs) → JobLimits (settings_are j.settings) (take (j.points * j.settings.dimensions) cs)
         go x f k = rw f at k
 
     -- its coordinates have room
-    pub coordinates-read : Within r → n * s.dimensions ≤ 3 * stream_points
+    pub coordinates-read : Within r → j.points * j.settings.dimensions ≤ 3 * stream_points
     coordinates-read w =
-        let k : n ≤ stream_points = rw e at w in
-        mul-le-mul {n₁ = n} {m₁ = s.dimensions} {n₂ = stream_points} {m₂ = 3} k limits-read.axes_few
+        let k : j.points ≤ stream_points = rw e at w in
+        mul-le-mul {n₁ = j.points} {m₁ = j.settings.dimensions} {n₂ = stream_points} {m₂ = 3} k limits-read.axes_few

@@ -1,5 +1,6 @@
 -- The outcome of a call that prints a text into a lent list, from what it wrote; and what a caller finds there. Assumes nothing.
--- Holds: text-room, refusal-room, answer-short, output-short, answer-long, output-long, count_fits, text-fits, text-printed
+-- Holds: text-room, refusal-room, refusal-numbered, answer-short, output-short, answer-long, output-long, count_fits, text-fits, text-printed,
+--   long-taken
 use mathlib.Core.Path.{◌≡◌, refl, ap, ◌∙◌}
 use mathlib.Core.Logic.{⊎_elim}
 use Prim.Native.Nat.{ℕ, ◌≤◌, ◌<◌}
@@ -9,6 +10,7 @@ use mathlib.Core.List.{List, ◌++◌}
 use lib.ListN.{length, take, drop, length-append}
 use lib.Seq.{take_at}
 use borrow.Author.Tests.{le-ltb, lt-ltb}
+use Rattle.std.specs.Prelude.{Err}
 use Rattle.lists.proofs.Put.{put-zero}
 use Rattle.lists.proofs.Tests.{le-or-lt}
 use Rattle.definition.specs.Refusals.{accepted, refused, verdict}
@@ -17,19 +19,47 @@ use Rattle.formats.specs.Printout.{refusal_text}
 use Rattle.stream_laws.specs.Sizes.{most_bytes}
 use Rattle.stream_laws.proofs.Long.{refusal-long}
 use Rattle.bytes_out.specs.Wrote.{Wrote, RoomFor}
-use Rattle.print_texts.specs.Refusals.{refusal_of}
-use Rattle.job_room.specs.Printing.{print_call, print_answer_lem, print_output}
+use Rattle.refusal.specs.declared.Refusal.{Refusal}
+use Rattle.refusal.specs.declared.Refusal.TheVariants.{WrongDimension, ZeroLeafThreshold, SmallFactor, ZeroThreshold, ManyNeighbours, NoPoints, MissingCoordinate, ManyPoints, WrongReductions, NotFinite, ShortList, StretchPastList, WrongChoice, NotAboveThreshold, NoRoot, BrokenRecord, LargeJob, OtherSettings, OtherPoints, NoSoundTree, FullTable, NoLiveSlot, UnsoundTable}
+use Rattle.refusal.specs.Refusals.{refusal_number, as_refusal}
+use Rattle.job_room.specs.Printing.{print_call, print_answer_lem, print_output, printed_answer}
 
 -- ---- room for a text
 pub text-room : (text out : List ℕ) → length text ≤ most_bytes → most_bytes ≤ length out → RoomFor out 0 text
 text-room text out h g = record { fits = omega arith }
 
-pub refusal-room : (number place : ℕ) (out : List ℕ) → most_bytes ≤ length out → RoomFor out 0 (refusal_text (refusal_of number place))
-refusal-room number place out h = record { fits = omega (arith, refusal-long (refusal_of number place)) }
+pub refusal-room : (r : Refusal) (out : List ℕ) → most_bytes ≤ length out → RoomFor out 0 (refusal_text (as_refusal r))
+refusal-room r out h = record { fits = omega (arith, refusal-long (as_refusal r)) }
+
+-- no refusal has the number 0
+pub refusal-numbered : (r : Refusal) → 1 ≤ refusal_number r
+refusal-numbered WrongDimension = omega arith
+refusal-numbered ZeroLeafThreshold = omega arith
+refusal-numbered SmallFactor = omega arith
+refusal-numbered ZeroThreshold = omega arith
+refusal-numbered ManyNeighbours = omega arith
+refusal-numbered NoPoints = omega arith
+refusal-numbered MissingCoordinate = omega arith
+refusal-numbered ManyPoints = omega arith
+refusal-numbered WrongReductions = omega arith
+refusal-numbered (NotFinite x) = omega arith
+refusal-numbered ShortList = omega arith
+refusal-numbered StretchPastList = omega arith
+refusal-numbered WrongChoice = omega arith
+refusal-numbered NotAboveThreshold = omega arith
+refusal-numbered NoRoot = omega arith
+refusal-numbered (BrokenRecord x) = omega arith
+refusal-numbered LargeJob = omega arith
+refusal-numbered OtherSettings = omega arith
+refusal-numbered OtherPoints = omega arith
+refusal-numbered NoSoundTree = omega arith
+refusal-numbered FullTable = omega arith
+refusal-numbered NoLiveSlot = omega arith
+refusal-numbered UnsoundTable = omega arith
 
 -- ---- the outcome
 module _ (text output : List ℕ) where
-  call-short : length output < most_bytes → print_call output ≡ refused (refusal_of 11 0)
+  call-short : length output < most_bytes → print_call output ≡ refused (as_refusal ShortList)
   unfolding print_call verdict
   call-short h = rw (lt-ltb (length output) most_bytes h)
 
@@ -86,3 +116,10 @@ module _ (text output : List ℕ) where
 
       pub text-printed : take r.value after ≡ text
       text-printed = rw (text-counted, text-written) (take_at text (drop (length text) output) (length text) refl)
+
+  -- a list that is long enough is not refused
+  pub long-taken : (x : Refusal) → printed_answer (Err x) ≡ print_answer_lem text output → most_bytes ≤ length output → ⊥
+  unfolding print_answer_lem number_of
+  long-taken x e long =
+      let n : refusal_number x ≡ 0 = ap (λ (a : Answer ℕ). a.number) e ∙ rw (call_long long) in
+      omega (arith, refusal-numbered x)

@@ -1,4 +1,4 @@
-// The room that suffices for every job: how long the lists of its tree are, and what a call answers that prints into a lent list.
+// The room that suffices for every job: how long the lists of its tree are.
 #![tactic(auto)]
 
 // The largest job: so many points on three axes, each of which takes so many rows, and its domain rows.
@@ -27,11 +27,3 @@ pub const WHOLES: usize = 32 * POINTS + 8 * POINTS * TAKEN;
 
 // The bytes of its printout: none is longer (`printout-long` of stream_laws).
 pub const TEXT: usize = 139264;
-
-// How many bytes were written, or the number of a refusal (11: the output list is short) and its place.
-#[derive(Clone, Copy)]
-pub struct Printed {
-    pub number: usize,
-    pub place: usize,
-    pub count: usize,
-}

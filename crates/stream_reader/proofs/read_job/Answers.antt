@@ -2,11 +2,11 @@
 use Rattle.stream_reader.proofs.Records.{job-broken, whole_long, job-low, job-high, begun, reading-cut, reading-full, spot, reading-more, reading-over, reading-done}
 use Rattle.bytes_in.proofs.Bytes.{record-room}
 use Rattle.formats.specs.Stream.{point_mark, point_size_lem}
-use Prim.Native.Nat.{◌-◌}
 use mathlib.Core.Path.{refl, sym, ◌∙◌}
 use borrow.Author.Rules.{rules}
 use native.Mathlib.Omega.{arith}
 use Rattle.stream_reader.proofs.read_job.Goals as goal
+use Rattle.stream_reader.proofs.read_job.Goals.{then-d-eq0-via-then-d-eq0, then-d-eq0-via-else-d-eq0+then-d-gt3}
 
 pub returns-then-not-settings_whole : goal.returns-then-not-settings_whole
 returns-then-not-settings_whole c = record {
@@ -14,20 +14,17 @@ returns-then-not-settings_whole c = record {
   within = tt;
 }
 
-pub settings_of-s-requires : goal.settings_of-s-requires
-settings_of-s-requires c = whole_long c.args.input.now (sym c.settings_whole.ensures ∙ c.if-not-settings_whole.false)
+pub settings_of-settings-requires : goal.settings_of-settings-requires
+settings_of-settings-requires c = whole_long c.args.input.now (sym c.settings_whole.ensures ∙ c.if-not-settings_whole.false)
 
 pub returns-then-d-eq0 : goal.returns-then-d-eq0
 returns-then-d-eq0 c = record {
-  same = job-low c.args.input.now
-      (sym c.settings_whole.ensures ∙ c.if-not-settings_whole.false) _ c.settings_of-s.ensures c.if-d-eq0.true;
-  within = tt;
-}
-
-pub returns-then-d-gt3 : goal.returns-then-d-gt3
-returns-then-d-gt3 c = record {
-  same = job-high c.args.input.now
-      (sym c.settings_whole.ensures ∙ c.if-not-settings_whole.false) _ c.settings_of-s.ensures c.if-d-gt3.true;
+  same = elim c.then-d-eq0.branch [
+    | then-d-eq0-via-then-d-eq0 w ↦
+        job-low c.args.input.now (sym c.settings_whole.ensures ∙ c.if-not-settings_whole.false) _ c.settings_of-settings.ensures w.if-d-eq0.true
+    | then-d-eq0-via-else-d-eq0+then-d-gt3 w ↦
+        job-high c.args.input.now (sym c.settings_whole.ensures ∙ c.if-not-settings_whole.false) _ c.settings_of-settings.ensures w.if-d-gt3.true
+  ];
   within = tt;
 }
 
@@ -35,7 +32,7 @@ pub loop-at-init : goal.loop-at-init
 loop-at-init c = let start = c in (
   begun _ start.args.input.now _
       (sym c.settings_whole.ensures ∙ c.if-not-settings_whole.false)
-      c.settings_of-s.ensures c.if-d-eq0.false c.if-d-gt3.false start.requires,
+      c.settings_of-settings.ensures c.if-d-eq0.false c.if-d-gt3.false start.requires,
   refl,
 )
 
@@ -58,13 +55,13 @@ returns-then-n-eq-MOST_POINTS c = record {
 
 pub overflow_mul-n : goal.overflow_mul-n
 overflow_mul-n c = let turn = c.loop-at in
-    let d = c.settings_of-s.result.dimensions in
+    let d = c.settings_of-settings.result.dimensions in
     omega (arith, spot turn.n d (omega (arith, turn.invariant.0.few, c.if-n-eq-MOST_POINTS.false)) turn.invariant.0.flat)
 
 pub read_floats-requires : goal.read_floats-requires
 read_floats-requires c = let turn = c.loop-at in
     let r = turn.invariant.0 in
-    let d = c.settings_of-s.result.dimensions in
+    let d = c.settings_of-settings.result.dimensions in
     let room = spot turn.n d (omega (arith, r.few, c.if-n-eq-MOST_POINTS.false)) r.flat in
     let long = record-room point_mark (point_size_lem d) turn.at c.args.input.now
     r.within (sym c.record_at.ensures ∙ c.if-not-record_at.false) in
@@ -73,7 +70,7 @@ read_floats-requires c = let turn = c.loop-at in
 pub overflow_add-at-in-loop-at : goal.overflow_add-at-in-loop-at
 overflow_add-at-in-loop-at c = let start = c in
     let turn = c.loop-at in
-    let d = c.settings_of-s.result.dimensions in
+    let d = c.settings_of-settings.result.dimensions in
     let long = record-room point_mark (point_size_lem d) turn.at start.args.input.now turn.invariant.0.within
     (sym c.record_at.ensures ∙ c.if-not-record_at.false) in
     omega (arith, start.well_formed)
@@ -92,14 +89,14 @@ loop-at-preserved c = let turn = c.loop-at in (
   search rules,
 )
 
-pub returns-then-neighbours-gt-MOST_NEIGHBOURS : goal.returns-then-neighbours-gt-MOST_NEIGHBOURS
-returns-then-neighbours-gt-MOST_NEIGHBOURS c = record {
-  same = reading-over c.loop-at.invariant.0 c.loop-at-test.false c.if-neighbours-gt-MOST_NEIGHBOURS.true;
+pub returns-then-settings-gt-MOST_NEIGHBOURS : goal.returns-then-settings-gt-MOST_NEIGHBOURS
+returns-then-settings-gt-MOST_NEIGHBOURS c = record {
+  same = reading-over c.loop-at.invariant.0 c.loop-at-test.false c.if-settings-gt-MOST_NEIGHBOURS.true;
   within = tt;
 }
 
 pub returns : goal.returns
 returns c = record {
-  same = reading-done c.loop-at.invariant.0 c.loop-at-test.false c.if-neighbours-gt-MOST_NEIGHBOURS.false;
+  same = reading-done c.loop-at.invariant.0 c.loop-at-test.false c.if-settings-gt-MOST_NEIGHBOURS.false;
   within = c.loop-at.invariant.0.few;
 }
