@@ -3,7 +3,8 @@
 
 ghost use Rattle.std.specs.Prelude.{◌^◌, ◌≤◌};
 
-use table_edits::EditAnswer;
+use refusal::Refusal;
+use table_edits::Edited;
 
 // No place of a record is past this.
 const MOST: usize = 65536;
@@ -19,39 +20,68 @@ const SLOT: usize = 8;
 
 const ANSWER: usize = 25;
 
-// Whether an answer stands from `at` on.
-fn answer_agrees(answer: EditAnswer, record: &[u8], at: usize) -> bool
+// The head's counters, from `at` on.
+#[derive(Clone, Copy)]
+struct Head {
+    slots: usize,
+    live: usize,
+}
+
+fn head_at(record: &[u8], at: usize) -> Head
     requires { at ≤ 2 ^ 40 }
 {
-    answer.number == call_records::byte(record, at)
-        && answer.place == call_records::number(record, at + 1)
-        && answer.slot == call_records::number(record, at + 5)
-        && answer.slots as u64 == call_records::bits(record, at + 9)
-        && answer.live as u64 == call_records::bits(record, at + 17)
+    Head {
+        slots: call_records::bits(record, at) as usize,
+        live: call_records::bits(record, at + 8) as usize,
+    }
+}
+
+// Whether the answer of an edit stands from `at` on. Where it is refused, the head stays.
+fn answer_agrees(answer: Result<Edited, Refusal>, head: Head, record: &[u8], at: usize) -> bool
+    requires { at ≤ 2 ^ 40 }
+{
+    let Head { slots, live } = head;
+    let (number, place, edited) = match answer {
+        Ok(edited) => (0, 0, edited),
+        Err(refusal) => (
+            refusal.number(),
+            refusal.place(),
+            Edited {
+                slot: 0,
+                slots,
+                live,
+            },
+        ),
+    };
+    number == call_records::byte(record, at)
+        && place == call_records::number(record, at + 1)
+        && edited.slot == call_records::number(record, at + 5)
+        && edited.slots as u64 == call_records::bits(record, at + 9)
+        && edited.live as u64 == call_records::bits(record, at + 17)
 }
 
 // Whether coordinates and flags stand from `at` on, and the record ends there.
 fn lists_agree(record: &[u8], at: usize, flags: &[u8], coordinates: &[f64]) -> bool
     requires { at ≤ 2 ^ 40 }
 {
-    let after = call_records::past(record, at);
-    call_records::floats_agree(coordinates, record, at)
-        && call_records::bytes_agree(flags, record, after)
-        && call_records::past_bytes(record, after) == record.len()
+    let after = call_records::past::<f64>(record, at);
+    call_records::agree(coordinates, record, at)
+        && call_records::agree(flags, record, after)
+        && call_records::past::<u8>(record, after) == record.len()
 }
 
 // Whether this outcome stands from `at` on.
 fn outcome_agrees(
-    answer: EditAnswer,
+    answer: Result<Edited, Refusal>,
+    head: Head,
     record: &[u8],
     at: usize,
     flags: &[u8],
     coordinates: &[f64],
 ) -> bool {
-    if MOST < at {
-        return false;
-    }
-    answer_agrees(answer, record, at) && lists_agree(record, at + ANSWER, flags, coordinates)
+    at <= MOST
+        && answer_agrees(answer, head, record, at)
+        && lists_agree(record, at + ANSWER, flags, coordinates)
 }
 
 // Whether the add has the record's outcome. The head stands at `at`.
@@ -59,22 +89,23 @@ pub fn add_agrees(record: &[u8], at: usize, flags: &mut [u8], coordinates: &mut 
     requires { at ≤ 2 ^ 40 }
 {
     let place = at + HEAD;
-    let after = call_records::past(record, place);
+    let after = call_records::past::<f64>(record, place);
     let count = call_records::number(record, place);
     if POINT < count {
         return false;
     }
     let mut point = [9.0; POINT];
-    call_records::fill_floats(record, place, &mut point);
+    call_records::fill(record, place, &mut point);
+    let head = head_at(record, at);
     let answer = table_edits::added(
-        call_records::bits(record, at) as usize,
-        call_records::bits(record, at + 8) as usize,
+        head.slots,
+        head.live,
         flags,
         coordinates,
         call_records::dimensions(record),
         &point[..count],
     );
-    outcome_agrees(answer, record, after, flags, coordinates)
+    outcome_agrees(answer, head, record, after, flags, coordinates)
 }
 
 // The same of a retirement.
@@ -83,13 +114,14 @@ pub fn retire_agrees(record: &[u8], at: usize, flags: &mut [u8], coordinates: &[
 {
     let place = at + HEAD;
     let after = place + SLOT;
+    let head = head_at(record, at);
     let answer = table_edits::retired(
-        call_records::bits(record, at) as usize,
-        call_records::bits(record, at + 8) as usize,
+        head.slots,
+        head.live,
         flags,
         coordinates,
         call_records::dimensions(record),
         call_records::bits(record, place) as usize,
     );
-    outcome_agrees(answer, record, after, flags, coordinates)
+    outcome_agrees(answer, head, record, after, flags, coordinates)
 }
