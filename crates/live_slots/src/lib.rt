@@ -10,13 +10,11 @@ pub fn list_live(flags: &[u8], slots: usize, rows: &mut [usize])
     requires { (slots ≤ length flags.now) × (length (keep (flagged flags.now) (from 0 slots)) ≤ length rows.old) }
     ensures { rows.new ≡ put rows.old 0 (keep (flagged flags.now) (from 0 slots)) }
 {
-    let mut i = 0;
     let mut n = 0;
-    while i < slots {
-        if flags[i] != 0 {
+    for (i, &flag) in flags[..slots].iter().enumerate() {
+        if flag != 0 {
             rows[n] = i;
             n += 1;
         }
-        i += 1;
     }
 }

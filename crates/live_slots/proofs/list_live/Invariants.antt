@@ -1,11 +1,8 @@
 use mathlib.Core.Path.{◌≡◌}
-use Prim.Native.Nat.{◌≤◌, ◌-◌}
+use Prim.Native.Nat.{◌≤◌}
 use lib.ListN.{length}
 use Rattle.live_slots.proofs.Listed.{Listing}
 use Rattle.live_slots.proofs.list_live.Given as goal
 
 abbrev pub invariant-loop-i : goal.invariant-loop-i
-invariant-loop-i l = (l.i ≤ l.slots) × (l.n ≤ l.i) × (length l.rows ≡ length l.initial.rows) × Listing l.flags l.initial.rows l.rows l.i l.n
-
-abbrev pub decreases-loop-i : goal.decreases-loop-i
-decreases-loop-i l = l.slots - l.i
+invariant-loop-i l = (l.n ≤ l.i) × (length l.rows ≡ length l.initial.rows) × Listing l.flags l.initial.rows l.rows l.i l.n
