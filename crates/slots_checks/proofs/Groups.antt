@@ -11,11 +11,10 @@ use lib.Dec.{eqb}
 use Rattle.lists.specs.Lists.{keep, from}
 use Rattle.definition.specs.Tree.{Settings}
 use Rattle.definition.specs.Packed.{BuildSizes, build_stated}
-use Rattle.definition.specs.Refusals.{refused, on, verdict, most_points, settings_tests, points_tests, build_short}
+use Rattle.definition.specs.Refusals.{Refusal, accepted, refused, on, verdict, most_points, settings_tests, points_tests, build_short}
 use Rattle.definition.specs.Table.{Table, flagged, live_slots_lem, unsound, coordinates_short}
 use Rattle.definition.specs.Slots.{rows_not_finite, rows_of, slots_verdict}
 use Rattle.definition_laws.proofs.Accepted.{decides, pass}
-use Rattle.build_checks.specs.Verdicts.{numbered_verdict}
 use Rattle.build_checks.proofs.Laws.{tests-stop, tests-pass}
 
 -- slots on up to three axes
@@ -27,10 +26,10 @@ pub slot-inside : (i n d : ℕ) → i < n → i * d + d ≤ n * d
 slot-inside i n d h = let s : suc i ≤ n = omega arith in omega (arith, mul-le-mul_right d s, suc-mul i d)
 
 -- n rows of d coordinates each are n points, of which none lacks a coordinate
-pub rows-tests : (s : Settings) (n k : ℕ) → 1 ≤ s.dimension
-    → numbered_verdict k ≡ verdict (points_tests s (n * s.dimension / s.dimension) (not (eqb (n * s.dimension % s.dimension) 0))) → numbered_verdict k ≡ verdict (points_tests s n false)
-rows-tests s n k h e =
-    e ∙ ap₂ (λ (m : ℕ) (b : Bool). verdict (points_tests s m b)) (mul-div_cancel n (omega arith)) (ap not (eq-eqb (n * s.dimension % s.dimension) 0 (mul-mod_left n s.dimension)))
+pub rows-tests : (s : Settings) (n : ℕ) → 1 ≤ s.dimension
+    → verdict (points_tests s (n * s.dimension / s.dimension) (not (eqb (n * s.dimension % s.dimension) 0))) ≡ verdict (points_tests s n false)
+rows-tests s n h =
+    ap₂ (λ (m : ℕ) (b : Bool). verdict (points_tests s m b)) (mul-div_cancel n (omega arith)) (ap not (eq-eqb (n * s.dimension % s.dimension) 0 (mul-mod_left n s.dimension)))
 
 -- ---- the whole verdict
 module _ (s : Settings) (t : Table) (lent : BuildSizes) where
@@ -41,15 +40,15 @@ module _ (s : Settings) (t : Table) (lent : BuildSizes) where
   unfolding slots_verdict
   refused-27 e = sym (decides (on (unsound t.head t.flags) 27) _ e)
 
-  module _ (sound : unsound t.head t.flags ≡ false) (k : ℕ) (e : numbered_verdict k ≡ verdict (settings_tests s ++ points_tests s t.head.live false)) where
-    pub refused-9 : 0 < k → refused (record { number = k; place = 0 }) ≡ slots_verdict s t lent
+  module _ (sound : unsound t.head t.flags ≡ false) where
+    pub refused-9 : (r : Refusal) → refused r ≡ verdict (settings_tests s ++ points_tests s t.head.live false) → refused r ≡ slots_verdict s t lent
     unfolding slots_verdict
-    refused-9 h = tests-stop s t.head.live false _ _ k e h ∙ sym (pass (on (unsound t.head t.flags) 27) _ sound)
+    refused-9 r e = tests-stop s t.head.live false _ _ r e ∙ sym (pass (on (unsound t.head t.flags) 27) _ sound)
 
-    module _ (h : k ≤ 0) where
+    module _ (e : accepted ≡ verdict (settings_tests s ++ points_tests s t.head.live false)) where
       last-two : slots_verdict s t lent ≡ verdict (on lacking 11 ∷ rows_not_finite s.dimension t.coordinates (rows_of t) ∷ [])
       unfolding slots_verdict
-      last-two = pass (on (unsound t.head t.flags) 27) _ sound ∙ tests-pass s t.head.live false _ _ k e h
+      last-two = pass (on (unsound t.head t.flags) 27) _ sound ∙ sym (tests-pass s t.head.live false _ _ e)
 
       pub refused-11 : lacking ≡ true → refused (record { number = 11; place = 0 }) ≡ slots_verdict s t lent
       refused-11 l = sym (last-two ∙ decides (on lacking 11) _ l)

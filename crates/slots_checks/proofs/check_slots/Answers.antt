@@ -6,6 +6,7 @@ use native.Mathlib.Omega.{arith}
 use native.Mathlib.Nat.{le_trans, mul-le-mul_right}
 use borrow.Author.Tests.{ltb-false}
 use lib.ListN.{length}
+use Rattle.std.proofs.lemmas.Result.{err_from_is_err_and}
 use Rattle.lists.proofs.Tests.{or-none}
 use Rattle.definition.specs.Packed.{build_stated}
 use Rattle.definition.specs.Refusals.{build_short}
@@ -18,55 +19,42 @@ use Rattle.table_laws.proofs.Slots.{live-most}
 use Rattle.slots_checks.proofs.Groups.{refused-27, refused-9, refused-11, judged-last}
 use Rattle.slots_checks.proofs.check_slots.Goals as goal
 
-pub returns-then-sounded : goal.returns-then-sounded
-returns-then-sounded c = let P = c.args in
-    let s = settings_of_lem P.dimensions P.params in
-    let t = table_of P.slots P.live P.flags.now P.coordinates.now in
-    refused-27 s t (sizes_of P.lent) (sym c.sound-sounded.ensures.refuses ∙ c.if-sounded.true)
+pub returns-in_default : goal.returns-in_default
+returns-in_default c = let P = c.args in
+    refused-27 (settings_of_lem P.dimensions P.params) (table_of P.slots P.live P.flags.now P.coordinates.now) (sizes_of P.lent) c.in_default.ensures
 
-pub rows_fault-number-requires : goal.rows_fault-number-requires
-rows_fault-number-requires c = let P = c.args in
-    let sound = sym c.sound-sounded.ensures.refuses ∙ c.if-sounded.false in
-    let held = sound-table (head_of P.slots P.live) P.flags.now sound in
-    omega (arith, held.within, live-most (head_of P.slots P.live) P.flags.now sound)
+pub rows_fault-requires : goal.rows_fault-requires
+rows_fault-requires c = let P = c.args in
+    live-most (head_of P.slots P.live) P.flags.now c.in-Some.ensures.0
 
-pub returns-then-number-gt0 : goal.returns-then-number-gt0
-returns-then-number-gt0 c = let P = c.args in
-    let s = settings_of_lem P.dimensions P.params in
-    let t = table_of P.slots P.live P.flags.now P.coordinates.now in
-    let sound = sym c.sound-sounded.ensures.refuses ∙ c.if-sounded.false in
-    refused-9 s t (sizes_of P.lent) sound c.rows_fault-number.result c.rows_fault-number.ensures.number c.if-number-gt0.true
+pub returns-in_err-rows_fault : goal.returns-in_err-rows_fault
+returns-in_err-rows_fault c = let P = c.args in
+    let p = err_from_is_err_and c.from_residual.result c.from_residual.ensures.1 in
+    rw (p.1, p.2)
+    (refused-9 (settings_of_lem P.dimensions P.params) (table_of P.slots P.live P.flags.now P.coordinates.now) (sizes_of P.lent) c.in-Some.ensures.0 _ c.in_err-rows_fault.ensures.number)
 
 pub any_short-requires : goal.any_short-requires
 any_short-requires c = let P = c.args in
-    let sound = sym c.sound-sounded.ensures.refuses ∙ c.if-sounded.false in
-    let f = c.rows_fault-number.ensures.fine (omega (arith, c.if-number-gt0.false)) in
-    (f.1, live-most (head_of P.slots P.live) P.flags.now sound, f.2)
+    let f = c.in_ok-rows_fault.ensures.fine in
+    (f.1, live-most (head_of P.slots P.live) P.flags.now c.in-Some.ensures.0, f.2)
 
 pub returns-then-any_short : goal.returns-then-any_short
 returns-then-any_short c = let P = c.args in
-    let s = settings_of_lem P.dimensions P.params in
-    let t = table_of P.slots P.live P.flags.now P.coordinates.now in
-    let sound = sym c.sound-sounded.ensures.refuses ∙ c.if-sounded.false in
-    refused-11 s t (sizes_of P.lent) sound c.rows_fault-number.result c.rows_fault-number.ensures.number c.if-number-gt0.false (sym c.any_short.ensures ∙ c.if-any_short.true)
+    refused-11 (settings_of_lem P.dimensions P.params) (table_of P.slots P.live P.flags.now P.coordinates.now) (sizes_of P.lent) c.in-Some.ensures.0 c.in_ok-rows_fault.ensures.number (sym c.any_short.ensures ∙ c.if-any_short.true)
 
 pub judge_slots-requires : goal.judge_slots-requires
 judge_slots-requires c = let P = c.args in
     let s = settings_of_lem P.dimensions P.params in
     let t = table_of P.slots P.live P.flags.now P.coordinates.now in
-    let held = sound-table (head_of P.slots P.live) P.flags.now (sym c.sound-sounded.ensures.refuses ∙ c.if-sounded.false) in
-    let f = c.rows_fault-number.ensures.fine (omega (arith, c.if-number-gt0.false)) in
+    let held = sound-table (head_of P.slots P.live) P.flags.now c.in-Some.ensures.0 in
     let long : coordinates_short P.dimensions t ≡ false = (or-none (build_short (sizes_of P.lent) (build_stated P.dimensions P.live s.neighbours)) (coordinates_short P.dimensions t) (sym c.any_short.ensures ∙ c.if-any_short.false)).1 in (
       omega (arith, held.within),
       le_trans (mul-le-mul_right P.dimensions held.within) (ltb-false (length P.coordinates.now) (capacity P.flags.now * P.dimensions) long),
       omega (arith, held.within),
-      f.1,
+      c.in_ok-rows_fault.ensures.fine.1,
     )
 
 pub returns : goal.returns
 returns c = let P = c.args in
-    let s = settings_of_lem P.dimensions P.params in
-    let t = table_of P.slots P.live P.flags.now P.coordinates.now in
-    let sound = sym c.sound-sounded.ensures.refuses ∙ c.if-sounded.false in
     c.judge_slots.ensures
-    ∙ judged-last s t (sizes_of P.lent) sound c.rows_fault-number.result c.rows_fault-number.ensures.number c.if-number-gt0.false (sym c.any_short.ensures ∙ c.if-any_short.false)
+    ∙ judged-last (settings_of_lem P.dimensions P.params) (table_of P.slots P.live P.flags.now P.coordinates.now) (sizes_of P.lent) c.in-Some.ensures.0 c.in_ok-rows_fault.ensures.number (sym c.any_short.ensures ∙ c.if-any_short.false)

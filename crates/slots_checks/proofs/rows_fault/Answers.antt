@@ -1,30 +1,18 @@
 -- `slots_checks::rows_fault` meets its contract. Assumes nothing.
-use native.Mathlib.Omega.{arith}
+use mathlib.Core.Path.{◌∙◌}
+use Rattle.std.proofs.lemmas.Result.{err_from_is_err_and}
 use Rattle.definition.specs.Refusals.{settings_tests}
 use Rattle.config.specs.Params.{settings_of_lem}
 use Rattle.build_checks.proofs.Laws.{fault-first, fault-second}
-use Rattle.slots_checks.proofs.Groups.{slots-times, rows-tests}
+use Rattle.slots_checks.proofs.Groups.{rows-tests}
 use Rattle.slots_checks.proofs.rows_fault.Goals as goal
 
-pub returns-then-settings-gt0 : goal.returns-then-settings-gt0
-returns-then-settings-gt0 c = let P = c.args in
-    record {
-      number = fault-first (settings_tests (settings_of_lem P.dimensions P.params)) _ _ c.settings_fault-settings.ensures.number c.if-settings-gt0.true;
-      fine = λ e. absurd (omega (arith, c.if-settings-gt0.true));
-    }
+pub returns-in_err-settings_fault-clause-number : goal.returns-in_err-settings_fault-clause-number
+returns-in_err-settings_fault-clause-number c = let P = c.args in
+    let p = err_from_is_err_and c.from_residual.result c.from_residual.ensures.1 in
+    rw (p.1, p.2) (fault-first (settings_tests (settings_of_lem P.dimensions P.params)) _ _ c.in_err-settings_fault.ensures.number)
 
-pub overflow_mul-live : goal.overflow_mul-live
-overflow_mul-live c = let P = c.args in
-    let f = c.settings_fault-settings.ensures.fine (omega (arith, c.if-settings-gt0.false)) in
-    omega (arith, slots-times P.live P.dimensions c.requires f.1)
-
-pub points_fault-requires : goal.points_fault-requires
-points_fault-requires c = let f = c.settings_fault-settings.ensures.fine (omega (arith, c.if-settings-gt0.false)) in (f.0, f.2)
-
-pub returns : goal.returns
-returns c = let P = c.args in
+pub returns-clause-number : goal.returns-clause-number
+returns-clause-number c = let P = c.args in
     let s = settings_of_lem P.dimensions P.params in
-    let f = c.settings_fault-settings.ensures.fine (omega (arith, c.if-settings-gt0.false)) in record {
-      number = fault-second (settings_tests s) _ _ c.settings_fault-settings.ensures.number c.if-settings-gt0.false c.points_fault.result (rows-tests s P.live c.points_fault.result f.0 c.points_fault.ensures.number);
-      fine = λ e. (f.0, f.1, f.3);
-    }
+    c.points_fault.ensures.number ∙ rows-tests s P.live c.in_ok-settings_fault.ensures.fine.0 ∙ fault-second (settings_tests s) _ c.in_ok-settings_fault.ensures.number
