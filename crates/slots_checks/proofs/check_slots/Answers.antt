@@ -25,7 +25,8 @@ returns-in_default c = let P = c.args in
 
 pub rows_fault-requires : goal.rows_fault-requires
 rows_fault-requires c = let P = c.args in
-    live-most (head_of P.slots P.live) P.flags.now c.in-Some.ensures.0
+    let held = sound-table (head_of P.slots P.live) P.flags.now c.in-Some.ensures.0 in
+    omega (arith, held.within, live-most (head_of P.slots P.live) P.flags.now c.in-Some.ensures.0)
 
 pub returns-in_err-rows_fault : goal.returns-in_err-rows_fault
 returns-in_err-rows_fault c = let P = c.args in
