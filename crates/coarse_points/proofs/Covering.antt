@@ -1,11 +1,11 @@
 -- The covers of what leaves send up: of one leaf, leaf after leaf behind the working room, and as the definition has them. Assumes
 -- nothing.
--- Holds: cover-empty, cover-unsent, leaf-sampled, leaf-lent, room-length, covers-first, covers-next, covers-zip
+-- Holds: cover-empty, cover-unsent, leaf-sampled, leaf-lent, covers-first, covers-next, covers-zip
 use mathlib.Core.Path.{◌≡◌, refl, sym, ap, ◌∙◌}
 use mathlib.Core.List.{List, [], ◌∷◌, ◌++◌, map, zip_with}
 use Prim.Native.Nat.{ℕ, ◌+◌, ◌≤◌, ◌<◌}
 use native.Mathlib.Omega.{arith}
-use lib.ListN.{length, get_or, set, take, drop, length-append, length-drop, length-set}
+use lib.ListN.{length, get_or, set, take, drop, length-append, length-drop}
 use lib.Seq.{drop_at}
 use lib.Ieee.{Float}
 use Rattle.lists.specs.Lists.{from, part, put}
@@ -59,10 +59,6 @@ module _ (d : ℕ) (cs : List Float) where
       (w ∙ ap (λ (z : List ℕ). put old at (sent_by d cs z quota)) e, f ∙ ap (λ (z : List ℕ). leaf_cover d cs z (sent_by d cs z quota)) e)
 
 -- ---- leaf after leaf: a cover at a + l, behind the room of a floats, which the sampling left otherwise
-pub room-length : (floats room : List Float) (a l : ℕ) (x : Float) → length room ≡ a → a ≤ length floats → length (set (room ++ drop a floats) (a + l) x) ≡ length floats
-room-length floats room a l x e h =
-    length-set (room ++ drop a floats) (a + l) x ∙ omega (arith, length-append room (drop a floats), length-drop a floats)
-
 module _ (d : ℕ) (cs : List Float) (I D : List ℕ) (first : ℕ) (shares : List ℕ) where
   abbrev covers : ℕ → Float
   covers l = leaf_cover d cs (own_at I D (first + l)) (sent_by d cs (own_at I D (first + l)) (get_or shares l 0))

@@ -16,11 +16,8 @@ fn copy_sizes(domains: &[usize], first: usize, m: usize, wholes: &mut [usize])
     requires { (row_numbers * (first + m) ≤ length domains.now) × (m ≤ length wholes.old) }
     ensures { take m wholes.new ≡ counts_at domains.now first m }
 {
-    let mut l = 0;
-    while l < m {
-        let row = packed::read_row(domains, first + l);
-        wholes[l] = row.internal_count;
-        l += 1;
+    for l in 0..m {
+        wholes[l] = packed::read_row(domains, first + l).internal_count;
     }
 }
 
@@ -57,11 +54,11 @@ fn sample_leaf(
     ensures sent { level_points.new ≡ put level_points.old at (sent_by dimensions points.now rows.now quota) }
     ensures cover { result ≡ leaf_cover dimensions points.now rows.now (sent_by dimensions points.now rows.now quota) }
 {
-    if rows.len() < 1 {
+    if rows.is_empty() {
         return 0.0;
     }
-    if quota < 1 {
-        return 1.0 / 0.0;
+    if quota == 0 {
+        return f64::INFINITY;
     }
     let seed = sampling_seed::sampling_seed(points, dimensions, rows);
     sampling_rounds::sample_rows(
@@ -128,10 +125,8 @@ fn send_leaves(
     ensures covers { part floats.new a m ≡ covers_at dimensions points.now internals.now domains.now first shares.now m }
 {
     let mut end = at;
-    let mut l = 0;
-    while l < m {
-        let quota = shares[l];
-        let cover = send_leaf(
+    for (l, &quota) in shares[..m].iter().enumerate() {
+        floats[a + l] = send_leaf(
             points,
             dimensions,
             level_points,
@@ -142,9 +137,7 @@ fn send_leaves(
             quota,
             &mut floats[..a],
         );
-        floats[a + l] = cover;
         end += quota;
-        l += 1;
     }
     end
 }
