@@ -1,4 +1,2 @@
--- Laws of loops over rows, of rows that stand in bytes, and of rows that are put back.
-pub mod Loops
+-- Laws of rows that stand in bytes.
 pub mod InBytes
-pub mod PutBack

@@ -1,5 +1,5 @@
 -- The least row that may stand at an index. Assumes nothing.
--- Holds: first-follows, next-follows, asking-after, taking-after, too-low, not_low
+-- Holds: first_follows, next_follows, asking-after, taking-after, too-low, not_low
 use mathlib.Core.Path.{◌≡◌, refl, sym, ap, subst, ◌∙◌}
 use mathlib.Core.Bool.{Bool, true, false}
 use Prim.Native.Nat.{ℕ, zero, suc, ◌+◌, ◌≤◌, ◌<◌}
@@ -8,17 +8,17 @@ use native.Mathlib.Omega.{arith}
 use mathlib.Core.List.{List}
 use lib.Dec.{leb, ltb}
 use borrow.Author.Tests.{leb-true, leb-false, le-leb}
-use Rattle.file_rows.proofs.Loops.{Asking, Taking}
-use Rattle.list_rows.specs.Order.{least_after}
+use Rattle.row_sets.proofs.Loops.{Asking, Taking}
+use Rattle.row_sets.specs.Order.{least_after}
 
-pub first-follows : (i last row : ℕ) → i ≡ 0 → true ≡ leb (least_after i last) row
+pub first_follows : (i last row : ℕ) → i ≡ 0 → true ≡ leb (least_after i last) row
 unfolding least_after
-first-follows i last row e = sym (rw e (le-leb 0 row (omega arith)))
+first_follows i last row e = sym (rw e (le-leb 0 row (omega arith)))
 
-pub next-follows : (i last row : ℕ) → (i ≡ 0 → ⊥) → ltb last row ≡ leb (least_after i last) row
+pub next_follows : (i last row : ℕ) → (i ≡ 0 → ⊥) → ltb last row ≡ leb (least_after i last) row
 unfolding least_after
-next-follows zero last row n = absurd (n refl)
-next-follows (suc i) last row n = refl
+next_follows zero last row n = absurd (n refl)
+next_follows (suc i) last row n = refl
 
 least-next : (i row : ℕ) → row + 1 ≡ least_after (i + 1) row
 unfolding least_after

@@ -14,7 +14,7 @@ use Rattle.tree_tests.proofs.Sets as sets
 use Rattle.tree_tests.proofs.Sets.{without-mem}
 use Rattle.marks.specs.Bits.{bit_at, Marked}
 use Rattle.marks.proofs.Marks.{marked-same, unmarked-bit}
-use Rattle.file_rows.specs.Markable.{Markable}
+use Rattle.row_sets.specs.Markable.{Markable}
 
 module _ (rows : List ℕ) {ws : List ℕ} (ascends : Ascends rows) (within : All (λ x. x < 64 * length ws) rows) where
   -- rows that are not in the set can be marked

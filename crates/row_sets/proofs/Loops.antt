@@ -20,7 +20,7 @@ use Rattle.tree_tests.proofs.Taken.{Taken, take-start, take_step, take-low, take
 use Rattle.tree_tests.proofs.Marking.{Fresh, mark-fresh, mark-start, mark-step, mark-end}
 use Rattle.marks.specs.Bits.{bit_at, Marked, TakenOut}
 use Rattle.marks.proofs.Marks.{marked-same, marked-bit, unmarked-bit, held, bits-marked, marked-held}
-use Rattle.file_rows.specs.Markable.{Markable}
+use Rattle.row_sets.specs.Markable.{Markable}
 
 -- ---- a loop that asks for rows: the rows before i passed, and the rest decides
 pub record Asking (rows ws : List ℕ) (least i : ℕ) : Type 0 where

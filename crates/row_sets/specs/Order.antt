@@ -1,4 +1,4 @@
--- The order of rows in a list. Definitions only.
+-- The order of rows. Definitions only.
 use Rattle.std.specs.Prelude.{ℕ, zero, suc}
 
 -- the least row that may stand at index i, where `last` stands before it

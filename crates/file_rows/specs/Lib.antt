@@ -1,2 +1,0 @@
--- What is asked of rows that are marked.
-pub mod Markable

@@ -1,2 +1,0 @@
--- Laws of the order of rows in a list.
-pub mod Order

@@ -1,2 +1,0 @@
--- The order of rows in a list.
-pub mod Order

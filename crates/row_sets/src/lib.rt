@@ -1,0 +1,74 @@
+// Rows that stand one after the other, wherever that is: asked for, marked, and taken out of sets.
+#![tactic(auto)]
+
+ghost use Rattle.std.specs.Prelude.{◌≡◌, Bool, true, ◌||◌, ℕ, ◌<◌, List, leb, length, get_or};
+ghost use Rattle.lists.specs.Lists.{member};
+ghost use Rattle.tree_tests.specs.InTurn.{without, in_order_lem};
+ghost use Rattle.marks.specs.Bits.{bit_at, Marked};
+ghost use Rattle.row_sets.specs.Markable.{Markable};
+ghost use Rattle.row_sets.specs.Order.{least_after};
+
+// Rows in a place of their own: how many they are, and each by its index.
+pub trait Rows {
+    ghost rows: { Self → List ℕ };
+
+    fn count(&self) -> usize
+        ensures { result ≡ length (rows self.now) };
+
+    fn row(&self, i: usize) -> usize
+        requires { i < length (rows self.now) }
+        ensures { result ≡ get_or (rows self.now) i 0 };
+}
+
+// Whether a row may stand at index i, where `last` stands before it.
+#[tactic(auto, using(std::proofs::lemmas::Bool::Decides::nat_tests, crate::proofs::Order::first_follows, crate::proofs::Order::next_follows))]
+fn follows(i: usize, last: usize, row: usize) -> bool
+    ensures { result ≡ leb (least_after i last) row }
+{
+    i == 0 || last < row
+}
+
+// Whether the rows ascend and are all in the set.
+pub fn rows_marked<R: Rows>(rows: &R, words: &[usize]) -> bool
+    ensures { (p : ℕ → Bool) → Marked words.now p → result ≡ in_order_lem 0 p (R.rows rows.now) }
+{
+    let mut last = 0;
+    for i in 0..rows.count() {
+        let row = rows.row(i);
+        if !follows(i, last, row) || !marks::is_marked(words, row) {
+            return false;
+        }
+        last = row;
+    }
+    true
+}
+
+// Marks the rows.
+pub fn mark_rows<R: Rows>(rows: &R, words: &mut [usize])
+    requires { Markable (R.rows rows.now) words.old }
+    ensures { (p : ℕ → Bool) → Marked words.old p → Marked words.new (λ i. p i || member i (R.rows rows.now)) }
+{
+    for i in 0..rows.count() {
+        let row = rows.row(i);
+        marks::mark(words, row);
+    }
+}
+
+// Takes the rows out of two sets, where they ascend and are all in the first, and says whether they are.
+pub fn take_rows<R: Rows>(rows: &R, left: &mut [usize], listed: &mut [usize]) -> bool
+    requires { (length left.old ≡ length listed.old) × ((i : ℕ) → bit_at left.old i ≡ 1 → bit_at listed.old i ≡ 1) }
+    ensures { (p q : ℕ → Bool) → Marked left.old p → Marked listed.old q
+        → (result ≡ in_order_lem 0 p (R.rows rows.now))
+        × (result ≡ true → Marked left.new (without (R.rows rows.now) p)
+        × Marked listed.new (without (R.rows rows.now) q)) }
+{
+    let mut last = 0;
+    for i in 0..rows.count() {
+        let row = rows.row(i);
+        if !follows(i, last, row) || !marks::take_out(left, listed, row) {
+            return false;
+        }
+        last = row;
+    }
+    true
+}
