@@ -1,5 +1,6 @@
 -- Domain records tested one after the other: those before i passed, and the rest decides. Assumes nothing.
 -- Holds: and-apart, Tested, tested-start, tested-bad, tested-enough, tested-fits, tested-next, tested-left, tested-end
+use Rattle.std.specs.Prelude.{Option, Some, None, is_some}
 use mathlib.Core.Path.{◌≡◌, refl, sym, ap, ap₂, ◌∙◌}
 use mathlib.Core.Bool.{Bool, true, false, ◌&&◌, and-false}
 use Prim.Native.Nat.{ℕ, suc, ◌+◌, ◌-◌, ◌*◌, ◌≤◌, ◌<◌}
@@ -10,7 +11,6 @@ use lib.ListN.{length, drop, length-append}
 use lib.Seq.{drop-drop}
 use borrow.Author.Tests.{eq-eqb, ne_eqb}
 use Rattle.lists.specs.Lists.{joined}
-use Rattle.lists.proofs.Tests.{clash}
 use Rattle.lists.proofs.Joined.{joined-cons}
 use Rattle.formats.specs.Bytes.{number_size, whole}
 use Rattle.stored.specs.File.{domain_mark}
@@ -22,8 +22,9 @@ use Rattle.tree_tests.proofs.Sets.{without_in}
 use Rattle.marks.specs.Bits.{Marked}
 use Rattle.marks.proofs.Marks.{held, bits-marked, marked-held}
 use Rattle.file_domains.specs.declared.Passed.{Passed}
-use Rattle.file_domains.specs.Domains.{Inside, DomainHere, DomainPassed, DomainsPassed, borrowed_rows, last_depth, not_passed_lem}
-use Rattle.file_domains.proofs.RowTests.{inside-sets, sets-inside}
+use Rattle.row_sets.specs.Tested.{Inside}
+use Rattle.file_domains.specs.Domains.{DomainHere, DomainPassed, DomainsPassed, borrowed_rows, last_depth}
+use Rattle.row_sets.proofs.RowTests.{inside-sets, sets-inside}
 use Rattle.file_domains.proofs.OneDomain.{own-enough, domain-room}
 
 -- ---- the tests of m records from the front of bytes on
@@ -106,18 +107,16 @@ module _ (file : List ℕ) (at m d : ℕ) (coarse : Bool) (rows : ℕ) (old-left
   abbrev here : List ℕ
   here = drop next file
 
-  abbrev Whole : (p q : ℕ → Bool) (listed : List ℕ) (r : Passed) → Type 0
+  abbrev Whole : (p q : ℕ → Bool) (listed : List ℕ) (r : Option Passed) → Type 0
   Whole p q new r = DomainsPassed file at m d coarse rows p q new r
 
-  refused : (p q : ℕ → Bool) (new : List ℕ) (r : Passed) → Marked old-left p → Marked old-listed q → r ≡ not_passed_lem
-      → answer d coarse rows q (held left) remaining least (m - i) here ≡ false → Whole p q new r
-  refused p q new r a b n g =
-      let bad : r.good ≡ false = ap (λ (x : Passed). x.good) n in
-      record { tests = bad ∙ sym g ∙ s.rest p q a b; passed = λ t. clash t bad; none = λ _. n }
+  refused : (p q : ℕ → Bool) (new : List ℕ) → Marked old-left p → Marked old-listed q
+      → answer d coarse rows q (held left) remaining least (m - i) here ≡ false → Whole p q new None
+  refused p q new a b g = record { tests = sym g ∙ s.rest p q a b; passed = tt }
 
   -- ---- record i
-  module _ (h : i < m) (new-left new-listed : List ℕ) (f : Passed)
-      (said : (p q : ℕ → Bool) → Marked left p → Marked listed q → DomainPassed file next d coarse rows least remaining p q new-left new-listed f) where
+  module _ (h : i < m) (new-left new-listed : List ℕ) (o : Option Passed)
+      (said : (p q : ℕ → Bool) → Marked left p → Marked listed q → DomainPassed file next d coarse rows least remaining p q new-left new-listed o) where
     one_less : m - i ≡ suc (m - (i + 1))
     one_less = omega arith
 
@@ -127,17 +126,17 @@ module _ (file : List ℕ) (at m d : ℕ) (coarse : Bool) (rows : ℕ) (old-left
     split : (q : ℕ → Bool) → answer d coarse rows q (held left) remaining least (m - i) here ≡ first d coarse rows q (held left) remaining least here && behind q
     split q = ap (λ (k : ℕ). answer d coarse rows q (held left) remaining least k here) one_less ∙ first-and-rest d coarse rows q (held left) remaining least (m - (i + 1)) here
 
-    told : (q : ℕ → Bool) → Marked old-listed q → f.good ≡ first d coarse rows q (held left) remaining least here
+    told : (q : ℕ → Bool) → Marked old-listed q → is_some o ≡ first d coarse rows q (held left) remaining least here
     told q b = (said (held left) q (bits-marked left) (s.listed_set q b)).tests
 
     -- it does not pass
-    pub tested-bad : f.good ≡ false → (p q : ℕ → Bool) (r : Passed) → Marked old-left p → Marked old-listed q → r ≡ not_passed_lem → Whole p q new-listed r
-    tested-bad g p q r a b n = refused p q new-listed r a b n (split q ∙ ap (λ (x : Bool). x && behind q) (sym (told q b) ∙ g))
+    pub tested-bad : o ≡ None → (p q : ℕ → Bool) → Marked old-left p → Marked old-listed q → Whole p q new-listed None
+    tested-bad g p q a b = refused p q new-listed a b (split q ∙ ap (λ (x : Bool). x && behind q) (sym (told q b) ∙ ap is_some g))
 
     -- it does
-    module _ (g : f.good ≡ true) where
+    module _ (f : Passed) (g : o ≡ Some f) where
       domain : (q : ℕ → Bool) → Marked listed q → DomainHere file next d coarse (held left) q new-left new-listed f
-      domain q b = (said (held left) q (bits-marked left) b).passed g
+      domain q b = (rw g at (said (held left) q (bits-marked left) b)).passed
 
       abbrev one : DomainHere file next d coarse (held left) (held listed) new-left new-listed f
       one = domain (held listed) (bits-marked listed)
@@ -156,7 +155,7 @@ module _ (file : List ℕ) (at m d : ℕ) (coarse : Bool) (rows : ℕ) (old-left
 
       -- as many rows as it has are left, and it lies in the file with its borrowed rows and those before
       pub tested-enough : f.own ≤ remaining
-      tested-enough = own-enough file next d coarse rows least remaining (held left) (held listed) new-left new-listed f (said (held left) (held listed) (bits-marked left) (bits-marked listed)) g
+      tested-enough = own-enough file next d coarse rows least remaining (held left) (held listed) new-left new-listed f (rw g at (said (held left) (held listed) (bits-marked left) (bits-marked listed)))
 
       pub tested-fits : borrowed + f.borrowed ≤ length file
       tested-fits = omega (arith, s.room, one.within, domain-room file next d coarse (held left) (held listed) new-left new-listed f one)
@@ -182,7 +181,7 @@ module _ (file : List ℕ) (at m d : ℕ) (coarse : Bool) (rows : ℕ) (old-left
             depth-last =
                 ap₂ (λ (e : ℕ) (bs : List ℕ). last_depth e (leaves_at_lem d coarse (m - (i + 1)) bs)) one.depth (sym after-it)
                 ∙ sym (depth-first least d coarse (m - (i + 1)) here) ∙ sym (ap (λ (k : ℕ). last_depth least (leaves_at_lem d coarse k here)) one_less) ∙ s.depth-last;
-            rest = λ p q a b. sym (now-left q) ∙ sym (ap (λ (x : Bool). x && behind q) (sym (told q b) ∙ g)) ∙ sym (split q) ∙ s.rest p q a b;
+            rest = λ p q a b. sym (now-left q) ∙ sym (ap (λ (x : Bool). x && behind q) (sym (told q b) ∙ ap is_some g)) ∙ sym (split q) ∙ s.rest p q a b;
           }
 
   -- ---- after the last record
@@ -195,26 +194,25 @@ module _ (file : List ℕ) (at m d : ℕ) (coarse : Bool) (rows : ℕ) (old-left
     all_told q = ap (λ (k : ℕ). answer d coarse rows q (held left) remaining least k here) none_left
 
     -- rows are left
-    pub tested-left : (remaining ≡ 0 → ⊥) → (p q : ℕ → Bool) (r : Passed) → Marked old-left p → Marked old-listed q → r ≡ not_passed_lem → Whole p q listed r
-    tested-left k p q r a b n = refused p q listed r a b n (all_told q ∙ ne_eqb remaining 0 k)
+    pub tested-left : (remaining ≡ 0 → ⊥) → (p q : ℕ → Bool) → Marked old-left p → Marked old-listed q → Whole p q listed None
+    tested-left k p q a b = refused p q listed a b (all_told q ∙ ne_eqb remaining 0 k)
 
     -- none is
-    pub tested-end : i ≤ m → remaining ≡ 0 → (p q : ℕ → Bool) (r : Passed) → Marked old-left p → Marked old-listed q
-        → r ≡ record { good = true; next = next; own = rows; borrowed = borrowed; depth = least } → Whole p q listed r
+    pub tested-end : i ≤ m → remaining ≡ 0 → (p q : ℕ → Bool) → Marked old-left p → Marked old-listed q
+        → Whole p q listed (Some (record { next = next; own = rows; borrowed = borrowed; depth = least }))
     unfolding after_leaves leaves_at_lem
-    tested-end l z p q r a b g =
+    tested-end l z p q a b =
         let e : i ≡ m = omega arith in
         record {
-          tests = ap (λ (x : Passed). x.good) g ∙ sym (all_told q ∙ eq-eqb remaining 0 z) ∙ s.rest p q a b;
-          passed = λ _.
+          tests = sym (all_told q ∙ eq-eqb remaining 0 z) ∙ s.rest p q a b;
+          passed =
               record {
-                after = ap (λ (x : Passed). drop x.next file) g ∙ sym (ap (λ (k : ℕ). after_leaves d coarse k here) none_left) ∙ s.after;
-                within = omega (arith, ap (λ (x : Passed). x.next) g, s.within);
-                past = omega (arith, e, ap (λ (x : Passed). x.next) g, ap (λ (x : Passed). x.borrowed) g, s.room);
-                own = ap (λ (x : Passed). x.own) g;
-                borrowed = ap (λ (x : Passed). x.borrowed) g ∙ omega (arith, s.borrowed-all, ap (λ (k : ℕ). length (borrowed_rows (leaves_at_lem d coarse k here))) none_left ∙ borrowed-none d coarse here);
-                depth = ap (λ (x : Passed). x.depth) g ∙ sym (ap (λ (k : ℕ). last_depth least (leaves_at_lem d coarse k here)) none_left ∙ depth-none least d coarse here) ∙ s.depth-last;
+                after = sym (ap (λ (k : ℕ). after_leaves d coarse k here) none_left) ∙ s.after;
+                within = s.within;
+                past = omega (arith, e, s.room);
+                own = refl;
+                borrowed = omega (arith, s.borrowed-all, ap (λ (k : ℕ). length (borrowed_rows (leaves_at_lem d coarse k here))) none_left ∙ borrowed-none d coarse here);
+                depth = sym (ap (λ (k : ℕ). last_depth least (leaves_at_lem d coarse k here)) none_left ∙ depth-none least d coarse here) ∙ s.depth-last;
                 listed_set = s.listed_set q b;
               };
-          none = λ t. clash (ap (λ (x : Passed). x.good) g) t;
         }

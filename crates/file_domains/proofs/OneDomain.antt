@@ -1,5 +1,6 @@
 -- One domain record tested: one law for each way out. Assumes nothing.
 -- Holds: no_record, too_many, bad-depth, bad-rows, bad-box, domain-good, own-enough, domain-room
+use Rattle.std.specs.Prelude.{Option, Some, None, is_some}
 use mathlib.Core.Path.{◌≡◌, sym, ap, ◌∙◌}
 use mathlib.Core.Bool.{Bool, true, false, not, ◌&&◌, and-false, and_assoc}
 use Prim.Native.Nat.{ℕ, ◌+◌, ◌*◌, ◌≤◌, ◌<◌}
@@ -10,7 +11,7 @@ use lib.ListN.{length, drop, replicate}
 use lib.Ieee.{Float, is_nan, binary64, to_bits}
 use borrow.Author.Tests.{leb-true, le-leb, lt-leb, eq-eqb}
 use Rattle.lists.specs.Lists.{any_of, from}
-use Rattle.lists.proofs.Tests.{clash, and-of, and-snd, or-false, three-pass}
+use Rattle.lists.proofs.Tests.{and-of, and-snd, or-false, three-pass}
 use Rattle.definition.specs.Number.{plus_zero}
 use Rattle.definition.specs.Points.{box_width_lem}
 use Rattle.definition.specs.Tree.{Leaf}
@@ -21,13 +22,14 @@ use Rattle.stored.specs.Sound.{sound_box, no_box}
 use Rattle.stored.specs.Stored.{counts_size, first_count_lem, second_count, borrowed_place, bounds_place, depth_place, leaf_in, leaf_size}
 use Rattle.tree_tests.specs.InTurn.{without, in_order_lem, boxed, depth_passes_lem, fitted, leaf_passes}
 use Rattle.tree_tests.proofs.AllRows.{same_self}
-use Rattle.file_rows.proofs.InBytes.{length-rows}
+use Rattle.file_rows.proofs.InBytes.{length_rows}
 use Rattle.file_reader.specs.declared.Fetched.{Fetched}
-use Rattle.file_reader.specs.Fetch.{record_floats_lem, IsFetched}
+use Rattle.file_reader.specs.Fetch.{record_floats_lem, Parts, IsFetched}
 use Rattle.file_reader.proofs.Fetches.{number-here, parts_within}
 use Rattle.file_reader.proofs.LastFloats.{depth-place, leaf-size, fine-floats}
 use Rattle.file_domains.specs.declared.Passed.{Passed}
-use Rattle.file_domains.specs.Domains.{RowsPassed, DomainPassed, DomainHere, not_passed_lem}
+use Rattle.row_sets.specs.Tested.{RowsPassed}
+use Rattle.file_domains.specs.Domains.{DomainPassed, DomainHere}
 use Rattle.bytes_in.proofs.Fields.{length-floats-at, numbers-here, floats-here}
 
 -- ---- the tests of a leaf: the count of its own rows, its rows, its box and depth
@@ -50,7 +52,7 @@ box-tests d false bs =
     ∙ ap (λ (xs : List Float). not (any_of is_nan xs)) (fine-floats d bs)
 
 -- ---- the record that is fetched at a place
-module _ (file : List ℕ) (at d : ℕ) (coarse : Bool) (floats : ℕ) (f : Fetched) (e : floats ≡ record_floats_lem d coarse) (fetched : IsFetched (drop at file) at (float_size * floats) f) where
+module _ (file : List ℕ) (at d : ℕ) (coarse : Bool) (floats : ℕ) (e : floats ≡ record_floats_lem d coarse) where
   abbrev here : List ℕ
   here = drop at file
 
@@ -63,12 +65,12 @@ module _ (file : List ℕ) (at d : ℕ) (coarse : Bool) (floats : ℕ) (f : Fetc
   size_is : bounds_place here + float_size * floats + number_size ≡ leaf_size d coarse here
   size_is = ap (λ (n : ℕ). bounds_place here + float_size * n + number_size) e ∙ sym (leaf-size d coarse here)
 
-  stands-is : f.whole ≡ stands
-  stands-is = fetched.stands ∙ ap (λ (k : ℕ). whole domain_mark k here) size_is
+  stands-is : (r : Option Fetched) → IsFetched here at (float_size * floats) r → is_some r ≡ stands
+  stands-is r fetched = fetched.stands ∙ ap (λ (k : ℕ). whole domain_mark k here) size_is
 
-  module _ (a least remaining : ℕ) (p q : ℕ → Bool) (left listed : List ℕ) (r : Passed) where
-    abbrev Is : Type 0
-    Is = DomainPassed file at d coarse a least remaining p q left listed r
+  module _ (a least remaining : ℕ) (p q : ℕ → Bool) (left listed : List ℕ) where
+    abbrev Is : Option Passed → Type 0
+    Is r = DomainPassed file at d coarse a least remaining p q left listed r
 
     abbrev fit : Leaf → Bool
     fit = fitted d coarse a least
@@ -76,56 +78,57 @@ module _ (file : List ℕ) (at d : ℕ) (coarse : Bool) (floats : ℕ) (f : Fetc
     abbrev passes : Bool
     passes = leaf_passes fit q p remaining leaf
 
-    refused : r ≡ not_passed_lem → stands && passes ≡ false → Is
-    refused n g =
-        let bad : r.good ≡ false = ap (λ (x : Passed). x.good) n in
-        record { tests = bad ∙ sym g; passed = λ t. clash t bad; none = λ _. n }
+    refused : stands && passes ≡ false → Is None
+    refused g = record { tests = sym g; passed = tt }
 
     -- no whole record stands there
-    pub no_record : f.whole ≡ false → r ≡ not_passed_lem → Is
-    no_record w n = let g : stands ≡ false = sym stands-is ∙ w in refused n (rw g)
+    pub no_record : IsFetched here at (float_size * floats) None → Is None
+    no_record w = let g : stands ≡ false = sym (stands-is None w) in refused (rw g)
 
-    module _ (w : f.whole ≡ true) where
+    module _ (f : Fetched) (fetched : IsFetched here at (float_size * floats) (Some f)) where
+      abbrev parts : Parts here at (float_size * floats) f
+      parts = fetched.parts
+
       own-length : length leaf.own ≡ f.own
       unfolding leaf_in
-      own-length = length-rows (first_count_lem here) counts_size here ∙ sym (fetched.parts w).own
+      own-length = length_rows (first_count_lem here) counts_size here ∙ sym parts.own
 
       borrowed-length : length leaf.borrowed ≡ f.borrowed
       unfolding leaf_in
-      borrowed-length = length-rows (second_count here) (borrowed_place here) here ∙ sym (fetched.parts w).borrowed
+      borrowed-length = length_rows (second_count here) (borrowed_place here) here ∙ sym parts.borrowed
 
-      failed : passes ≡ false → r ≡ not_passed_lem → Is
-      failed g n = refused n (rw g (and-false stands))
+      failed : passes ≡ false → Is None
+      failed g = refused (rw g (and-false stands))
 
       -- fewer rows are left than it has
-      pub too_many : remaining < f.own → r ≡ not_passed_lem → Is
-      too_many h n =
+      pub too_many : remaining < f.own → Is None
+      too_many h =
           let g : leb (length leaf.own) remaining ≡ false = lt-leb (length leaf.own) remaining (omega (arith, own-length)) in
-          failed (leaf-tests fit q p remaining leaf ∙ rw g) n
+          failed (leaf-tests fit q p remaining leaf ∙ rw g)
 
       depth-here : number_at f.depth_at file ≡ leaf.depth
       unfolding leaf_in
       depth-here =
-          let place : f.depth_at ≡ at + depth_place d coarse here = omega (arith, (fetched.parts w).depth_at, e, depth-place d coarse here) in
+          let place : f.depth_at ≡ at + depth_place d coarse here = omega (arith, parts.depth_at, e, depth-place d coarse here) in
           ap (λ (k : ℕ). number_at k file) place ∙ number-here at file (depth_place d coarse here)
 
       own-here : numbers_at f.own f.own_at file ≡ leaf.own
       unfolding leaf_in
-      own-here = rw ((fetched.parts w).own, (fetched.parts w).own_at) (numbers-here at file (first_count_lem here) counts_size)
+      own-here = rw (parts.own, parts.own_at) (numbers-here at file (first_count_lem here) counts_size)
 
       borrowed-here : numbers_at f.borrowed f.borrowed_at file ≡ leaf.borrowed
       unfolding leaf_in
-      borrowed-here = rw ((fetched.parts w).borrowed, (fetched.parts w).borrowed_at) (numbers-here at file (second_count here) (borrowed_place here))
+      borrowed-here = rw (parts.borrowed, parts.borrowed_at) (numbers-here at file (second_count here) (borrowed_place here))
 
       module _ (enough : f.own ≤ remaining) (depth : ℕ) (read : depth ≡ number_at f.depth_at file) (dp : Bool) (tested : dp ≡ depth_passes_lem coarse a least f.own depth) where
         depth_is : dp ≡ depth_passes_lem coarse a least (length leaf.own) leaf.depth
         depth_is = rw (own-length, ← depth-here, ← read) tested
 
         -- its depth does not pass
-        pub bad-depth : dp ≡ false → r ≡ not_passed_lem → Is
-        bad-depth b n =
+        pub bad-depth : dp ≡ false → Is None
+        bad-depth b =
             let z : fit leaf ≡ false = rw (← depth_is, b) (and-false (boxed d coarse leaf)) in
-            failed (leaf-tests fit q p remaining leaf ∙ rw z (and-false (leb (length leaf.own) remaining && (in_order_lem 0 p leaf.own && in_order_lem 0 (without leaf.own q) leaf.borrowed)))) n
+            failed (leaf-tests fit q p remaining leaf ∙ rw z (and-false (leb (length leaf.own) remaining && (in_order_lem 0 p leaf.own && in_order_lem 0 (without leaf.own q) leaf.borrowed))))
 
         module _ (good-depth : dp ≡ true) (rp : Bool) (told : RowsPassed (numbers_at f.own f.own_at file) (numbers_at f.borrowed f.borrowed_at file) p q left listed rp) where
           rows : RowsPassed leaf.own leaf.borrowed p q left listed rp
@@ -138,54 +141,53 @@ module _ (file : List ℕ) (at d : ℕ) (coarse : Bool) (floats : ℕ) (f : Fetc
           leaf-is = leaf-tests fit q p remaining leaf ∙ rw (enough-is, ← rows.tests)
 
           -- its rows do not pass
-          pub bad-rows : rp ≡ false → r ≡ not_passed_lem → Is
-          bad-rows b n = failed (leaf-is ∙ rw b) n
+          pub bad-rows : rp ≡ false → Is None
+          bad-rows b = failed (leaf-is ∙ rw b)
 
           module _ (good-rows : rp ≡ true) (bp : Bool) (asked : bp ≡ not (any_of is_nan (floats_at floats f.bounds_at file))) where
             box-is : bp ≡ boxed d coarse leaf
             box-is =
                 asked
                 ∙ ap (λ (xs : List Float). not (any_of is_nan xs))
-                (rw (e, (fetched.parts w).bounds_at) (floats-here at file (record_floats_lem d coarse) (bounds_place here)))
+                (rw (e, parts.bounds_at) (floats-here at file (record_floats_lem d coarse) (bounds_place here)))
                 ∙ sym (box-tests d coarse here)
 
             -- its box or its cover does not
-            pub bad-box : bp ≡ false → r ≡ not_passed_lem → Is
-            bad-box b n = failed (leaf-is ∙ rw (← box-is, b) (and-false rp)) n
+            pub bad-box : bp ≡ false → Is None
+            bad-box b = failed (leaf-is ∙ rw (← box-is, b) (and-false rp))
 
             -- it passes
-            pub domain-good : bp ≡ true → r ≡ record { good = true; next = f.next; own = f.own; borrowed = f.borrowed; depth = depth } → Is
-            domain-good b g =
-                let k = parts_within file at (float_size * floats) f fetched w in
+            pub domain-good : bp ≡ true → Is (Some (record { next = f.next; own = f.own; borrowed = f.borrowed; depth = depth }))
+            domain-good b =
+                let k = parts_within file at (float_size * floats) f fetched in
                 record {
-                  tests = ap (λ (x : Passed). x.good) g ∙ sym (and-of (sym stands-is ∙ w) (leaf-is ∙ and-of good-rows (and-of (sym box-is ∙ b) (sym depth_is ∙ good-depth))));
-                  passed = λ _.
+                  tests = sym (and-of (sym (stands-is (Some f) fetched)) (leaf-is ∙ and-of good-rows (and-of (sym box-is ∙ b) (sym depth_is ∙ good-depth))));
+                  passed =
                       record {
-                        next = ap (λ (x : Passed). x.next) g ∙ omega (arith, (fetched.parts w).next, size_is);
-                        within = omega (arith, ap (λ (x : Passed). x.next) g);
-                        own = ap (λ (x : Passed). x.own) g ∙ sym own-length;
-                        borrowed = ap (λ (x : Passed). x.borrowed) g ∙ sym borrowed-length;
-                        depth = ap (λ (x : Passed). x.depth) g ∙ read ∙ depth-here;
+                        next = omega (arith, parts.next, size_is);
+                        within = omega arith;
+                        own = sym own-length;
+                        borrowed = sym borrowed-length;
+                        depth = read ∙ depth-here;
                         left_set = rows.left_set good-rows;
                         listed_set = rows.listed_set good-rows;
                       };
-                  none = λ t. clash (ap (λ (x : Passed). x.good) g) t;
                 }
 
 -- ---- a domain that passes: its own rows are left, and it takes the bytes of its counts and of its rows
 pub own-enough : (file : List ℕ) (at d : ℕ) (coarse : Bool) (a least remaining : ℕ) (p q : ℕ → Bool) (left listed : List ℕ) (r : Passed)
-    → DomainPassed file at d coarse a least remaining p q left listed r → r.good ≡ true → r.own ≤ remaining
-own-enough file at d coarse a least remaining p q left listed r s g =
+    → DomainPassed file at d coarse a least remaining p q left listed (Some r) → r.own ≤ remaining
+own-enough file at d coarse a least remaining p q left listed r s =
     let here = drop at file in
     let f = leaf_in d coarse here in
     let rows = in_order_lem 0 p f.own && in_order_lem 0 (without f.own q) f.borrowed in
-    let t = and-snd (whole domain_mark (leaf_size d coarse here) here) (leaf_passes (fitted d coarse a least) q p remaining f) (sym s.tests ∙ g) in
+    let t = and-snd (whole domain_mark (leaf_size d coarse here) here) (leaf_passes (fitted d coarse a least) q p remaining f) (sym s.tests) in
     let k = (three-pass (leb (length f.own) remaining) rows (fitted d coarse a least f) (sym (leaf-tests (fitted d coarse a least) q p remaining f) ∙ t)).0 in
-    omega (arith, leb-true (length f.own) remaining k, (s.passed g).own)
+    omega (arith, leb-true (length f.own) remaining k, s.passed.own)
 
 pub domain-room : (file : List ℕ) (at d : ℕ) (coarse : Bool) (p q : ℕ → Bool) (left listed : List ℕ) (r : Passed)
     → DomainHere file at d coarse p q left listed r → at + counts_size + number_size * r.borrowed ≤ r.next
 unfolding leaf_size leaf_in
 domain-room file at d coarse p q left listed r h =
     let here = drop at file in
-    omega (arith, h.next, h.borrowed, length-rows (second_count here) (borrowed_place here) here)
+    omega (arith, h.next, h.borrowed, length_rows (second_count here) (borrowed_place here) here)

@@ -1,29 +1,14 @@
--- Domain records tested in a file: what is asked of the two sets of rows, and what is answered. Definitions only.
-use Rattle.std.specs.Prelude.{◌≡◌, ℕ, ◌+◌, ◌*◌, ◌≤◌, Bool, true, false, ◌&&◌, List, [], ◌∷◌, map, length, drop}
+-- Domain records tested in a file: what is answered. Definitions only.
+use Rattle.std.specs.Prelude.{◌≡◌, ℕ, ◌+◌, ◌*◌, ◌≤◌, Bool, ◌&&◌, List, [], ◌∷◌, map, length, drop, Option, is_some, IfSome}
 use Rattle.lists.specs.Lists.{joined}
 use Rattle.definition.specs.Tree.{Leaf}
 use Rattle.formats.specs.Bytes.{number_size, whole}
 use Rattle.stored.specs.File.{domain_mark}
 use Rattle.stored.specs.Stored.{counts_size, leaf_in, leaf_size, leaves_at_lem, after_leaves}
-use Rattle.tree_tests.specs.InTurn.{without, in_order_lem, fitted, leaf_passes, leaves_pass}
+use Rattle.tree_tests.specs.InTurn.{without, fitted, leaf_passes, leaves_pass}
 use Rattle.tree_tests.specs.Whole.{leaves_whole}
-use Rattle.marks.specs.Bits.{bit_at, Marked}
+use Rattle.marks.specs.Bits.{Marked}
 use Rattle.file_domains.specs.declared.Passed.{Passed}
-
--- the words of two sets are as many, and the first set lies inside the second
-pub record Inside (left listed : List ℕ) : Type 0 where
-  pub same_length : length left ≡ length listed
-  pub among : (i : ℕ) → bit_at left i ≡ 1 → bit_at listed i ≡ 1
-
--- The rows of a domain, tested against what is left, p, and what is listed, q; where they pass, the own rows are out of p, and q is as it was.
-pub record RowsPassed (own borrowed : List ℕ) (p q : ℕ → Bool) (left listed : List ℕ) (r : Bool) : Type 0 where
-  pub tests : r ≡ in_order_lem 0 p own && in_order_lem 0 (without own q) borrowed
-  pub left_set : r ≡ true → Marked left (without own p)
-  pub listed_set : r ≡ true → Marked listed q
-
--- what is answered where records do not pass
-abbrev pub not_passed_lem : Passed
-not_passed_lem = record { good = false; next = 0; own = 0; borrowed = 0; depth = 0 }
 
 -- the domain record at a place, where it passes
 pub record DomainHere (file : List ℕ) (at d : ℕ) (coarse : Bool) (p q : ℕ → Bool) (left listed : List ℕ) (r : Passed) : Type 0 where
@@ -37,12 +22,11 @@ pub record DomainHere (file : List ℕ) (at d : ℕ) (coarse : Bool) (p q : ℕ 
 
 -- Whether it stands whole and passes against what is left, p, `remaining` in number of the level's rows, and what is listed, q, where the domain
 -- before is at depth `least`.
-pub record DomainPassed (file : List ℕ) (at d : ℕ) (coarse : Bool) (rows least remaining : ℕ) (p q : ℕ → Bool) (left listed : List ℕ) (r : Passed) : Type 0 where
-  pub tests : r.good
+pub record DomainPassed (file : List ℕ) (at d : ℕ) (coarse : Bool) (rows least remaining : ℕ) (p q : ℕ → Bool) (left listed : List ℕ) (r : Option Passed) : Type 0 where
+  pub tests : is_some r
       ≡ whole domain_mark (leaf_size d coarse (drop at file)) (drop at file)
       && leaf_passes (fitted d coarse rows least) q p remaining (leaf_in d coarse (drop at file))
-  pub passed : r.good ≡ true → DomainHere file at d coarse p q left listed r
-  pub none : r.good ≡ false → r ≡ not_passed_lem
+  pub passed : IfSome r (DomainHere file at d coarse p q left listed)
 
 -- the borrowed rows of leaves, one leaf after the other
 abbrev pub borrowed_rows : List Leaf → List ℕ
@@ -64,8 +48,7 @@ pub record DomainsHere (file : List ℕ) (at m d : ℕ) (coarse : Bool) (rows : 
   pub listed_set : Marked listed q
 
 -- Whether they stand whole and pass against what is left, p, `rows` in number, and what is listed, q.
-pub record DomainsPassed (file : List ℕ) (at m d : ℕ) (coarse : Bool) (rows : ℕ) (p q : ℕ → Bool) (listed : List ℕ) (r : Passed) : Type 0 where
-  pub tests : r.good
+pub record DomainsPassed (file : List ℕ) (at m d : ℕ) (coarse : Bool) (rows : ℕ) (p q : ℕ → Bool) (listed : List ℕ) (r : Option Passed) : Type 0 where
+  pub tests : is_some r
       ≡ leaves_whole d coarse m (drop at file) && leaves_pass (fitted d coarse rows) q p rows 0 (leaves_at_lem d coarse m (drop at file))
-  pub passed : r.good ≡ true → DomainsHere file at m d coarse rows q listed r
-  pub none : r.good ≡ false → r ≡ not_passed_lem
+  pub passed : IfSome r (DomainsHere file at m d coarse rows q listed)

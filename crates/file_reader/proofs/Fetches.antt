@@ -1,6 +1,7 @@
 -- The domain record at a place of a file: one law for each way out, and that its parts lie within the file. Assumes nothing.
 -- Holds: no-counts, counts-room, number-here, not-marked, too_short, is_whole, parts_within
-use mathlib.Core.Path.{◌≡◌, sym, ap, ◌∙◌}
+use Rattle.std.specs.Prelude.{Some, None}
+use mathlib.Core.Path.{◌≡◌, sym, ap}
 use mathlib.Core.Bool.{true, false, ◌&&◌}
 use Prim.Native.Nat.{ℕ, ◌+◌, ◌*◌, ◌≤◌, ◌<◌}
 use native.Mathlib.Omega.{arith}
@@ -14,7 +15,7 @@ use Rattle.formats.specs.Bytes.{little, number_size, number_at, marked_by, whole
 use Rattle.stored.specs.File.{domain_mark}
 use Rattle.stored.specs.Stored.{counts_size, bounds_place}
 use Rattle.file_reader.specs.declared.Fetched.{Fetched}
-use Rattle.file_reader.specs.Fetch.{Parts, IsFetched, no_domain}
+use Rattle.file_reader.specs.Fetch.{Parts, IsFetched}
 
 -- ---- the mark and the counts
 module _ (at : ℕ) (file : List ℕ) where
@@ -32,37 +33,33 @@ module _ (at : ℕ) (file : List ℕ) where
   number-here k = ap (little number_size) (sym (drop-drop k at file))
 
 -- ---- no whole record
-module _ (bs : List ℕ) (at tail : ℕ) (r : Fetched) (e : r ≡ no_domain) where
-  not_whole : r.whole ≡ false
-  not_whole = ap (λ (f : Fetched). f.whole) e
+module _ (bs : List ℕ) (at tail : ℕ) where
+  is-nothing : whole domain_mark (bounds_place bs + tail + number_size) bs ≡ false → IsFetched bs at tail None
+  is-nothing f = record { stands = sym f; parts = tt }
 
-  is-nothing : whole domain_mark (bounds_place bs + tail + number_size) bs ≡ false → IsFetched bs at tail r
-  is-nothing f = record { stands = not_whole ∙ sym f; parts = λ t. clash t not_whole; none = λ _. e }
-
-  pub not-marked : whole domain_mark counts_size bs ≡ false → IsFetched bs at tail r
+  pub not-marked : whole domain_mark counts_size bs ≡ false → IsFetched bs at tail None
   not-marked f = is-nothing (fails (leb (bounds_place bs + tail + number_size) (length bs) && marked_by domain_mark bs) (λ t.
       let long = leb-true (bounds_place bs + tail + number_size) (length bs) (and-fst (leb (bounds_place bs + tail + number_size) (length bs)) (marked_by domain_mark bs) t) in
       let counts-fit : leb counts_size (length bs) ≡ true = le-leb counts_size (length bs) (omega arith) in
       clash (and-of counts-fit (and-snd (leb (bounds_place bs + tail + number_size) (length bs)) (marked_by domain_mark bs) t)) f))
 
-  pub too_short : length bs < bounds_place bs + tail + number_size → IsFetched bs at tail r
+  pub too_short : length bs < bounds_place bs + tail + number_size → IsFetched bs at tail None
   too_short h = is-nothing (rw (lt-leb (bounds_place bs + tail + number_size) (length bs) h))
 
 -- ---- a whole record
-pub is_whole : (bs : List ℕ) (at tail : ℕ) (r : Fetched) → whole domain_mark counts_size bs ≡ true → bounds_place bs + tail + number_size ≤ length bs → r.whole ≡ true → Parts bs at tail r → IsFetched bs at tail r
-is_whole bs at tail r e h w p =
+pub is_whole : (bs : List ℕ) (at tail : ℕ) (r : Fetched) → whole domain_mark counts_size bs ≡ true → bounds_place bs + tail + number_size ≤ length bs → Parts bs at tail r → IsFetched bs at tail (Some r)
+is_whole bs at tail r e h p =
     record {
-      stands = w ∙ sym (and-of (le-leb (bounds_place bs + tail + number_size) (length bs) h) (and-snd (leb counts_size (length bs)) (marked_by domain_mark bs) e));
-      parts = λ _. p;
-      none = λ f. clash w f;
+      stands = sym (and-of (le-leb (bounds_place bs + tail + number_size) (length bs) h) (and-snd (leb counts_size (length bs)) (marked_by domain_mark bs) e));
+      parts = p;
     }
 
 -- its parts lie one after the other within the file
-pub parts_within : (file : List ℕ) (at tail : ℕ) (r : Fetched) → IsFetched (drop at file) at tail r → r.whole ≡ true
+pub parts_within : (file : List ℕ) (at tail : ℕ) (r : Fetched) → IsFetched (drop at file) at tail (Some r)
     → (r.own_at + number_size * r.own ≡ r.borrowed_at) × (r.borrowed_at + number_size * r.borrowed ≡ r.bounds_at)
     × (r.bounds_at + tail ≡ r.depth_at) × (r.depth_at + number_size ≡ r.next) × (r.next ≤ length file)
-parts_within file at tail r f w =
+parts_within file at tail r f =
     let bs = drop at file in
-    let p = f.parts w in
-    let long = leb-true (bounds_place bs + tail + number_size) (length bs) (and-fst (leb (bounds_place bs + tail + number_size) (length bs)) (marked_by domain_mark bs) (sym f.stands ∙ w)) in
+    let p = f.parts in
+    let long = leb-true (bounds_place bs + tail + number_size) (length bs) (and-fst (leb (bounds_place bs + tail + number_size) (length bs)) (marked_by domain_mark bs) (sym f.stands)) in
     (omega arith, omega arith, omega arith, omega arith, omega (arith, length-drop at file))

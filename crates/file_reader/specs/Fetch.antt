@@ -1,5 +1,5 @@
 -- The domain record at the front of bytes, of which the first stands at a place of a file. Definitions only.
-use Rattle.std.specs.Prelude.{◌≡◌, ℕ, ◌+◌, Bool, true, false, cond, List}
+use Rattle.std.specs.Prelude.{◌≡◌, ℕ, ◌+◌, Bool, cond, List, Option, is_some, IfSome}
 use Rattle.definition.specs.Packed.{row_floats_lem}
 use Rattle.formats.specs.Bytes.{number_size, whole}
 use Rattle.stored.specs.File.{domain_mark}
@@ -20,13 +20,7 @@ pub record Parts (bs : List ℕ) (at tail : ℕ) (r : Fetched) : Type 0 where
   pub depth_at : r.depth_at ≡ at + bounds_place bs + tail
   pub next : r.next ≡ at + bounds_place bs + tail + number_size
 
--- what is answered where no whole record stands
-abbrev pub no_domain : Fetched
-no_domain =
-    record { whole = false; own = 0; borrowed = 0; own_at = 0; borrowed_at = 0; bounds_at = 0; depth_at = 0; next = 0 }
-
--- whether the record stands there whole, with `tail` bytes of floats and then its depth, and its parts where it does
-pub record IsFetched (bs : List ℕ) (at tail : ℕ) (r : Fetched) : Type 0 where
-  pub stands : r.whole ≡ whole domain_mark (bounds_place bs + tail + number_size) bs
-  pub parts : r.whole ≡ true → Parts bs at tail r
-  pub none : r.whole ≡ false → r ≡ no_domain
+-- the record where it stands there whole, with `tail` bytes of floats and then its depth, and nothing where it does not
+pub record IsFetched (bs : List ℕ) (at tail : ℕ) (r : Option Fetched) : Type 0 where
+  pub stands : is_some r ≡ whole domain_mark (bounds_place bs + tail + number_size) bs
+  pub parts : IfSome r (Parts bs at tail)

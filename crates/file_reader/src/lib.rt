@@ -6,7 +6,7 @@ ghost use Rattle.std.specs.Prelude.{◌≡◌, ◌≤◌, drop};
 ghost use Rattle.formats.specs.Bytes.{whole};
 ghost use Rattle.stored.specs.File.{domain_mark};
 ghost use Rattle.stored.specs.Stored.{counts_size};
-ghost use Rattle.file_reader.specs.Fetch.{record_floats_lem, IsFetched, no_domain};
+ghost use Rattle.file_reader.specs.Fetch.{record_floats_lem, IsFetched};
 
 // Where a domain's two counts begin, and where they end.
 const OWN: usize = bytes_in::MARK;
@@ -22,10 +22,9 @@ pub struct FileReader<'a> {
     pub at: usize,
 }
 
-// Whether a whole domain record stands at a position; where one does, its counts, and where its parts and the next record begin.
+// A whole domain record: its counts, and where its parts and the next record begin.
 #[derive(Clone, Copy)]
 pub struct Fetched {
-    pub whole: bool,
     pub own: usize,
     pub borrowed: usize,
     pub own_at: usize,
@@ -35,69 +34,48 @@ pub struct Fetched {
     pub next: usize,
 }
 
-fn nothing() -> Fetched
-    ensures { result ≡ no_domain }
-{
-    Fetched {
-        whole: false,
-        own: 0,
-        borrowed: 0,
-        own_at: 0,
-        borrowed_at: 0,
-        bounds_at: 0,
-        depth_at: 0,
-        next: 0,
-    }
-}
-
 // How many floats a domain's record has: the bounds of its box, and its cover; the coarse domain has no box.
 pub fn record_floats(dimensions: usize, coarse: bool) -> usize
     requires { dimensions ≤ 3 }
     ensures { result ≡ record_floats_lem dimensions coarse }
 {
     if coarse {
-        return packed::COVER;
+        packed::COVER
+    } else {
+        packed::row_floats(dimensions)
     }
-    packed::row_floats(dimensions)
 }
 
 // Whether a domain's mark and its two counts stand at a position.
 fn counts_stand(bytes: &[u8], at: usize) -> bool
     ensures { result ≡ whole domain_mark counts_size (drop at bytes.now) }
 {
-    if bytes.len() < at {
-        return false;
-    }
-    bytes_in::record_at(bytes, at, COUNTS, 0x54, 0x44)
+    at <= bytes.len() && bytes_in::record_at(bytes, at, COUNTS, 0x54, 0x44)
 }
 
-// The domain record at a position; its floats have `tail` bytes, and its depth ends it.
-fn domain_at(bytes: &[u8], at: usize, tail: usize) -> Fetched
+// The domain record at a position, where one stands there whole; its floats have `tail` bytes, and its depth ends it.
+fn domain_at(bytes: &[u8], at: usize, tail: usize) -> Option<Fetched>
     ensures { IsFetched (drop at bytes.now) at tail result }
 {
     if !counts_stand(bytes, at) {
-        return nothing();
+        return None;
     }
     let own = bytes_in::number_at(bytes, at + OWN);
     let borrowed = bytes_in::number_at(bytes, at + BORROWED);
     let place = COUNTS + bytes_in::NUMBER * (own + borrowed);
     let left = bytes.len() - at;
-    if left < place + bytes_in::NUMBER {
-        return nothing();
+    if left < place + bytes_in::NUMBER || left - place - bytes_in::NUMBER < tail {
+        return None;
     }
-    if left - place - bytes_in::NUMBER < tail {
-        return nothing();
-    }
-    Fetched {
-        whole: true,
-        own: own,
-        borrowed: borrowed,
+    Some(Fetched {
+        own,
+        borrowed,
         own_at: at + COUNTS,
         borrowed_at: at + COUNTS + bytes_in::NUMBER * own,
         bounds_at: at + place,
         depth_at: at + place + tail,
         next: at + place + tail + bytes_in::NUMBER,
-    }
+    })
 }
 
 impl<'a> FileReader<'a> {
@@ -108,16 +86,16 @@ impl<'a> FileReader<'a> {
         FileReader { bytes, at }
     }
 
-    // The domain record at the reader's position; its floats have `tail` bytes.
-    pub fn domain(self, tail: usize) -> Fetched
+    // The domain record at the reader's position, where one stands there whole; its floats have `tail` bytes.
+    pub fn domain(self, tail: usize) -> Option<Fetched>
         ensures { IsFetched (drop self.entry.at self.entry.bytes.now) self.entry.at tail result }
     {
         domain_at(self.bytes, self.at, tail)
     }
 }
 
-// The domain record at a position, by a reader on the caller's bytes; its floats have `tail` bytes.
-pub fn fetch_domain(bytes: &[u8], at: usize, tail: usize) -> Fetched
+// The domain record at a position, where one stands there whole, by a reader on the caller's bytes; its floats have `tail` bytes.
+pub fn fetch_domain(bytes: &[u8], at: usize, tail: usize) -> Option<Fetched>
     ensures { IsFetched (drop at bytes.now) at tail result }
 {
     FileReader::new(bytes, at).domain(tail)

@@ -1,3 +1,4 @@
--- Rows that can be marked, and the order of rows.
+-- Rows that can be marked, the order of rows, and the test of a domain's rows.
 pub mod Markable
 pub mod Order
+pub mod Tested

@@ -4,9 +4,10 @@
 ghost use Rattle.std.specs.Prelude.{◌≡◌, Bool, true, ◌||◌, ℕ, ◌<◌, List, leb, length, get_or};
 ghost use Rattle.lists.specs.Lists.{member};
 ghost use Rattle.tree_tests.specs.InTurn.{without, in_order_lem};
-ghost use Rattle.marks.specs.Bits.{bit_at, Marked};
+ghost use Rattle.marks.specs.Bits.{Marked};
 ghost use Rattle.row_sets.specs.Markable.{Markable};
 ghost use Rattle.row_sets.specs.Order.{least_after};
+ghost use Rattle.row_sets.specs.Tested.{Inside, RowsPassed};
 
 // Rows in a place of their own: how many they are, and each by its index.
 pub trait Rows {
@@ -56,7 +57,7 @@ pub fn mark_rows<R: Rows>(rows: &R, words: &mut [usize])
 
 // Takes the rows out of two sets, where they ascend and are all in the first, and says whether they are.
 pub fn take_rows<R: Rows>(rows: &R, left: &mut [usize], listed: &mut [usize]) -> bool
-    requires { (length left.old ≡ length listed.old) × ((i : ℕ) → bit_at left.old i ≡ 1 → bit_at listed.old i ≡ 1) }
+    requires { Inside left.old listed.old }
     ensures { (p q : ℕ → Bool) → Marked left.old p → Marked listed.old q
         → (result ≡ in_order_lem 0 p (R.rows rows.now))
         × (result ≡ true → Marked left.new (without (R.rows rows.now) p)
@@ -70,5 +71,24 @@ pub fn take_rows<R: Rows>(rows: &R, left: &mut [usize], listed: &mut [usize]) ->
         }
         last = row;
     }
+    true
+}
+
+// Whether a domain's own rows ascend and are left, and its borrowed rows ascend and are listed rows of others; takes the own rows out
+// of those left.
+pub fn rows_pass<O: Rows, B: Rows>(
+    own: &O,
+    borrowed: &B,
+    left: &mut [usize],
+    listed: &mut [usize],
+) -> bool
+    requires { Inside left.old listed.old }
+    ensures { (p q : ℕ → Bool) → Marked left.old p → Marked listed.old q
+        → RowsPassed (O.rows own.now) (B.rows borrowed.now) p q left.new listed.new result }
+{
+    if !take_rows(own, left, listed) || !rows_marked(borrowed, listed) {
+        return false;
+    }
+    mark_rows(own, listed);
     true
 }

@@ -7,7 +7,7 @@ use Rattle.file_reader.proofs.domain_at.Goals as goal
 
 pub returns-then-not-counts_stand : goal.returns-then-not-counts_stand
 returns-then-not-counts_stand c = let e = c in
-    not-marked _ _ _ _ c.nothing.ensures (sym e.counts_stand.ensures ∙ c.if-not-counts_stand.true)
+    not-marked _ _ _ (sym e.counts_stand.ensures ∙ c.if-not-counts_stand.true)
 
 pub overflow_add-at : goal.overflow_add-at
 overflow_add-at c = let e = c in
@@ -47,17 +47,7 @@ returns-then-left-place c = let n = c in
     let bs = drop a.at a.bytes.now in
     let own = n.number_at-own.ensures.0 ∙ number-here a.at a.bytes.now 2 in
     let borrowed = n.number_at-borrowed.ensures.0 ∙ number-here a.at a.bytes.now 6 in
-    too_short bs a.at a.tail _ c.nothing-then-left-place.ensures (omega (arith, length-drop a.at a.bytes.now))
-
-pub returns-then-left-place-2 : goal.returns-then-left-place-2
-returns-then-left-place-2 c = let n = c in
-    let e = n in
-    let a = e.args in
-    let marked = sym e.counts_stand.ensures ∙ e.if-not-counts_stand.false in
-    let bs = drop a.at a.bytes.now in
-    let own = n.number_at-own.ensures.0 ∙ number-here a.at a.bytes.now 2 in
-    let borrowed = n.number_at-borrowed.ensures.0 ∙ number-here a.at a.bytes.now 6 in
-    too_short bs a.at a.tail _ c.nothing-then-left-place-2.ensures (omega (arith, length-drop a.at a.bytes.now))
+    too_short bs a.at a.tail (omega (arith, length-drop a.at a.bytes.now))
 
 pub returns : goal.returns
 returns c = let n = c in
@@ -68,5 +58,5 @@ returns c = let n = c in
     let own = n.number_at-own.ensures.0 ∙ number-here a.at a.bytes.now 2 in
     let borrowed = n.number_at-borrowed.ensures.0 ∙ number-here a.at a.bytes.now 6 in
     let room = counts-room a.at a.bytes.now marked in
-    is_whole bs a.at a.tail _ marked (omega (arith, length-drop a.at a.bytes.now)) refl
+    is_whole bs a.at a.tail _ marked (omega (arith, length-drop a.at a.bytes.now))
     record { own = own; borrowed = borrowed; own_at = refl; borrowed_at = omega arith; bounds_at = omega arith; depth_at = omega arith; next = omega arith }

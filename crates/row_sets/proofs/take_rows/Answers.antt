@@ -18,7 +18,7 @@ loop-i-init g c = taking-start _ _ _
 pub take_out-requires : goal.take_out-requires
 take_out-requires g c =
     let s = c.loop-i.invariant in
-    (omega (arith, s.left-length, s.listed-length, c.requires.0), taking-among s c.requires.1)
+    (omega (arith, s.left-length, s.listed-length, c.requires.same_length), taking-among s c.requires.among)
 
 pub returns-then-not-follows : goal.returns-then-not-follows
 returns-then-not-follows g c =

@@ -14,9 +14,9 @@ use Rattle.tree_tests.specs.InTurn.{without, in_order_lem}
 use Rattle.tree_tests.proofs.Rows.{in-order-ascends, in-order-in}
 use Rattle.marks.specs.Bits.{bit_at, Marked}
 use Rattle.marks.proofs.Marks.{marked-bit, marked-within, held, bits-marked, marked-held}
-use Rattle.file_rows.specs.Markable.{Markable}
-use Rattle.file_rows.proofs.PutBack.{taken-markable, put_back}
-use Rattle.file_domains.specs.Domains.{Inside, RowsPassed}
+use Rattle.row_sets.specs.Markable.{Markable}
+use Rattle.row_sets.proofs.PutBack.{taken-markable, put_back}
+use Rattle.row_sets.specs.Tested.{Inside, RowsPassed}
 
 -- what is left is listed
 pub inside-sets : {left listed : List ℕ} {p q : ℕ → Bool} → Inside left listed → Marked left p → Marked listed q → (x : ℕ) → p x ≡ true → q x ≡ true
