@@ -87,7 +87,7 @@ pub fn check_domains(
     let mut remaining = rows;
     let mut borrowed = 0;
     let mut least = 0;
-    for i in 0..m {
+    for _i in 0..m {
         let f = check_domain(
             bytes, next, dimensions, coarse, rows, least, remaining, left, listed,
         )?;
