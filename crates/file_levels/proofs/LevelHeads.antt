@@ -1,6 +1,7 @@
 -- The level record at a place of a file: one law for each way out, and that its rows lie within the file. Assumes nothing.
 -- Holds: head-room, no-level, short-level, is-level, head-within
-use mathlib.Core.Path.{◌≡◌, sym, ap, ◌∙◌}
+use Rattle.std.specs.Prelude.{Some, None}
+use mathlib.Core.Path.{◌≡◌, sym}
 use mathlib.Core.Bool.{true, false, ◌&&◌}
 use Prim.Native.Nat.{ℕ, ◌+◌, ◌*◌, ◌≤◌, ◌<◌}
 use native.Mathlib.Omega.{arith}
@@ -13,7 +14,7 @@ use Rattle.formats.specs.Bytes.{number_size, marked_by, whole}
 use Rattle.stored.specs.File.{level_mark}
 use Rattle.stored.specs.Stored.{counts_size, domains_place}
 use Rattle.file_levels.specs.declared.LevelHead.{LevelHead}
-use Rattle.file_levels.specs.Levels.{HeadHere, IsHead, no_head_lem}
+use Rattle.file_levels.specs.Levels.{HeadHere, IsHead}
 
 -- where the mark and the counts stand, they lie in the file
 pub head-room : (at : ℕ) (file : List ℕ) → whole level_mark counts_size (drop at file) ≡ true → at + counts_size ≤ length file
@@ -21,38 +22,33 @@ head-room at file e =
     let here = drop at file in
     omega (arith, leb-true counts_size (length here) (and-fst (leb counts_size (length here)) (marked_by level_mark here) e), length-drop at file)
 
-module _ (bs : List ℕ) (at : ℕ) (r : LevelHead) where
+module _ (bs : List ℕ) (at : ℕ) where
   -- ---- no whole record
-  module _ (e : r ≡ no_head_lem) where
-    not_whole : r.whole ≡ false
-    not_whole = ap (λ (h : LevelHead). h.whole) e
+  is_none : whole level_mark (domains_place bs) bs ≡ false → IsHead bs at None
+  is_none f = record { stands = sym f; parts = tt }
 
-    is_none : whole level_mark (domains_place bs) bs ≡ false → IsHead bs at r
-    is_none f = record { stands = not_whole ∙ sym f; parts = λ t. clash t not_whole; none = λ _. e }
+  pub no-level : whole level_mark counts_size bs ≡ false → IsHead bs at None
+  no-level f = is_none (fails (leb (domains_place bs) (length bs) && marked_by level_mark bs) (λ t.
+      let long = leb-true (domains_place bs) (length bs) (and-fst (leb (domains_place bs) (length bs)) (marked_by level_mark bs) t) in
+      let counts-fit : leb counts_size (length bs) ≡ true = le-leb counts_size (length bs) (omega arith) in
+      clash (and-of counts-fit (and-snd (leb (domains_place bs) (length bs)) (marked_by level_mark bs) t)) f))
 
-    pub no-level : whole level_mark counts_size bs ≡ false → IsHead bs at r
-    no-level f = is_none (fails (leb (domains_place bs) (length bs) && marked_by level_mark bs) (λ t.
-        let long = leb-true (domains_place bs) (length bs) (and-fst (leb (domains_place bs) (length bs)) (marked_by level_mark bs) t) in
-        let counts-fit : leb counts_size (length bs) ≡ true = le-leb counts_size (length bs) (omega arith) in
-        clash (and-of counts-fit (and-snd (leb (domains_place bs) (length bs)) (marked_by level_mark bs) t)) f))
-
-    pub short-level : length bs < domains_place bs → IsHead bs at r
-    short-level h = is_none (rw (lt-leb (domains_place bs) (length bs) h))
+  pub short-level : length bs < domains_place bs → IsHead bs at None
+  short-level h = is_none (rw (lt-leb (domains_place bs) (length bs) h))
 
   -- ---- a whole record
-  pub is-level : whole level_mark counts_size bs ≡ true → domains_place bs ≤ length bs → r.whole ≡ true → HeadHere bs at r → IsHead bs at r
-  is-level e h w p =
+  pub is-level : (r : LevelHead) → whole level_mark counts_size bs ≡ true → domains_place bs ≤ length bs → HeadHere bs at r → IsHead bs at (Some r)
+  is-level r e h p =
       record {
-        stands = w ∙ sym (and-of (le-leb (domains_place bs) (length bs) h) (and-snd (leb counts_size (length bs)) (marked_by level_mark bs) e));
-        parts = λ _. p;
-        none = λ f. clash w f;
+        stands = sym (and-of (le-leb (domains_place bs) (length bs) h) (and-snd (leb counts_size (length bs)) (marked_by level_mark bs) e));
+        parts = p;
       }
 
 -- its rows lie within the file, and its domains begin where they end
-pub head-within : (file : List ℕ) (at : ℕ) (r : LevelHead) → IsHead (drop at file) at r → r.whole ≡ true
+pub head-within : (file : List ℕ) (at : ℕ) (r : LevelHead) → IsHead (drop at file) at (Some r)
     → (r.rows_at + number_size * r.rows ≡ r.next) × (r.next ≤ length file)
-head-within file at r f w =
+head-within file at r f =
     let bs = drop at file in
-    let p = f.parts w in
-    let long = leb-true (domains_place bs) (length bs) (and-fst (leb (domains_place bs) (length bs)) (marked_by level_mark bs) (sym f.stands ∙ w)) in
+    let p = f.parts in
+    let long = leb-true (domains_place bs) (length bs) (and-fst (leb (domains_place bs) (length bs)) (marked_by level_mark bs) (sym f.stands)) in
     (omega arith, omega (arith, length-drop at file))

@@ -1,5 +1,6 @@
 -- Levels tested one after the other: those before i passed, none of them with one domain, and the rest decides. Assumes nothing.
 -- Holds: LevelsTested, levels-start, levels-none, level-bad, level-fits, levels-trail, levels-end, levels-next
+use Rattle.std.specs.Prelude.{Option, Some, None, is_some}
 use mathlib.Core.Path.{◌≡◌, refl, sym, ap, ◌∙◌}
 use mathlib.Core.Bool.{Bool, true, false, not, ◌&&◌, cond, and-false}
 use Prim.Native.Nat.{ℕ, zero, suc, ◌+◌, ◌-◌, ◌*◌, ◌≤◌, ◌<◌}
@@ -9,7 +10,7 @@ use lib.Dec.{leb, ltb, eqb}
 use lib.ListN.{length, drop, length-append, length-drop}
 use borrow.Author.Tests.{leb-true, le-leb, ltb-true, lt-ltb, eqb-true, eq-eqb, ne_eqb}
 use Rattle.lists.specs.Lists.{joined}
-use Rattle.lists.proofs.Tests.{clash, and-of, and-fst, and-snd, same_test, cond-true, cond-false}
+use Rattle.lists.proofs.Tests.{and-of, and-fst, and-snd, same_test, cond-true, cond-false}
 use Rattle.lists.proofs.Joined.{joined-cons, joined-map-append}
 use Rattle.definition.specs.Tree.{Leaf, Level}
 use Rattle.definition.specs.Packed.{most_levels, leaves_in_lem, packed_borrowed}
@@ -24,8 +25,7 @@ use Rattle.marks.proofs.Marks.{held, bits-marked, marked-held}
 use Rattle.file_domains.specs.Domains.{borrowed_rows}
 use Rattle.file_domains.proofs.DomainsInTurn.{and-apart}
 use Rattle.file_levels.specs.declared.LevelPassed.{LevelPassed}
-use Rattle.file_levels.specs.declared.TreePassed.{TreePassed}
-use Rattle.file_levels.specs.Levels.{between, LevelHere, LevelPassedIs, TreePassedIs, tree_not_passed_lem}
+use Rattle.file_levels.specs.Levels.{between, LevelHere, LevelPassedIs, TreePassedIs}
 
 -- ---- the tests of the levels at the front of bytes, at most f of them
 abbrev answer : ℕ → (ℕ → Bool) → (ℕ → Bool) → ℕ → List ℕ → Bool
@@ -145,44 +145,42 @@ module _ (file : List ℕ) (at d n : ℕ) (old-left old-listed left listed : Lis
   abbrev here : List ℕ
   here = drop place file
 
-  refused : (r : TreePassed) → r ≡ tree_not_passed_lem → answer d (between least below) (held listed) (most_levels - i) here ≡ false → TreePassedIs file at d n r
-  refused r e g =
-      let bad : r.good ≡ false = ap (λ (x : TreePassed). x.good) e in
-      record { tests = bad ∙ sym g ∙ s.rest; passed = λ t. clash t bad; none = λ _. e }
+  refused : answer d (between least below) (held listed) (most_levels - i) here ≡ false → TreePassedIs file at d n None
+  refused g = record { tests = sym g ∙ s.rest; passed = tt }
 
   -- no level with one domain stood among those that may be read
-  pub levels-none : most_levels ≤ i → (r : TreePassed) → r ≡ tree_not_passed_lem → TreePassedIs file at d n r
+  pub levels-none : most_levels ≤ i → TreePassedIs file at d n None
   unfolding levels_whole levels_at
-  levels-none h r e = let z : most_levels - i ≡ 0 = omega arith in refused r e (ap (λ (f : ℕ). answer d (between least below) (held listed) f here) z)
+  levels-none h = let z : most_levels - i ≡ 0 = omega arith in refused (ap (λ (f : ℕ). answer d (between least below) (held listed) f here) z)
 
   -- ---- level i
-  module _ (h : i < most_levels) (new-listed : List ℕ) (l : LevelPassed)
-      (said : (p : ℕ → Bool) → Marked listed p → LevelPassedIs file place d least below p new-listed l) where
+  module _ (h : i < most_levels) (new-listed : List ℕ) (o : Option LevelPassed)
+      (said : (p : ℕ → Bool) → Marked listed p → LevelPassedIs file place d least below p new-listed o) where
     one_less : most_levels - i ≡ suc (most_levels - (i + 1))
     one_less = omega arith
 
-    told : LevelPassedIs file place d least below (held listed) new-listed l
+    told : LevelPassedIs file place d least below (held listed) new-listed o
     told = said (held listed) (bits-marked listed)
 
     abbrev later : Bool
     later = answer d (fewer (length (level_in d here).points)) (among (level_in d here).points) (most_levels - (i + 1)) (after_level d here)
 
-    now-first : answer d (between least below) (held listed) (most_levels - i) here ≡ l.good && cond (one_domain here) (eqb (length (after_level d here)) 0) later
+    now-first : answer d (between least below) (held listed) (most_levels - i) here ≡ is_some o && cond (one_domain here) (eqb (length (after_level d here)) 0) later
     now-first =
         ap (λ (f : ℕ). answer d (between least below) (held listed) f here) one_less ∙ first-and-rest d (between least below) (held listed) (most_levels - (i + 1)) here
         ∙ ap (λ (b : Bool). b && cond (one_domain here) (eqb (length (after_level d here)) 0) later) (sym told.tests)
 
     -- it does not pass
-    pub level-bad : l.good ≡ false → (r : TreePassed) → r ≡ tree_not_passed_lem → TreePassedIs file at d n r
-    level-bad g r e = refused r e (now-first ∙ ap (λ (b : Bool). b && cond (one_domain here) (eqb (length (after_level d here)) 0) later) g)
+    pub level-bad : o ≡ None → TreePassedIs file at d n None
+    level-bad g = refused (now-first ∙ ap (λ (b : Bool). b && cond (one_domain here) (eqb (length (after_level d here)) 0) later) (ap is_some g))
 
     -- it does
-    module _ (g : l.good ≡ true) where
+    module _ (l : LevelPassed) (g : o ≡ Some l) where
       abbrev it : LevelHere file place d new-listed l
-      it = told.passed g
+      it = (rw g at told).passed
 
       now-rest : answer d (between least below) (held listed) (most_levels - i) here ≡ cond (one_domain here) (eqb (length (after_level d here)) 0) later
-      now-rest = now-first ∙ ap (λ (b : Bool). b && cond (one_domain here) (eqb (length (after_level d here)) 0) later) g
+      now-rest = now-first ∙ ap (λ (b : Bool). b && cond (one_domain here) (eqb (length (after_level d here)) 0) later) (ap is_some g)
 
       -- its domains and borrowed rows lie in the file with those before
       pub level-fits : (domains + l.domains ≤ length file) × (borrowed + l.borrowed ≤ length file)
@@ -203,20 +201,19 @@ module _ (file : List ℕ) (at d n : ℕ) (old-left old-listed left listed : Lis
         now-end = now-rest ∙ cond-true (one_domain here) (eqb (length (after_level d here)) 0) later is_one ∙ ap (λ (bs : List ℕ). eqb (length bs) 0) (sym it.after)
 
         -- bytes stand after it
-        pub levels-trail : (l.next ≡ length file → ⊥) → (r : TreePassed) → r ≡ tree_not_passed_lem → TreePassedIs file at d n r
-        levels-trail k r e = refused r e (now-end ∙ ne_eqb (length (drop l.next file)) 0 (λ z. k (omega (arith, length-drop l.next file, it.within))))
+        pub levels-trail : (l.next ≡ length file → ⊥) → TreePassedIs file at d n None
+        levels-trail k = refused (now-end ∙ ne_eqb (length (drop l.next file)) 0 (λ z. k (omega (arith, length-drop l.next file, it.within))))
 
         -- none do
-        pub levels-end : l.next ≡ length file → (r : TreePassed) → r ≡ record { good = true; domains = domains + l.domains; borrowed = borrowed + l.borrowed } → TreePassedIs file at d n r
-        levels-end z r e =
+        pub levels-end : l.next ≡ length file → TreePassedIs file at d n (Some (record { domains = domains + l.domains; borrowed = borrowed + l.borrowed }))
+        levels-end z =
             record {
-              tests = ap (λ (x : TreePassed). x.good) e ∙ sym (now-end ∙ eq-eqb (length (drop l.next file)) 0 (omega (arith, length-drop l.next file))) ∙ s.rest;
-              passed = λ _.
+              tests = sym (now-end ∙ eq-eqb (length (drop l.next file)) 0 (omega (arith, length-drop l.next file))) ∙ s.rest;
+              passed =
                   record {
-                    domains = ap (λ (x : TreePassed). x.domains) e ∙ omega (arith, s.domains-all, count-now leaves-counted, counted-last leaves-counted d (most_levels - (i + 1)) here is_one, it.domains);
-                    borrowed = ap (λ (x : TreePassed). x.borrowed) e ∙ omega (arith, s.borrowed-all, count-now borrowed-counted, counted-last borrowed-counted d (most_levels - (i + 1)) here is_one, it.borrowed);
+                    domains = omega (arith, s.domains-all, count-now leaves-counted, counted-last leaves-counted d (most_levels - (i + 1)) here is_one, it.domains);
+                    borrowed = omega (arith, s.borrowed-all, count-now borrowed-counted, counted-last borrowed-counted d (most_levels - (i + 1)) here is_one, it.borrowed);
                   };
-              none = λ t. clash (ap (λ (x : TreePassed). x.good) e) t;
             }
 
       -- another one follows

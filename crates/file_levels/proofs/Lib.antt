@@ -1,6 +1,5 @@
 -- Laws of levels that are tested.
 pub mod LevelHeads
-pub mod RowsSet
 pub mod OneLevel
 pub mod LevelsInTurn
 pub mod WholeTree

@@ -1,5 +1,5 @@
 -- Level records tested in a file: what is answered of one, and of all of them. Definitions only.
-use Rattle.std.specs.Prelude.{◌≡◌, ℕ, ◌+◌, ◌*◌, ◌≤◌, Bool, true, false, ◌&&◌, List, leb, ltb, eqb, length, drop}
+use Rattle.std.specs.Prelude.{◌≡◌, ℕ, ◌+◌, ◌*◌, ◌≤◌, Bool, ◌&&◌, List, leb, ltb, eqb, length, drop, Option, is_some, IfSome}
 use Rattle.definition.specs.Packed.{most_levels, leaves_in_lem, packed_borrowed}
 use Rattle.formats.specs.Bytes.{number_size, whole}
 use Rattle.stored.specs.File.{level_mark}
@@ -21,20 +21,11 @@ pub record HeadHere (bs : List ℕ) (at : ℕ) (r : LevelHead) : Type 0 where
   pub rows_at : r.rows_at ≡ at + counts_size
   pub next : r.next ≡ at + domains_place bs
 
--- what is answered where no whole record stands
-abbrev pub no_head_lem : LevelHead
-no_head_lem = record { whole = false; rows = 0; domains = 0; rows_at = 0; next = 0 }
-
-pub record IsHead (bs : List ℕ) (at : ℕ) (r : LevelHead) : Type 0 where
-  pub stands : r.whole ≡ whole level_mark (domains_place bs) bs
-  pub parts : r.whole ≡ true → HeadHere bs at r
-  pub none : r.whole ≡ false → r ≡ no_head_lem
+pub record IsHead (bs : List ℕ) (at : ℕ) (r : Option LevelHead) : Type 0 where
+  pub stands : is_some r ≡ whole level_mark (domains_place bs) bs
+  pub parts : IfSome r (HeadHere bs at)
 
 -- ---- a level with its domains
-
--- what is answered where it does not pass
-abbrev pub level_not_passed_lem : LevelPassed
-level_not_passed_lem = record { good = false; next = 0; rows = 0; domains = 0; borrowed = 0 }
 
 -- the test of the row count
 abbrev pub between : ℕ → ℕ → ℕ → Bool
@@ -51,11 +42,10 @@ pub record LevelHere (file : List ℕ) (at d : ℕ) (listed : List ℕ) (r : Lev
   pub listed_set : Marked listed (among (level_in d (drop at file)).points)
 
 -- Whether it stands whole and passes against the rows of the level above, p.
-pub record LevelPassedIs (file : List ℕ) (at d least below : ℕ) (p : ℕ → Bool) (listed : List ℕ) (r : LevelPassed) : Type 0 where
-  pub tests : r.good
+pub record LevelPassedIs (file : List ℕ) (at d least below : ℕ) (p : ℕ → Bool) (listed : List ℕ) (r : Option LevelPassed) : Type 0 where
+  pub tests : is_some r
       ≡ level_whole d (drop at file) && level_passes d (one_domain (drop at file)) (between least below) p (level_in d (drop at file))
-  pub passed : r.good ≡ true → LevelHere file at d listed r
-  pub none : r.good ≡ false → r ≡ level_not_passed_lem
+  pub passed : IfSome r (LevelHere file at d listed)
 
 -- ---- all levels
 
@@ -64,13 +54,8 @@ pub record TreeHere (file : List ℕ) (at d : ℕ) (r : TreePassed) : Type 0 whe
   pub domains : r.domains ≡ length (leaves_in_lem (levels_at d most_levels (drop at file)))
   pub borrowed : r.borrowed ≡ length (packed_borrowed (levels_at d most_levels (drop at file)))
 
--- what is answered where they do not
-abbrev pub tree_not_passed_lem : TreePassed
-tree_not_passed_lem = record { good = false; domains = 0; borrowed = 0 }
-
 -- Whether they stand whole to the end of the file and pass.
-pub record TreePassedIs (file : List ℕ) (at d n : ℕ) (r : TreePassed) : Type 0 where
-  pub tests : r.good
+pub record TreePassedIs (file : List ℕ) (at d n : ℕ) (r : Option TreePassed) : Type 0 where
+  pub tests : is_some r
       ≡ levels_whole d most_levels (drop at file) && levels_pass d (λ k. eqb k n) (λ i. ltb i n) (levels_at d most_levels (drop at file))
-  pub passed : r.good ≡ true → TreeHere file at d r
-  pub none : r.good ≡ false → r ≡ tree_not_passed_lem
+  pub passed : IfSome r (TreeHere file at d)

@@ -3,11 +3,14 @@
 
 ghost use Rattle.std.specs.Prelude.{◌≡◌, Bool, true, ◌||◌, ℕ, ◌<◌, List, leb, length, get_or};
 ghost use Rattle.lists.specs.Lists.{member};
-ghost use Rattle.tree_tests.specs.InTurn.{without, in_order_lem};
+ghost use Rattle.tree_tests.specs.InTurn.{without, among, in_order_lem};
 ghost use Rattle.marks.specs.Bits.{Marked};
 ghost use Rattle.row_sets.specs.Markable.{Markable};
 ghost use Rattle.row_sets.specs.Order.{least_after};
 ghost use Rattle.row_sets.specs.Tested.{Inside, RowsPassed};
+
+// The words of a set with a bit for each row of the largest tree, 1,048,576 rows.
+pub const WORDS: usize = 16_384;
 
 // Rows in a place of their own: how many they are, and each by its index.
 pub trait Rows {
@@ -90,5 +93,20 @@ pub fn rows_pass<O: Rows, B: Rows>(
         return false;
     }
     mark_rows(own, listed);
+    true
+}
+
+// Whether the rows ascend and are all listed; where they are, both sets become these rows.
+pub fn narrow<R: Rows>(rows: &R, left: &mut [usize], listed: &mut [usize]) -> bool
+    requires { length left.old ≡ length listed.old }
+    ensures asked { (p : ℕ → Bool) → Marked listed.old p → result ≡ in_order_lem 0 p (R.rows rows.now) }
+    ensures set { result ≡ true → Marked left.new (among (R.rows rows.now)) × Marked listed.new (among (R.rows rows.now)) }
+{
+    if !rows_marked(rows, listed) {
+        return false;
+    }
+    marks::clear(left);
+    mark_rows(rows, left);
+    listed.copy_from_slice(left);
     true
 }

@@ -1,10 +1,5 @@
-use Prim.Native.Nat.{◌-◌, ◌≤◌}
-use Rattle.definition.specs.Packed.{most_levels}
 use Rattle.file_levels.proofs.LevelsInTurn.{LevelsTested}
 use Rattle.file_levels.proofs.check_levels.Given as goal
 
 abbrev pub invariant-loop-i : goal.invariant-loop-i
-invariant-loop-i l = (l.i ≤ most_levels) × LevelsTested l.bytes l.at l.dimensions l.n l.initial.left l.initial.listed l.left l.listed l.place l.least l.below l.domains l.borrowed l.i
-
-abbrev pub decreases-loop-i : goal.decreases-loop-i
-decreases-loop-i l = most_levels - l.i
+invariant-loop-i l = LevelsTested l.bytes l.at l.dimensions l.n l.initial.left l.initial.listed l.left l.listed l.place l.least l.below l.domains l.borrowed l._i

@@ -1,9 +1,7 @@
 -- `file_levels::check_tree` meets its contract: each way out has its law. Assumes nothing.
-use Prim.Native.Nat.{◌+◌, ◌*◌, ◌≤◌}
+use mathlib.Core.Path.{◌∙◌}
 use native.Mathlib.Omega.{arith}
-use native.Mathlib.Nat.{mul-le-mul}
-use borrow.Author.Tests.{not-true, not-false}
-use Rattle.definition.specs.Refusals.{most_points, most_neighbours}
+use borrow.Author.Tests.{lt-leb}
 use Rattle.marks.proofs.Marks.{marked-zeros}
 use Rattle.file_levels.proofs.WholeTree.{levels-fail, domains-fail, borrowed-decide}
 use borrow.Author.Rules.{rules}
@@ -12,21 +10,15 @@ use Rattle.file_levels.proofs.check_tree.Goals as goal
 pub mark_below-requires : goal.mark_below-requires
 mark_below-requires c = (marked-zeros 16384, omega arith)
 
-pub check_levels-t-requires : goal.check_levels-t-requires
-check_levels-t-requires c = let a = c in
+pub check_levels-requires : goal.check_levels-requires
+check_levels-requires c = let a = c in
     (a.requires.0, a.requires.1, a.requires.3, search rules, c.mark_below.ensures)
 
-pub returns-then-not-t : goal.returns-then-not-t
-returns-then-not-t c = λ s d k. levels-fail _ _ _ _ _ c.check_levels-t.ensures s d _ k (not-true _ c.if-not-t.true)
+pub returns-in_default : goal.returns-in_default
+returns-in_default c = λ s d k. levels-fail _ _ _ _ _ c.check_levels.ensures s d _ k c.in_default.is
 
-pub returns-then-n-t : goal.returns-then-n-t
-returns-then-n-t c = λ s d k. domains-fail _ _ _ _ _ c.check_levels-t.ensures s d _ k (not-false _ c.if-not-t.false) c.if-n-t.true
+pub returns-then-t-n : goal.returns-then-t-n
+returns-then-t-n c = λ s d k. borrowed-decide _ _ _ _ _ c.check_levels.ensures s d _ k _ c.in-Some.is c.if-t-n.true
 
-pub overflow_mul-result-2 : goal.overflow_mul-result-2
-overflow_mul-result-2 c = let a = c.args in
-    let rows : 6 * a.n ≤ 6 * most_points = omega arith in
-    let each : a.neighbours + 1 ≤ most_neighbours + 1 = omega arith in
-    omega (arith, mul-le-mul rows each)
-
-pub returns : goal.returns
-returns c = λ s d k. borrowed-decide _ _ _ _ _ c.check_levels-t.ensures s d _ k (not-false _ c.if-not-t.false) c.if-n-t.false
+pub returns-else-t-n : goal.returns-else-t-n
+returns-else-t-n c = λ s d k. lt-leb _ _ c.if-t-n.false ∙ domains-fail _ _ _ _ _ c.check_levels.ensures s d _ k _ c.in-Some.is c.if-t-n.false

@@ -7,7 +7,7 @@ use Rattle.file_levels.proofs.LevelHeads.{head-room, no-level, short-level, is-l
 use Rattle.file_levels.proofs.level_at.Goals as goal
 
 pub returns-then-not-record_at : goal.returns-then-not-record_at
-returns-then-not-record_at c = no-level _ _ _ c.no_head.ensures (sym c.record_at.ensures ∙ c.if-not-record_at.true)
+returns-then-not-record_at c = no-level _ _ (sym c.record_at.ensures ∙ c.if-not-record_at.true)
 
 pub number_at-rows-requires : goal.number_at-rows-requires
 number_at-rows-requires c = let a = c.args in
@@ -22,12 +22,12 @@ number_at-domains-requires c = let a = c.args in
 pub returns-then-bytes-at : goal.returns-then-bytes-at
 returns-then-bytes-at c = let a = c.args in
     let rows = c.number_at-rows.ensures.0 ∙ number-here a.at a.bytes.now 2 in
-    short-level _ _ _ c.no_head-then-bytes-at.ensures (omega (arith, length-drop a.at a.bytes.now))
+    short-level _ _ (omega (arith, length-drop a.at a.bytes.now))
 
 pub returns : goal.returns
 returns c = let a = c.args in
     let marked = sym c.record_at.ensures ∙ c.if-not-record_at.false in
     let rows = c.number_at-rows.ensures.0 ∙ number-here a.at a.bytes.now 2 in
     let domains = c.number_at-domains.ensures.0 ∙ number-here a.at a.bytes.now 6 in
-    is-level (drop a.at a.bytes.now) a.at _ marked (omega (arith, length-drop a.at a.bytes.now)) refl
+    is-level (drop a.at a.bytes.now) a.at _ marked (omega (arith, length-drop a.at a.bytes.now))
     record { rows = rows; domains = domains; rows_at = refl; next = omega arith }
