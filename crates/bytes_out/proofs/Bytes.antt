@@ -1,44 +1,39 @@
--- The bytes of a number, stored one after the other. Assumes nothing.
--- Holds: length-bytes, bytes-add, four-stored, number-stored, float_stored
-use mathlib.Core.Path.{◌≡◌, refl, sym, ap, ◌∙◌}
-use Prim.Native.Nat.{ℕ, zero, suc, ◌+◌, ◌/◌, ◌%◌, ◌^◌, ◌≤◌}
-use native.Mathlib.Nat.{zero-add, suc-add, pow-zero, pow-succ', div-one, div-div-eq-div-mul}
-use native.Mathlib.Omega.{arith}
-use mathlib.Core.List.{List, [], ◌∷◌, ◌++◌}
-use lib.ListN.{length, set}
+-- The bytes of a number and of a float: how many, and as the library has them. Assumes nothing.
+-- Holds: length-bytes, le-bytes, number-stored, float_stored
+use mathlib.Core.Path.{◌≡◌, refl, ap, ap₂, ◌∙◌}
+use Prim.Native.Nat.{ℕ, zero, suc, ◌+◌, ◌-◌, ◌/◌, ◌%◌, ◌^◌}
+use native.Mathlib.Nat.{pow-zero, pow-succ', mul_comm, div-one, div-div-eq-div-mul}
+use mathlib.Core.List.{List, ◌∷◌}
+use lib.ListN.{length, take}
 use lib.Ieee.{Float, to_bits, binary64}
+use borrow.Rule.Slice.PartMut.{put_mid}
+use Rattle.std.specs.Int.{w64, byte_at, bytes_low_first, to_le_bytes}
 use Rattle.lists.specs.Lists.{put}
-use Rattle.lists.proofs.Put.{length-put, set-two, put_next, put-next-at}
+use Rattle.lists.proofs.Put.{part-back}
 use Rattle.formats.specs.Bytes.{bytes_of, number_bytes, float_bytes}
+use Rattle.bytes_out.specs.Long.{bytes-long, number-long, float-long}
 
 pub length-bytes : (k n : ℕ) → length (bytes_of k n) ≡ k
+length-bytes = bytes-long
+
+-- the library's bytes of a number are these
+low-first : (i k n : ℕ) → bytes_low_first i k n ≡ bytes_of k (n / 256 ^ i)
 unfolding bytes_of
-length-bytes zero n = refl
-length-bytes (suc k) n = ap suc (length-bytes k _)
+low-first i zero n = refl
+low-first i (suc k) n = ap₂ (λ (x : ℕ) (xs : List ℕ). x ∷ xs) (here i) (low-first (suc i) k n ∙ ap (bytes_of k) (further i))
+  where
+    here : (i : ℕ) → byte_at i n ≡ n / 256 ^ i % 256
+    here zero = rw (pow-zero, div-one)
+    here (suc i) = refl
 
--- the first i bytes, and the k after them
-pub bytes-add : (i k n : ℕ) → bytes_of (i + k) n ≡ bytes_of i n ++ bytes_of k (n / 256 ^ i)
-unfolding bytes_of
-bytes-add zero k n = rw (zero-add, pow-zero, div-one)
-bytes-add (suc i) k n = rw (suc-add, pow-succ', ← div-div-eq-div-mul) (ap (λ (l : List ℕ). n % 256 ∷ l) (bytes-add i k (n / 256)))
+    further : (i : ℕ) → n / 256 ^ suc i ≡ n / 256 ^ i / 256
+    further i = rw (pow-succ', mul_comm, div-div-eq-div-mul)
 
-module _ (l : List ℕ) (at : ℕ) where
-  pub four-stored : (a b c d : ℕ) → at + 4 ≤ length l → set (set (set (set l at a) (at + 1) b) (at + 2) c) (at + 3) d ≡ put l at (a ∷ b ∷ c ∷ d ∷ [])
-  four-stored a b c d h =
-      let first = set-two l at a b (omega arith) in
-      let e : at + 3 ≡ at + 2 + 1 = omega arith in
-      let long : length (put l at (a ∷ b ∷ [])) ≡ length l = length-put l at (a ∷ b ∷ []) (omega arith) in
-      rw (first, e) (set-two (put l at (a ∷ b ∷ [])) (at + 2) c d (omega arith) ∙ put_next l at (a ∷ b ∷ []) (c ∷ d ∷ []) (omega arith))
+pub le-bytes : (k n : ℕ) → bytes_low_first 0 k n ≡ bytes_of k n
+le-bytes k n = low-first 0 k n ∙ ap (bytes_of k) (rw (pow-zero, div-one))
 
-  pub number-stored : (n : ℕ) → at + 4 ≤ length l
-      → set (set (set (set l at (n % 256)) (at + 1) (n / 256 % 256)) (at + 2) (n / 256 / 256 % 256)) (at + 3) (n / 256 / 256 / 256 % 256) ≡ put l at (number_bytes n)
-  unfolding bytes_of
-  number-stored n h = four-stored (n % 256) (n / 256 % 256) (n / 256 / 256 % 256) (n / 256 / 256 / 256 % 256) h
+pub number-stored : (l ys : List ℕ) (at n : ℕ) → ys ≡ take 4 (to_le_bytes w64 n) → put_mid at (at + 4 - at) l ys ≡ put l at (number_bytes n)
+number-stored l ys at n e = let b = e ∙ le-bytes 4 n in part-back l at 4 ys (ap length b ∙ number-long n) ∙ ap (put l at) b
 
-  -- eight bytes by two halves
-  pub float_stored : (x : Float) (b : ℕ) (half new : List ℕ) → at ≤ length l → b ≡ to_bits binary64 x → half ≡ put l at (number_bytes b)
-      → new ≡ put half (at + 4) (number_bytes (b / 0x1_0000_0000)) → new ≡ put l at (float_bytes x)
-  float_stored x b half new h e p q =
-      rw (q, p, ← e)
-      (put-next-at l at (number_bytes b) (number_bytes (b / 0x1_0000_0000)) (at + 4) h (ap (λ (k : ℕ). at + k) (length-bytes 4 b))
-      ∙ ap (put l at) (sym (bytes-add 4 4 b)))
+pub float_stored : (l ys : List ℕ) (at : ℕ) (x : Float) (b : ℕ) → b ≡ to_bits binary64 x → ys ≡ to_le_bytes w64 b → put_mid at (at + 8 - at) l ys ≡ put l at (float_bytes x)
+float_stored l ys at x b h e = let g = e ∙ le-bytes 8 b ∙ ap (bytes_of 8) h in part-back l at 8 ys (ap length g ∙ float-long x) ∙ ap (put l at) g

@@ -1,5 +1,5 @@
 -- Not-a-number: the test that shuts it out, and the pattern that it is written as. Assumes nothing.
-use mathlib.Core.Path.{◌≡◌, sym, subst, ap}
+use mathlib.Core.Path.{◌≡◌, refl, sym, subst}
 use mathlib.Core.Bool.{Bool, true, false, not}
 use lib.Dec.{T}
 use lib.Ieee.{Float, nan, inf, fin, eq, ne, is_nan, to_bits, binary64}
@@ -15,6 +15,9 @@ pub unequal-is-nan : (x : Float) → eq x x ≡ false → x ≡ nan
 unfolding ne
 unequal-is-nan x e = differs_from_itself x (rw e tt)
 
-pub bits-nan : (x : Float) → eq x x ≡ false → 0x7ff8_0000_0000_0000 ≡ to_bits binary64 x
-unfolding to_bits
-bits-nan x e = sym (ap (to_bits binary64) (unequal-is-nan x e))
+-- by the library's test
+pub bits-nan : (x : Float) → is_nan x ≡ true → 0x7ff8_0000_0000_0000 ≡ to_bits binary64 x
+unfolding is_nan to_bits
+bits-nan nan e = refl
+bits-nan (inf s) e = let z : ◌≡◌ {A = Bool} false true = e in absurd (subst T (sym z) tt)
+bits-nan (fin s m k) e = let z : ◌≡◌ {A = Bool} false true = e in absurd (subst T (sym z) tt)

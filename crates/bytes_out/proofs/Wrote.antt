@@ -1,13 +1,11 @@
 -- Bytes written one part after the other. Assumes nothing.
--- Holds: wrote_none, wrote-byte, spelt, room-spelt, room-first, wrote-long, room_next, wrote_then, room-part, copied
+-- Holds: wrote_none, wrote-byte, spelt, room-spelt, room-first, wrote-long, room_next, wrote_then
 use mathlib.Core.Path.{◌≡◌, refl, sym, ap, ◌∙◌}
-use Prim.Native.Nat.{ℕ, ◌+◌, ◌<◌}
+use Prim.Native.Nat.{ℕ, ◌+◌}
 use native.Mathlib.Nat.{add-zero, add_assoc}
 use native.Mathlib.Omega.{arith}
 use mathlib.Core.List.{List, [], ◌∷◌, ◌++◌}
-use native.Mathlib.Numerals.{add-one}
-use lib.ListN.{length, set, get_or, take, drop, length-append, take-append-drop}
-use lib.Seq.{take-suc}
+use lib.ListN.{length, set, length-append}
 use Rattle.lists.specs.Lists.{put}
 use Rattle.lists.proofs.Put.{put-nil, set-put, put-next-at, length-put}
 use Rattle.bytes_out.specs.Wrote.{Wrote, RoomFor}
@@ -42,15 +40,3 @@ wrote_then {l} {at} {xs} {ys} {r} w h v =
       place = v.place ∙ rw (w.place, length-append xs ys, add_assoc);
       same = v.same ∙ ap (λ (z : List ℕ). put z r ys) w.same ∙ put-next-at l at xs ys r (omega (arith, simp length-append at h.fits)) (sym w.place);
     }
-
--- ---- bytes that are copied one by one: the part that is copied, and one byte more
-pub room-part : {l : List ℕ} {at : ℕ} (text : List ℕ) (i : ℕ) → RoomFor l at text → RoomFor l at (take i text)
-room-part text i h = room-first (take i text) (drop i text) (room-spelt (sym (take-append-drop i text)) h)
-
-pub copied : {l : List ℕ} {at : ℕ} (text : List ℕ) (i : ℕ) {m : List ℕ} → Wrote l at (take i text) (at + i) m → RoomFor l at text → i < length text
-    → Wrote l at (take (i + 1) text) (at + (i + 1)) (set m (at + i) (get_or text i 0))
-copied {l} {at} text i {m} w h g =
-    let e : take (i + 1) text ≡ take i text ++ get_or text i 0 ∷ [] = rw (add-one, take-suc text i 0 g) in
-    let r : RoomFor l at (take i text ++ get_or text i 0 ∷ []) = room-spelt e (room-part text (i + 1) h) in
-    let v = wrote_then w r (wrote-byte m (at + i) (get_or text i 0) (room_next (get_or text i 0 ∷ []) w r)) in
-    rw (← e, add_assoc) at v

@@ -1,17 +1,15 @@
 // Marks, whole numbers and floats to a list of bytes, the lowest byte first. What bytes_in reads there again is what was written
-// (`number-back` and `Float-back`).
+// (`number-back` and `float_back`).
 #![tactic(auto)]
 
-ghost use Rattle.std.specs.Prelude.{◌≡◌, ◌+◌, ◌*◌, ◌≤◌, ◌<◌, length};
+ghost use Rattle.std.specs.Prelude.{◌≡◌, ℕ, List, map, ◌+◌, ◌*◌, ◌≤◌, ◌<◌, length};
 ghost use Rattle.std.specs.Float.Ieee.{to_bits};
 ghost use Rattle.std.specs.Float.{binary64};
-ghost use Rattle.lists.specs.Lists.{part, put};
-ghost use Rattle.formats.specs.Bytes.{bytes_of, mark_of, mark_bytes, mark_size, number_bytes, numbers_bytes, number_size, float_bytes, floats_bytes, float_size};
+ghost use Rattle.lists.specs.Lists.{joined, put};
+ghost use Rattle.formats.specs.Bytes.{bytes_of, mark_of, mark_bytes, mark_size, number_bytes, number_size, float_bytes, float_size};
+ghost use Rattle.bytes_out.specs.Long.{number-long, float-long};
 
-// The bytes of a number, and of a float.
-const NUMBER: usize = 4;
-
-const FLOAT: usize = 8;
+use bytes_in::{FLOAT, NUMBER};
 
 // ---- one field
 
@@ -37,23 +35,17 @@ pub fn put_short(n: usize, out: &mut [u8], at: usize)
     requires { at + number_size ≤ length out.old }
     ensures { out.new ≡ put out.old at (number_bytes n) }
 {
-    let past1 = n / 256;
-    let past2 = past1 / 256;
-    let past3 = past2 / 256;
-    out[at] = (n % 256) as u8;
-    out[at + 1] = (past1 % 256) as u8;
-    out[at + 2] = (past2 % 256) as u8;
-    out[at + 3] = (past3 % 256) as u8;
+    out[at..at + NUMBER].copy_from_slice(&n.to_le_bytes()[..NUMBER]);
 }
 
 // The bits of a float; not-a-number has one pattern here.
 pub fn bits_of(x: f64) -> u64
     ensures { result ≡ to_bits binary64 x }
 {
-    if x == x {
-        f64::to_bits(x)
-    } else {
+    if x.is_nan() {
         0x7ff8_0000_0000_0000
+    } else {
+        x.to_bits()
     }
 }
 
@@ -62,33 +54,61 @@ pub fn put_float(x: f64, out: &mut [u8], at: usize)
     requires { at + float_size ≤ length out.old }
     ensures { out.new ≡ put out.old at (float_bytes x) }
 {
-    let bits = bits_of(x) as usize;
-    put_short(bits, out, at);
-    put_short(bits / 0x1_0000_0000, out, at + NUMBER);
+    out[at..at + FLOAT].copy_from_slice(&bits_of(x).to_le_bytes());
 }
 
 // ---- fields one after the other
 
-// Writes `count` numbers of a list, those from `start` on.
-pub fn put_numbers(rows: &[usize], start: usize, count: usize, out: &mut [u8], at: usize)
-    requires { (start + count ≤ length rows.now) × (at + number_size * count ≤ length out.old) }
-    ensures { out.new ≡ put out.old at (numbers_bytes (part rows.now start count)) }
-{
-    let mut i = 0;
-    while i < count {
-        put_short(rows[start + i], out, at + NUMBER * i);
-        i += 1;
+// What stands in records with a fixed number of bytes: numbers, and floats.
+pub trait Field: Copy {
+    ghost SIZE: { ℕ };
+
+    ghost bytes: { Self → List ℕ };
+
+    const SIZE: usize;
+
+    // Writes the value from `at` on.
+    fn put_at(self, out: &mut [u8], at: usize)
+        requires { at + SIZE ≤ length out.old }
+        ensures { out.new ≡ put out.old at (bytes self) };
+
+    ghost long: { (x : Self) → length (bytes x) ≡ SIZE };
+}
+
+impl Field for usize {
+    ghost SIZE = { number_size };
+
+    ghost bytes = { number_bytes };
+
+    ghost long = { number-long };
+
+    const SIZE: usize = NUMBER;
+
+    fn put_at(self, out: &mut [u8], at: usize) {
+        put_short(self, out, at);
     }
 }
 
-// The same of floats.
-pub fn put_floats(xs: &[f64], start: usize, count: usize, out: &mut [u8], at: usize)
-    requires { (start + count ≤ length xs.now) × (at + float_size * count ≤ length out.old) }
-    ensures { out.new ≡ put out.old at (floats_bytes (part xs.now start count)) }
+impl Field for f64 {
+    ghost SIZE = { float_size };
+
+    ghost bytes = { float_bytes };
+
+    ghost long = { float-long };
+
+    const SIZE: usize = FLOAT;
+
+    fn put_at(self, out: &mut [u8], at: usize) {
+        put_float(self, out, at);
+    }
+}
+
+// Writes the fields of a list, one after the other, from `at` on.
+pub fn put_fields<T: Field>(xs: &[T], out: &mut [u8], at: usize)
+    requires { at + T.SIZE * length xs.now ≤ length out.old }
+    ensures { out.new ≡ put out.old at (joined (map T.bytes xs.now)) }
 {
-    let mut i = 0;
-    while i < count {
-        put_float(xs[start + i], out, at + FLOAT * i);
-        i += 1;
+    for (i, x) in xs.iter().enumerate() {
+        x.put_at(out, at + T::SIZE * i);
     }
 }

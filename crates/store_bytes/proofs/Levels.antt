@@ -5,10 +5,11 @@ use Prim.Native.Nat.{ℕ, zero, suc, ◌+◌, ◌-◌, ◌≤◌, ◌<◌}
 use native.Mathlib.Numerals.{add-one}
 use native.Mathlib.Omega.{arith}
 use mathlib.Core.List.{List, [], ◌∷◌, map, append-nil}
-use lib.ListN.{get_or, take}
+use lib.ListN.{get_or, take, drop}
 use lib.Dec.{eqb}
 use borrow.Author.Tests.{eq-eqb, ne_eqb}
-use Rattle.lists.specs.Lists.{joined, total, part, from}
+use Rattle.lists.specs.Lists.{joined, total, from}
+use Rattle.lists.proofs.Put.{part-lent}
 use Rattle.lists.proofs.Joined.{joined-append}
 use Rattle.definition.specs.Tree.{Level}
 use Rattle.packed.specs.Reading.{Packed, read_leaves, read_level, read_levels, Stands}
@@ -56,14 +57,14 @@ module _ (p : Packed) (level_points rows counts : List ℕ) where
       ap (λ (i : ℕ). joined (tree_records (map (read_level p level_points rows counts) (from 0 i)))) e
 
   module _ (t a j : ℕ) (ea : a ≡ total (take t rows)) (ej : j ≡ total (take t counts)) where
-    level-here : read_level p level_points rows counts t ≡ level_of (part level_points a (get_or rows t 0)) (read_leaves p j (get_or counts t 0))
+    level-here : read_level p level_points rows counts t ≡ level_of (take (a + get_or rows t 0 - a) (drop a level_points)) (read_leaves p j (get_or counts t 0))
     unfolding read_level
-    level-here = rw (ea, ej)
+    level-here = rw (part-lent level_points a (get_or rows t 0), ea, ej)
 
     module _ (n : ℕ) (s : Stands p level_points rows counts n) (h : t < n) where
       pub turn-here : joined (tree_records (map (read_level p level_points rows counts) (from t (n - t))))
           ≡ joined
-          (level_records (eqb (t + 1) n) (level_of (part level_points a (get_or rows t 0)) (read_leaves p j (get_or counts t 0)))
+          (level_records (eqb (t + 1) n) (level_of (take (a + get_or rows t 0 - a) (drop a level_points)) (read_leaves p j (get_or counts t 0)))
           ∷ tree_records (map (read_level p level_points rows counts) (from (t + 1) (n - (t + 1)))))
       turn-here =
           level-turn (read_level p level_points rows counts) t n h

@@ -4,7 +4,7 @@
 #![tactic(auto)]
 
 ghost use Rattle.std.specs.Prelude.{◌≡◌, ℕ, ◌+◌, ◌*◌, ◌≤◌, ◌<◌, map, length};
-ghost use Rattle.lists.specs.Lists.{joined, from, part, put};
+ghost use Rattle.lists.specs.Lists.{joined, from, put};
 ghost use Rattle.config.specs.Params.{settings_of_lem};
 ghost use Rattle.bytes_out.specs.Wrote.{Wrote, RoomFor};
 ghost use Rattle.packed.specs.Reading.{RowFits, read_leaves, Stands};
@@ -60,12 +60,9 @@ fn put_domains(
     next
 }
 
-// A level with its domains: its rows stand in the level points from `start` on, and its domains are those of m domain rows from the
-// row number j on.
+// A level with its domains: its rows, and the domains of m domain rows from the row number j on.
 fn put_whole_level(
-    level_points: &[usize],
-    start: usize,
-    count: usize,
+    rows: &[usize],
     tree: Packed<'_>,
     j: usize,
     m: usize,
@@ -73,12 +70,11 @@ fn put_whole_level(
     out: &mut [u8],
     at: usize,
 ) -> usize
-    requires count_in_bounds { start + count ≤ length level_points.now }
     requires by_index { (i : ℕ) → i < m → RowFits (packed_of tree) (j + i) }
-    requires room_for { RoomFor out.old at (level_records coarse (level_of (part level_points.now start count) (read_leaves (packed_of tree) j m))) }
-    ensures { Wrote out.old at (level_records coarse (level_of (part level_points.now start count) (read_leaves (packed_of tree.entry) j m))) result out.new }
+    requires room_for { RoomFor out.old at (level_records coarse (level_of rows.now (read_leaves (packed_of tree) j m))) }
+    ensures { Wrote out.old at (level_records coarse (level_of rows.now (read_leaves (packed_of tree.entry) j m))) result out.new }
 {
-    let next = store_records::put_level(level_points, start, count, m, out, at);
+    let next = store_records::put_level(rows, m, out, at);
     put_domains(tree, j, m, coarse, out, next)
 }
 
@@ -98,11 +94,11 @@ fn put_levels(
     let mut a = 0;
     let mut j = 0;
     for t in 0..counts.levels {
-        let k = counts.rows[t];
+        let e = a + counts.rows[t];
         let m = counts.domains[t];
         let coarse = t + 1 == counts.levels;
-        next = put_whole_level(level_points, a, k, tree, j, m, coarse, out, next);
-        a += k;
+        next = put_whole_level(&level_points[a..e], tree, j, m, coarse, out, next);
+        a = e;
         j += m;
     }
     next

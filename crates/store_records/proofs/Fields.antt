@@ -1,26 +1,17 @@
 -- The fields of records: how many bytes they have, and a field as a part that was written. Assumes nothing.
--- Holds: numbers-long, floats-long, mark-wrote, number-wrote, settings-wrote, settings-room, number-room
-use mathlib.Core.Path.{◌≡◌, refl, sym, ap, ◌∙◌}
-use Prim.Native.Nat.{ℕ, ◌+◌, ◌-◌, ◌*◌, ◌≤◌}
+-- Holds: mark-wrote, number-wrote, settings-wrote, settings-room, number-room
+use mathlib.Core.Path.{◌≡◌, refl, sym, ap}
+use Prim.Native.Nat.{ℕ, ◌+◌, ◌-◌, ◌≤◌}
 use native.Mathlib.Omega.{arith}
 use mathlib.Core.List.{List}
 use lib.ListN.{length}
-use lib.Ieee.{Float}
-use Rattle.lists.specs.Lists.{part, put}
-use Rattle.lists.proofs.Put.{length_part}
+use Rattle.lists.specs.Lists.{put}
 use Rattle.definition.specs.Tree.{Settings}
-use Rattle.formats.specs.Bytes.{Mark, mark_bytes, mark_size, number_bytes, numbers_bytes, floats_bytes, number_size, float_size}
+use Rattle.formats.specs.Bytes.{Mark, mark_bytes, mark_size, number_bytes, number_size}
 use Rattle.formats.specs.Stream.{settings_size, settings_bytes}
 use Rattle.bytes_out.proofs.Bytes.{length-bytes}
 use Rattle.bytes_out.specs.Wrote.{Wrote, RoomFor}
-use Rattle.tree_tests.proofs.Lengths.{length-numbers, length-floats, length-settings}
-
--- ---- how many bytes
-pub numbers-long : (rows : List ℕ) (start count : ℕ) → start + count ≤ length rows → length (numbers_bytes (part rows start count)) ≡ number_size * count
-numbers-long rows start count h = length-numbers (part rows start count) ∙ ap (λ (k : ℕ). number_size * k) (length_part rows start count h)
-
-pub floats-long : (xs : List Float) (start count : ℕ) → start + count ≤ length xs → length (floats_bytes (part xs start count)) ≡ float_size * count
-floats-long xs start count h = length-floats (part xs start count) ∙ ap (λ (k : ℕ). float_size * k) (length_part xs start count h)
+use Rattle.tree_tests.proofs.Lengths.{length-settings}
 
 -- ---- a mark, the settings and a number, written by an inner function
 module _ {l : List ℕ} {at : ℕ} where

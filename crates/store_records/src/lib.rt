@@ -3,9 +3,9 @@
 // A writer that holds the list and the offset is no plainer: each contract would also have to say that it still holds the caller's list.
 #![tactic(auto)]
 
-ghost use Rattle.std.specs.Prelude.{◌+◌, ◌*◌, ◌≤◌, ◌<◌, length};
-ghost use Rattle.lists.specs.Lists.{part};
-ghost use Rattle.formats.specs.Bytes.{mark_of, numbers_bytes, floats_bytes};
+ghost use Rattle.std.specs.Prelude.{◌+◌, ◌*◌, ◌≤◌, ◌<◌, map, length};
+ghost use Rattle.lists.specs.Lists.{joined};
+ghost use Rattle.formats.specs.Bytes.{mark_of, floats_bytes};
 ghost use Rattle.config.specs.Params.{settings_of_lem};
 ghost use Rattle.bytes_out.specs.Wrote.{Wrote, RoomFor};
 ghost use Rattle.packed.specs.Reading.{RowFits, read_leaf};
@@ -13,7 +13,8 @@ ghost use Rattle.packed.specs.View.{packed_of};
 ghost use Rattle.stored.specs.File.{head_bytes_lem, point_bytes};
 ghost use Rattle.store_records.specs.Records.{counts_bytes, level_record, row_floats_given, domain_record};
 
-use bytes_in::{FLOAT, MARK, NUMBER};
+use bytes_in::{MARK, NUMBER};
+use bytes_out::Field;
 use config::DDMParams;
 use packed::Packed;
 
@@ -30,24 +31,13 @@ const DOMAIN: u8 = 0x44;
 
 // ---- parts of records
 
-// The rows of a list from `start` on.
-fn put_rows(rows: &[usize], start: usize, count: usize, out: &mut [u8], at: usize) -> usize
-    requires count_in_bounds { start + count ≤ length rows.now }
-    requires room_for { RoomFor out.old at (numbers_bytes (part rows.now start count)) }
-    ensures { Wrote out.old at (numbers_bytes (part rows.now start count)) result out.new }
+// Numbers or floats, one after the other.
+fn put_list<T: Field>(xs: &[T], out: &mut [u8], at: usize) -> usize
+    requires { RoomFor out.old at (joined (map T.bytes xs.now)) }
+    ensures { Wrote out.old at (joined (map T.bytes xs.now)) result out.new }
 {
-    bytes_out::put_numbers(rows, start, count, out, at);
-    at + NUMBER * count
-}
-
-// The floats of a list from `start` on.
-fn put_reals(xs: &[f64], start: usize, count: usize, out: &mut [u8], at: usize) -> usize
-    requires count_in_bounds { start + count ≤ length xs.now }
-    requires room_for { RoomFor out.old at (floats_bytes (part xs.now start count)) }
-    ensures { Wrote out.old at (floats_bytes (part xs.now start count)) result out.new }
-{
-    bytes_out::put_floats(xs, start, count, out, at);
-    at + FLOAT * count
+    bytes_out::put_fields(xs, out, at);
+    at + T::SIZE * xs.len()
 }
 
 // The mark of a kind of record, and two counts.
@@ -70,12 +60,11 @@ fn put_row_floats(tree: Packed<'_>, j: usize, coarse: bool, out: &mut [u8], at: 
     ensures { Wrote out.old at (floats_bytes (row_floats_given coarse (packed_of tree.entry) j)) result out.new }
 {
     let start = packed::floats_before(tree.dimensions, j);
-    let width = boxes::box_width(tree.dimensions);
-    let floats = packed::row_floats(tree.dimensions);
+    let end = start + packed::row_floats(tree.dimensions);
     if coarse {
-        return put_reals(tree.boxes, start + width, packed::COVER, out, at);
+        return put_list(&tree.boxes[end - packed::COVER..end], out, at);
     }
-    put_reals(tree.boxes, start, floats, out, at)
+    put_list(&tree.boxes[start..end], out, at)
 }
 
 // ---- records
@@ -99,24 +88,17 @@ pub fn put_point(points: &[f64], dimensions: usize, i: usize, out: &mut [u8], at
     ensures { Wrote out.old at (point_bytes dimensions points.now i) result out.new }
 {
     bytes_out::put_mark(TREE, POINT, out, at);
-    put_reals(points, i * dimensions, dimensions, out, at + MARK)
+    let start = i * dimensions;
+    put_list(&points[start..start + dimensions], out, at + MARK)
 }
 
-// A level: its rows stand in the level points from `start` on.
-pub fn put_level(
-    level_points: &[usize],
-    start: usize,
-    count: usize,
-    domain_count: usize,
-    out: &mut [u8],
-    at: usize,
-) -> usize
-    requires count_in_bounds { start + count ≤ length level_points.now }
-    requires room_for { RoomFor out.old at (level_record (part level_points.now start count) domain_count) }
-    ensures { Wrote out.old at (level_record (part level_points.now start count) domain_count) result out.new }
+// A level: its rows, and how many domains it has.
+pub fn put_level(rows: &[usize], domain_count: usize, out: &mut [u8], at: usize) -> usize
+    requires { RoomFor out.old at (level_record rows.now domain_count) }
+    ensures { Wrote out.old at (level_record rows.now domain_count) result out.new }
 {
-    let listed = put_counts(LEVEL, count, domain_count, out, at);
-    put_rows(level_points, start, count, out, listed)
+    let listed = put_counts(LEVEL, rows.len(), domain_count, out, at);
+    put_list(rows, out, listed)
 }
 
 // The domain of the domain row number j.
@@ -126,13 +108,12 @@ pub fn put_domain(tree: Packed<'_>, j: usize, coarse: bool, out: &mut [u8], at: 
     ensures { Wrote out.old at (domain_record coarse (read_leaf (packed_of tree.entry) j)) result out.new }
 {
     let row = packed::read_row(tree.domains, j);
-    let own = row.internal_count;
-    let lent = row.borrowed_count;
-    let depth = row.depth;
-    let counted = put_counts(DOMAIN, own, lent, out, at);
-    let owned = put_rows(tree.internals, row.internal_start, own, out, counted);
-    let listed = put_rows(tree.borrowed, row.borrowed_start, lent, out, owned);
+    let own = &tree.internals[row.internal_start..row.internal_start + row.internal_count];
+    let lent = &tree.borrowed[row.borrowed_start..row.borrowed_start + row.borrowed_count];
+    let counted = put_counts(DOMAIN, row.internal_count, row.borrowed_count, out, at);
+    let owned = put_list(own, out, counted);
+    let listed = put_list(lent, out, owned);
     let covered = put_row_floats(tree, j, coarse, out, listed);
-    bytes_out::put_short(depth, out, covered);
+    bytes_out::put_short(row.depth, out, covered);
     covered + NUMBER
 }

@@ -1,9 +1,7 @@
 -- `bytes_out::bits_of` meets its contract. Assumes nothing.
-use Rattle.bytes_out.proofs.Nan.{equal-is-no-nan, bits-nan}
+use Rattle.bytes_out.proofs.Nan.{bits-nan}
+use mathlib.Core.Path.{sym, ◌∙◌}
 use Rattle.bytes_out.proofs.bits_of.Goals as goal
 
-pub float_to_bits-result : goal.float_to_bits-result
-float_to_bits-result c = equal-is-no-nan _ c.if-x.true
-
-pub returns-else-x : goal.returns-else-x
-returns-else-x c = bits-nan _ c.if-x.false
+pub returns-then-is_nan : goal.returns-then-is_nan
+returns-then-is_nan c = bits-nan _ (sym c.is_nan.ensures.value ∙ c.if-is_nan.true)

@@ -22,19 +22,32 @@ loop-t-init c = let start = c in
       begin _ (levels-all p a.level_points.now a.counts.rows a.counts.domains a.counts.levels) start.requires.room_for,
     )
 
+pub offset_bounds-level_points-a : goal.offset_bounds-level_points-a
+offset_bounds-level_points-a c = let start = c in
+    let a = start.args in
+    let p = packed_of a.tree in
+    let v = c.loop-t in
+    omega (arith, rows_inside p a.level_points.now a.counts.rows a.counts.domains v.t v.a v.j v.invariant.0 v.invariant.1 a.counts.levels start.requires.stands c.loop-t-test.true, start.well_formed)
+
+pub slice_bounds-put_whole_level-end : goal.slice_bounds-put_whole_level-end
+slice_bounds-put_whole_level-end c = let start = c in
+    let a = start.args in
+    let p = packed_of a.tree in
+    let v = c.loop-t in
+    rows_inside p a.level_points.now a.counts.rows a.counts.domains v.t v.a v.j v.invariant.0 v.invariant.1 a.counts.levels start.requires.stands c.loop-t-test.true
+
 pub put_whole_level-next-requires : goal.put_whole_level-next-requires
 put_whole_level-next-requires c = let start = c in
     let a = start.args in
     let p = packed_of a.tree in
     let v = c.loop-t in
     let w = restated _ (turn-here p a.level_points.now a.counts.rows a.counts.domains v.t v.a v.j v.invariant.0 v.invariant.1 a.counts.levels start.requires.stands c.loop-t-test.true) v.invariant.2 in record {
-      count_in_bounds = rows_inside p a.level_points.now a.counts.rows a.counts.domains v.t v.a v.j v.invariant.0 v.invariant.1 a.counts.levels start.requires.stands c.loop-t-test.true;
       by_index = row_fits p a.level_points.now a.counts.rows a.counts.domains v.t v.a v.j v.invariant.0 v.invariant.1 a.counts.levels start.requires.stands c.loop-t-test.true;
       room_for = room-now w;
     }
 
-pub overflow_add-a : goal.overflow_add-a
-overflow_add-a c = let start = c in
+pub overflow_add-e : goal.overflow_add-e
+overflow_add-e c = let start = c in
     let a = start.args in
     let p = packed_of a.tree in
     let v = c.loop-t in
