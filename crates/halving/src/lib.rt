@@ -31,12 +31,10 @@ fn part_rows(
     ensures rows { rows.new ≡ put rows.old 0 (keep (on_side d points.now axis m true) rows.old) }
     ensures room { room.new ≡ put room.old 0 (keep (λ i. not (on_side d points.now axis m true i)) rows.old) }
 {
-    let mut lo: usize = 0;
-    let mut hi: usize = 0;
-    let mut i: usize = 0;
-    while i < rows.len() {
+    let mut lo = 0;
+    let mut hi = 0;
+    for i in 0..rows.len() {
         let r = rows[i];
-        i += 1;
         if argsort::comes_before(points, d, axis, r, m) {
             rows[lo] = r;
             lo += 1;

@@ -1,5 +1,3 @@
-use Prim.Native.Nat.{◌-◌}
-use lib.ListN.{length}
 use mathlib.Core.Bool.{true}
 use Rattle.middle_row.specs.Middle.{on_side}
 use Rattle.halving.proofs.Turns.{Parted}
@@ -7,6 +5,3 @@ use Rattle.halving.proofs.part_rows.Given as goal
 
 abbrev pub invariant-loop-i : goal.invariant-loop-i
 invariant-loop-i l = Parted (on_side l.d l.points l.axis l.m true) l.initial.rows l.initial.room l.rows l.room l.lo l.hi l.i
-
-abbrev pub decreases-loop-i : goal.decreases-loop-i
-decreases-loop-i l = length l.initial.rows - l.i
