@@ -65,10 +65,11 @@ fn cut_leaves(
     let base = 2 * n;
     let stride = boxes::box_width(dimensions);
     put_root(points, dimensions, rows, floats, wholes);
-    let mut head: usize = 0;
-    let mut tail: usize = 1;
-    let mut done: usize = 0;
+    let mut head = 0;
+    let mut tail = 1;
+    let mut done = 0;
     let mut k = first;
+    // a queue that grows: no counted loop
     while head < tail {
         let place = base + queue::WAITING * head;
         let start = wholes[place];

@@ -1,5 +1,4 @@
 use mathlib.Core.Path.{◌≡◌}
-use Prim.Native.Nat.{◌-◌}
 use lib.ListN.{length}
 use Rattle.queue.proofs.Loop.{cuts_left}
 use Rattle.queue.proofs.View.{room_in}
