@@ -1,36 +1,41 @@
 // The levels of a tree: a fine level while the active rows outnumber the coarse threshold, and then the coarse level.
 #![tactic(auto)]
 
-ghost use Rattle.std.specs.Prelude.{◌≡◌, ◌&&◌, map, ◌≤◌, ◌<◌, ltb, length, replicate};
+ghost use Rattle.std.specs.Prelude.{◌≡◌, ◌&&◌, [], ◌∷◌, map, ◌+◌, ◌*◌, ◌^◌, ◌≤◌, ◌<◌, ltb, length, replicate};
 ghost use Rattle.lists.specs.Lists.{put, part};
 ghost use Rattle.definition.specs.Levels.{level_size_lem};
 ghost use Rattle.definition.specs.Tree.{reductions_left, most_fine};
 ghost use Rattle.definition.specs.Refusals.{most_points};
-ghost use Rattle.definition.specs.Packed.{packed_level_points, packed_internals, packed_domains, packed_boxes, packed_borrowed};
+ghost use Rattle.definition.specs.Number.{plus_zero};
+ghost use Rattle.definition.specs.Packed.{row_numbers, row_floats_lem, packed_level_points, packed_internals, packed_domains, packed_boxes, packed_borrowed};
 ghost use Rattle.definition.specs.Record.{whole_of, float_of};
 ghost use Rattle.fine_level.specs.Fine.{Given};
 ghost use Rattle.levels_loop.specs.After.{level_settings, levels_after, Space};
 ghost use Rattle.levels_loop.specs.Records.{records_by, RecordRoom};
+ghost use Rattle.tree_lists.specs.Lent.{SameLists, SameRoom, SameRecords};
 
-use cut_engine::Engine;
-use fine_level::{Place, Plan};
+use fine_level::{Place, Plan, Written};
+use tree_lists::{Records, Room, TreeLists};
 
 // The most fine levels.
 const MOST_FINE: usize = 3;
+
+// The most levels: those and the coarse one.
+pub const MOST_LEVELS: usize = MOST_FINE + 1;
 
 // The number of levels, and the rows and the domains of each.
 #[derive(Clone, Copy)]
 pub struct Counts {
     pub levels: usize,
-    pub rows: [usize; 4],
-    pub domains: [usize; 4],
+    pub rows: [usize; MOST_LEVELS],
+    pub domains: [usize; MOST_LEVELS],
 }
 
 // Whether a fine level is next: one more is allowed, and the active rows outnumber the coarse threshold.
 fn is_fine(built: usize, a: usize, c: usize) -> bool
     ensures { result ≡ (ltb built most_fine && ltb c a) }
 {
-    if built < MOST_FINE { c < a } else { false }
+    built < MOST_FINE && c < a
 }
 
 // The size of the level after the next, of k reductions in all.
@@ -39,110 +44,102 @@ fn next_size(a: usize, c: usize, k: u32, built: usize) -> usize
     ensures { result ≡ level_size_lem a c (reductions_left k built) }
 {
     let most = k as usize;
-    if built < most {
-        level_sizes::level_size(a, c, k - built as u32)
-    } else {
-        level_sizes::level_size(a, c, 1)
+    let left = if built < most { k - built as u32 } else { 1 };
+    level_sizes::level_size(a, c, left)
+}
+
+// Where the level after one stands: behind all that this one has written.
+fn place_after(place: Place, level: Written) -> Place
+    requires { (place.from + place.a < 2 ^ 64) × (place.first + level.leaves < 2 ^ 64) × (place.bat + level.borrowed < 2 ^ 64) × (place.node + level.nodes < 2 ^ 64) }
+    ensures rows { (result.from ≡ place.from + place.a) × (result.a ≡ level.next) }
+    ensures parts { (result.first ≡ place.first + level.leaves) × (result.bat ≡ place.bat + level.borrowed) × (result.node ≡ place.node + level.nodes) }
+{
+    Place {
+        from: place.from + place.a,
+        a: level.next,
+        first: place.first + level.leaves,
+        bat: place.bat + level.borrowed,
+        node: place.node + level.nodes,
     }
+}
+
+// The coarse level at its place.
+fn last_level(dimensions: usize, place: Place, lists: &mut TreeLists<'_>)
+    requires { (place.from + place.a ≤ length lists.old.level_points.now) × (place.from + place.a ≤ length lists.old.internals.now) × (row_numbers * (place.first + 1) ≤ length lists.old.domains.now) × (row_floats_lem dimensions * (place.first + 1) ≤ length lists.old.boxes.now) × (dimensions ≤ 3) }
+    ensures same { SameLists lists.old lists.new }
+    ensures kept { (lists.new.level_points.now ≡ lists.old.level_points.now) × (lists.new.borrowed.now ≡ lists.old.borrowed.now) }
+    ensures internals { lists.new.internals.now ≡ put lists.old.internals.now place.from (part lists.old.level_points.now place.from place.a) }
+    ensures domains { lists.new.domains.now ≡ put lists.old.domains.now (row_numbers * place.first) (place.from ∷ place.a ∷ place.bat ∷ 0 ∷ 0 ∷ []) }
+    ensures boxes { lists.new.boxes.now ≡ put lists.old.boxes.now (row_floats_lem dimensions * place.first) (replicate (row_floats_lem dimensions) plus_zero) }
+{
+    let level_points: &mut [usize] = lists.level_points;
+    let internals: &mut [usize] = lists.internals;
+    let domains: &mut [usize] = lists.domains;
+    coarse_level::coarse_level(
+        dimensions,
+        level_points,
+        place.from,
+        place.a,
+        internals,
+        domains,
+        place.first,
+        place.bat,
+        lists.boxes,
+    );
 }
 
 // All levels over the n rows at the front of the level points. Each level is written behind the last: its active rows, its leaves'
 // rows, its domain rows, their boxes, the borrowed rows, and the nodes of its record that this engine writes.
 pub fn all_levels(
-    engine: Engine,
     points: &[f64],
-    dimensions: usize,
-    leaf: usize,
-    neighbours: usize,
+    plan: Plan,
     c: usize,
     k: u32,
     n: usize,
-    level_points: &mut [usize],
-    internals: &mut [usize],
-    domains: &mut [usize],
-    boxes: &mut [f64],
-    borrowed: &mut [usize],
-    floats: &mut [f64],
-    wholes: &mut [usize],
-    cuts: &mut [usize],
-    planes: &mut [f64],
+    lists: &mut TreeLists<'_>,
+    room: &mut Room<'_>,
+    records: &mut Records<'_>,
 ) -> Counts
-    requires le_c { (1 ≤ c) × (k ≤ 3) × Given dimensions points.now leaf neighbours (part level_points.old 0 n) }
-    requires space { Space dimensions neighbours n most_fine level_points.old internals.old domains.old boxes.old borrowed.old floats.old wholes.old 0 0 0 }
-    requires record_room { RecordRoom engine n cuts.old planes.old }
-    ensures counts { (result.levels ≡ length (levels_after dimensions points.now leaf neighbours c k 0 (part level_points.old 0 n)))
-        × (result.rows ≡ put (replicate 4 0) 0 (map (λ l. length l.points) (levels_after dimensions points.now leaf neighbours c k 0 (part level_points.old 0 n))))
-        × (result.domains ≡ put (replicate 4 0) 0 (map (λ l. length l.leaves) (levels_after dimensions points.now leaf neighbours c k 0 (part level_points.old 0 n)))) }
-    ensures level_points { level_points.new ≡ put level_points.old 0 (packed_level_points (levels_after dimensions points.now leaf neighbours c k 0 (part level_points.old 0 n))) }
-    ensures internals { internals.new ≡ put internals.old 0 (packed_internals (levels_after dimensions points.now leaf neighbours c k 0 (part level_points.old 0 n))) }
-    ensures domains { domains.new ≡ put domains.old 0 (packed_domains (levels_after dimensions points.now leaf neighbours c k 0 (part level_points.old 0 n))) }
-    ensures boxes { boxes.new ≡ put boxes.old 0 (packed_boxes (levels_after dimensions points.now leaf neighbours c k 0 (part level_points.old 0 n))) }
-    ensures borrowed { borrowed.new ≡ put borrowed.old 0 (packed_borrowed (levels_after dimensions points.now leaf neighbours c k 0 (part level_points.old 0 n))) }
-    ensures cuts { cuts.new ≡ put cuts.old 0 (map whole_of (records_by engine (level_settings dimensions leaf neighbours) points.now (levels_after dimensions points.now leaf neighbours c k 0 (part level_points.old 0 n)))) }
-    ensures planes { planes.new ≡ put planes.old 0 (map float_of (records_by engine (level_settings dimensions leaf neighbours) points.now (levels_after dimensions points.now leaf neighbours c k 0 (part level_points.old 0 n)))) }
+    requires le_c { (1 ≤ c) × (k ≤ 3) × Given plan.dimensions points.now plan.leaf plan.neighbours (part lists.old.level_points.now 0 n) }
+    requires space { Space plan.dimensions plan.neighbours n most_fine lists.old.level_points.now lists.old.internals.now lists.old.domains.now lists.old.boxes.now lists.old.borrowed.now room.old.floats.now room.old.wholes.now 0 0 0 }
+    requires record_room { RecordRoom plan.engine n records.old.cuts.now records.old.planes.now }
+    ensures same { SameLists lists.old lists.new × SameRoom room.old room.new × SameRecords records.old records.new }
+    ensures counts { (result.levels ≡ length (levels_after plan.dimensions points.now plan.leaf plan.neighbours c k 0 (part lists.old.level_points.now 0 n)))
+        × (result.rows ≡ put (replicate 4 0) 0 (map (λ l. length l.points) (levels_after plan.dimensions points.now plan.leaf plan.neighbours c k 0 (part lists.old.level_points.now 0 n))))
+        × (result.domains ≡ put (replicate 4 0) 0 (map (λ l. length l.leaves) (levels_after plan.dimensions points.now plan.leaf plan.neighbours c k 0 (part lists.old.level_points.now 0 n)))) }
+    ensures level_points { lists.new.level_points.now ≡ put lists.old.level_points.now 0 (packed_level_points (levels_after plan.dimensions points.now plan.leaf plan.neighbours c k 0 (part lists.old.level_points.now 0 n))) }
+    ensures internals { lists.new.internals.now ≡ put lists.old.internals.now 0 (packed_internals (levels_after plan.dimensions points.now plan.leaf plan.neighbours c k 0 (part lists.old.level_points.now 0 n))) }
+    ensures domains { lists.new.domains.now ≡ put lists.old.domains.now 0 (packed_domains (levels_after plan.dimensions points.now plan.leaf plan.neighbours c k 0 (part lists.old.level_points.now 0 n))) }
+    ensures boxes { lists.new.boxes.now ≡ put lists.old.boxes.now 0 (packed_boxes (levels_after plan.dimensions points.now plan.leaf plan.neighbours c k 0 (part lists.old.level_points.now 0 n))) }
+    ensures borrowed { lists.new.borrowed.now ≡ put lists.old.borrowed.now 0 (packed_borrowed (levels_after plan.dimensions points.now plan.leaf plan.neighbours c k 0 (part lists.old.level_points.now 0 n))) }
+    ensures cuts { records.new.cuts.now ≡ put records.old.cuts.now 0 (map whole_of (records_by plan.engine (level_settings plan.dimensions plan.leaf plan.neighbours) points.now (levels_after plan.dimensions points.now plan.leaf plan.neighbours c k 0 (part lists.old.level_points.now 0 n)))) }
+    ensures planes { records.new.planes.now ≡ put records.old.planes.now 0 (map float_of (records_by plan.engine (level_settings plan.dimensions plan.leaf plan.neighbours) points.now (levels_after plan.dimensions points.now plan.leaf plan.neighbours c k 0 (part lists.old.level_points.now 0 n)))) }
 {
-    let mut built: usize = 0;
-    let mut from: usize = 0;
-    let mut a = n;
-    let mut first: usize = 0;
-    let mut bat: usize = 0;
-    let mut node: usize = 0;
-    let mut rows = [0; 4];
-    let mut counts = [0; 4];
-    while is_fine(built, a, c) {
-        let size = next_size(a, c, k, built);
-        let level = fine_level::fine_level(
-            points,
-            Plan {
-                engine: engine,
-                dimensions: dimensions,
-                leaf: leaf,
-                neighbours: neighbours,
-            },
-            size,
-            Place {
-                from: from,
-                a: a,
-                first: first,
-                bat: bat,
-                node: node,
-            },
-            level_points,
-            internals,
-            domains,
-            boxes,
-            borrowed,
-            floats,
-            wholes,
-            cuts,
-            planes,
-        );
-        rows[built] = a;
-        counts[built] = level.leaves;
-        from += a;
-        a = level.next;
-        first += level.leaves;
-        bat += level.borrowed;
-        node += level.nodes;
+    let mut place = Place {
+        from: 0,
+        a: n,
+        first: 0,
+        bat: 0,
+        node: 0,
+    };
+    let mut rows = [0; MOST_LEVELS];
+    let mut domains = [0; MOST_LEVELS];
+    let mut built = 0;
+    // how many fine levels there are shows only as they are built
+    while is_fine(built, place.a, c) {
+        let size = next_size(place.a, c, k, built);
+        let level = fine_level::fine_level(points, plan, size, place, lists, room, records);
+        rows[built] = place.a;
+        domains[built] = level.leaves;
+        place = place_after(place, level);
         built += 1;
     }
-    coarse_level::coarse_level(
-        dimensions,
-        level_points,
-        from,
-        a,
-        internals,
-        domains,
-        first,
-        bat,
-        boxes,
-    );
-    rows[built] = a;
-    counts[built] = 1;
-    let total = built + 1;
+    last_level(plan.dimensions, place, lists);
+    rows[built] = place.a;
+    domains[built] = 1;
     Counts {
-        levels: total,
-        rows: rows,
-        domains: counts,
+        levels: built + 1,
+        rows,
+        domains,
     }
 }
