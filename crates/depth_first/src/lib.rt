@@ -57,10 +57,7 @@ fn cut_leaves(
         wholes,
         cuts,
         planes,
-        Next {
-            place: place,
-            leaves: 0,
-        },
+        Next { place, leaves: 0 },
     );
     let m = end.leaves;
     leaf_numbers::number_leaves(
@@ -100,22 +97,11 @@ pub fn leaves(
     ensures cuts { cuts.new ≡ put cuts.old place (map whole_of (record_of dimensions points.now leaf active.now)) }
     ensures planes { planes.new ≡ put planes.old place (map float_of (record_of dimensions points.now leaf active.now)) }
 {
-    let n = active.len();
-    let end = at + n;
-    stretches::copy_rows(active, 0, n, internals, at);
+    let end = at + active.len();
+    let rows = &mut internals[at..end];
+    rows.copy_from_slice(active);
     cut_leaves(
-        points,
-        dimensions,
-        leaf,
-        &mut internals[at..end],
-        at,
-        domains,
-        first,
-        boxes,
-        floats,
-        wholes,
-        cuts,
-        planes,
+        points, dimensions, leaf, rows, at, domains, first, boxes, floats, wholes, cuts, planes,
         place,
     )
 }
