@@ -75,6 +75,7 @@ pub fn level_size(a: usize, c: usize, r: u32) -> usize
 }
 
 // The size of the next level, asked alone. Document 01's refusals come in its order: 4, 8, 14, 9.
+#[tactic(auto, using(std::proofs::lemmas::Bool::Decides::nat_tests), unfolding(definition::specs::Outcome::size_answer, definition::specs::Refusals::size_verdict, definition::specs::Refusals::verdict, definition::specs::Outcome::number_of, definition::specs::Outcome::place_of, definition::specs::Outcome::value_of))]
 pub fn get_num_level_coarse_points(a: usize, c: u32, r: u32) -> Result<usize, Refusal>
     ensures { size_report result ≡ size_answer a c r }
 {

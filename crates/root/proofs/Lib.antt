@@ -2,4 +2,3 @@
 pub mod Steps
 mod Whole
 mod Cases
-mod Outcomes

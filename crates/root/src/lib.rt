@@ -75,12 +75,12 @@ fn guess(b: u64) -> u64
 {
     let f = f64::from_bits(b);
     let h = f * 0.5;
-    let a = f64::from_bits(0x5fe6_eb50_c7b5_37a9 - (b >> 1));
-    let y1 = a * (1.5 - h * a * a);
-    let y2 = y1 * (1.5 - h * y1 * y1);
-    let y3 = y2 * (1.5 - h * y2 * y2);
-    let z = f * y3;
-    let w = z + 0.5 * y3 * (f - z * z);
+    let mut y = f64::from_bits(0x5fe6_eb50_c7b5_37a9 - (b >> 1));
+    for _ in 0..3 {
+        y *= 1.5 - h * y * y;
+    }
+    let z = f * y;
+    let w = z + 0.5 * y * (f - z * z);
     if w.is_nan() {
         return 0;
     }
@@ -136,6 +136,7 @@ pub fn root(x: f64) -> f64
 }
 
 // The root of x, with the refusal: NaN and the numbers below zero have none.
+#[tactic(auto, unfolding(definition::specs::Outcome::root_answer, definition::specs::Refusals::root_verdict, definition::specs::Refusals::verdict, definition::specs::Outcome::number_of, definition::specs::Outcome::place_of, definition::specs::Outcome::value_of))]
 pub fn square_root(x: f64) -> Result<f64, Refusal>
     ensures { root_report result ≡ root_answer x }
 {
