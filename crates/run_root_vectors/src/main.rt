@@ -3,9 +3,7 @@
 // and its root, with a space between them; no root is the pattern of NaN. tools/make_root_vectors.py makes the file.
 #![tactic(auto)]
 
-ghost use Rattle.std.specs.Prelude.{◌≡◌, ◌+◌, ◌≤◌, length};
-ghost use Rattle.std.specs.Float.{binary64};
-ghost use Rattle.std.specs.Float.Ieee.{nan_bits};
+ghost use Rattle.std.specs.Prelude.{◌≡◌, length};
 
 use std::io;
 
@@ -14,86 +12,49 @@ const LINE: usize = 34;
 
 const ROOM: usize = 131072;
 
-fn room() -> [u8; ROOM]
-    ensures { 131072 ≡ length result }
-{
-    [0; ROOM]
-}
-
 // A hexadecimal digit's number; 0 for any other byte.
 fn digit(c: u8) -> u64 {
-    if b'0' <= c && c <= b'9' {
-        return (c - b'0') as u64;
+    match c {
+        b'0'..=b'9' => (c - b'0') as u64,
+        b'a'..=b'f' => (c - b'a') as u64 + 10,
+        _ => 0,
     }
-    if b'a' <= c && c <= b'f' {
-        return (c - b'a') as u64 + 10;
-    }
-    0
 }
 
-// The number whose 16 hexadecimal digits stand from `at` on.
-fn number(text: &[u8], at: usize) -> u64
-    requires { at + 16 ≤ length text.now }
-{
-    let mut x: u64 = 0;
-    let mut k = 0;
-    while k < 16 {
-        x = (x << 4) | digit(text[at + k]);
-        k += 1;
+// The number whose hexadecimal digits these are.
+fn number(text: &[u8]) -> u64 {
+    let mut x = 0;
+    for &c in text {
+        x = (x << 4) | digit(c);
     }
     x
 }
 
-// Whether the pattern b is NaN's: its exponent is all ones, and its digits are not all zero.
-fn is_nan_pattern(b: u64) -> bool
-    ensures { result ≡ nan_bits binary64 b }
-{
-    0x7ff0_0000_0000_0000 < b % 0x8000_0000_0000_0000
-}
-
-// The f64 with the pattern b.
-fn float_of(b: u64) -> f64 {
-    if is_nan_pattern(b) {
-        return 0.0 / 0.0;
-    }
-    f64::from_bits(b)
-}
-
-// Whether v has the pattern b.
-fn has_pattern(v: f64, b: u64) -> bool {
-    if v != v {
-        return false;
-    }
-    f64::to_bits(v) == b
-}
-
 // Whether the root of the value with the pattern b has the pattern `want`.
 fn agrees(b: u64, want: u64) -> bool {
-    let answer = root::square_root(float_of(b));
-    match answer {
-        root::RootAnswer::Value(v) => has_pattern(v, want),
-        root::RootAnswer::Refused => is_nan_pattern(want),
+    match root::square_root(bytes_in::float_of(b)) {
+        Ok(v) => !v.is_nan() && v.to_bits() == want,
+        Err(_) => bytes_in::bits_are_nan(want),
     }
+}
+
+// Whether a line holds.
+fn line_holds(line: &[u8]) -> bool
+    requires { length line.now ≡ 34 }
+{
+    agrees(number(&line[..16]), number(&line[17..33]))
 }
 
 // How many of the lines of `text` do not hold.
 fn differing(text: &[u8]) -> usize {
-    let mut count = 0;
-    let mut i = 0;
-    while i < text.len() / LINE {
-        let b = number(text, i * LINE);
-        let want = number(text, i * LINE + 17);
-        if !agrees(b, want) {
-            count += 1;
-        }
-        i += 1;
-    }
-    count
+    text.chunks_exact(LINE)
+        .filter(|line| !line_holds(line))
+        .count()
 }
 
 fn main(rt: HostRuntime) -> io::Result<()> {
     let mut file = program_input::open_argument(&rt, 1)?;
-    let mut text = room();
+    let mut text = program_input::room::<ROOM>();
     let n = program_input::read_count(&mut file, &mut text)?;
     let vectors = n / LINE;
     let differ = differing(&text[..n]);
