@@ -60,23 +60,20 @@ pub fn cut_level(
 {
     match engine {
         Engine::Queue => {
-            let m = leaves::leaves(
+            let leaves = leaves::leaves(
                 points, dimensions, leaf, active, internals, at, domains, first, boxes, floats,
                 wholes,
             );
-            Cut {
-                leaves: m,
-                nodes: 0,
-            }
+            Cut { leaves, nodes: 0 }
         }
         Engine::DepthFirst => {
-            let m = depth_first::leaves(
+            let leaves = depth_first::leaves(
                 points, dimensions, leaf, active, internals, at, domains, first, boxes, floats,
                 wholes, cuts, planes, place,
             );
             Cut {
-                leaves: m,
-                nodes: 2 * m - 1,
+                leaves,
+                nodes: 2 * leaves - 1,
             }
         }
     }

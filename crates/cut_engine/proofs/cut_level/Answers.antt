@@ -4,15 +4,15 @@ use Rattle.definition.specs.Record.{whole_of, float_of}
 use Rattle.cut_engine.proofs.Written.{nodes-few, by-queue}
 use Rattle.cut_engine.proofs.cut_level.Goals as goal
 
-pub leaves-m-requires : goal.leaves-m-requires
-leaves-m-requires c = let p = c.requires in record {
+pub leaves-leaves-requires : goal.leaves-leaves-requires
+leaves-leaves-requires c = let p = c.requires in record {
   dimensions_nonzero = p.dimensions_nonzero;
   active_in_bounds = p.active_in_bounds;
   active_in_bounds_2 = p.active_in_bounds_2;
 }
 
-pub leaves-m-requires-in-DepthFirst : goal.leaves-m-requires-in-DepthFirst
-leaves-m-requires-in-DepthFirst c = let p = c.requires in
+pub leaves-leaves-requires-in-DepthFirst : goal.leaves-leaves-requires-in-DepthFirst
+leaves-leaves-requires-in-DepthFirst c = let p = c.requires in
     let e = c.in-DepthFirst.is in
     record {
       dimensions_nonzero = p.dimensions_nonzero;
@@ -24,13 +24,13 @@ leaves-m-requires-in-DepthFirst c = let p = c.requires in
 pub overflow_mul-result : goal.overflow_mul-result
 overflow_mul-result c = let p = c.requires in
     let P = c.args in
-    let w = c.leaves-m-in-DepthFirst.ensures in
+    let w = c.leaves-leaves-in-DepthFirst.ensures in
     let few = nodes-few P.dimensions P.points.now P.leaf P.active.now p.dimensions_nonzero.0 p.dimensions_nonzero.2 p.dimensions_nonzero.3 p.dimensions_nonzero.4 w.number in
     record { fits = omega (arith, few, p.dimensions_nonzero.4.few) }
 
 pub returns-in-Queue : goal.returns-in-Queue
 returns-in-Queue c = let P = c.args in
-    let w = c.leaves-m.ensures in
+    let w = c.leaves-leaves.ensures in
     let e = c.in-Queue.is in record {
       counts = (w.number, rw e, omega arith);
       internals = w.internals;
@@ -43,7 +43,7 @@ returns-in-Queue c = let P = c.args in
 pub returns-in-DepthFirst : goal.returns-in-DepthFirst
 returns-in-DepthFirst c = let p = c.requires in
     let P = c.args in
-    let w = c.leaves-m-in-DepthFirst.ensures in
+    let w = c.leaves-leaves-in-DepthFirst.ensures in
     let e = c.in-DepthFirst.is in
     let few = nodes-few P.dimensions P.points.now P.leaf P.active.now p.dimensions_nonzero.0 p.dimensions_nonzero.2 p.dimensions_nonzero.3 p.dimensions_nonzero.4 w.number in record {
       counts = (w.number, rw e (omega (arith, w.nodes)), rw e (omega (arith, few)));
