@@ -6,10 +6,10 @@ ghost use Rattle.tree_answer.specs.Answers.{tree_answer_lem, lists_of};
 ghost use Rattle.table_checks.specs.Tables.{table_of};
 ghost use Rattle.table_build.specs.Outcome.{BuiltSlots};
 
-use build_checks::Checked;
 use build_sizes::BuildSizes;
 use config::DDMParams;
 use cut_engine::Engine;
+use refusal::Refusal;
 use table::Head;
 use tree_answer::DDMTree;
 
@@ -29,7 +29,7 @@ pub fn build_slots(
     borrowed: &mut [usize],
     floats: &mut [f64],
     wholes: &mut [usize],
-) -> DDMTree
+) -> Result<DDMTree, Refusal>
     ensures { BuiltSlots (settings_of_lem dimensions params) (table_of head.slots head.live flags.now coordinates.now)
         (lists_of level_points.old internals.old domains.old boxes.old borrowed.old)
         (lists_of level_points.new internals.new domains.new boxes.new borrowed.new)
@@ -44,39 +44,23 @@ pub fn build_slots(
         floats: floats.len(),
         wholes: wholes.len(),
     };
-    let slots = head.slots;
-    let live = head.live;
-    let checked = slots_checks::check_slots(
-        slots,
-        live,
-        flags,
+    let Head { slots, live } = head;
+    slots_checks::check_slots(slots, live, flags, coordinates, dimensions, params, lent)?;
+    live_slots::list_live(flags, slots, level_points);
+    Ok(grow_over::grow_over(
+        Engine::Queue,
         coordinates,
         dimensions,
         params,
-        lent,
-    );
-    match checked {
-        Checked::Refused(number, place) => tree_answer::refusal(number, place),
-        Checked::Accepted => {
-            let mut cuts = [0; 1];
-            let mut planes = [0.0; 1];
-            live_slots::list_live(flags, slots, level_points);
-            grow_over::grow_over(
-                Engine::Queue,
-                coordinates,
-                dimensions,
-                params,
-                live,
-                level_points,
-                internals,
-                domains,
-                boxes,
-                borrowed,
-                floats,
-                wholes,
-                &mut cuts,
-                &mut planes,
-            )
-        }
-    }
+        live,
+        level_points,
+        internals,
+        domains,
+        boxes,
+        borrowed,
+        floats,
+        wholes,
+        &mut [],
+        &mut [],
+    ))
 }
