@@ -1,6 +1,5 @@
 -- A record's bytes against those of settings: field by field, each as a number. Assumes nothing.
--- Holds: field-same, parts_same, policy-same, settings-same, dimension-differs, leaf-differs, neighbours_differ, factor-differs,
---   policy-decides
+-- Holds: field-same, parts_same, policy-same, settings-same, met, unmet
 use mathlib.Core.Path.{◌≡◌, refl, sym, ap, ◌∙◌}
 use mathlib.Core.Bool.{Bool, true, false, ◌&&◌, and_assoc}
 use Prim.Native.Nat.{ℕ, zero, suc, ◌+◌, ◌*◌, ◌/◌, ◌%◌, ◌^◌, ◌≤◌, ◌<◌}
@@ -84,20 +83,10 @@ module _ (s : Settings) (bs : List ℕ) (h : settings_size ≤ length bs) where
       (parts_same bs (d ++ leaf) neighbours 2 5 4 k2 (omega arith)
       ∙ ap (λ (t : Bool). t && same neighbours (part bs 7 4)) (parts_same bs d leaf 2 1 4 (length-bytes 1 s.dimension) (omega arith))))
 
-  pub dimension-differs : same (bytes_of 1 s.dimension) (part bs 2 1) ≡ false → false ≡ same_settings_lem s bs
-  dimension-differs e = sym (settings-same ∙ rw e)
+-- ---- a chain of tests that stops at the first one that is not met
+module _ {v b x : Bool} (e : b ≡ x) where
+  pub met : {r l : Bool} → b ≡ true → v ≡ r → r ≡ l → v ≡ x && l
+  met h p q = rw (p, q, ← e, h)
 
-  module _ (d : same (bytes_of 1 s.dimension) (part bs 2 1) ≡ true) where
-    pub leaf-differs : same (bytes_of 4 s.leaf) (part bs 3 4) ≡ false → false ≡ same_settings_lem s bs
-    leaf-differs e = sym (settings-same ∙ rw (d, e))
-
-    module _ (l : same (bytes_of 4 s.leaf) (part bs 3 4) ≡ true) where
-      pub neighbours_differ : same (bytes_of 4 s.neighbours) (part bs 7 4) ≡ false → false ≡ same_settings_lem s bs
-      neighbours_differ e = sym (settings-same ∙ rw (d, l, e))
-
-      module _ (n : same (bytes_of 4 s.neighbours) (part bs 7 4) ≡ true) where
-        pub factor-differs : same (bytes_of 4 s.factor) (part bs 11 4) ≡ false → false ≡ same_settings_lem s bs
-        factor-differs e = sym (settings-same ∙ rw (d, l, n, e))
-
-        pub policy-decides : same (bytes_of 4 s.factor) (part bs 11 4) ≡ true → (t : Bool) → t ≡ same (policy_bytes s.policy) (part bs 15 5) → t ≡ same_settings_lem s bs
-        policy-decides f t e = sym (settings-same ∙ rw (d, l, n, f, e))
+  pub unmet : (l : Bool) → b ≡ false → v ≡ b → v ≡ x && l
+  unmet l h p = rw (p, ← e, h)

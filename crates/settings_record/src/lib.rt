@@ -42,6 +42,31 @@ struct PolicyFields {
     threshold: u32,
 }
 
+impl From<SizePolicy> for PolicyFields {
+    ghost from_gives = { λ policy fields. (policy_bytes (threshold_policy policy) ≡ bytes_of 1 fields.kind ++ number_bytes fields.threshold) × (fields.kind < 256) };
+
+    fn from(policy: SizePolicy) -> PolicyFields {
+        match policy {
+            SizePolicy::Auto => PolicyFields {
+                kind: 0,
+                threshold: 0,
+            },
+            SizePolicy::Fixed(threshold) => PolicyFields { kind: 1, threshold },
+        }
+    }
+}
+
+impl From<PolicyFields> for SizePolicy {
+    ghost from_gives = { λ fields policy. threshold_policy policy ≡ policy_from fields.kind fields.threshold };
+
+    fn from(fields: PolicyFields) -> SizePolicy {
+        match fields.kind {
+            0 => SizePolicy::Auto,
+            _ => SizePolicy::Fixed(fields.threshold),
+        }
+    }
+}
+
 // ---- read
 
 // Whether the record has policy 1, or policy 0 with the threshold 0.
@@ -49,23 +74,11 @@ pub fn policy_fits(input: &[u8]) -> bool
     requires { settings_size ≤ length input.now }
     ensures { result ≡ policy_fits_lem input.now }
 {
-    let kind = bytes_in::byte_at(input, POLICY);
-    if kind == 1 {
-        return true;
+    match bytes_in::byte_at(input, POLICY) {
+        0 => bytes_in::number_at(input, THRESHOLD) == 0,
+        1 => true,
+        _ => false,
     }
-    if kind == 0 {
-        return bytes_in::number_at(input, THRESHOLD) == 0;
-    }
-    false
-}
-
-fn policy_of(kind: usize, threshold: u32) -> SizePolicy
-    ensures { threshold_policy result ≡ policy_from kind threshold }
-{
-    if kind == 0 {
-        return SizePolicy::Auto;
-    }
-    SizePolicy::Fixed(threshold)
 }
 
 // The number of four bytes from `at` on, as a setting.
@@ -81,42 +94,30 @@ pub fn settings_of(input: &[u8]) -> Settings
     requires { settings_size ≤ length input.now }
     ensures { settings_are result ≡ settings_in input.now }
 {
-    let dimensions = bytes_in::byte_at(input, DIMENSION);
-    let leaf_threshold = setting_at(input, LEAF);
-    let overlap_knn = setting_at(input, NEIGHBOURS);
-    let coarse_reduction_factor = setting_at(input, FACTOR);
-    let kind = bytes_in::byte_at(input, POLICY);
-    let number = setting_at(input, THRESHOLD);
-    let coarse_threshold = policy_of(kind, number);
-    let params = DDMParams {
-        leaf_threshold,
-        overlap_knn,
-        coarse_reduction_factor,
-        coarse_threshold,
+    let fields = PolicyFields {
+        kind: bytes_in::byte_at(input, POLICY),
+        threshold: setting_at(input, THRESHOLD),
     };
-    Settings { dimensions, params }
+    let params = DDMParams {
+        leaf_threshold: setting_at(input, LEAF),
+        overlap_knn: setting_at(input, NEIGHBOURS),
+        coarse_reduction_factor: setting_at(input, FACTOR),
+        coarse_threshold: SizePolicy::from(fields),
+    };
+    Settings {
+        dimensions: bytes_in::byte_at(input, DIMENSION),
+        params,
+    }
 }
 
 // ---- written, after the mark
-
-fn fields_of(policy: SizePolicy) -> PolicyFields
-    ensures { (policy_bytes (threshold_policy policy) ≡ bytes_of 1 result.kind ++ number_bytes result.threshold) × (result.kind < 256) }
-{
-    match policy {
-        SizePolicy::Auto => PolicyFields {
-            kind: 0,
-            threshold: 0,
-        },
-        SizePolicy::Fixed(threshold) => PolicyFields { kind: 1, threshold },
-    }
-}
 
 // Writes the policy and its threshold from `at` on.
 fn put_policy(policy: SizePolicy, out: &mut [u8], at: usize)
     requires { at + (settings_size - policy_field.offset) ≤ length out.old }
     ensures { out.new ≡ put out.old at (policy_bytes (threshold_policy policy)) }
 {
-    let fields = fields_of(policy);
+    let fields = PolicyFields::from(policy);
     bytes_out::put_byte(fields.kind, out, at);
     bytes_out::put_short(fields.threshold as usize, out, at + (THRESHOLD - POLICY));
 }
@@ -138,8 +139,7 @@ pub fn put_settings(dimensions: usize, params: DDMParams, out: &mut [u8], at: us
         out,
         at + (FACTOR - DIMENSION),
     );
-    let policy = params.coarse_threshold;
-    put_policy(policy, out, at + (POLICY - DIMENSION));
+    put_policy(params.coarse_threshold, out, at + (POLICY - DIMENSION));
 }
 
 // ---- compared
@@ -165,11 +165,8 @@ fn policy_is(policy: SizePolicy, input: &[u8]) -> bool
     requires { settings_size ≤ length input.now }
     ensures { result ≡ same (policy_bytes (threshold_policy policy)) (part input.now policy_field.offset (settings_size - policy_field.offset)) }
 {
-    let fields = fields_of(policy);
-    if !byte_is(fields.kind, input, POLICY) {
-        return false;
-    }
-    number_is(fields.threshold, input, THRESHOLD)
+    let fields = PolicyFields::from(policy);
+    byte_is(fields.kind, input, POLICY) && number_is(fields.threshold, input, THRESHOLD)
 }
 
 // Whether a whole record has these settings, byte for byte.
@@ -177,18 +174,9 @@ pub fn same_settings(dimensions: usize, params: DDMParams, input: &[u8]) -> bool
     requires { (settings_size ≤ length input.now) × (dimensions < 256) }
     ensures { result ≡ same_settings_lem (settings_of_lem dimensions params) input.now }
 {
-    if !byte_is(dimensions, input, DIMENSION) {
-        return false;
-    }
-    if !number_is(params.leaf_threshold, input, LEAF) {
-        return false;
-    }
-    if !number_is(params.overlap_knn, input, NEIGHBOURS) {
-        return false;
-    }
-    if !number_is(params.coarse_reduction_factor, input, FACTOR) {
-        return false;
-    }
-    let policy = params.coarse_threshold;
-    policy_is(policy, input)
+    byte_is(dimensions, input, DIMENSION)
+        && number_is(params.leaf_threshold, input, LEAF)
+        && number_is(params.overlap_knn, input, NEIGHBOURS)
+        && number_is(params.coarse_reduction_factor, input, FACTOR)
+        && policy_is(params.coarse_threshold, input)
 }

@@ -4,10 +4,9 @@ use mathlib.Core.Path.{◌∙◌, ap}
 use Prim.Native.Nat.{ℕ}
 use lib.Dec.{eqb}
 use borrow.Author.Rules.{rules}
-use native.Mathlib.Omega.{arith}
 use Rattle.settings_record.proofs.byte_is.Goals as goal
 
 pub returns : goal.returns
 returns c = let a = c.args in
     ap (λ (x : ℕ). eqb a.n x) c.byte_at.ensures.0
-    ∙ field-same 1 a.n a.at a.input.now (search rules) (search rules) (λ i. omega (arith, c.shared_slice_known-1.given i))
+    ∙ field-same 1 a.n a.at a.input.now (search rules) (search rules) (λ i. (c.type_inv.input i).fits)

@@ -5,6 +5,4 @@ use borrow.Author.Rules.{rules}
 use Rattle.settings_record.proofs.put_policy.Goals as goal
 
 pub returns : goal.returns
-returns c = let start = c in
-    policy-stored start.args.out.now start.args.at (search rules) (threshold_policy start.args.policy) _ _ _ _ c.fields_of-fields.ensures.0
-    c.put_byte.ensures c.put_short.ensures
+returns c = policy-stored c.args.out.now c.args.at (search rules) (threshold_policy c.args.policy) _ _ _ _ c.from-fields.ensures.0 c.put_byte.ensures c.put_short.ensures
