@@ -9,12 +9,14 @@ ghost use Rattle.definition.specs.Refusals.{accepted};
 ghost use Rattle.definition.specs.Outcome.{build_call};
 ghost use Rattle.definition.specs.Record.{whole_of, float_of};
 ghost use Rattle.config.specs.Params.{settings_of_lem};
-ghost use Rattle.tree_answer.specs.Answers.{counts_given, lists_of};
+ghost use Rattle.tree_answer.specs.Answers.{counts_given};
 ghost use Rattle.levels_loop.specs.Records.{records_by, RecordRoom};
+ghost use Rattle.tree_lists.specs.Lent.{lists_in, SameLists, SameRoom, SameRecords};
 
 use config::DDMParams;
 use cut_engine::Engine;
 use tree_answer::DDMTree;
+use tree_lists::{Records, Room, TreeLists};
 
 // The tree of an accepted call, by this engine, written to the fronts of the five lists; its records go to the fronts of `cuts` and
 // `planes`, where the engine writes them.
@@ -23,43 +25,23 @@ pub fn grow(
     points: &[f64],
     dimensions: usize,
     params: DDMParams,
-    level_points: &mut [usize],
-    internals: &mut [usize],
-    domains: &mut [usize],
-    boxes: &mut [f64],
-    borrowed: &mut [usize],
-    floats: &mut [f64],
-    wholes: &mut [usize],
-    cuts: &mut [usize],
-    planes: &mut [f64],
+    lists: &mut TreeLists<'_>,
+    room: &mut Room<'_>,
+    records: &mut Records<'_>,
 ) -> DDMTree
-    requires wholes_value { build_call (settings_of_lem dimensions params) points.now (lists_of level_points.old internals.old domains.old boxes.old borrowed.old) floats.old wholes.old ≡ accepted }
-    requires record_room { RecordRoom engine (point_count dimensions points.now) cuts.old planes.old }
+    requires wholes_value { build_call (settings_of_lem dimensions params) points.now (lists_in lists.old) room.old.floats.now room.old.wholes.now ≡ accepted }
+    requires record_room { RecordRoom engine (point_count dimensions points.now) records.old.cuts.now records.old.planes.now }
+    ensures same { SameLists lists.old lists.new × SameRoom room.old room.new × SameRecords records.old records.new }
     ensures counts { counts_given result ≡ counts_of (levels (settings_of_lem dimensions params) points.now) }
-    ensures level_points { level_points.new ≡ put level_points.old 0 (packed_level_points (levels (settings_of_lem dimensions params) points.now)) }
-    ensures internals { internals.new ≡ put internals.old 0 (packed_internals (levels (settings_of_lem dimensions params) points.now)) }
-    ensures domains { domains.new ≡ put domains.old 0 (packed_domains (levels (settings_of_lem dimensions params) points.now)) }
-    ensures boxes { boxes.new ≡ put boxes.old 0 (packed_boxes (levels (settings_of_lem dimensions params) points.now)) }
-    ensures borrowed { borrowed.new ≡ put borrowed.old 0 (packed_borrowed (levels (settings_of_lem dimensions params) points.now)) }
-    ensures cuts { cuts.new ≡ put cuts.old 0 (map whole_of (records_by engine (settings_of_lem dimensions params) points.now (levels (settings_of_lem dimensions params) points.now))) }
-    ensures planes { planes.new ≡ put planes.old 0 (map float_of (records_by engine (settings_of_lem dimensions params) points.now (levels (settings_of_lem dimensions params) points.now))) }
+    ensures level_points { lists.new.level_points.now ≡ put lists.old.level_points.now 0 (packed_level_points (levels (settings_of_lem dimensions params) points.now)) }
+    ensures internals { lists.new.internals.now ≡ put lists.old.internals.now 0 (packed_internals (levels (settings_of_lem dimensions params) points.now)) }
+    ensures domains { lists.new.domains.now ≡ put lists.old.domains.now 0 (packed_domains (levels (settings_of_lem dimensions params) points.now)) }
+    ensures boxes { lists.new.boxes.now ≡ put lists.old.boxes.now 0 (packed_boxes (levels (settings_of_lem dimensions params) points.now)) }
+    ensures borrowed { lists.new.borrowed.now ≡ put lists.old.borrowed.now 0 (packed_borrowed (levels (settings_of_lem dimensions params) points.now)) }
+    ensures cuts { records.new.cuts.now ≡ put records.old.cuts.now 0 (map whole_of (records_by engine (settings_of_lem dimensions params) points.now (levels (settings_of_lem dimensions params) points.now))) }
+    ensures planes { records.new.planes.now ≡ put records.old.planes.now 0 (map float_of (records_by engine (settings_of_lem dimensions params) points.now (levels (settings_of_lem dimensions params) points.now))) }
 {
     let n = points.len() / dimensions;
-    stretches::number_rows(level_points, n);
-    grow_over::grow_over(
-        engine,
-        points,
-        dimensions,
-        params,
-        n,
-        level_points,
-        internals,
-        domains,
-        boxes,
-        borrowed,
-        floats,
-        wholes,
-        cuts,
-        planes,
-    )
+    stretches::number_rows(lists.level_points, n);
+    grow_over::grow_over(engine, points, dimensions, params, n, lists, room, records)
 }

@@ -12,11 +12,13 @@ ghost use Rattle.fine_level.specs.Fine.{Given};
 ghost use Rattle.levels_loop.specs.After.{Space};
 ghost use Rattle.levels_loop.specs.Records.{records_by, RecordRoom};
 ghost use Rattle.tree_answer.specs.Answers.{counts_given};
+ghost use Rattle.tree_lists.specs.Lent.{SameLists, SameRoom, SameRecords};
 
 use config::DDMParams;
 use cut_engine::Engine;
-use levels_loop::Counts;
+use fine_level::Plan;
 use tree_answer::DDMTree;
+use tree_lists::{Records, Room, TreeLists};
 
 // The tree over the n rows that stand at the front of the level points, by this engine, written to the fronts of the five lists; its
 // records go to the fronts of `cuts` and `planes`, where the engine writes them.
@@ -26,58 +28,32 @@ pub fn grow_over(
     dimensions: usize,
     params: DDMParams,
     n: usize,
-    level_points: &mut [usize],
-    internals: &mut [usize],
-    domains: &mut [usize],
-    boxes: &mut [f64],
-    borrowed: &mut [usize],
-    floats: &mut [f64],
-    wholes: &mut [usize],
-    cuts: &mut [usize],
-    planes: &mut [f64],
+    lists: &mut TreeLists<'_>,
+    room: &mut Room<'_>,
+    records: &mut Records<'_>,
 ) -> DDMTree
     requires bound { (1 ≤ threshold (settings_of_lem dimensions params).policy n)
         × (n ≤ threshold (settings_of_lem dimensions params).policy n * params.coarse_reduction_factor ^ most_fine)
-        × Given dimensions points.now params.leaf_threshold params.overlap_knn (part level_points.old 0 n) }
-    requires space { Space dimensions params.overlap_knn n most_fine level_points.old internals.old domains.old boxes.old borrowed.old floats.old wholes.old 0 0 0 }
-    requires record_room { RecordRoom engine n cuts.old planes.old }
-    ensures counts { counts_given result ≡ counts_of (levels_over (settings_of_lem dimensions params) points.now (part level_points.old 0 n)) }
-    ensures level_points { level_points.new ≡ put level_points.old 0 (packed_level_points (levels_over (settings_of_lem dimensions params) points.now (part level_points.old 0 n))) }
-    ensures internals { internals.new ≡ put internals.old 0 (packed_internals (levels_over (settings_of_lem dimensions params) points.now (part level_points.old 0 n))) }
-    ensures domains { domains.new ≡ put domains.old 0 (packed_domains (levels_over (settings_of_lem dimensions params) points.now (part level_points.old 0 n))) }
-    ensures boxes { boxes.new ≡ put boxes.old 0 (packed_boxes (levels_over (settings_of_lem dimensions params) points.now (part level_points.old 0 n))) }
-    ensures borrowed { borrowed.new ≡ put borrowed.old 0 (packed_borrowed (levels_over (settings_of_lem dimensions params) points.now (part level_points.old 0 n))) }
-    ensures cuts { cuts.new ≡ put cuts.old 0 (map whole_of (records_by engine (settings_of_lem dimensions params) points.now (levels_over (settings_of_lem dimensions params) points.now (part level_points.old 0 n)))) }
-    ensures planes { planes.new ≡ put planes.old 0 (map float_of (records_by engine (settings_of_lem dimensions params) points.now (levels_over (settings_of_lem dimensions params) points.now (part level_points.old 0 n)))) }
+        × Given dimensions points.now params.leaf_threshold params.overlap_knn (part lists.old.level_points.now 0 n) }
+    requires space { Space dimensions params.overlap_knn n most_fine lists.old.level_points.now lists.old.internals.now lists.old.domains.now lists.old.boxes.now lists.old.borrowed.now room.old.floats.now room.old.wholes.now 0 0 0 }
+    requires record_room { RecordRoom engine n records.old.cuts.now records.old.planes.now }
+    ensures same { SameLists lists.old lists.new × SameRoom room.old room.new × SameRecords records.old records.new }
+    ensures counts { counts_given result ≡ counts_of (levels_over (settings_of_lem dimensions params) points.now (part lists.old.level_points.now 0 n)) }
+    ensures level_points { lists.new.level_points.now ≡ put lists.old.level_points.now 0 (packed_level_points (levels_over (settings_of_lem dimensions params) points.now (part lists.old.level_points.now 0 n))) }
+    ensures internals { lists.new.internals.now ≡ put lists.old.internals.now 0 (packed_internals (levels_over (settings_of_lem dimensions params) points.now (part lists.old.level_points.now 0 n))) }
+    ensures domains { lists.new.domains.now ≡ put lists.old.domains.now 0 (packed_domains (levels_over (settings_of_lem dimensions params) points.now (part lists.old.level_points.now 0 n))) }
+    ensures boxes { lists.new.boxes.now ≡ put lists.old.boxes.now 0 (packed_boxes (levels_over (settings_of_lem dimensions params) points.now (part lists.old.level_points.now 0 n))) }
+    ensures borrowed { lists.new.borrowed.now ≡ put lists.old.borrowed.now 0 (packed_borrowed (levels_over (settings_of_lem dimensions params) points.now (part lists.old.level_points.now 0 n))) }
+    ensures cuts { records.new.cuts.now ≡ put records.old.cuts.now 0 (map whole_of (records_by engine (settings_of_lem dimensions params) points.now (levels_over (settings_of_lem dimensions params) points.now (part lists.old.level_points.now 0 n)))) }
+    ensures planes { records.new.planes.now ≡ put records.old.planes.now 0 (map float_of (records_by engine (settings_of_lem dimensions params) points.now (levels_over (settings_of_lem dimensions params) points.now (part lists.old.level_points.now 0 n)))) }
 {
     let c = level_sizes::resolved_coarse_threshold(params.coarse_threshold, n);
     let k = level_sizes::get_num_level_reductions(n, c, params.coarse_reduction_factor);
-    let Counts {
-        levels,
-        rows,
-        domains: leaves,
-    } = levels_loop::all_levels(
+    let plan = Plan {
         engine,
-        points,
         dimensions,
-        params.leaf_threshold as usize,
-        params.overlap_knn as usize,
-        c as usize,
-        k,
-        n,
-        level_points,
-        internals,
-        domains,
-        boxes,
-        borrowed,
-        floats,
-        wholes,
-        cuts,
-        planes,
-    );
-    DDMTree {
-        levels,
-        rows,
-        domains: leaves,
-    }
+        leaf: params.leaf_threshold as usize,
+        neighbours: params.overlap_knn as usize,
+    };
+    levels_loop::all_levels(points, plan, c as usize, k, n, lists, room, records)
 }

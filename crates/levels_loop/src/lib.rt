@@ -15,6 +15,7 @@ ghost use Rattle.levels_loop.specs.Records.{records_by, RecordRoom};
 ghost use Rattle.tree_lists.specs.Lent.{SameLists, SameRoom, SameRecords};
 
 use fine_level::{Place, Plan, Written};
+use tree_answer::DDMTree;
 use tree_lists::{Records, Room, TreeLists};
 
 // The most fine levels.
@@ -22,14 +23,6 @@ const MOST_FINE: usize = 3;
 
 // The most levels: those and the coarse one.
 pub const MOST_LEVELS: usize = MOST_FINE + 1;
-
-// The number of levels, and the rows and the domains of each.
-#[derive(Clone, Copy)]
-pub struct Counts {
-    pub levels: usize,
-    pub rows: [usize; MOST_LEVELS],
-    pub domains: [usize; MOST_LEVELS],
-}
 
 // Whether a fine level is next: one more is allowed, and the active rows outnumber the coarse threshold.
 fn is_fine(built: usize, a: usize, c: usize) -> bool
@@ -99,7 +92,7 @@ pub fn all_levels(
     lists: &mut TreeLists<'_>,
     room: &mut Room<'_>,
     records: &mut Records<'_>,
-) -> Counts
+) -> DDMTree
     requires le_c { (1 ≤ c) × (k ≤ 3) × Given plan.dimensions points.now plan.leaf plan.neighbours (part lists.old.level_points.now 0 n) }
     requires space { Space plan.dimensions plan.neighbours n most_fine lists.old.level_points.now lists.old.internals.now lists.old.domains.now lists.old.boxes.now lists.old.borrowed.now room.old.floats.now room.old.wholes.now 0 0 0 }
     requires record_room { RecordRoom plan.engine n records.old.cuts.now records.old.planes.now }
@@ -137,7 +130,7 @@ pub fn all_levels(
     last_level(plan.dimensions, place, lists);
     rows[built] = place.a;
     domains[built] = 1;
-    Counts {
+    DDMTree {
         levels: built + 1,
         rows,
         domains,

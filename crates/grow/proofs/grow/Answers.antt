@@ -3,6 +3,7 @@ use mathlib.Core.Path.{◌≡◌, refl, ap, ◌∙◌}
 use mathlib.Core.List.{List}
 use Prim.Native.Nat.{◌/◌}
 use native.Mathlib.Omega.{arith}
+use borrow.Author.Rules.{rules}
 use lib.ListN.{length}
 use Rattle.lists.specs.Lists.{put, part, from}
 use Rattle.lists.proofs.Put.{part-put-same, length-put}
@@ -11,7 +12,7 @@ use Rattle.definition.specs.Tree.{Level}
 use Rattle.definition.specs.Packed.{packed_level_points}
 use Rattle.definition_laws.proofs.Accepted.{build-accepted}
 use Rattle.config.specs.Params.{settings_of_lem}
-use Rattle.tree_answer.specs.Answers.{lists_of}
+use Rattle.tree_lists.specs.Lent.{lists_in}
 use Rattle.grow_over.proofs.Over.{points-whole}
 use Rattle.grow.proofs.Grown.{all_rows, all-space, over-all}
 use Rattle.grow.proofs.grow.Goals as goal
@@ -20,7 +21,7 @@ pub nonzero_div-n : goal.nonzero_div-n
 nonzero_div-n c = let P = c.args in
     let s = settings_of_lem P.dimensions P.params in
     let cs = P.points.now in
-    let old = lists_of P.level_points.now P.internals.now P.domains.now P.boxes.now P.borrowed.now in
+    let old = lists_in P.lists.now in
     let acc = build-accepted s cs _ c.requires.wholes_value in
     omega (arith, acc.passes-all.axes)
 
@@ -28,23 +29,23 @@ pub number_rows-requires : goal.number_rows-requires
 number_rows-requires c = let P = c.args in
     let s = settings_of_lem P.dimensions P.params in
     let cs = P.points.now in
-    let old = lists_of P.level_points.now P.internals.now P.domains.now P.boxes.now P.borrowed.now in
+    let old = lists_in P.lists.now in
     let acc = build-accepted s cs _ c.requires.wholes_value in
-    omega (arith, (all-space s cs old P.floats.now P.wholes.now acc P.level_points.now refl).level_points)
+    omega (arith, (all-space s cs old P.room.now.floats.now P.room.now.wholes.now acc P.lists.now.level_points.now refl).level_points)
 
 pub grow_over-requires : goal.grow_over-requires
 grow_over-requires c = let P = c.args in
     let s = settings_of_lem P.dimensions P.params in
     let cs = P.points.now in
-    let old = lists_of P.level_points.now P.internals.now P.domains.now P.boxes.now P.borrowed.now in
+    let old = lists_in P.lists.now in
     let acc = build-accepted s cs _ c.requires.wholes_value in
     let n = length cs / P.dimensions in
     let first = c.number_rows.ensures in
-    let space = all-space s cs old P.floats.now P.wholes.now acc P.level_points.now refl in
-    let read : part (put P.level_points.now 0 (from 0 n)) 0 n ≡ from 0 n = part-put-same P.level_points.now 0 (from 0 n) n (omega arith) (length_from 0 n) in
-    let long = ap length first ∙ length-put P.level_points.now 0 (from 0 n) (omega (arith, length_from 0 n, space.level_points)) in record {
-      bound = (acc.passes-all.coarse-some, acc.passes-all.reaches, rw (first, read) (all_rows s cs old P.floats.now P.wholes.now acc));
-      space = all-space s cs old P.floats.now P.wholes.now acc _ long;
+    let space = all-space s cs old P.room.now.floats.now P.room.now.wholes.now acc P.lists.now.level_points.now refl in
+    let read : part (put P.lists.now.level_points.now 0 (from 0 n)) 0 n ≡ from 0 n = part-put-same P.lists.now.level_points.now 0 (from 0 n) n (omega arith) (length_from 0 n) in
+    let long = ap length first ∙ length-put P.lists.now.level_points.now 0 (from 0 n) (omega (arith, length_from 0 n, space.level_points)) in record {
+      bound = (acc.passes-all.coarse-some, acc.passes-all.reaches, rw (first, read) (all_rows s cs old P.room.now.floats.now P.room.now.wholes.now acc));
+      space = all-space s cs old P.room.now.floats.now P.room.now.wholes.now acc _ long;
       record_room = c.requires.record_room;
     }
 
@@ -52,18 +53,19 @@ pub returns : goal.returns
 returns c = let P = c.args in
     let s = settings_of_lem P.dimensions P.params in
     let cs = P.points.now in
-    let old = lists_of P.level_points.now P.internals.now P.domains.now P.boxes.now P.borrowed.now in
+    let old = lists_in P.lists.now in
     let acc = build-accepted s cs _ c.requires.wholes_value in
     let n = length cs / P.dimensions in
     let first = c.number_rows.ensures in
-    let space = all-space s cs old P.floats.now P.wholes.now acc P.level_points.now refl in
-    let read : part (put P.level_points.now 0 (from 0 n)) 0 n ≡ from 0 n = part-put-same P.level_points.now 0 (from 0 n) n (omega arith) (length_from 0 n) in
+    let space = all-space s cs old P.room.now.floats.now P.room.now.wholes.now acc P.lists.now.level_points.now refl in
+    let read : part (put P.lists.now.level_points.now 0 (from 0 n)) 0 n ≡ from 0 n = part-put-same P.lists.now.level_points.now 0 (from 0 n) n (omega arith) (length_from 0 n) in
     let w = c.grow_over.ensures in
     let e = over-all s cs in
     record {
+      same = search rules;
       counts = rw e at (rw (first, read) at w.counts);
-      level_points = points-whole s cs (from 0 n) P.level_points.now _ _ (omega (arith, length_from 0 n, space.level_points)) refl (rw (first, read) at w.level_points)
-          ∙ ap (λ (ls : List Level). put P.level_points.now 0 (packed_level_points ls)) e;
+      level_points = points-whole s cs (from 0 n) P.lists.now.level_points.now _ _ (omega (arith, length_from 0 n, space.level_points)) refl (rw (first, read) at w.level_points)
+          ∙ ap (λ (ls : List Level). put P.lists.now.level_points.now 0 (packed_level_points ls)) e;
       internals = rw e at (rw (first, read) at w.internals);
       domains = rw e at (rw (first, read) at w.domains);
       boxes = rw e at (rw (first, read) at w.boxes);
