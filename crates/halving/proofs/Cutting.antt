@@ -1,5 +1,5 @@
 -- The cut of the rows, step by step. Assumes nothing.
--- Holds: copied, low-most, middle-inside, rows_cut
+-- Holds: low-most, middle-inside, rows_cut
 use mathlib.Core.Path.{◌≡◌, refl, ap, ap₂, ◌∙◌}
 use mathlib.Core.Bool.{Bool, true, not}
 use mathlib.Core.List.{List, ◌++◌}
@@ -9,16 +9,12 @@ use lib.ListN.{length, length-append}
 use lib.Ieee.{Float}
 use Rattle.lists.specs.Lists.{keep, part, put}
 use Rattle.lists.proofs.Count.{length_both}
-use Rattle.lists.proofs.Put.{put_whole, length-put, put-next-at, part-put-same, part-whole}
+use Rattle.lists.proofs.Put.{put_whole, length-put, put-next-at, part-put-same}
 use Rattle.rows.specs.Rows.{GoodRows}
 use Rattle.middle_row.specs.Middle.{on_side, MiddleRow}
 use Rattle.halving.specs.Cuts.{halved}
 use Rattle.rows.proofs.Good.{good-once, good-finite, good-place}
 use Rattle.middle_row.proofs.Ranks.{middle-ranked, lefts-are, rights-are}
-
--- the rows copied to the room
-pub copied : (l s z : List ℕ) → length s ≡ length l → z ≡ put s 0 (part l 0 (length l)) → z ≡ l
-copied l s z e f = let w = part-whole l (length l) refl in f ∙ rw w (put_whole s l (omega arith))
 
 module _ {d : ℕ} {cs : List Float} {axis : ℕ} {l : List ℕ} {m : ℕ} (M : MiddleRow d cs axis l m) where
   -- the two sides of the middle row

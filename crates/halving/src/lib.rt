@@ -12,7 +12,7 @@ fn middle_of(points: &[f64], d: usize, axis: usize, rows: &[usize], room: &mut [
     requires { (axis < d) × (1 ≤ length rows.now) × GoodRows d points.now rows.now × (length room.old ≡ length rows.now) }
     ensures { MiddleRow d points.now axis rows.now result }
 {
-    stretches::copy_rows(rows, 0, rows.len(), room, 0);
+    room.copy_from_slice(rows);
     middle_row::middle(points, d, axis, room)
 }
 
