@@ -1,11 +1,11 @@
 -- A whole domain record that is fetched at a place of a file: what stands in it, and where. Assumes nothing.
--- Holds: Found, found, all_read, cover-read, own-fits, borrowed-fits, floats_fit, domain-written
+-- Holds: Found, stands, found, all_read, cover-read, own-fits, borrowed-fits, domain-written
+use Rattle.std.specs.Prelude.{Option, Some, is_some}
 use mathlib.Core.Path.{◌≡◌, refl, sym, ap, ap₂, ◌∙◌}
 use mathlib.Core.Bool.{Bool, true, false, cond}
 use mathlib.Core.List.{List, [], ◌∷◌, ◌++◌}
 use Prim.Native.Nat.{ℕ, ◌+◌, ◌*◌, ◌≤◌}
 use native.Mathlib.Omega.{arith}
-use native.Mathlib.Nat.{mul-add}
 use lib.ListN.{length, drop, replicate, length-replicate}
 use lib.Ieee.{Float}
 use Rattle.lists.specs.Lists.{put}
@@ -39,8 +39,6 @@ pub record Found (d : ℕ) (coarse : Bool) (file : List ℕ) (c : Cursor) (r : F
   pub next : r.next ≡ c.at + leaf_size d coarse (ahead c file)
   pub own-within : r.own_at + number_size * r.own ≤ length file
   pub borrowed-within : r.borrowed_at + number_size * r.borrowed ≤ length file
-  pub floats-within : r.bounds_at + float_size * record_floats_lem d coarse ≤ length file
-  pub depth-within : r.depth_at + number_size ≤ length file
 
 -- the floats of a record, at a place of the file
 floats-are : (d : ℕ) (coarse : Bool) (bs : List ℕ) → floats_read d coarse (bounds_place bs) bs ≡ leaf_floats (leaf_in d coarse bs)
@@ -51,17 +49,22 @@ floats-there : (d : ℕ) (coarse : Bool) (file : List ℕ) (at k : ℕ) → floa
 floats-there d coarse file at k =
     ap₂ (λ (xs ys : List Float). cond coarse (replicate (box_width_lem d) plus_zero ++ xs) ys) (floats-here at file 1 k) (floats-here at file (row_floats_lem d) k)
 
+-- where a domain stands whole, one is found
+pub stands : (d : ℕ) (coarse : Bool) (file : List ℕ) (c : Cursor) (floats : ℕ) (o : Option Fetched) → floats ≡ record_floats_lem d coarse
+    → IsFetched (ahead c file) c.at (float_size * floats) o → whole domain_mark (leaf_size d coarse (ahead c file)) (ahead c file) ≡ true → is_some o ≡ true
+stands d coarse file c floats o e f w =
+    let size : bounds_place (ahead c file) + float_size * floats + number_size ≡ leaf_size d coarse (ahead c file) = rw e (sym (leaf-size d coarse (ahead c file))) in
+    f.stands ∙ rw size w
+
 pub found : (d : ℕ) (coarse : Bool) (file : List ℕ) (c : Cursor) (floats : ℕ) (r : Fetched) → floats ≡ record_floats_lem d coarse
-    → IsFetched (ahead c file) c.at (float_size * floats) r
-    → whole domain_mark (leaf_size d coarse (ahead c file)) (ahead c file) ≡ true → Found d coarse file c r
+    → IsFetched (ahead c file) c.at (float_size * floats) (Some r) → Found d coarse file c r
 unfolding leaf_in
-found d coarse file c floats r e f w =
+found d coarse file c floats r e f =
     let bs = ahead c file in
     let size : bounds_place bs + float_size * floats + number_size ≡ leaf_size d coarse bs = rw e (sym (leaf-size d coarse bs)) in
-    let stands : r.whole ≡ true = f.stands ∙ rw size w in
-    let p = f.parts stands in
+    let p = f.parts in
     let place : r.depth_at ≡ c.at + depth_place d coarse bs = omega (arith, p.depth_at, e, depth-place d coarse bs) in
-    let inside = parts_within file c.at (float_size * floats) r f stands in
+    let inside = parts_within file c.at (float_size * floats) r f in
     record {
       own = rw (p.own, p.own_at) (numbers-here c.at file _ _);
       borrowed = rw (p.borrowed, p.borrowed_at) (numbers-here c.at file _ _);
@@ -72,8 +75,6 @@ found d coarse file c floats r e f w =
       next = p.next ∙ omega (arith, size);
       own-within = omega arith;
       borrowed-within = omega arith;
-      floats-within = rw (← e) (omega arith);
-      depth-within = omega arith;
     }
 
 -- ---- its floats, by what is read of them: all of a fine domain's row; behind zeros the coarse one's cover
@@ -99,9 +100,6 @@ module _ {d : ℕ} {coarse : Bool} {file : List ℕ} {c : Cursor} {r : Fetched} 
 
     pub borrowed-fits : c.borrowed + r.borrowed ≤ length p.borrowed
     borrowed-fits = omega (arith, h.borrowed-many, m.borrowed, ap length (joined-one this.borrowed))
-
-    pub floats_fit : row_floats_lem p.dimension * c.row + row_floats_lem p.dimension ≤ length p.boxes
-    floats_fit = omega (arith, m.boxes, mul-add (row_floats_lem p.dimension) c.row 1)
 
   pub domain-written : (I D : List ℕ) (B : List Float) (L I₁ D₁ : List ℕ) (B₁ : List Float) (L₁ : List ℕ) (e k : ℕ) → e ≡ number_at r.depth_at file → k ≡ row_floats_lem d * c.row
       → I₁ ≡ put I c.own (numbers_at r.own r.own_at file) → L₁ ≡ put L c.borrowed (numbers_at r.borrowed r.borrowed_at file)

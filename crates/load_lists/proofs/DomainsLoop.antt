@@ -1,5 +1,5 @@
 -- The loop over the domains of a level: those before the cursor are written. Assumes nothing.
--- Holds: Inv, domains-start, domains-end, domains-written, domains-long, domain-stands, domain-room, domains-next
+-- Holds: Inv, domains-start, domains-end, domains-written, domain-stands, domain-room, domains-next
 use mathlib.Core.Path.{◌≡◌, refl, sym, ap, ◌∙◌}
 use mathlib.Core.Bool.{Bool, true, ◌&&◌}
 use mathlib.Core.List.{List, [], ◌∷◌, ◌++◌, append_assoc, append-nil}
@@ -19,7 +19,7 @@ use Rattle.tree_tests.specs.Whole.{leaves_whole}
 use Rattle.load_lists.specs.declared.Cursor.{Cursor}
 use Rattle.load_lists.specs.Places.{ahead, domain_at_lem, domains_at, Room, Written}
 use Rattle.load_lists.proofs.Ahead.{one-wide, leaves-first, whole-first, after_first}
-use Rattle.load_lists.proofs.Writing.{Wide, wide-append, written_none, room-front, Long, written-long, room_after, written-append}
+use Rattle.load_lists.proofs.Writing.{Wide, wide-append, written_none, room-front, room_after, written-append}
 
 -- ---- THE INVARIANT: c₀ and p are the cursor and the lists before the loop, c and q are now, and `left` domains stand ahead
 pub record Inv (d : ℕ) (coarse : Bool) (m : ℕ) (file : List ℕ) (c₀ c : Cursor) (p q : Packed) (left : ℕ) : Type 0 where
@@ -54,10 +54,6 @@ module _ {d : ℕ} {coarse : Bool} {m : ℕ} {file : List ℕ} {c₀ c : Cursor}
 
   pub domains-written : left ≡ 0 → Written (domains_at d coarse m c₀ file) c₀ c p q
   domains-written e = rw (← (none_left e).0) v.written
-
-  -- ---- the lists stay as long as they are
-  pub domains-long : p.dimension ≡ d → Room (domains_at d coarse m c₀ file) c₀ p → Long p q
-  domains-long axes room = written-long v.done (rw axes v.wide) (room-front v.done (domains_at d coarse left c file) (rw v.all room)) v.written
 
   -- ---- one more
   module _ (same : q.dimension ≡ p.dimension) (axes : p.dimension ≡ d) (room : Room (domains_at d coarse m c₀ file) c₀ p) (some : 0 < left) where

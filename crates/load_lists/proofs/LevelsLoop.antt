@@ -1,5 +1,5 @@
 -- The loop over the levels: those before the cursor are written and counted. Assumes nothing.
--- Holds: row_count_lem, domain_count_lem, left_less, start, tree-room, Inv, levels-start, levels-long, points-long, rows-slots,
+-- Holds: row_count_lem, domain_count_lem, start, tree-room, Inv, levels-start, points-long, rows-slots,
 --   counts-many, end-points, end-internals, end-domains, end-boxes, end-borrowed, end-counts, level-stands, levels-below,
 --   points-room, level-room, levels-next
 use mathlib.Core.Path.{◌≡◌, refl, sym, ap, ◌∙◌}
@@ -25,7 +25,7 @@ use Rattle.tree_tests.specs.Whole.{level_whole, levels_whole}
 use Rattle.tree_tests.proofs.Lengths.{length-leaves-in}
 use Rattle.load_lists.specs.declared.Cursor.{Cursor}
 use Rattle.load_lists.specs.Places.{ahead, level_at_lem, Room, Written, tree_from, CanHold}
-use Rattle.load_lists.proofs.Writing.{Wide, wide-append, written_none, room-front, Long, written-long, room_after, written-append}
+use Rattle.load_lists.proofs.Writing.{Wide, wide-append, written_none, room-front, room_after, written-append}
 use Rattle.load_lists.proofs.Ahead.{level-wide, levels-wide, levels-first, level-first, wholes-next}
 
 -- how many rows, and how many domains, a level has
@@ -75,11 +75,6 @@ counts-are : (ls : List Level) {levels : ℕ} {rows counts : List ℕ} → level
     → counts ≡ put (replicate most_levels 0) 0 (map domain_count_lem ls) → length ls ≤ most_levels → record { levels = levels; rows = rows; domains = counts } ≡ counts_of ls
 unfolding counts_of
 counts-are ls n a b few = rw (n, a, b, counts-put row_count_lem ls few, counts-put domain_count_lem ls few)
-
--- ---- how many levels can still come
-pub left_less : (b : Bool) {left r : ℕ} → 0 < left → r ≡ cond b 0 (left - 1) → r < left
-left_less true h e = omega arith
-left_less false h e = omega arith
 
 -- ---- before the first level
 abbrev pub start : ℕ → Cursor
@@ -141,14 +136,6 @@ module _ {d : ℕ} {file : List ℕ} {at : ℕ} {c : Cursor} {P P₁ : List ℕ}
   wide = v.wide ∙ ap (λ (n : ℕ). row_floats_lem n * length (leaves_in_lem v.done)) (sym axes)
 
   -- ---- how long the lists are
-  done-room : Room (leaves_in_lem done) (start at) p
-  done-room =
-      room-front (leaves_in_lem done) (leaves_in_lem (levels_at d left (ahead c file)))
-      (rw (← leaves-both done (levels_at d left (ahead c file)), v.all) room)
-
-  pub levels-long : Long p q
-  levels-long = written-long (leaves_in_lem done) wide done-room v.written
-
   points_few : length (packed_level_points done) + length (packed_level_points (levels_at d left (ahead c file))) ≤ length P
   points_few =
       omega (

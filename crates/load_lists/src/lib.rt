@@ -2,7 +2,7 @@
 // whole, and the lists to be long enough.
 #![tactic(auto)]
 
-ghost use Rattle.std.specs.Prelude.{◌≡◌, true, cond, [], ◌∷◌, ◌+◌, ◌-◌, ◌*◌, ◌≤◌, eqb, length, drop};
+ghost use Rattle.std.specs.Prelude.{◌≡◌, true, [], ◌∷◌, ◌+◌, ◌*◌, ◌≤◌, length, drop};
 ghost use Rattle.lists.specs.Lists.{put};
 ghost use Rattle.definition.specs.Packed.{row_floats_lem, most_levels, counts_of, packed_level_points, packed_internals, packed_domains, packed_boxes, packed_borrowed};
 ghost use Rattle.packed.specs.Reading.{packed};
@@ -10,7 +10,7 @@ ghost use Rattle.formats.specs.Bytes.{float_size, whole};
 ghost use Rattle.stored.specs.File.{domain_mark};
 ghost use Rattle.stored.specs.Stored.{leaf_size, after_leaves, after_level};
 ghost use Rattle.tree_tests.specs.Whole.{leaves_whole, level_whole, levels_whole};
-ghost use Rattle.tree_answer.specs.Answers.{tree_answer_lem};
+ghost use Rattle.tree_answer.specs.Answers.{counts_given};
 ghost use Rattle.file_reader.specs.Fetch.{record_floats_lem};
 ghost use Rattle.load_lists.specs.Places.{floats_read, ahead, domain_at_lem, domains_at, level_at_lem, Room, Written, tree_from, CanHold};
 
@@ -81,7 +81,7 @@ fn put_domain(
         (packed internals.new domains.new boxes.new borrowed.new dimensions) }
 {
     let floats = file_reader::record_floats(dimensions, coarse);
-    let found = file_reader::fetch_domain(bytes, c.at, bytes_in::FLOAT * floats);
+    let found = file_reader::fetch_domain(bytes, c.at, bytes_in::FLOAT * floats).unwrap();
     let depth = bytes_in::number_at(bytes, found.depth_at);
     bytes_in::read_numbers(bytes, found.own_at, found.own, internals, c.own);
     bytes_in::read_numbers(
@@ -96,7 +96,7 @@ fn put_domain(
         internal_count: found.own,
         borrowed_start: c.borrowed,
         borrowed_count: found.borrowed,
-        depth: depth,
+        depth,
     };
     packed::put_row(domains, c.row, row);
     let box_at = packed::floats_before(dimensions, c.row);
@@ -132,12 +132,10 @@ fn put_domains(
         (packed internals.new domains.new boxes.new borrowed.new dimensions) }
 {
     let mut next = c;
-    let mut left = m;
-    while 0 < left {
+    for _ in 0..m {
         next = put_domain(
             bytes, dimensions, coarse, next, internals, domains, boxes, borrowed,
         );
-        left -= 1;
     }
     next
 }
@@ -171,9 +169,7 @@ fn put_level(
     let inside = Cursor {
         at: listed + bytes_in::NUMBER * rows,
         points: c.points + rows,
-        own: c.own,
-        borrowed: c.borrowed,
-        row: c.row,
+        ..c
     };
     put_domains(
         bytes,
@@ -186,14 +182,6 @@ fn put_level(
         boxes,
         borrowed,
     )
-}
-
-// How many more levels there can be after one with so many domains: none after the coarse one, which alone has a single domain.
-fn still_left(left: usize, count: usize) -> usize
-    requires { 1 ≤ left }
-    ensures { result ≡ cond (eqb count 1) 0 (left - 1) }
-{
-    if count == 1 { 0 } else { left - 1 }
 }
 
 // Writes the tree whose levels begin at `at` to the fronts of the lists, and answers with its counts.
@@ -209,7 +197,7 @@ pub fn put_levels(
 ) -> DDMTree
     requires dimensions_bound { (dimensions ≤ 3) × (levels_whole dimensions most_levels (drop at bytes.now) ≡ true) }
     requires can_hold { CanHold (tree_from dimensions at bytes.now) level_points.old (packed internals.old domains.old boxes.old borrowed.old dimensions) }
-    ensures counts { tree_answer_lem result ≡ record { number = 0; place = 0; value = counts_of (tree_from dimensions at bytes.now) } }
+    ensures counts { counts_given result ≡ counts_of (tree_from dimensions at bytes.now) }
     ensures level_points { level_points.new ≡ put level_points.old 0 (packed_level_points (tree_from dimensions at bytes.now)) }
     ensures internals { internals.new ≡ put internals.old 0 (packed_internals (tree_from dimensions at bytes.now)) }
     ensures domains { domains.new ≡ put domains.old 0 (packed_domains (tree_from dimensions at bytes.now)) }
@@ -217,17 +205,16 @@ pub fn put_levels(
     ensures borrowed { borrowed.new ≡ put borrowed.old 0 (packed_borrowed (tree_from dimensions at bytes.now)) }
 {
     let mut next = Cursor {
-        at: at,
+        at,
         points: 0,
         own: 0,
         borrowed: 0,
         row: 0,
     };
-    let mut rows = [0; 4];
-    let mut counts = [0; 4];
-    let mut levels: usize = 0;
-    let mut left = MOST_LEVELS;
-    while 0 < left {
+    let mut levels = 0;
+    let mut rows = [0; MOST_LEVELS];
+    let mut counts = [0; MOST_LEVELS];
+    for level in 0..MOST_LEVELS {
         let c = next;
         next = put_level(
             bytes,
@@ -240,16 +227,17 @@ pub fn put_levels(
             borrowed,
         );
         let count = next.row - c.row;
-        rows[levels] = next.points - c.points;
-        counts[levels] = count;
-        levels += 1;
-        left = still_left(left, count);
+        levels = level + 1;
+        rows[level] = next.points - c.points;
+        counts[level] = count;
+        // the coarse level alone has a single domain
+        if count == 1 {
+            break;
+        }
     }
     DDMTree {
-        number: 0,
-        place: 0,
-        levels: levels,
-        rows: rows,
+        levels,
+        rows,
         domains: counts,
     }
 }
