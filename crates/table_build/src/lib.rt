@@ -12,6 +12,7 @@ use cut_engine::Engine;
 use refusal::Refusal;
 use table::Head;
 use tree_answer::DDMTree;
+use tree_lists::{Records, Room, TreeLists};
 
 // The build over the live slots, in slot order: rows in every list are slots, and n is the live count. A refused call writes to no list.
 // An accepted one writes its tree to the fronts of the five lists, and leaves what stands past it as it was; of the working room it
@@ -47,20 +48,26 @@ pub fn build_slots(
     let Head { slots, live } = head;
     slots_checks::check_slots(slots, live, flags, coordinates, dimensions, params, lent)?;
     live_slots::list_live(flags, slots, level_points);
+    let mut lists = TreeLists {
+        level_points,
+        internals,
+        domains,
+        boxes,
+        borrowed,
+    };
+    let mut room = Room { floats, wholes };
+    let mut records = Records {
+        cuts: &mut [],
+        planes: &mut [],
+    };
     Ok(grow_over::grow_over(
         Engine::Queue,
         coordinates,
         dimensions,
         params,
         live,
-        level_points,
-        internals,
-        domains,
-        boxes,
-        borrowed,
-        floats,
-        wholes,
-        &mut [],
-        &mut [],
+        &mut lists,
+        &mut room,
+        &mut records,
     ))
 }

@@ -14,6 +14,7 @@ use Rattle.refusal.proofs.Answers.{answer-refused, answer-accepted}
 use Rattle.tree_answer.specs.Answers.{counts_given, lists_of}
 use Rattle.grow_over.proofs.Over.{lent-space, points-whole}
 use Rattle.grow.proofs.Outcomes.{room-refused, room-accepted, lists-refused, lists-accepted, whole-lists}
+use Rattle.tree_lists.specs.Lent.{lists_in}
 use Rattle.table_checks.specs.Tables.{table_of}
 use Rattle.table_laws.proofs.Slots.{slots-accepted}
 use Rattle.table_build.proofs.Outcomes.{slots-given, slots-fit, slots-long, slots-listed, over-slots, built-slots}
@@ -69,6 +70,7 @@ returns c = let P = c.args in
     let w = c.grow_over.ensures in
     let points = points-whole s t.coordinates rows P.level_points.now _ _ (slots-long s t old P.floats.now P.wholes.now a) refl (rw (first, read) at w.level_points) in
     let lists = whole-lists points (rw (first, read) at w.internals) (rw (first, read) at w.domains) (rw (first, read) at w.boxes) (rw (first, read) at w.borrowed) in
+    let back : _ ≡ lists_in c.grow_over.new.lists = search rules in
     let counts = rw (← over-slots s t) at (rw (first, read) at w.counts) in
-    built-slots s t old P.floats.now P.wholes.now (answer-accepted counts_given _ (counts_of (slot_levels s t)) zero_counts v e counts) (rw (← over-slots s t) at lists ∙ lists-accepted v (slot_levels s t) old e)
+    built-slots s t old P.floats.now P.wholes.now (answer-accepted counts_given _ (counts_of (slot_levels s t)) zero_counts v e counts) (back ∙ rw (← over-slots s t) at lists ∙ lists-accepted v (slot_levels s t) old e)
     (room-accepted v _ _ e (search rules)) (room-accepted v _ _ e (search rules))
