@@ -1,12 +1,13 @@
 -- The loop over the domain rows of a level: what holds between two of them, at the start, and at each end. Assumes nothing.
--- Holds: Rest, Between, between_start, between-end, row-ready, between-out, own-most, borrowed-most, between_next
+-- Holds: Rest, Between, between_start, between-left, between-end, row-ready, between-out, own-most, borrowed-most, between_next
+use Rattle.std.specs.Prelude.{Some, None}
 use mathlib.Core.Path.{◌≡◌, refl, sym, ◌∙◌}
 use mathlib.Core.Bool.{Bool, true, false}
 use mathlib.Core.List.{List}
 use Prim.Native.Nat.{ℕ, suc, ◌+◌, ◌-◌, ◌≤◌, ◌<◌}
 use native.Mathlib.Nat.{add-zero, sub-zero, le_trans, mul-le-mul_left}
 use native.Mathlib.Omega.{arith}
-use borrow.Author.Tests.{eqb-true, eq-eqb}
+use borrow.Author.Tests.{eqb-true, eq-eqb, ne_eqb}
 use lib.Dec.{eqb}
 use lib.ListN.{length}
 use Rattle.lists.proofs.Tests.{clash}
@@ -19,7 +20,7 @@ use Rattle.marks.proofs.Marks.{marked-bit, held, bits-marked}
 use Rattle.list_domains.specs.InLists.{domain_passes, domains_pass, borrowed_end}
 use Rattle.list_domains.specs.Passed.{Ready, DomainPassed, DomainsPassed}
 use Rattle.list_domains.specs.declared.Passed.{Passed}
-use Rattle.list_domains.proofs.Sets.{bit_in}
+use Rattle.row_sets.proofs.RowTests.{bit_in}
 use Rattle.list_domains.proofs.Held.{RowHeld, row-held}
 
 -- ---- the row number j and those behind it
@@ -77,14 +78,26 @@ module _ {coarse : Bool} {l : Packed} {most j a b k m : ℕ} {left₀ listed₀ 
 
   module _ {left listed : List ℕ} {i a' b' k' least' : ℕ} (h : Between coarse l most j a b k m left₀ listed₀ left listed i a' b' k' least') where
     -- ---- all rows passed
-    pub between-end : m ≤ i → (r : ℕ) → r ≡ b' → DomainsPassed coarse l most j a b k m left₀ listed₀ listed (record { good = eqb k' 0; borrowed_at = r })
-    between-end g r e =
-        let z : m - i ≡ 0 = omega arith in
-        record {
-          passed = λ p q n o. let t = h.rest p q n o in sym (t.same ∙ rw z (none_left coarse l most k q t.set (j + i) a' b' k' least'));
-          end = λ _. e ∙ sym (h.end ∙ rw z (none-ends l.domains (j + i) b'));
-          listed_as_was = λ q o _. (h.rest (held left₀) q (bits-marked left₀) o).as-was;
-        }
+    module _ (g : m ≤ i) where
+      z : m - i ≡ 0
+      z = omega arith
+
+      told : (p q : ℕ → Bool) → Marked left₀ p → Marked listed₀ q → domains_pass coarse l most k q p j a b k 0 m ≡ eqb k' 0
+      told p q n o = let t = h.rest p q n o in t.same ∙ rw z (none_left coarse l most k q t.set (j + i) a' b' k' least')
+
+      -- rows are left
+      pub between-left : (k' ≡ 0 → ⊥) → DomainsPassed coarse l most j a b k m left₀ listed₀ listed None
+      between-left n =
+          record { passed = λ p q o u. sym (told p q o u ∙ ne_eqb k' 0 n); end = tt; listed_as_was = λ q o e. clash e refl }
+
+      -- none is
+      pub between-end : k' ≡ 0 → DomainsPassed coarse l most j a b k m left₀ listed₀ listed (Some b')
+      between-end e =
+          record {
+            passed = λ p q n o. sym (told p q n o ∙ eq-eqb k' 0 e);
+            end = sym (h.end ∙ rw z (none-ends l.domains (j + i) b'));
+            listed_as_was = λ q o _. (h.rest (held left₀) q (bits-marked left₀) o).as-was;
+          }
 
     -- ---- the row number j + i
     module _ (lt : i < m) where
@@ -105,35 +118,35 @@ module _ {coarse : Bool} {l : Packed} {most j a b k m : ℕ} {left₀ listed₀ 
             inside = h.ready.inside;
           }
 
-      module _ (left' listed' : List ℕ) {r : Passed} (d : DomainPassed coarse l most k (j + i) a' b' k' least' left listed left' listed' r) where
+      module _ (left' listed' : List ℕ) where
         -- it fails
-        pub between-out : (x : ℕ) → r.good ≡ false → DomainsPassed coarse l most j a b k m left₀ listed₀ listed' (record { good = false; borrowed_at = x })
-        between-out x f =
+        pub between-out : DomainPassed coarse l most k (j + i) a' b' k' least' left listed left' listed' None → DomainsPassed coarse l most j a b k m left₀ listed₀ listed' None
+        between-out d =
             record {
               passed = λ p q n o. let t = h.rest p q n o in
-                  sym (t.same ∙ rw count (one-fails coarse l most k q t.set (j + i) a' b' k' least' (m - (i + 1)) (sym (d.passed t.set q t.marked t.as-was) ∙ f)));
-              end = λ e. clash e refl;
+                  sym (t.same ∙ rw count (one-fails coarse l most k q t.set (j + i) a' b' k' least' (m - (i + 1)) (sym (d.passed t.set q t.marked t.as-was))));
+              end = tt;
               listed_as_was = λ q o e. clash e refl;
             }
 
         -- it passes
-        module _ (good : r.good ≡ true) where
+        module _ {r : Passed} (d : DomainPassed coarse l most k (j + i) a' b' k' least' left listed left' listed' (Some r)) where
           row : RowHeld coarse l most k (held listed) (held left) (j + i) a' b' k' least'
-          row = row-held coarse l most k (held listed) (held left) (j + i) a' b' k' least' (sym (d.passed (held left) (held listed) (bits-marked left) (bits-marked listed)) ∙ good)
+          row = row-held coarse l most k (held listed) (held left) (j + i) a' b' k' least' (sym (d.passed (held left) (held listed) (bits-marked left) (bits-marked listed)))
 
           pub own-most : r.own ≤ k'
-          own-most = omega (arith, d.own good, row.own-few)
+          own-most = omega (arith, d.own, row.own-few)
 
           pub borrowed-most : r.borrowed ≤ most - b'
-          borrowed-most = omega (arith, d.borrowed good, row.borrowed_few)
+          borrowed-most = omega (arith, d.borrowed, row.borrowed_few)
 
           next : j + (i + 1) ≡ suc (j + i)
           next = omega arith
 
           left_in : (x : ℕ) → bit_at left' x ≡ 1 → bit_at listed' x ≡ 1
           left_in x e =
-              let a = without_in (read_leaf l (j + i)).own (held left) x (bit_in (d.left_out (held left) (bits-marked left) good) x e) in
-              marked-bit (d.listed_as_was (held listed) (bits-marked listed) good) x (eq-eqb (bit_at listed x) 1 (h.ready.inside x (eqb-true (bit_at left x) 1 a)))
+              let a = without_in (read_leaf l (j + i)).own (held left) x (bit_in (d.left_out (held left) (bits-marked left) refl) x e) in
+              marked-bit (d.listed_as_was (held listed) (bits-marked listed) refl) x (eq-eqb (bit_at listed x) 1 (h.ready.inside x (eqb-true (bit_at left x) 1 a)))
 
           pub between_next : length left' ≡ length left → length listed' ≡ length listed
               → Between coarse l most j a b k m left₀ listed₀ left' listed' (i + 1) (a' + r.own) (b' + r.borrowed) (k' - r.own) r.depth
@@ -156,10 +169,10 @@ module _ {coarse : Bool} {l : Packed} {most j a b k m : ℕ} {left₀ listed₀ 
                 rest = λ p q n o. let t = h.rest p q n o in
                     record {
                       set = without (read_leaf l (j + i)).own t.set;
-                      marked = d.left_out t.set t.marked good;
-                      as-was = d.listed_as_was q t.as-was good;
-                      same = t.same ∙ rw (count, next, d.own good, d.borrowed good, d.depth good)
-                          (one_passes coarse l most k q t.set (j + i) a' b' k' least' (m - (i + 1)) (sym (d.passed t.set q t.marked t.as-was) ∙ good));
+                      marked = d.left_out t.set t.marked refl;
+                      as-was = d.listed_as_was q t.as-was refl;
+                      same = t.same ∙ rw (count, next, d.own, d.borrowed, d.depth)
+                          (one_passes coarse l most k q t.set (j + i) a' b' k' least' (m - (i + 1)) (sym (d.passed t.set q t.marked t.as-was)));
                     };
-                end = h.end ∙ rw (count, next, d.borrowed good) (one-ends l.domains (j + i) b' (m - (i + 1)));
+                end = h.end ∙ rw (count, next, d.borrowed) (one-ends l.domains (j + i) b' (m - (i + 1)));
               }

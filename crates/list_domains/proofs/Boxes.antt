@@ -1,18 +1,16 @@
--- The test of one bound of a box, and that the tests of a domain row's floats come to those of the leaf's box and cover. Assumes nothing.
--- Holds: bound-coarse, bound-fine, box-tests, bounds-off, bounds-on
+-- The tests of a domain row's floats come to those of the leaf's box and cover. Assumes nothing.
+-- Holds: box-tests, bounds-off, bounds-on
 use mathlib.Core.Path.{◌≡◌, refl, sym, ap, ◌∙◌}
 use mathlib.Core.Bool.{Bool, true, false, not, ◌&&◌, ◌||◌}
 use mathlib.Core.List.{List, [], ◌∷◌, ◌++◌, map, map-id}
 use Prim.Native.Nat.{ℕ, ◌<◌}
 use borrow.Author.Tests.{eq-eqb}
-use lib.Dec.{eqb, T}
 use lib.ListN.{length, get_or, replicate}
-use lib.Ieee.{Float, nan, eq, binary64, to_bits, of_bits, is_nan}
+use lib.Ieee.{Float, nan, binary64, to_bits, of_bits, is_nan}
 use Rattle.lists.specs.Lists.{any_of}
 use Rattle.lists.proofs.Tests.{or-false}
 use Rattle.lists.proofs.Members.{any_append}
 use Rattle.lists.proofs.Map.{get_d-map-in}
-use Rattle.bytes_out.proofs.Nan.{equal-is-no-nan, unequal-is-nan}
 use Rattle.definition.specs.Number.{plus_zero}
 use Rattle.definition.specs.Points.{box_width_lem}
 use Rattle.definition.specs.Tree.{Leaf}
@@ -20,27 +18,6 @@ use Rattle.stored.specs.Sound.{all_of, same, sound_box, no_box}
 use Rattle.tree_tests.specs.InTurn.{boxed}
 use Rattle.tree_tests.proofs.AllPass.{all-pass-nil, all-pass-cons}
 use Rattle.list_domains.specs.Boxes.{bound_fits_lem, floats_fit_lem}
-
--- ---- one bound
-pub bound-coarse : (b : Bool) (x : Float) (bits : ℕ) → b ≡ true → bits ≡ to_bits binary64 x → eqb bits 0 ≡ bound_fits_lem b x
-unfolding bound_fits_lem
-bound-coarse b x bits h e = rw (h, e)
-
-equal-tells : (x : Float) → eq x x ≡ not (is_nan x)
-unfolding is_nan
-equal-tells x = go (eq x x) refl
-  where
-    T-holds : (b : Bool) → T b → true ≡ b
-    T-holds true t = refl
-    T-holds false t = absurd t
-
-    go : (b : Bool) → eq x x ≡ b → b ≡ not (is_nan x)
-    go true e = T-holds (not (is_nan x)) (equal-is-no-nan x e)
-    go false e = sym (ap (λ (y : Float). not (is_nan y)) (unequal-is-nan x e))
-
-pub bound-fine : (b : Bool) (x : Float) → b ≡ false → eq x x ≡ bound_fits_lem b x
-unfolding bound_fits_lem
-bound-fine b x h = rw h (equal-tells x)
 
 -- ---- all bounds of a box
 neither : (a b : Bool) → not a && not b ≡ not (a || b)

@@ -3,7 +3,5 @@ pub mod AsPacked
 pub mod Held
 pub mod Each
 mod Boxes
-mod Starts
-pub mod Sets
 mod OneDomain
 mod Between

@@ -1,6 +1,7 @@
 -- One domain row: what is known of it once its stretches fit, and what its tests come to at each end of `check_domain`. Assumes nothing.
--- Holds: stretches-off, own-within, borrowed-within, depth-off, box-off, rows_tell
-use mathlib.Core.Path.{◌≡◌, sym, ap, ap₂, ◌∙◌}
+-- Holds: stretches-off, own-within, borrowed-within, depth-off, box-off, rows-off, rows_tell
+use Rattle.std.specs.Prelude.{Option, Some, None}
+use mathlib.Core.Path.{◌≡◌, refl, sym, ap, ap₂, ◌∙◌}
 use mathlib.Core.Bool.{Bool, true, false, ◌&&◌, and-false}
 use mathlib.Core.List.{List}
 use Prim.Native.Nat.{ℕ, ◌+◌, ◌-◌, ◌*◌, ◌≤◌, ◌<◌}
@@ -8,7 +9,7 @@ use native.Mathlib.Nat.{mul-add, mul-one}
 use native.Mathlib.Omega.{arith}
 use borrow.Author.Tests.{leb-true, eqb-true, le-leb}
 use lib.Dec.{leb, eqb}
-use lib.ListN.{length, get_or}
+use lib.ListN.{length, get_or, take, drop}
 use Rattle.lists.specs.Lists.{part}
 use Rattle.lists.proofs.Tests.{clash, and-true, four-pass}
 use Rattle.lists.proofs.Put.{length_part}
@@ -21,10 +22,17 @@ use Rattle.packed.specs.declared.DomainRow.{DomainRow}
 use Rattle.tree_tests.specs.InTurn.{without, in_order_lem, boxed, depth_passes_lem, fitted, leaf_passes}
 use Rattle.list_domains.specs.Boxes.{floats_fit_lem}
 use Rattle.list_domains.specs.InLists.{stretches_fit_lem, domain_passes}
-use Rattle.list_domains.specs.Passed.{Ready, RowsPassed, DomainPassed, not_passed_lem}
+use Rattle.marks.specs.Bits.{Marked}
+use Rattle.marks.proofs.Marks.{held, bits-marked}
+use Rattle.row_sets.specs.Tested.{RowsPassed}
+use Rattle.list_domains.specs.Passed.{Ready, DomainPassed}
 use Rattle.list_domains.specs.declared.Passed.{Passed}
 use Rattle.list_domains.proofs.Boxes.{box-tests}
-use Rattle.list_domains.proofs.Starts.{row_read}
+use Rattle.list_domains.proofs.Each.{stretch_is}
+
+-- the row that is read is the row of the list
+row_read : (r : DomainRow) (domains : List ℕ) (j : ℕ) → IsRow r domains j → plain_row r ≡ row_at domains j
+row_read r domains j h = rw (h.own_start, h.own_count, h.borrowed_start, h.borrowed_count, h.depth)
 
 -- the floats of a domain row lie inside their list
 floats-within : (l : Packed) (most j a b k : ℕ) (left listed : List ℕ) → Ready l most j 1 a b k left listed
@@ -36,26 +44,25 @@ module _ (coarse : Bool) (l : Packed) (most rows j a b k least : ℕ) (left₀ l
   fits : t ≡ stretches_fit_lem (row_at l.domains j) most a b k
   fits = tells ∙ ap (λ r. stretches_fit_lem r most a b k) (row_read row l.domains j is)
 
-  abbrev Is : (left listed : List ℕ) (r : Passed) → Type 0
+  abbrev Is : (left listed : List ℕ) (r : Option Passed) → Type 0
   Is left listed r = DomainPassed coarse l most rows j a b k least left₀ listed₀ left listed r
 
   -- what is said where the row does not pass: nothing of the sets
-  no-domain : (left listed : List ℕ) (r : Passed) → r ≡ not_passed_lem → ((p q : ℕ → Bool) → domain_passes coarse l most rows q p j a b k least ≡ false) → Is left listed r
-  no-domain left listed r n h =
-      let bad : r.good ≡ false = ap (λ (x : Passed). x.good) n in
+  no-domain : (left listed : List ℕ) → ((p q : ℕ → Bool) → Marked left₀ p → Marked listed₀ q → domain_passes coarse l most rows q p j a b k least ≡ false) → Is left listed None
+  no-domain left listed h =
       record {
-        passed = λ p q m o. bad ∙ sym (h p q);
-        own = λ f. clash f bad;
-        borrowed = λ f. clash f bad;
-        depth = λ f. clash f bad;
-        left_out = λ p m f. clash f bad;
-        listed_as_was = λ q o f. clash f bad;
+        passed = λ p q m n. sym (h p q m n);
+        own = tt;
+        borrowed = tt;
+        depth = tt;
+        left_out = λ p m f. clash f refl;
+        listed_as_was = λ q n f. clash f refl;
       }
 
   -- ---- the stretches do not fit
-  pub stretches-off : t ≡ false → (left listed : List ℕ) (r : Passed) → r ≡ not_passed_lem → Is left listed r
+  pub stretches-off : t ≡ false → (left listed : List ℕ) → Is left listed None
   unfolding domain_passes
-  stretches-off f left listed r n = no-domain left listed r n (λ p q. rw (← fits, f))
+  stretches-off f left listed = no-domain left listed (λ p q m n. rw (← fits, f))
 
   -- ---- they do
   module _ (good : t ≡ true) where
@@ -100,8 +107,8 @@ module _ (coarse : Bool) (l : Packed) (most rows j a b k least : ℕ) (left₀ l
       unfolding read_leaf
       depth_is = asked ∙ ap₂ (λ (x y : ℕ). depth_passes_lem coarse rows least x y) (sym own-length) is.depth
 
-      pub depth-off : dp ≡ false → (left listed : List ℕ) (r : Passed) → r ≡ not_passed_lem → Is left listed r
-      depth-off f left listed r n = no-domain left listed r n (λ p q.
+      pub depth-off : dp ≡ false → (left listed : List ℕ) → Is left listed None
+      depth-off f left listed = no-domain left listed (λ p q m n.
           now-leaf p q ∙ ap (λ (x : Bool). leaf-rows p q && (boxed l.dimension coarse (read_leaf l j) && x)) (sym depth_is ∙ f)
           ∙ ap (λ (x : Bool). leaf-rows p q && x) (and-false (boxed l.dimension coarse (read_leaf l j))) ∙ and-false (leaf-rows p q))
 
@@ -118,19 +125,29 @@ module _ (coarse : Bool) (l : Packed) (most rows j a b k least : ℕ) (left₀ l
         whole : (p q : ℕ → Bool) → domain_passes coarse l most rows q p j a b k least ≡ leaf-rows p q && x
         whole p q = now-leaf p q ∙ ap₂ (λ (y z : Bool). leaf-rows p q && (y && z)) (sym box-is) (sym depth_is ∙ deep) ∙ ap (λ (y : Bool). leaf-rows p q && y) (and-true x)
 
-        pub box-off : x ≡ false → (left listed : List ℕ) (r : Passed) → r ≡ not_passed_lem → Is left listed r
-        box-off f left listed r n = no-domain left listed r n (λ p q. whole p q ∙ ap (λ (y : Bool). leaf-rows p q && y) f ∙ and-false (leaf-rows p q))
+        pub box-off : x ≡ false → (left listed : List ℕ) → Is left listed None
+        box-off f left listed = no-domain left listed (λ p q m n. whole p q ∙ ap (λ (y : Bool). leaf-rows p q && y) f ∙ and-false (leaf-rows p q))
 
-        pub rows_tell : x ≡ true → (left listed : List ℕ) (r : Bool)
-            → RowsPassed (part l.internals a row.internal_count) (part l.borrowed b row.borrowed_count) left₀ listed₀ left listed r
-            → Is left listed (record { good = r; own = row.internal_count; borrowed = row.borrowed_count; depth = row.depth })
-        rows_tell f left listed r h =
-            let g : RowsPassed (read_leaf l j).own (read_leaf l j).borrowed left₀ listed₀ left listed r = rw (own_is, borrowed-is) at h in
-            record {
-              passed = λ p q m n. g.passed p q m n ∙ sym (whole p q ∙ ap (λ (y : Bool). leaf-rows p q && y) f ∙ and-true (leaf-rows p q));
-              own = λ _. is.own_count;
-              borrowed = λ _. is.borrowed_count;
-              depth = λ _. is.depth;
-              left_out = g.left_out;
-              listed_as_was = g.listed_as_was;
-            }
+        module _ (fits-box : x ≡ true) (left listed : List ℕ) (r : Bool)
+            (said : (p q : ℕ → Bool) → Marked left₀ p → Marked listed₀ q
+            → RowsPassed (take (a + row.internal_count - a) (drop a l.internals)) (take (b + row.borrowed_count - b) (drop b l.borrowed)) p q left listed r) where
+          told : (p q : ℕ → Bool) → Marked left₀ p → Marked listed₀ q → RowsPassed (read_leaf l j).own (read_leaf l j).borrowed p q left listed r
+          told p q m n = rw (stretch_is l.internals a row.internal_count ∙ own_is, stretch_is l.borrowed b row.borrowed_count ∙ borrowed-is) at (said p q m n)
+
+          now-rows : (p q : ℕ → Bool) → Marked left₀ p → Marked listed₀ q → domain_passes coarse l most rows q p j a b k least ≡ r
+          now-rows p q m n = whole p q ∙ ap (λ (y : Bool). leaf-rows p q && y) fits-box ∙ and-true (leaf-rows p q) ∙ sym (told p q m n).tests
+
+          -- ---- the rows
+          pub rows-off : r ≡ false → Is left listed None
+          rows-off e = no-domain left listed (λ p q m n. now-rows p q m n ∙ e)
+
+          pub rows_tell : r ≡ true → Is left listed (Some (record { own = row.internal_count; borrowed = row.borrowed_count; depth = row.depth }))
+          rows_tell e =
+              record {
+                passed = λ p q m n. sym (now-rows p q m n ∙ e);
+                own = is.own_count;
+                borrowed = is.borrowed_count;
+                depth = is.depth;
+                left_out = λ p m t. (told p (held listed₀) m (bits-marked listed₀)).left_set e;
+                listed_as_was = λ q n t. (told (held left₀) q (bits-marked left₀) n).listed_set e;
+              }

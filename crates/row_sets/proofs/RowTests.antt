@@ -1,5 +1,5 @@
 -- A domain's own rows taken out of two sets, its borrowed rows asked for, and the own rows put back: one law for each way out. Assumes nothing.
--- Holds: inside-sets, sets-inside, own-fail, own-markable, borrowed-fail, rows-good
+-- Holds: bit_in, inside-sets, sets-inside, own-fail, own-markable, borrowed-fail, rows-good
 use mathlib.Core.Path.{◌≡◌, refl, sym, ◌∙◌}
 use mathlib.Core.Bool.{Bool, true, false, ◌||◌, and-false}
 use Prim.Native.Nat.{ℕ, ◌*◌, ◌<◌}
@@ -18,14 +18,17 @@ use Rattle.row_sets.specs.Markable.{Markable}
 use Rattle.row_sets.proofs.PutBack.{taken-markable, put_back}
 use Rattle.row_sets.specs.Tested.{Inside, RowsPassed}
 
+-- a row whose bit is 1 is in the set
+pub bit_in : {ws : List ℕ} {p : ℕ → Bool} → Marked ws p → (i : ℕ) → bit_at ws i ≡ 1 → p i ≡ true
+bit_in {ws} m i e = sym (marked-held m i) ∙ eq-eqb (bit_at ws i) 1 e
+
 -- what is left is listed
 pub inside-sets : {left listed : List ℕ} {p q : ℕ → Bool} → Inside left listed → Marked left p → Marked listed q → (x : ℕ) → p x ≡ true → q x ≡ true
-inside-sets {left} {listed} s m n x e = sym (marked-held n x) ∙ eq-eqb (bit_at listed x) 1 (s.among x (marked-bit m x e))
+inside-sets s m n x e = bit_in n x (s.among x (marked-bit m x e))
 
 -- and so for the sets that words hold
 pub sets-inside : {left listed : List ℕ} {p q : ℕ → Bool} → length left ≡ length listed → Marked left p → Marked listed q → ((x : ℕ) → p x ≡ true → q x ≡ true) → Inside left listed
-sets-inside {left} {listed} l m n f =
-    record { same_length = l; among = λ x e. marked-bit n x (f x (sym (marked-held m x) ∙ eq-eqb (bit_at left x) 1 e)) }
+sets-inside l m n f = record { same_length = l; among = λ x e. marked-bit n x (f x (bit_in m x e)) }
 
 module _ (own left₀ listed₀ left listed : List ℕ) (r : Bool) (inside : Inside left₀ listed₀)
     (took : (p q : ℕ → Bool) → Marked left₀ p → Marked listed₀ q → (r ≡ in_order_lem 0 p own) × (r ≡ true → Marked left (without own p) × Marked listed (without own q))) where

@@ -1,48 +1,58 @@
 -- `list_domains::check_domain` meets its contract: each way out has its law. Assumes nothing.
-use Rattle.packed.specs.Reading.{packed}
-use Rattle.list_domains.proofs.OneDomain.{stretches-off, own-within, borrowed-within, depth-off, box-off, rows_tell}
+use borrow.Author.Rules.{rules}
+use Rattle.packed.specs.View.{packed_of}
+use Rattle.list_domains.proofs.OneDomain.{stretches-off, own-within, borrowed-within, depth-off, box-off, rows-off, rows_tell}
 use Rattle.list_domains.proofs.check_domain.Goals as goal
 
 pub returns-then-not-stretches_fit : goal.returns-then-not-stretches_fit
-returns-then-not-stretches_fit c = let tested = c in
-    let start = tested in
-    stretches-off _ _ _ _ _ _ _ _ _ _ _ start.requires _ tested.read_row-row.ensures _ tested.stretches_fit.ensures tested.if-not-stretches_fit.true _ _ _ c.not_passed.ensures
+returns-then-not-stretches_fit c =
+    stretches-off _ _ _ _ _ _ _ _ _ _ _ c.requires _ c.read_row-row.ensures _ c.stretches_fit.ensures c.if-not-stretches_fit.true _ _
 
 pub returns-then-not-depth_passes : goal.returns-then-not-depth_passes
-returns-then-not-depth_passes c = let tested = c in
-    let start = tested in
-    depth-off _ _ _ _ _ _ _ _ _ _ _ start.requires _ tested.read_row-row.ensures _ tested.stretches_fit.ensures tested.if-not-stretches_fit.false
-    _ c.depth_passes.ensures c.if-not-depth_passes.true _ _ _ c.not_passed-then-not-depth_passes.ensures
+returns-then-not-depth_passes c =
+    depth-off _ _ _ _ _ _ _ _ _ _ _ c.requires _ c.read_row-row.ensures _ c.stretches_fit.ensures c.if-not-stretches_fit.false
+    _ c.depth_passes.ensures c.if-not-depth_passes.true _ _
 
 pub returns-then-not-floats_fit : goal.returns-then-not-floats_fit
-returns-then-not-floats_fit c = let tested = c in
-    let start = tested in
-    let deep = c in
-    box-off _ _ _ _ _ _ _ _ _ _ _ start.requires _ tested.read_row-row.ensures _ tested.stretches_fit.ensures tested.if-not-stretches_fit.false
-    _ deep.depth_passes.ensures deep.if-not-depth_passes.false _ _ c.floats_before-box_at.ensures c.box_width.ensures
-    _ c.floats_fit.ensures c.if-not-floats_fit.true _ _ _ c.not_passed-then-not-floats_fit.ensures
+returns-then-not-floats_fit c =
+    box-off _ _ _ _ _ _ _ _ _ _ _ c.requires _ c.read_row-row.ensures _ c.stretches_fit.ensures c.if-not-stretches_fit.false
+    _ c.depth_passes.ensures c.if-not-depth_passes.false _ _ c.floats_before-box_at.ensures c.box_width.ensures
+    _ c.floats_fit.ensures c.if-not-floats_fit.true _ _
 
-pub rows_pass-good-requires : goal.rows_pass-good-requires
-rows_pass-good-requires c = let tested = c in
-    let start = tested in
-    let a = start.args in
-    let l = packed a.internals.now a.domains.now a.boxes.now a.borrowed.now a.dimensions in
-    let row = tested.read_row-row.result in
-    let is = tested.read_row-row.ensures in
-    let fits = tested.stretches_fit.ensures in
-    let good = tested.if-not-stretches_fit.false in (
-      own-within a.coarse l a.borrowed_most a.rows a.j a.own_at a.borrowed_at a.remaining a.least a.left.now a.listed.now start.requires row is _ fits good,
-      borrowed-within a.coarse l a.borrowed_most a.rows a.j a.own_at a.borrowed_at a.remaining a.least a.left.now a.listed.now start.requires row is _ fits good,
-      start.requires.same_length,
-      start.requires.inside,
-    )
+pub overflow_add-own : goal.overflow_add-own
+overflow_add-own c =
+    let a = c.args in
+    let w = own-within a.coarse (packed_of a.tree) a.borrowed_most a.rows a.j a.own_at a.borrowed_at a.remaining a.least a.left.now a.listed.now c.requires
+    _ c.read_row-row.ensures _ c.stretches_fit.ensures c.if-not-stretches_fit.false in
+    search rules
+
+pub slice_bounds-own-end : goal.slice_bounds-own-end
+slice_bounds-own-end c =
+    let a = c.args in
+    own-within a.coarse (packed_of a.tree) a.borrowed_most a.rows a.j a.own_at a.borrowed_at a.remaining a.least a.left.now a.listed.now c.requires
+    _ c.read_row-row.ensures _ c.stretches_fit.ensures c.if-not-stretches_fit.false
+
+pub overflow_add-borrowed : goal.overflow_add-borrowed
+overflow_add-borrowed c =
+    let a = c.args in
+    let w = borrowed-within a.coarse (packed_of a.tree) a.borrowed_most a.rows a.j a.own_at a.borrowed_at a.remaining a.least a.left.now a.listed.now c.requires
+    _ c.read_row-row.ensures _ c.stretches_fit.ensures c.if-not-stretches_fit.false in
+    search rules
+
+pub slice_bounds-borrowed-end : goal.slice_bounds-borrowed-end
+slice_bounds-borrowed-end c =
+    let a = c.args in
+    borrowed-within a.coarse (packed_of a.tree) a.borrowed_most a.rows a.j a.own_at a.borrowed_at a.remaining a.least a.left.now a.listed.now c.requires
+    _ c.read_row-row.ensures _ c.stretches_fit.ensures c.if-not-stretches_fit.false
+
+pub returns-then-not-rows_pass : goal.returns-then-not-rows_pass
+returns-then-not-rows_pass c =
+    rows-off _ _ _ _ _ _ _ _ _ _ _ c.requires _ c.read_row-row.ensures _ c.stretches_fit.ensures c.if-not-stretches_fit.false
+    _ c.depth_passes.ensures c.if-not-depth_passes.false _ _ c.floats_before-box_at.ensures c.box_width.ensures
+    _ c.floats_fit.ensures c.if-not-floats_fit.false _ _ _ c.rows_pass.ensures c.if-not-rows_pass.true
 
 pub returns : goal.returns
-returns c = let at_rows = c in
-    let boxes = at_rows in
-    let deep = boxes in
-    let tested = deep in
-    let start = tested in
-    rows_tell _ _ _ _ _ _ _ _ _ _ _ start.requires _ tested.read_row-row.ensures _ tested.stretches_fit.ensures tested.if-not-stretches_fit.false
-    _ deep.depth_passes.ensures deep.if-not-depth_passes.false _ _ boxes.floats_before-box_at.ensures boxes.box_width.ensures
-    _ boxes.floats_fit.ensures boxes.if-not-floats_fit.false _ _ _ at_rows.rows_pass-good.ensures
+returns c =
+    rows_tell _ _ _ _ _ _ _ _ _ _ _ c.requires _ c.read_row-row.ensures _ c.stretches_fit.ensures c.if-not-stretches_fit.false
+    _ c.depth_passes.ensures c.if-not-depth_passes.false _ _ c.floats_before-box_at.ensures c.box_width.ensures
+    _ c.floats_fit.ensures c.if-not-floats_fit.false _ _ _ c.rows_pass.ensures c.if-not-rows_pass.false

@@ -1,10 +1,6 @@
-use Prim.Native.Nat.{◌-◌}
-use Rattle.packed.specs.Reading.{packed}
+use Rattle.packed.specs.View.{packed_of}
 use Rattle.list_domains.proofs.Between.{Between}
 use Rattle.list_domains.proofs.check_domains.Given as goal
 
 abbrev pub invariant-loop-i : goal.invariant-loop-i
-invariant-loop-i l = Between l.coarse (packed l.internals l.domains l.boxes l.borrowed l.dimensions) l.borrowed_most l.first l.own_at l.borrowed_at l.rows l.count l.initial.left l.initial.listed l.left l.listed l.i l.own l.end l.remaining l.least
-
-abbrev pub decreases-loop-i : goal.decreases-loop-i
-decreases-loop-i l = l.count - l.i
+invariant-loop-i l = Between l.coarse (packed_of l.tree) l.borrowed_most l.first l.own_at l.borrowed_at l.rows l.count l.initial.left l.initial.listed l.left l.listed l.i l.own l.end l.remaining l.least
