@@ -1,7 +1,8 @@
 -- The loop over the levels: what holds between two of them, at the start, and at each end. Assumes nothing.
 -- Holds: BetweenLevels, between_start, between-end, next-ready, between-out, between_next
+use Rattle.std.specs.Prelude.{Option, Some, None, is_some}
 use mathlib.Core.Path.{◌≡◌, refl, sym, ap, ap₂, ◌∙◌}
-use mathlib.Core.Bool.{Bool, true, false, ◌&&◌, and_assoc}
+use mathlib.Core.Bool.{Bool, true, ◌&&◌, and_assoc}
 use mathlib.Core.List.{List}
 use Prim.Native.Nat.{ℕ, suc, ◌+◌, ◌-◌, ◌*◌, ◌≤◌, ◌<◌}
 use native.Mathlib.Nat.{zero-add, sub-zero, suc-mul, mul-le-mul_right}
@@ -11,7 +12,7 @@ use borrow.Author.Tests.{leb-true, eqb-true, eq-eqb}
 use lib.Dec.{leb, ltb, eqb}
 use lib.ListN.{length, get_or}
 use Rattle.lists.specs.Lists.{total, part}
-use Rattle.lists.proofs.Tests.{clash, and-snd, same_test, three-pass}
+use Rattle.lists.proofs.Tests.{and-snd, same_test, three-pass}
 use Rattle.lists.proofs.Sums.{total-more}
 use Rattle.definition.specs.Packed.{Counts, row_numbers, most_rows}
 use Rattle.packed.specs.Reading.{Packed, up_to, points_at}
@@ -28,7 +29,6 @@ use Rattle.list_levels.proofs.Levels.{count_most, none-behind}
 -- before the level number t: those before it passed, and the rest decides under the set of rows that is listed now
 pub record BetweenLevels (l : Packed) (level_points : List ℕ) (c : Counts) (n most : ℕ) (left₀ listed₀ left listed : List ℕ) (t above : ℕ) (done : ListsPassed) : Type 0 where
   pub bound : t ≤ c.levels
-  pub good : done.good ≡ true
   pub rows_are : done.rows ≡ up_to c.rows t
   pub domains-are : done.domains ≡ up_to c.domains t
   pub borrowed_are : done.borrowed ≡ borrowed_end l.domains 0 0 (up_to c.domains t)
@@ -59,12 +59,11 @@ module _ (l : Packed) (level_points : List ℕ) (c : Counts) (n most t above : �
       rw (and_assoc (count_fits_lem t n above (get_or c.rows t 0)) (one_only (eqb k 0) (get_or c.domains t 0)) (leb (get_or c.domains t 0) (most_rows n - up_to c.domains t)))
 
 module _ {l : Packed} {level_points : List ℕ} {c : Counts} {n most : ℕ} {left₀ listed₀ : List ℕ} (ready : LevelsReady l level_points c n most left₀ listed₀) where
-  pub between_start : BetweenLevels l level_points c n most left₀ listed₀ left₀ listed₀ 0 n (record { good = true; rows = 0; domains = 0; borrowed = 0 })
+  pub between_start : BetweenLevels l level_points c n most left₀ listed₀ left₀ listed₀ 0 n (record { rows = 0; domains = 0; borrowed = 0 })
   unfolding total borrowed_end
   between_start =
       record {
         bound = omega arith;
-        good = refl;
         rows_are = refl;
         domains-are = refl;
         borrowed_are = refl;
@@ -81,15 +80,15 @@ module _ {l : Packed} {level_points : List ℕ} {c : Counts} {n most : ℕ} {lef
 
   module _ {left listed : List ℕ} {t above : ℕ} {done : ListsPassed} (h : BetweenLevels l level_points c n most left₀ listed₀ left listed t above done) where
     -- ---- all levels passed
-    pub between-end : c.levels ≤ t → LevelsPassed l level_points c n most done
+    pub between-end : c.levels ≤ t → LevelsPassed l level_points c n most (Some done)
     between-end g =
         let z : c.levels - t ≡ 0 = omega arith in
         let e : t ≡ c.levels = omega (arith, h.bound) in
         record {
-          passed = h.good ∙ sym (h.same ∙ rw z (none-behind l level_points c n most t above h.set done.borrowed));
-          rows = λ _. h.rows_are ∙ ap (up_to c.rows) e;
-          domains = λ _. h.domains-are ∙ ap (up_to c.domains) e;
-          borrowed = λ _. h.borrowed_are ∙ ap (λ (x : ℕ). borrowed_end l.domains 0 0 (up_to c.domains x)) e;
+          passed = sym (h.same ∙ rw z (none-behind l level_points c n most t above h.set done.borrowed));
+          rows = h.rows_are ∙ ap (up_to c.rows) e;
+          domains = h.domains-are ∙ ap (up_to c.domains) e;
+          borrowed = h.borrowed_are ∙ ap (λ (x : ℕ). borrowed_end l.domains 0 0 (up_to c.domains x)) e;
         }
 
     -- ---- the level number t
@@ -121,26 +120,26 @@ module _ {l : Packed} {level_points : List ℕ} {c : Counts} {n most : ℕ} {lef
           same_test (eqb (t + 1) c.levels) (eqb after 0) (λ e. eq-eqb after 0 (omega (arith, eqb-true (t + 1) c.levels e)))
           (λ e. eq-eqb (t + 1) c.levels (omega (arith, eqb-true after 0 e)))
 
-      module _ (left' listed' : List ℕ) (rows m : ℕ) (rows_is : rows ≡ get_or c.rows t 0) (m-is : m ≡ get_or c.domains t 0) (r : ListsPassed)
-          (d : NextPassed (eqb (t + 1) c.levels) l level_points n most t above rows m done listed listed' r) where
-        here-is : (s : ℕ → Bool) → Marked listed s → r.good ≡ here l level_points c n most t above s done.borrowed after
-        here-is s k = d.passed s k ∙ rw (last-is, rows_is, m-is, h.rows_are, h.domains-are)
+      module _ (left' listed' : List ℕ) (rows m : ℕ) (rows_is : rows ≡ get_or c.rows t 0) (m-is : m ≡ get_or c.domains t 0) where
+        here-is : {r : Option ListsPassed} → NextPassed (eqb (t + 1) c.levels) l level_points n most t above rows m done listed listed' r → (s : ℕ → Bool) → Marked listed s
+            → is_some r ≡ here l level_points c n most t above s done.borrowed after
+        here-is d s k = d.passed s k ∙ rw (last-is, rows_is, m-is, h.rows_are, h.domains-are)
 
-        pub between-out : r.good ≡ false → LevelsPassed l level_points c n most r
-        between-out f =
+        pub between-out : NextPassed (eqb (t + 1) c.levels) l level_points n most t above rows m done listed listed' None → LevelsPassed l level_points c n most None
+        between-out d =
             record {
-              passed = sym (h.same ∙ rw count (both l level_points c n most t above h.set done.borrowed after ∙ rw (← here-is h.set h.marked, f)) ∙ sym f);
-              rows = λ g. clash g f;
-              domains = λ g. clash g f;
-              borrowed = λ g. clash g f;
+              passed = sym (h.same ∙ rw count (both l level_points c n most t above h.set done.borrowed after ∙ rw (← here-is d h.set h.marked)));
+              rows = tt;
+              domains = tt;
+              borrowed = tt;
             }
 
-        module _ (good : r.good ≡ true) where
+        module _ (r : ListsPassed) (d : NextPassed (eqb (t + 1) c.levels) l level_points n most t above rows m done listed listed' (Some r)) where
           tests : (count_fits_lem t n above rows ≡ true) × (one_only (eqb (t + 1) c.levels) m && leb m (most_rows n - done.domains) ≡ true)
               × (held_level_passes (eqb (t + 1) c.levels) l level_points most h.set done.domains done.rows done.borrowed rows m ≡ true)
           tests =
               three-pass (count_fits_lem t n above rows) (one_only (eqb (t + 1) c.levels) m && leb m (most_rows n - done.domains))
-              (held_level_passes (eqb (t + 1) c.levels) l level_points most h.set done.domains done.rows done.borrowed rows m) (sym (d.passed h.set h.marked) ∙ good)
+              (held_level_passes (eqb (t + 1) c.levels) l level_points most h.set done.domains done.rows done.borrowed rows m) (sym (d.passed h.set h.marked))
 
           rows-most : rows ≤ n
           rows-most = count_most t n above rows h.fewer tests.0
@@ -158,7 +157,7 @@ module _ {l : Packed} {level_points : List ℕ} {c : Counts} {n most : ℕ} {lef
               (omega (arith, rows-most, room-here, ready.long.points)) (omega (arith, rows-most, room-here, ready.long.internals)) h.low tests.0 tests.2
 
           end-most : r.borrowed ≤ most
-          end-most = omega (arith, d.borrowed_on good, borrowed_end_is l m done.domains done.rows done.borrowed fit level.packed, level.within)
+          end-most = omega (arith, d.borrowed_on, borrowed_end_is l m done.domains done.rows done.borrowed fit level.packed, level.within)
 
           next-domains : done.domains + m ≡ up_to c.domains (t + 1)
           next-domains = rw (h.domains-are, m-is, add-one t) (sym (total-more c.domains t))
@@ -168,27 +167,26 @@ module _ {l : Packed} {level_points : List ℕ} {c : Counts} {n most : ℕ} {lef
 
           next-borrowed : r.borrowed ≡ borrowed_end l.domains 0 0 (up_to c.domains (t + 1))
           next-borrowed =
-              d.borrowed_on good ∙ ap₂ (λ (x y : ℕ). borrowed_end l.domains x y m) (sym (zero-add done.domains)) (h.borrowed_are ∙ ap (borrowed_end l.domains 0 0) (sym h.domains-are))
+              d.borrowed_on ∙ ap₂ (λ (x y : ℕ). borrowed_end l.domains x y m) (sym (zero-add done.domains)) (h.borrowed_are ∙ ap (borrowed_end l.domains 0 0) (sym h.domains-are))
               ∙ sym (end-append l.domains done.domains m 0 0) ∙ ap (borrowed_end l.domains 0 0) next-domains
 
           pub between_next : length left' ≡ length left → length listed' ≡ length listed → BetweenLevels l level_points c n most left₀ listed₀ left' listed' (t + 1) rows r
           between_next e f =
               record {
                 bound = omega arith;
-                good = good;
-                rows_are = d.rows_on good ∙ next-rows;
-                domains-are = d.domains_on good ∙ next-domains;
+                rows_are = d.rows_on ∙ next-rows;
+                domains-are = d.domains_on ∙ next-domains;
                 borrowed_are = next-borrowed;
-                room = omega (arith, h.room, rows-most, d.rows_on good, ap (λ (x : ℕ). x * n) count ∙ suc-mul after n);
-                few = omega (arith, domains-most, d.domains_on good);
+                room = omega (arith, h.room, rows-most, d.rows_on, ap (λ (x : ℕ). x * n) count ∙ suc-mul after n);
+                few = omega (arith, domains-most, d.domains_on);
                 low = end-most;
                 fewer = rows-most;
                 left-length = e ∙ h.left-length;
                 listed-length = f ∙ h.listed-length;
                 set = among (part level_points done.rows rows);
-                marked = d.listed_now good;
+                marked = d.listed_now refl;
                 same =
                     h.same ∙ rw count
                     (both l level_points c n most t above h.set done.borrowed after
-                    ∙ rw (← here-is h.set h.marked, good, add-one t, d.borrowed_on good, h.rows_are, h.domains-are, rows_is, m-is));
+                    ∙ rw (← here-is d h.set h.marked, add-one t, d.borrowed_on, h.rows_are, h.domains-are, rows_is, m-is));
               }

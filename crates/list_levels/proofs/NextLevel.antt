@@ -1,5 +1,6 @@
 -- One level more: its counts, the level itself, and the totals with it. Assumes nothing.
--- Holds: count-off, domains-off, rows-most, domains-most, level-ready, level-on
+-- Holds: count-off, domains-off, rows-most, domains-most, level-ready, level-out, level-on
+use Rattle.std.specs.Prelude.{Some, None}
 use mathlib.Core.Path.{◌≡◌, refl, sym, ◌∙◌}
 use mathlib.Core.Bool.{Bool, true, false, ◌&&◌, and-false}
 use mathlib.Core.List.{List}
@@ -12,34 +13,33 @@ use Rattle.lists.proofs.Tests.{clash, and-snd}
 use Rattle.definition.specs.Packed.{row_floats_lem, most_rows}
 use Rattle.packed.specs.Reading.{Packed}
 use Rattle.marks.specs.Bits.{Marked}
-use Rattle.list_domains.specs.declared.AllPassed.{AllPassed}
 use Rattle.list_levels.specs.InLists.{count_fits_lem, one_only, held_level_passes}
 use Rattle.list_levels.specs.Passed.{LevelReady, NextReady, LevelPassed, NextPassed}
 use Rattle.list_levels.specs.declared.ListsPassed.{ListsPassed}
 use Rattle.list_levels.proofs.Levels.{count_most}
 
 -- what is said where the level does not pass: nothing of the sets
-no-level : {coarse : Bool} {l : Packed} {level_points : List ℕ} {n most t above rows m : ℕ} {done : ListsPassed} {listed₀ : List ℕ} (listed : List ℕ) (r : ListsPassed) → r.good ≡ false
+no-level : {coarse : Bool} {l : Packed} {level_points : List ℕ} {n most t above rows m : ℕ} {done : ListsPassed} {listed₀ : List ℕ} (listed : List ℕ)
     → ((set : ℕ → Bool) → Marked listed₀ set → false
     ≡ (count_fits_lem t n above rows && (one_only coarse m && leb m (most_rows n - done.domains)) && held_level_passes coarse l level_points most set done.domains done.rows done.borrowed rows m))
-    → NextPassed coarse l level_points n most t above rows m done listed₀ listed r
-no-level listed r f h =
+    → NextPassed coarse l level_points n most t above rows m done listed₀ listed None
+no-level listed h =
     record {
-      passed = λ set k. f ∙ h set k;
-      rows_on = λ g. clash g f;
-      domains_on = λ g. clash g f;
-      borrowed_on = λ g. clash g f;
-      listed_now = λ g. clash g f;
+      passed = h;
+      rows_on = tt;
+      domains_on = tt;
+      borrowed_on = tt;
+      listed_now = λ g. clash g refl;
     }
 
 module _ (coarse : Bool) (l : Packed) (level_points : List ℕ) (n most t above rows m : ℕ) (done : ListsPassed) (left₀ listed₀ : List ℕ)
     (ready : NextReady l level_points n most above done left₀ listed₀) (x : Bool) (count : x ≡ count_fits_lem t n above rows) where
-  pub count-off : x ≡ false → (listed : List ℕ) (r : ListsPassed) → r.good ≡ false → NextPassed coarse l level_points n most t above rows m done listed₀ listed r
-  count-off f listed r e = no-level listed r e (λ set k. rw (← count, f))
+  pub count-off : x ≡ false → (listed : List ℕ) → NextPassed coarse l level_points n most t above rows m done listed₀ listed None
+  count-off f listed = no-level listed (λ set k. rw (← count, f))
 
   module _ (y : Bool) (domains : y ≡ (one_only coarse m && leb m (most_rows n - done.domains))) where
-    pub domains-off : y ≡ false → (listed : List ℕ) (r : ListsPassed) → r.good ≡ false → NextPassed coarse l level_points n most t above rows m done listed₀ listed r
-    domains-off f listed r e = no-level listed r e (λ set k. rw (← domains, f, and-false (count_fits_lem t n above rows)))
+    pub domains-off : y ≡ false → (listed : List ℕ) → NextPassed coarse l level_points n most t above rows m done listed₀ listed None
+    domains-off f listed = no-level listed (λ set k. rw (← domains, f, and-false (count_fits_lem t n above rows)))
 
     module _ (few : x ≡ true) (some : y ≡ true) where
       pub rows-most : rows ≤ n
@@ -61,14 +61,20 @@ module _ (coarse : Bool) (l : Packed) (level_points : List ℕ) (n most t above 
             same_length = ready.same_length;
           }
 
-      pub level-on : (listed : List ℕ) (g : AllPassed) → LevelPassed coarse l level_points most done.domains done.rows done.borrowed rows m listed₀ listed g
-          → NextPassed coarse l level_points n most t above rows m done listed₀ listed
-          (record { good = g.good; rows = done.rows + rows; domains = done.domains + m; borrowed = g.borrowed_at })
-      level-on listed g h =
-          record {
-            passed = λ set k. h.passed set k ∙ rw (← count, few, ← domains, some);
-            rows_on = λ e. refl;
-            domains_on = λ e. refl;
-            borrowed_on = h.end;
-            listed_now = h.listed_now;
-          }
+      module _ (listed : List ℕ) where
+        -- the level does not pass
+        pub level-out : LevelPassed coarse l level_points most done.domains done.rows done.borrowed rows m listed₀ listed None
+            → NextPassed coarse l level_points n most t above rows m done listed₀ listed None
+        level-out h = no-level listed (λ set k. h.passed set k ∙ rw (← count, few, ← domains, some))
+
+        -- it does
+        pub level-on : (g : ℕ) → LevelPassed coarse l level_points most done.domains done.rows done.borrowed rows m listed₀ listed (Some g)
+            → NextPassed coarse l level_points n most t above rows m done listed₀ listed (Some (record { rows = done.rows + rows; domains = done.domains + m; borrowed = g }))
+        level-on g h =
+            record {
+              passed = λ set k. h.passed set k ∙ rw (← count, few, ← domains, some);
+              rows_on = refl;
+              domains_on = refl;
+              borrowed_on = h.end;
+              listed_now = h.listed_now;
+            }

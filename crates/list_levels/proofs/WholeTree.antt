@@ -1,18 +1,18 @@
 -- The whole tree in the lists: counts that do not stand, and levels that are checked. Assumes nothing.
--- Holds: tree-out, tree-tell, most-fits, levels-ready
+-- Holds: tree-out, tree-tell, levels-ready
+use Rattle.std.specs.Prelude.{Option, Some, None}
 use mathlib.Core.Path.{◌≡◌, refl, sym, ◌∙◌}
 use mathlib.Core.Bool.{Bool, true, false, ◌&&◌}
 use mathlib.Core.List.{List}
-use Prim.Native.Nat.{ℕ, ◌+◌, ◌*◌, ◌^◌, ◌≤◌, ◌<◌}
-use native.Mathlib.Nat.{le_trans, mul-le-mul_left, mul-le-mul_right}
+use Prim.Native.Nat.{ℕ, ◌+◌, ◌*◌, ◌≤◌}
 use native.Mathlib.Omega.{arith}
 use lib.ListN.{length}
 use lib.Dec.{leb, ltb}
 use borrow.Author.Tests.{leb-true}
-use Rattle.lists.proofs.Tests.{clash, and-snd, three-pass}
+use Rattle.lists.proofs.Tests.{and-snd, three-pass}
 use Rattle.definition.specs.Tree.{Settings}
 use Rattle.definition.specs.Packed.{Counts, most_levels, build_stated}
-use Rattle.definition.specs.Refusals.{most_points, most_neighbours}
+use Rattle.definition.specs.Refusals.{most_points}
 use Rattle.definition.specs.Outcome.{TreeLists}
 use Rattle.packed.specs.Reading.{Packed, packed}
 use Rattle.stored.specs.Sound.{sound}
@@ -40,23 +40,18 @@ module _ (s : Settings) (n : ℕ) (c : Counts) (l : TreeLists) (four-rows : leng
   comes-to : held_tree_passes s.dimension n s.neighbours c l ≡ packs c l (tree_held s.dimension c l) && sound s n (tree_held s.dimension c l)
   comes-to = tree-passes s n c l four-rows four-domains long
 
-  counts-off : x ≡ false → (r : ListsPassed) → r.good ≡ false → TreePassed s n c l r
-  counts-off f r g =
-      record {
-        passed = g ∙ sym (sym comes-to ∙ is ∙ rw (← stand, f));
-        rows = λ e. clash e g;
-        domains = λ e. clash e g;
-        borrowed = λ e. clash e g;
-      }
+  counts-off : x ≡ false → TreePassed s n c l None
+  counts-off f = record { passed = sym (sym comes-to ∙ is ∙ rw (← stand, f)); rows = tt; domains = tt; borrowed = tt }
 
-  levels-tell : x ≡ true → (r : ListsPassed) → LevelsPassed (held l s.dimension) l.level_points c n (6 * n * (s.neighbours + 1)) r → TreePassed s n c l r
-  levels-tell t r h =
-      let e : r.good ≡ held_tree_passes s.dimension n s.neighbours c l = h.passed ∙ sym (is ∙ rw (← stand, t)) in
+  levels-tell : x ≡ true → (r : Option ListsPassed) → LevelsPassed (held l s.dimension) l.level_points c n (6 * n * (s.neighbours + 1)) r → TreePassed s n c l r
+  levels-tell t None h = record { passed = h.passed ∙ sym (is ∙ rw (← stand, t)) ∙ comes-to; rows = tt; domains = tt; borrowed = tt }
+  levels-tell t (Some r) h =
+      let e : true ≡ held_tree_passes s.dimension n s.neighbours c l = h.passed ∙ sym (is ∙ rw (← stand, t)) in
       record {
         passed = e ∙ comes-to;
-        rows = λ g. h.rows g ∙ rows-total s n c l four-rows four-domains long (sym e ∙ g);
-        domains = λ g. h.domains g ∙ domains-total s n c l four-rows four-domains long (sym e ∙ g);
-        borrowed = λ g. h.borrowed g ∙ borrowed-total s n c l four-rows four-domains long (sym e ∙ g);
+        rows = h.rows ∙ rows-total s n c l four-rows four-domains long (sym e);
+        domains = h.domains ∙ domains-total s n c l four-rows four-domains long (sym e);
+        borrowed = h.borrowed ∙ borrowed-total s n c l four-rows four-domains long (sym e);
       }
 
 -- ---- for any settings with this dimension and this neighbour count
@@ -65,10 +60,10 @@ module _ (d n neighbours : ℕ) (c : Counts) (l : TreeLists) (four-rows : length
   lent-there : lists_short_lem l (build_stated s.dimension n s.neighbours) ≡ false
   lent-there = rw (e, f) lent
 
-  pub tree-out : x ≡ false → (r : ListsPassed) → r.good ≡ false → TreePassed s n c l r
+  pub tree-out : x ≡ false → TreePassed s n c l None
   tree-out = counts-off s n c l four-rows four-domains lent-there x stand
 
-  pub tree-tell : x ≡ true → (r : ListsPassed) → LevelsPassed (packed l.internals l.domains l.boxes l.borrowed d) l.level_points c n (6 * n * (neighbours + 1)) r
+  pub tree-tell : x ≡ true → (r : Option ListsPassed) → LevelsPassed (packed l.internals l.domains l.boxes l.borrowed d) l.level_points c n (6 * n * (neighbours + 1)) r
       → TreePassed s n c l r
   tree-tell t r h = levels-tell s n c l four-rows four-domains lent-there x stand t r (rw (e, f) h)
 
@@ -80,13 +75,6 @@ few_levels c x e t =
     let b = leb c.levels most_levels in
     let g = three-pass (a && b) (none_beyond_lem c.levels c.rows) (none_beyond_lem c.levels c.domains) (sym e ∙ t) in
     leb-true c.levels most_levels (and-snd a b g.0)
-
--- no sum of borrowed rows wraps
-pub most-fits : (n neighbours : ℕ) → n ≤ most_points → neighbours ≤ most_neighbours → 6 * n * (neighbours + 1) < 2 ^ 64
-most-fits n neighbours h g =
-    let a : 6 * n ≤ 6 * most_points = omega arith in
-    let b : neighbours + 1 ≤ 65 = omega arith in
-    omega (arith, le_trans (mul-le-mul_right (neighbours + 1) a) (mul-le-mul_left (6 * most_points) b))
 
 -- ---- what the levels ask for
 pub levels-ready : (d n neighbours : ℕ) (c : Counts) (l : TreeLists) → d ≤ 3 → n ≤ most_points → lists_short_lem l (build_stated d n neighbours) ≡ false

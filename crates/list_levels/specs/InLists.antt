@@ -20,9 +20,13 @@ count_fits_lem (suc l) n above rows = fewer above rows
 abbrev pub one_only : Bool → ℕ → Bool
 one_only coarse m = cond coarse (eqb m 1) (not (eqb m 1))
 
+-- each count is 0
+abbrev pub all_zero : List ℕ → Bool
+all_zero counts = all_of (λ x. eqb x 0) counts
+
 -- no count beyond the last level
 abbrev pub none_beyond_lem : ℕ → List ℕ → Bool
-none_beyond_lem levels counts = all_of (λ x. eqb x 0) (drop levels counts)
+none_beyond_lem levels counts = all_zero (drop levels counts)
 
 -- one to four levels
 unfoldable pub counts_stand_lem : Counts → Bool

@@ -1,5 +1,5 @@
 -- What the tests of a level, of the levels and of the whole tree are given and say. Definitions only.
-use Rattle.std.specs.Prelude.{◌≡◌, Bool, true, ◌&&◌, List, ℕ, ◌+◌, ◌-◌, ◌*◌, ◌≤◌, leb, ltb, length}
+use Rattle.std.specs.Prelude.{◌≡◌, Bool, true, ◌&&◌, List, ℕ, ◌+◌, ◌-◌, ◌*◌, ◌≤◌, leb, ltb, length, Option, is_some, IfSome}
 use Rattle.lists.specs.Lists.{part}
 use Rattle.definition.specs.Tree.{Settings}
 use Rattle.definition.specs.Packed.{Counts, row_numbers, row_floats_lem, most_levels, most_rows, leaves_in_lem, packed_level_points, packed_borrowed}
@@ -11,7 +11,6 @@ use Rattle.stored.specs.Outcome.{tree_held, packs}
 use Rattle.tree_tests.specs.InTurn.{among}
 use Rattle.marks.specs.Bits.{Marked}
 use Rattle.list_domains.specs.InLists.{borrowed_end}
-use Rattle.list_domains.specs.declared.AllPassed.{AllPassed}
 use Rattle.list_levels.specs.InLists.{count_fits_lem, one_only, held_level_passes, held_levels_pass}
 use Rattle.list_levels.specs.declared.ListsPassed.{ListsPassed}
 
@@ -61,31 +60,31 @@ pub record NextReady (l : Packed) (level_points : List ℕ) (n most above : ℕ)
 -- ---- after
 
 -- a level under a set of rows; then its own rows are the listed ones
-pub record LevelPassed (coarse : Bool) (l : Packed) (level_points : List ℕ) (most j a b rows m : ℕ) (listed₀ listed : List ℕ) (r : AllPassed) : Type 0 where
-  pub passed : (above : ℕ → Bool) → Marked listed₀ above → r.good ≡ held_level_passes coarse l level_points most above j a b rows m
-  pub end : r.good ≡ true → r.borrowed_at ≡ borrowed_end l.domains j b m
-  pub listed_now : r.good ≡ true → Marked listed (among (part level_points a rows))
+pub record LevelPassed (coarse : Bool) (l : Packed) (level_points : List ℕ) (most j a b rows m : ℕ) (listed₀ listed : List ℕ) (r : Option ℕ) : Type 0 where
+  pub passed : (above : ℕ → Bool) → Marked listed₀ above → is_some r ≡ held_level_passes coarse l level_points most above j a b rows m
+  pub end : IfSome r (λ x. x ≡ borrowed_end l.domains j b m)
+  pub listed_now : is_some r ≡ true → Marked listed (among (part level_points a rows))
 
 -- the level number t with so many rows and m domains, and then the totals with it
-pub record NextPassed (coarse : Bool) (l : Packed) (level_points : List ℕ) (n most t above rows m : ℕ) (done : ListsPassed) (listed₀ listed : List ℕ) (r : ListsPassed) : Type 0 where
+pub record NextPassed (coarse : Bool) (l : Packed) (level_points : List ℕ) (n most t above rows m : ℕ) (done : ListsPassed) (listed₀ listed : List ℕ) (r : Option ListsPassed) : Type 0 where
   pub passed : (set : ℕ → Bool) → Marked listed₀ set
-      → r.good ≡ (count_fits_lem t n above rows && (one_only coarse m && leb m (most_rows n - done.domains))
+      → is_some r ≡ (count_fits_lem t n above rows && (one_only coarse m && leb m (most_rows n - done.domains))
       && held_level_passes coarse l level_points most set done.domains done.rows done.borrowed rows m)
-  pub rows_on : r.good ≡ true → r.rows ≡ done.rows + rows
-  pub domains_on : r.good ≡ true → r.domains ≡ done.domains + m
-  pub borrowed_on : r.good ≡ true → r.borrowed ≡ borrowed_end l.domains done.domains done.borrowed m
-  pub listed_now : r.good ≡ true → Marked listed (among (part level_points done.rows rows))
+  pub rows_on : IfSome r (λ x. x.rows ≡ done.rows + rows)
+  pub domains_on : IfSome r (λ x. x.domains ≡ done.domains + m)
+  pub borrowed_on : IfSome r (λ x. x.borrowed ≡ borrowed_end l.domains done.domains done.borrowed m)
+  pub listed_now : is_some r ≡ true → Marked listed (among (part level_points done.rows rows))
 
 -- the levels, and then their totals
-pub record LevelsPassed (l : Packed) (level_points : List ℕ) (c : Counts) (n most : ℕ) (r : ListsPassed) : Type 0 where
-  pub passed : r.good ≡ held_levels_pass l level_points c n most 0 n (λ i. ltb i n) 0 c.levels
-  pub rows : r.good ≡ true → r.rows ≡ up_to c.rows c.levels
-  pub domains : r.good ≡ true → r.domains ≡ up_to c.domains c.levels
-  pub borrowed : r.good ≡ true → r.borrowed ≡ borrowed_end l.domains 0 0 (up_to c.domains c.levels)
+pub record LevelsPassed (l : Packed) (level_points : List ℕ) (c : Counts) (n most : ℕ) (r : Option ListsPassed) : Type 0 where
+  pub passed : is_some r ≡ held_levels_pass l level_points c n most 0 n (λ i. ltb i n) 0 c.levels
+  pub rows : IfSome r (λ x. x.rows ≡ up_to c.rows c.levels)
+  pub domains : IfSome r (λ x. x.domains ≡ up_to c.domains c.levels)
+  pub borrowed : IfSome r (λ x. x.borrowed ≡ borrowed_end l.domains 0 0 (up_to c.domains c.levels))
 
 -- the tree that stands in the lists, and then the rows, domains and borrowed rows of all its levels
-pub record TreePassed (s : Settings) (n : ℕ) (c : Counts) (l : TreeLists) (r : ListsPassed) : Type 0 where
-  pub passed : r.good ≡ packs c l (tree_held s.dimension c l) && sound s n (tree_held s.dimension c l)
-  pub rows : r.good ≡ true → r.rows ≡ length (packed_level_points (tree_held s.dimension c l))
-  pub domains : r.good ≡ true → r.domains ≡ length (leaves_in_lem (tree_held s.dimension c l))
-  pub borrowed : r.good ≡ true → r.borrowed ≡ length (packed_borrowed (tree_held s.dimension c l))
+pub record TreePassed (s : Settings) (n : ℕ) (c : Counts) (l : TreeLists) (r : Option ListsPassed) : Type 0 where
+  pub passed : is_some r ≡ packs c l (tree_held s.dimension c l) && sound s n (tree_held s.dimension c l)
+  pub rows : IfSome r (λ x. x.rows ≡ length (packed_level_points (tree_held s.dimension c l)))
+  pub domains : IfSome r (λ x. x.domains ≡ length (leaves_in_lem (tree_held s.dimension c l)))
+  pub borrowed : IfSome r (λ x. x.borrowed ≡ length (packed_borrowed (tree_held s.dimension c l)))

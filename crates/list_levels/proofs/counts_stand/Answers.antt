@@ -1,15 +1,17 @@
 -- `list_levels::counts_stand` meets its contract. Assumes nothing.
 use Rattle.list_levels.proofs.LevelCounts.{no-levels, many-levels, rows-beyond, counts-tell}
 use Rattle.list_levels.proofs.counts_stand.Goals as goal
+use Rattle.list_levels.proofs.counts_stand.Goals.{then-levels-eq0-via-then-levels-eq0, then-levels-eq0-via-else-levels-eq0+then-levels-gt4}
 
 pub returns-then-levels-eq0 : goal.returns-then-levels-eq0
-returns-then-levels-eq0 c = no-levels _ c.if-levels-eq0.true
+returns-then-levels-eq0 c =
+    elim c.then-levels-eq0.branch [
+      | then-levels-eq0-via-then-levels-eq0 w ↦ no-levels _ w.if-levels-eq0.true
+      | then-levels-eq0-via-else-levels-eq0+then-levels-gt4 w ↦ many-levels _ w.if-levels-gt4.true
+    ]
 
-pub returns-then-levels-gt4 : goal.returns-then-levels-gt4
-returns-then-levels-gt4 c = many-levels _ c.if-levels-gt4.true
+pub returns-else-all_zero : goal.returns-else-all_zero
+returns-else-all_zero c = rows-beyond _ c.if-levels-eq0.false c.if-levels-gt4.false _ c.all_zero.ensures c.if-all_zero.false
 
-pub returns-then-not-none_beyond : goal.returns-then-not-none_beyond
-returns-then-not-none_beyond c = rows-beyond _ _ c.none_beyond.ensures c.if-not-none_beyond.true
-
-pub returns : goal.returns
-returns c = counts-tell _ _ _ c.if-levels-eq0.false c.if-levels-gt4.false c.none_beyond.ensures c.if-not-none_beyond.false c.none_beyond-2.ensures
+pub returns-then-all_zero : goal.returns-then-all_zero
+returns-then-all_zero c = counts-tell _ c.if-levels-eq0.false c.if-levels-gt4.false _ c.all_zero.ensures c.if-all_zero.true _ c.all_zero-then-all_zero.ensures
