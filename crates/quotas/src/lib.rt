@@ -101,6 +101,7 @@ impl Terms {
 }
 
 // 1 if a remainder gets a leftover seat: it is above the cut, or equal to it while seats for these are left.
+#[tactic(auto, using(std::proofs::lemmas::Bool::Decides::nat_tests), unfolding(definition::specs::SeatCut::extra_by))]
 fn extra_seat(remainder: usize, cut: usize, left: usize) -> usize
     ensures { result ≡ extra_by remainder cut left }
 {

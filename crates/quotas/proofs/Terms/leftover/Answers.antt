@@ -1,10 +1,7 @@
 -- `quotas::Terms::leftover` meets its contract: `left` is the rest less the shares so far, rounded down. Assumes nothing.
-use mathlib.Core.Path.{◌≡◌, ap}
-use mathlib.Core.List.{map}
-use Prim.Native.Nat.{ℕ, ◌+◌}
+use Prim.Native.Nat.{◌+◌}
 use native.Mathlib.Omega.{arith}
 use lib.ListN.{length}
-use Rattle.lists.specs.Lists.{total, from}
 use Rattle.lists.proofs.Sums.{sum-below-nil, sum-below-suc, sum-below-part}
 use Rattle.definition.specs.Quotas.{whole_at}
 use Rattle.definition.proofs.Shares.{wholes_fit}
@@ -16,32 +13,17 @@ pub loop-w-init : goal.loop-w-init
 loop-w-init c = let a = c.args in
     omega (arith, sum-below-nil (whole_at (capacities a.sizes.now a.self.first) a.self.rest))
 
-pub product-requires : goal.product-requires
-product-requires c = let s = c in
-    (s.requires.sizes_fit c.loop-w.w-index, s.requires.rest_fits)
-
-pub nonzero_div-left : goal.nonzero_div-left
-nonzero_div-left c = let s = c in
-    omega (arith, s.requires.divisor)
-
 pub overflow_sub-left : goal.overflow_sub-left
-overflow_sub-left c = let s = c in
-    let a = s.args in
+overflow_sub-left c = let a = c.args in
     let i = c.loop-w.w-index in
     let f = whole_at (capacities a.sizes.now a.self.first) a.self.rest in
-    let e = whole_is a.sizes.now a.self.first a.self.rest a.self.pool s.requires i _ c.product.ensures in
+    let e = whole_is a.sizes.now a.self.first a.self.rest a.self.pool c.requires i _ c.product.ensures in
     let n = same-leaves a.sizes.now a.self.first in
-    omega (arith, e, sum-below-suc i f, sum-below-part (i + 1) (length (capacities a.sizes.now a.self.first)) f (omega (arith, n)), wholes_fit (capacities a.sizes.now a.self.first) a.self.rest s.requires.within)
+    omega (arith, e, sum-below-suc i f, sum-below-part (i + 1) (length (capacities a.sizes.now a.self.first)) f (omega (arith, n)), wholes_fit (capacities a.sizes.now a.self.first) a.self.rest c.requires.within)
 
 pub loop-w-preserved : goal.loop-w-preserved
-loop-w-preserved c = let s = c in
-    let a = s.args in
+loop-w-preserved c = let a = c.args in
     let i = c.loop-w.w-index in
     let f = whole_at (capacities a.sizes.now a.self.first) a.self.rest in
-    let e = whole_is a.sizes.now a.self.first a.self.rest a.self.pool s.requires i _ c.product.ensures in
+    let e = whole_is a.sizes.now a.self.first a.self.rest a.self.pool c.requires i _ c.product.ensures in
     omega (arith, e, sum-below-suc i f)
-
-pub returns : goal.returns
-returns c = let a = c.args in
-    let e : c.loop-w.w-index ≡ length (capacities a.sizes.now a.self.first) = omega (arith, same-leaves a.sizes.now a.self.first) in
-    omega (arith, ap (λ (x : ℕ). total (map (whole_at (capacities a.sizes.now a.self.first) a.self.rest) (from 0 x))) e)
