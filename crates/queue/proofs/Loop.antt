@@ -1,6 +1,6 @@
 -- The invariant of the loop over the queue, in the code's terms, and its turns, for any kind of domain. The queue stands in a list
 -- `room`, three numbers a stretch, from its `head`-th up to its `tail`-th; `ds` are the domains that wait. Assumes nothing.
--- Holds: queued, cuts_left, StateOf, Inv, inv-first, inv-end, inv-next, turn_inside, turn-good, turn-same, turn-depth,
+-- Holds: queued, cuts_left, StateOf, Inv, inv-first, inv-end, inv-next, turn_inside, turn-good, turn-same,
 --   turn-shallow, turn-left, turn-right, turn-rows, turn-full, turn_end, turn-leaves, turn-wait, turn-done, turn-room, inv-wait,
 --   less-wait, inv-done, less_done
 use mathlib.Core.Path.{◌≡◌}
@@ -16,7 +16,7 @@ use Rattle.queue.specs.Rows.{two_halves, two_own, with_own}
 use Rattle.queue.proofs.Kind.{Kind, halves_of, leaf_rows_lem, leaf_own}
 use Rattle.queue.proofs.Stretches.{Stretch, halves_at, waiting, waiting-next, waiting-join, waiting-length, waiting_none, waiting-first}
 use Rattle.queue.proofs.State.{Holds, State, queue_cuts, cuts-length, state-first, state-end, state-wait, state-done}
-use Rattle.queue.proofs.State.{now-inside, now_full, now-rows, now-leaves, now-good, now-same, now-depth, now-shallow, now-left, now-right, now-wait, now-done}
+use Rattle.queue.proofs.State.{now-inside, now_full, now-rows, now-leaves, now-good, now-same, now-shallow, now-left, now-right, now-wait, now-done}
 
 -- the waiting stretches, and what each turn of the loop brings down
 abbrev pub queued : List ℕ → ℕ → ℕ → List Stretch
@@ -87,9 +87,6 @@ module _ {D : Type 0} {leaf : ℕ} {K : Kind D leaf} {n : ℕ} {d₀ : D} {I₀ 
 
     pub turn-same : part rows s c ≡ K.rows_of d
     turn-same = now-same st
-
-    pub turn-depth : e ≡ K.depth_of d
-    turn-depth = now-depth st
 
     -- a cut more can be counted
     pub turn-shallow : e ≤ head
