@@ -10,7 +10,7 @@ ghost use Rattle.halving.specs.Cuts.{halved};
 ghost use Rattle.rows.specs.Rows.{GoodRows};
 ghost use Rattle.boxes.specs.Boxes.{floats_of};
 ghost use Rattle.record_laws.specs.Table.{entry_width};
-ghost use Rattle.cut_nodes.specs.Written.{domain_of, Written, WrittenTwo};
+ghost use Rattle.cut_nodes.specs.Written.{domain_of, Written, WrittenTwo, SameLists};
 
 use boxes::Extents;
 use cut::Plane;
@@ -23,61 +23,69 @@ pub struct Next {
     pub leaves: usize,
 }
 
+// What the cut writes to: the boxes of the leaves; the ordering's room, and behind it their table; and both lists of the record.
+// It is lent on by `&mut`, and a function that takes it promises that it still holds the caller's lists.
+#[derive(Drop)]
+pub struct Lists<'a> {
+    pub floats: &'a mut [f64],
+    pub wholes: &'a mut [usize],
+    pub cuts: &'a mut [usize],
+    pub planes: &'a mut [f64],
+}
+
 // Writes a leaf of `count` rows: its entry, its box, and its node, which has no number yet.
 fn put_leaf(
     count: usize,
     depth: usize,
     whole: Extents,
     base: usize,
-    floats: &mut [f64],
-    wholes: &mut [usize],
-    cuts: &mut [usize],
-    planes: &mut [f64],
+    lists: &mut Lists<'_>,
     from: Next,
 ) -> Next
-    requires { (whole.dimensions ≤ 3) × (base + entry_width * (from.leaves + 1) ≤ length wholes.old) × (box_width_lem whole.dimensions * (from.leaves + 1) ≤ length floats.old)
-        × (from.place < length cuts.old) × (from.place < length planes.old) }
+    requires { (whole.dimensions ≤ 3) × (base + entry_width * (from.leaves + 1) ≤ length lists.old.wholes.now) × (box_width_lem whole.dimensions * (from.leaves + 1) ≤ length lists.old.floats.now)
+        × (from.place < length lists.old.cuts.now) × (from.place < length lists.old.planes.now) }
+    ensures same { SameLists lists.old lists.new }
     ensures next { (result.place ≡ from.place + 1) × (result.leaves ≡ from.leaves + 1) }
     ensures written { (rows : List ℕ) → length rows ≡ count → Written whole.dimensions base (uncut (domain_of rows whole depth)) from.place from.leaves result.place result.leaves
-        wholes.old wholes.new floats.old floats.new cuts.old cuts.new planes.old planes.new }
+        lists.old.wholes.now lists.new.wholes.now lists.old.floats.now lists.new.floats.now lists.old.cuts.now lists.new.cuts.now lists.old.planes.now lists.new.planes.now }
 {
     let Next { place, leaves } = from;
     let entry = base + node::ENTRY * leaves;
-    wholes[entry..entry + node::ENTRY].copy_from_slice(&[depth, count, place]);
+    lists.wholes[entry..entry + node::ENTRY].copy_from_slice(&[depth, count, place]);
     let at = boxes::bounds_before(whole.dimensions, leaves);
-    boxes::write_box(whole, floats, at);
-    node::write_node(cuts, planes, place, Node::Leaf(0));
+    boxes::write_box(whole, lists.floats, at);
+    node::write_node(lists.cuts, lists.planes, place, Node::Leaf(0));
     Next {
         place: place + 1,
         leaves: leaves + 1,
     }
 }
 
-// Cuts the rows in place, and writes the cut's node. The ordering's room is the front of `wholes`, one whole number a row.
+// Cuts the rows in place, and writes the cut's node. The ordering's room is the front of the whole numbers, one a row.
 pub fn cut_node(
     points: &[f64],
     dimensions: usize,
     rows: &mut [usize],
-    wholes: &mut [usize],
-    cuts: &mut [usize],
-    planes: &mut [f64],
+    lists: &mut Lists<'_>,
     place: usize,
 ) -> Plane
-    requires { (0 < dimensions) × (1 ≤ length rows.old) × GoodRows dimensions points.now rows.old × (length rows.old ≤ length wholes.old)
-        × (place < length cuts.old) × (place < length planes.old) }
+    requires { (0 < dimensions) × (1 ≤ length rows.old) × GoodRows dimensions points.now rows.old × (length rows.old ≤ length lists.old.wholes.now)
+        × (place < length lists.old.cuts.now) × (place < length lists.old.planes.now) }
+    ensures same { SameLists lists.old lists.new × (lists.new.floats.now ≡ lists.old.floats.now) }
     ensures plane { (result.axis ≡ longest_axis_lem dimensions points.now rows.old) × (result.value ≡ plane dimensions points.now rows.old) }
     ensures rows { rows.new ≡ halved dimensions points.now (longest_axis_lem dimensions points.now rows.old) rows.old }
-    ensures wholes { AsFoundFrom (length rows.old) wholes.old wholes.new }
-    ensures cuts { cuts.new ≡ set cuts.old place (longest_axis_lem dimensions points.now rows.old) }
-    ensures planes { planes.new ≡ set planes.old place (plane dimensions points.now rows.old) }
+    ensures wholes { AsFoundFrom (length rows.old) lists.old.wholes.now lists.new.wholes.now }
+    ensures cuts { lists.new.cuts.now ≡ set lists.old.cuts.now place (longest_axis_lem dimensions points.now rows.old) }
+    ensures planes { lists.new.planes.now ≡ set lists.old.planes.now place (plane dimensions points.now rows.old) }
 {
     let count = rows.len();
+    let wholes: &mut [usize] = lists.wholes;
     let at = cut::cut_stretch(points, dimensions, rows, &mut wholes[..count]);
     let node = Node::Cut {
         axis: at.axis,
         plane: at.value,
     };
-    node::write_node(cuts, planes, place, node);
+    node::write_node(lists.cuts, lists.planes, place, node);
     at
 }
 
@@ -88,28 +96,16 @@ pub fn put_leaves(
     left: Extents,
     right: Extents,
     base: usize,
-    floats: &mut [f64],
-    wholes: &mut [usize],
-    cuts: &mut [usize],
-    planes: &mut [f64],
+    lists: &mut Lists<'_>,
     from: Next,
 ) -> Next
-    requires { (left.dimensions ≤ 3) × (right.dimensions ≡ left.dimensions) × (length (floats_of left) ≡ box_width_lem left.dimensions) × (base + entry_width * (from.leaves + 2) ≤ length wholes.old) × (box_width_lem left.dimensions * (from.leaves + 2) ≤ length floats.old)
-        × (from.place + 2 ≤ length cuts.old) × (from.place + 2 ≤ length planes.old) }
-    ensures { (l m : List ℕ) → length l ≡ count / 2 → length m ≡ count - count / 2 → WrittenTwo left.dimensions base (uncut (domain_of l left depth)) (uncut (domain_of m right depth)) from.place from.leaves result.place result.leaves
-        wholes.old wholes.new floats.old floats.new cuts.old cuts.new planes.old planes.new }
+    requires { (left.dimensions ≤ 3) × (right.dimensions ≡ left.dimensions) × (length (floats_of left) ≡ box_width_lem left.dimensions) × (base + entry_width * (from.leaves + 2) ≤ length lists.old.wholes.now) × (box_width_lem left.dimensions * (from.leaves + 2) ≤ length lists.old.floats.now)
+        × (from.place + 2 ≤ length lists.old.cuts.now) × (from.place + 2 ≤ length lists.old.planes.now) }
+    ensures same { SameLists lists.old lists.new }
+    ensures written { (l m : List ℕ) → length l ≡ count / 2 → length m ≡ count - count / 2 → WrittenTwo left.dimensions base (uncut (domain_of l left depth)) (uncut (domain_of m right depth)) from.place from.leaves result.place result.leaves
+        lists.old.wholes.now lists.new.wholes.now lists.old.floats.now lists.new.floats.now lists.old.cuts.now lists.new.cuts.now lists.old.planes.now lists.new.planes.now }
 {
     let half = count / 2;
-    let middle = put_leaf(half, depth, left, base, floats, wholes, cuts, planes, from);
-    put_leaf(
-        count - half,
-        depth,
-        right,
-        base,
-        floats,
-        wholes,
-        cuts,
-        planes,
-        middle,
-    )
+    let middle = put_leaf(half, depth, left, base, lists, from);
+    put_leaf(count - half, depth, right, base, lists, middle)
 }

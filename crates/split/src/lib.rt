@@ -7,37 +7,47 @@ ghost use Rattle.definition.specs.Points.{box_width_lem};
 ghost use Rattle.rows.specs.Rows.{GoodRows};
 ghost use Rattle.boxes.specs.Boxes.{floats_of};
 ghost use Rattle.record_laws.specs.Table.{cuts_at, rows_under};
-ghost use Rattle.cut_nodes.specs.Written.{domain_of, Written, Space};
+ghost use Rattle.cut_nodes.specs.Written.{domain_of, Written, Space, SameLists};
 
 use boxes::Extents;
-use cut_nodes::Next;
+use cut_nodes::{Lists, Next};
+
+// What a cut reads: the points and their axes, the leaf threshold, and how many whole numbers stand before the table of the leaves.
+#[derive(Clone, Copy)]
+pub struct Level<'a> {
+    pub points: &'a [f64],
+    pub dimensions: usize,
+    pub leaf: usize,
+    pub base: usize,
+}
 
 // Cuts a domain and then, where its halves are large, each of them, the left one completely before the right one; otherwise its halves are
 // leaves. The rows end as those of the leaves from left to right. What falls from call to call is their number.
 pub fn split(
-    points: &[f64],
-    dimensions: usize,
-    leaf: usize,
+    level: Level<'_>,
     rows: &mut [usize],
     depth: usize,
     whole: Extents,
-    base: usize,
-    floats: &mut [f64],
-    wholes: &mut [usize],
-    cuts: &mut [usize],
-    planes: &mut [f64],
+    lists: &mut Lists<'_>,
     from: Next,
 ) -> Next
-    requires dimensions_nonzero { (0 < dimensions) × (dimensions ≤ 3) × (1 ≤ leaf) × (1 ≤ length rows.old) × GoodRows dimensions points.now rows.old }
-    requires dimensions_value { (whole.dimensions ≡ dimensions) × (length (floats_of whole) ≡ box_width_lem dimensions) × (depth + length rows.old < 2 ^ 64) × Space dimensions base (length rows.old) from.place from.leaves wholes.old floats.old cuts.old planes.old }
-    ensures rows { rows.new ≡ rows_under (cuts_at dimensions points.now leaf (domain_of rows.old whole depth)) }
-    ensures written { Written dimensions base (cuts_at dimensions points.now leaf (domain_of rows.old whole depth)) from.place from.leaves result.place result.leaves
-        wholes.old wholes.new floats.old floats.new cuts.old cuts.new planes.old planes.new }
+    requires dimensions_nonzero { (0 < level.dimensions) × (level.dimensions ≤ 3) × (1 ≤ level.leaf) × (1 ≤ length rows.old) × GoodRows level.dimensions level.points.now rows.old }
+    requires dimensions_value { (whole.dimensions ≡ level.dimensions) × (length (floats_of whole) ≡ box_width_lem level.dimensions) × (depth + length rows.old < 2 ^ 64) × Space level.dimensions level.base (length rows.old) from.place from.leaves lists.old.wholes.now lists.old.floats.now lists.old.cuts.now lists.old.planes.now }
+    ensures same { SameLists lists.old lists.new }
+    ensures rows { rows.new ≡ rows_under (cuts_at level.entry.dimensions level.entry.points.now level.entry.leaf (domain_of rows.old whole depth)) }
+    ensures written { Written level.entry.dimensions level.entry.base (cuts_at level.entry.dimensions level.entry.points.now level.entry.leaf (domain_of rows.old whole depth)) from.place from.leaves result.place result.leaves
+        lists.old.wholes.now lists.new.wholes.now lists.old.floats.now lists.new.floats.now lists.old.cuts.now lists.new.cuts.now lists.old.planes.now lists.new.planes.now }
 {
+    let Level {
+        points,
+        dimensions,
+        leaf,
+        base,
+    } = level;
     let count = rows.len();
     let half = count / 2;
     let Next { place, leaves } = from;
-    let at = cut_nodes::cut_node(points, dimensions, rows, wholes, cuts, planes, place);
+    let at = cut_nodes::cut_node(points, dimensions, rows, lists, place);
     let left = whole.with_upper(at.axis, at.value);
     let right = whole.with_lower(at.axis, at.value);
     let below = depth + 1;
@@ -46,36 +56,8 @@ pub fn split(
         leaves,
     };
     if half < leaf {
-        return cut_nodes::put_leaves(
-            count, below, left, right, base, floats, wholes, cuts, planes, next,
-        );
+        return cut_nodes::put_leaves(count, below, left, right, base, lists, next);
     }
-    let middle = split(
-        points,
-        dimensions,
-        leaf,
-        &mut rows[..half],
-        below,
-        left,
-        base,
-        floats,
-        wholes,
-        cuts,
-        planes,
-        next,
-    );
-    split(
-        points,
-        dimensions,
-        leaf,
-        &mut rows[half..],
-        below,
-        right,
-        base,
-        floats,
-        wholes,
-        cuts,
-        planes,
-        middle,
-    )
+    let middle = split(level, &mut rows[..half], below, left, lists, next);
+    split(level, &mut rows[half..], below, right, lists, middle)
 }

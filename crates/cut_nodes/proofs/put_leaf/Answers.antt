@@ -4,6 +4,7 @@ use mathlib.Core.List.{[], ◌∷◌}
 use Prim.Native.Nat.{ℕ, ◌+◌, ◌*◌}
 use native.Mathlib.Nat.{mul-add, mul-one}
 use native.Mathlib.Omega.{arith}
+use borrow.Author.Rules.{rules}
 use lib.ListN.{length}
 use Rattle.definition.specs.Points.{box_width_lem}
 use Rattle.lists.specs.Lists.{put}
@@ -25,6 +26,7 @@ write_box-requires c = let a = c.args in
 
 pub returns : goal.returns
 returns c = record {
+  same = search rules;
   next = (refl, refl);
   written = λ rows h.
       let a = c.args in
@@ -33,10 +35,10 @@ returns c = record {
       let entry = a.base + 3 * a.from.leaves in
       let e = c.copy_from_slice.ensures in
       leaf-written w a.base (domain_of rows a.whole a.depth) a.from.place a.from.leaves _ _
-      a.wholes.now _ a.floats.now _ a.cuts.now _ a.planes.now _
+      a.lists.now.wholes.now _ a.lists.now.floats.now _ a.lists.now.cuts.now _ a.lists.now.planes.now _
       (omega (arith, p.1)) p.3 p.4
-      (part-back _ _ _ _ (ap length e.after) ∙ ap (put a.wholes.now entry) e.after
-      ∙ ap (λ (n : ℕ). put a.wholes.now entry (a.depth ∷ n ∷ a.from.place ∷ [])) (sym h))
-      (c.write_box.ensures ∙ ap (λ (f : ℕ). put a.floats.now f (floats_of a.whole)) c.bounds_before-at.ensures)
+      (part-back _ _ _ _ (ap length e.after) ∙ ap (put a.lists.now.wholes.now entry) e.after
+      ∙ ap (λ (n : ℕ). put a.lists.now.wholes.now entry (a.depth ∷ n ∷ a.from.place ∷ [])) (sym h))
+      (c.write_box.ensures ∙ ap (λ (f : ℕ). put a.lists.now.floats.now f (floats_of a.whole)) c.bounds_before-at.ensures)
       c.write_node.ensures.cuts c.write_node.ensures.planes refl refl;
 }

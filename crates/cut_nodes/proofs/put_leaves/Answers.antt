@@ -19,14 +19,14 @@ put_leaf-requires c = let a = c in
     let f = a.args.from.leaves in
     let g : box_width_lem a.args.right.dimensions ≡ w = ap box_width_lem p.1 in (
       omega (arith, p.0, p.1),
-      omega (arith, p.3, n.1, k.auto.wholes),
-      rw (g, n.1) (omega (arith, p.4, k.auto.floats)),
-      omega (arith, p.5, n.0, k.auto.cuts),
-      omega (arith, p.6, n.0, k.auto.planes),
+      omega (arith, p.3, n.1, k.ensures.same.wholes_len),
+      rw (g, n.1) (omega (arith, p.4, k.ensures.same.floats_len)),
+      omega (arith, p.5, n.0, k.ensures.same.cuts_len),
+      omega (arith, p.6, n.0, k.ensures.same.planes_len),
     )
 
-pub returns : goal.returns
-returns c l m el em = let a = c in
+pub returns-clause-written : goal.returns-clause-written
+returns-clause-written c l m el em = let a = c in
     let p = a.requires in
     let x = c.put_leaf-middle.ensures.written l el in
     let y = c.put_leaf.ensures.written m em in

@@ -1,5 +1,6 @@
 -- `depth_first::leaves` meets its contract. Assumes nothing.
-use mathlib.Core.Path.{ap, ◌∙◌}
+use mathlib.Core.Path.{sym, ap, ◌∙◌}
+use borrow.Author.Rules.{rules}
 use native.Mathlib.Omega.{arith}
 use lib.ListN.{length}
 use Rattle.lists.specs.Lists.{put}
@@ -11,6 +12,7 @@ cut_leaves-requires c = let p = c.requires in
     let copied = c.copy_from_slice.ensures.after in
     record {
       dimensions_nonzero = rw copied p.dimensions_nonzero;
+      base = ap length (sym copied);
       rows_in_bounds = rw copied p.active_in_bounds;
       rows_bound = rw copied (omega (arith, p.active_in_bounds_2.0), p.active_in_bounds_2.1, p.active_in_bounds_2.2);
       rows_in_bounds_2 = rw copied p.active_in_bounds_3;
@@ -22,12 +24,14 @@ returns c = let a = c.args in
     let cut = c.cut_leaves in
     let f = rw copied at cut.ensures in
     let back = part-back a.internals.now a.at (length a.active.now) cut.new.rows (cut.auto.rows ∙ ap length copied) in
+    let cuts = f.cuts in
+    let planes = f.planes in
     record {
       number = f.number;
       nodes = f.nodes;
       internals = back ∙ ap (put a.internals.now a.at) f.rows;
       domains = f.domains;
       boxes = f.boxes;
-      cuts = f.cuts;
-      planes = f.planes;
+      cuts = search (rules, cuts);
+      planes = search (rules, planes);
     }

@@ -11,14 +11,14 @@ with_upper-left-requires t c =
     let a = c.args in
     let g = c.requires.dimensions_nonzero in
     let h = c.requires.dimensions_value in
-    (omega (arith, c.cut_node-at.ensures.plane.0, h.0, axis-below a.dimensions a.points.now a.rows.now g.0), omega (arith, g.1, h.0))
+    (omega (arith, c.cut_node-at.ensures.plane.0, h.0, axis-below a.level.dimensions a.level.points.now a.rows.now g.0), omega (arith, g.1, h.0))
 
 pub with_lower-right-requires : goal.with_lower-right-requires
 with_lower-right-requires t c =
     let a = c.args in
     let g = c.requires.dimensions_nonzero in
     let h = c.requires.dimensions_value in
-    (omega (arith, c.cut_node-at.ensures.plane.0, h.0, axis-below a.dimensions a.points.now a.rows.now g.0), omega (arith, g.1, h.0))
+    (omega (arith, c.cut_node-at.ensures.plane.0, h.0, axis-below a.level.dimensions a.level.points.now a.rows.now g.0), omega (arith, g.1, h.0))
 
 pub returns-then-half-leaf-clause-rows : goal.returns-then-half-leaf-clause-rows
 returns-then-half-leaf-clause-rows t c =
@@ -29,7 +29,7 @@ returns-then-half-leaf-clause-rows t c =
     let v = c.with_lower-right in
     let x =
     turn a.rows.now a.whole u.result v.result a.depth k.result.axis k.result.value c.requires.dimensions_nonzero c.requires.dimensions_value
-    k.new.rows k.new.wholes k.new.cuts k.new.planes e.plane e.rows e.wholes e.cuts e.planes k.auto.wholes u.ensures v.ensures in
+    k.new.rows k.new.lists.wholes.now k.new.lists.cuts.now k.new.lists.planes.now e.plane e.rows e.wholes e.cuts e.planes e.same.0.wholes_len u.ensures v.ensures in
     leaves-rows x c.if-half-leaf.true
 
 pub returns-then-half-leaf-clause-written : goal.returns-then-half-leaf-clause-written
@@ -41,10 +41,10 @@ returns-then-half-leaf-clause-written t c =
     let v = c.with_lower-right in
     let x =
     turn a.rows.now a.whole u.result v.result a.depth k.result.axis k.result.value c.requires.dimensions_nonzero c.requires.dimensions_value
-    k.new.rows k.new.wholes k.new.cuts k.new.planes e.plane e.rows e.wholes e.cuts e.planes k.auto.wholes u.ensures v.ensures in
+    k.new.rows k.new.lists.wholes.now k.new.lists.cuts.now k.new.lists.planes.now e.plane e.rows e.wholes e.cuts e.planes e.same.0.wholes_len u.ensures v.ensures in
     let q = domain_of a.rows.now a.whole a.depth in
     leaves-written x c.if-half-leaf.true
-    (c.put_leaves.ensures (left_of a.dimensions a.points.now q).rows (right_of a.dimensions a.points.now q).rows (left-long x) (right-long x))
+    ((rw e.same.1 at c.put_leaves.ensures.written) (left_of a.level.dimensions a.level.points.now q).rows (right_of a.level.dimensions a.level.points.now q).rows (left-long x) (right-long x))
 
 pub split-middle-requires : goal.split-middle-requires
 split-middle-requires t c =
@@ -55,9 +55,9 @@ split-middle-requires t c =
     let v = c.with_lower-right in
     let x =
     turn a.rows.now a.whole u.result v.result a.depth k.result.axis k.result.value c.requires.dimensions_nonzero c.requires.dimensions_value
-    k.new.rows k.new.wholes k.new.cuts k.new.planes e.plane e.rows e.wholes e.cuts e.planes k.auto.wholes u.ensures v.ensures in
+    k.new.rows k.new.lists.wholes.now k.new.lists.cuts.now k.new.lists.planes.now e.plane e.rows e.wholes e.cuts e.planes e.same.0.wholes_len u.ensures v.ensures in
     let big = c.if-half-leaf.false in
-    (omega (arith, c.decreases, left_less x big), left-asked x big)
+    (omega (arith, c.decreases, left_less x big), rw e.same.1 (left-asked x big))
 
 pub split-requires : goal.split-requires
 split-requires t c =
@@ -68,12 +68,12 @@ split-requires t c =
     let v = c.with_lower-right in
     let x =
     turn a.rows.now a.whole u.result v.result a.depth k.result.axis k.result.value c.requires.dimensions_nonzero c.requires.dimensions_value
-    k.new.rows k.new.wholes k.new.cuts k.new.planes e.plane e.rows e.wholes e.cuts e.planes k.auto.wholes u.ensures v.ensures in
+    k.new.rows k.new.lists.wholes.now k.new.lists.cuts.now k.new.lists.planes.now e.plane e.rows e.wholes e.cuts e.planes e.same.0.wholes_len u.ensures v.ensures in
     let big = c.if-half-leaf.false in
     let l = c.split-middle in (
       omega (arith, c.decreases, right-less x big l.new.rows l.auto.rows),
-      right-asked x big l.new.rows l.auto.rows l.new.wholes l.new.floats l.new.cuts l.new.planes l.ensures.written
-          l.auto.wholes l.auto.floats l.auto.cuts l.auto.planes,
+      right-asked x big l.new.rows l.auto.rows l.new.lists.wholes.now l.new.lists.floats.now l.new.lists.cuts.now l.new.lists.planes.now (rw e.same.1 at l.ensures.written)
+          l.ensures.same.wholes_len (rw e.same.1 at l.ensures.same.floats_len) l.ensures.same.cuts_len l.ensures.same.planes_len,
     )
 
 pub returns-clause-rows : goal.returns-clause-rows
@@ -85,7 +85,7 @@ returns-clause-rows t c =
     let v = c.with_lower-right in
     let x =
     turn a.rows.now a.whole u.result v.result a.depth k.result.axis k.result.value c.requires.dimensions_nonzero c.requires.dimensions_value
-    k.new.rows k.new.wholes k.new.cuts k.new.planes e.plane e.rows e.wholes e.cuts e.planes k.auto.wholes u.ensures v.ensures in
+    k.new.rows k.new.lists.wholes.now k.new.lists.cuts.now k.new.lists.planes.now e.plane e.rows e.wholes e.cuts e.planes e.same.0.wholes_len u.ensures v.ensures in
     let l = c.split-middle in
     let r = c.split in
     halves-rows x c.if-half-leaf.false l.new.rows l.auto.rows r.new.rows l.ensures.rows r.ensures.rows
@@ -99,8 +99,8 @@ returns-clause-written t c =
     let v = c.with_lower-right in
     let x =
     turn a.rows.now a.whole u.result v.result a.depth k.result.axis k.result.value c.requires.dimensions_nonzero c.requires.dimensions_value
-    k.new.rows k.new.wholes k.new.cuts k.new.planes e.plane e.rows e.wholes e.cuts e.planes k.auto.wholes u.ensures v.ensures in
+    k.new.rows k.new.lists.wholes.now k.new.lists.cuts.now k.new.lists.planes.now e.plane e.rows e.wholes e.cuts e.planes e.same.0.wholes_len u.ensures v.ensures in
     let l = c.split-middle in
     let r = c.split in
-    halves-written x c.if-half-leaf.false l.new.rows l.auto.rows l.new.wholes l.new.floats l.new.cuts l.new.planes l.ensures.written
-    l.auto.wholes l.auto.floats l.auto.cuts l.auto.planes r.ensures.written
+    halves-written x c.if-half-leaf.false l.new.rows l.auto.rows l.new.lists.wholes.now l.new.lists.floats.now l.new.lists.cuts.now l.new.lists.planes.now (rw e.same.1 at l.ensures.written)
+    l.ensures.same.wholes_len (rw e.same.1 at l.ensures.same.floats_len) l.ensures.same.cuts_len l.ensures.same.planes_len r.ensures.written
