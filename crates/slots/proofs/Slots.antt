@@ -1,6 +1,7 @@
 -- A call by the length of its slot: a short one is refused before anything else, and any other gets what the call answers.
 -- Assumes nothing.
--- Holds: slot-short, slot-long, slot-written, room-short, room-long, number-long, part-four, slot_counts, slot_read
+-- Holds: slot-short, slot-long, slot-written, room-short, room-long, number-long, seen, part-four, slot_counts, slot_read
+use Rattle.std.specs.Prelude.{Result, Ok, Err}
 use mathlib.Core.Path.{◌≡◌, refl, ap, ◌∙◌}
 use mathlib.Core.List.{List, [], ◌∷◌, ◌++◌}
 use Prim.Native.Nat.{ℕ, suc, ◌+◌, ◌≤◌, ◌<◌}
@@ -11,7 +12,10 @@ use Rattle.lists.specs.Lists.{put, part}
 use Rattle.lists.proofs.Put.{put-zero, put-next-at, part-whole, part-cons, part-nil}
 use Rattle.definition.specs.Refusals.{Verdict}
 use Rattle.definition.specs.Outcome.{Answer, written, RoomAfter}
-use Rattle.slots.specs.Slots.{unless_short, number_after, slot_after, slot_first, counts_in}
+use Rattle.refusal.specs.declared.Refusal.{Refusal}
+use Rattle.refusal.specs.Refusals.{answer_of}
+use Rattle.slots.specs.declared.Report.{Report}
+use Rattle.slots.specs.Slots.{unless_short, number_after, slot_after, slot_first, counts_in, told}
 
 module _ {B : Type 0} (n : ℕ) (slot : List B) where
   pub slot-short : {A : Type 0} (x y : A) → length slot < n → x ≡ unless_short n slot x y
@@ -39,6 +43,12 @@ module _ {B : Type 0} (n : ℕ) (slot : List B) where
   -- what a call returns that found its slot long enough
   pub number-long : {A : Type 0} (a b : Answer A) (k : ℕ) → n ≤ length slot → k ≡ a.number → a ≡ b → k ≡ number_after n slot b
   number-long a b k h e g = slot-long 11 b.number k h (e ∙ ap (λ (x : Answer _). x.number) g)
+
+-- what is told of an answer, each value seen through `view`
+pub seen : {A B : Type 0} (view : A → B) (zeros : B) (zero : A) (answer : Result A Refusal) (r : Report A) → told r ≡ answer_of (λ x. x) zero answer → view zero ≡ zeros
+    → record { number = r.number; place = r.place; value = view r.value } ≡ answer_of view zeros answer
+seen view zeros zero (Ok x) r e z = ap (λ (a : Answer _). record { number = a.number; place = a.place; value = view a.value }) e
+seen view zeros zero (Err d) r e z = ap (λ (a : Answer _). record { number = a.number; place = a.place; value = view a.value }) e ∙ rw z refl
 
 -- four numbers of a list, by their places
 pub part-four : (l : List ℕ) (at : ℕ) → at + 4 ≤ length l

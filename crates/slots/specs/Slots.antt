@@ -5,6 +5,7 @@ use Rattle.definition.specs.Packed.{Counts, BuildSizes, most_levels}
 use Rattle.definition.specs.Refusals.{Verdict, refused}
 use Rattle.definition.specs.Table.{Head, Table}
 use Rattle.definition.specs.Outcome.{Answer, Shared, Sampled, written}
+use Rattle.slots.specs.declared.Report.{Report}
 
 -- ---- a slot that is to have n entries
 
@@ -61,6 +62,10 @@ build_slot a = a.place ∷ a.value.levels ∷ a.value.rows ++ a.value.domains
 -- the counts of a tree, from the slot that a build or a load wrote
 abbrev pub counts_in : List ℕ → Counts
 counts_in slot = record { levels = get_or slot 1 0; rows = part slot 2 most_levels; domains = part slot 6 most_levels }
+
+-- what is told of an answer
+abbrev pub told : {A : Type 0} → Report A → Answer A
+told r = record { number = r.number; place = r.place; value = r.value }
 
 -- ---- a table's head, as two numbers
 

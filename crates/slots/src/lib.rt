@@ -3,24 +3,17 @@
 
 ghost use Rattle.std.specs.Prelude.{◌≡◌, ◌∷◌, ◌++◌, ℕ, ◌≤◌, length};
 ghost use Rattle.lists.specs.Lists.{put};
-ghost use Rattle.root.specs.Answers as root-answers;
-ghost use Rattle.level_sizes.specs.Answers.{size_report};
-ghost use Rattle.quotas.specs.Answers.{quota_report_lem};
-ghost use Rattle.sampling.specs.Answers.{sample_report_lem};
-ghost use Rattle.config.specs.Params.{threshold_policy, settings_of_lem};
-ghost use Rattle.build_sizes.specs.Sizes.{sizes_of};
-ghost use Rattle.definition.specs.Levels.{policy_from};
-ghost use Rattle.tree_answer.specs.Answers.{counts_given};
+ghost use Rattle.refusal.specs.Refusals.{answer_of};
+ghost use Rattle.build_sizes.specs.Sizes.{sizes_report};
+ghost use Rattle.config.specs.Params.{settings_of_lem};
+ghost use Rattle.tree_answer.specs.Answers.{counts_given, tree_answer_lem};
 ghost use Rattle.slots.specs.Settings.{settings_from};
-ghost use Rattle.slots.specs.Slots.{lengths_of, counts_in, version_number};
+ghost use Rattle.slots.specs.Slots.{sizes_slot, build_slot, counts_in, told, version_number};
 
 use build_sizes::BuildSizes;
 use config::{DDMParams, SizePolicy};
-use level_sizes::LevelSize;
-use quotas::QuotaAnswer;
-use root::RootAnswer;
-use sampling::SampleAnswer;
-use tree_answer::TreeCounts;
+use refusal::Refusal;
+use tree_answer::DDMTree;
 
 // The version, 0.7.0, as one number: major, minor and patch, with two digits for each of the last two.
 pub fn version() -> usize
@@ -29,116 +22,53 @@ pub fn version() -> usize
     700
 }
 
-// The refusal's number of a root.
-pub fn root_number(answer: RootAnswer) -> usize
-    ensures { result ≡ (root-answers.root_report answer).number }
-{
-    match answer {
-        RootAnswer::Value(_) => 0,
-        RootAnswer::Refused => 15,
-    }
-}
+// The lengths that a refused call tells of.
+const NO_SIZES: BuildSizes = BuildSizes {
+    level_points: 0,
+    internals: 0,
+    domains: 0,
+    boxes: 0,
+    borrowed: 0,
+    floats: 0,
+    wholes: 0,
+};
 
-// The root itself, or 0 for a refusal.
-pub fn root_value(answer: RootAnswer) -> f64
-    ensures { result ≡ (root-answers.root_report answer).value }
-{
-    match answer {
-        RootAnswer::Value(root) => root,
-        RootAnswer::Refused => 0.0,
-    }
-}
-
-// The refusal's number of a level size.
-pub fn size_number(size: LevelSize) -> usize
-    ensures { result ≡ (size_report size).number }
-{
-    match size {
-        LevelSize::Points(_) => 0,
-        LevelSize::ZeroThreshold => 4,
-        LevelSize::TooManyPoints => 8,
-        LevelSize::NotAboveThreshold => 14,
-        LevelSize::WrongReductions => 9,
-    }
-}
-
-// The size itself, or 0 for a refusal.
-pub fn size_value(size: LevelSize) -> usize
-    ensures { result ≡ (size_report size).value }
-{
-    match size {
-        LevelSize::Points(m) => m,
-        LevelSize::ZeroThreshold => 0,
-        LevelSize::TooManyPoints => 0,
-        LevelSize::NotAboveThreshold => 0,
-        LevelSize::WrongReductions => 0,
-    }
-}
-
-// What a call with a slot of two entries returns and writes there.
+// What a call returns, and writes to its slot: the refusal's number, 0 for none, its place, and the values, which are `zero` of a refused one.
 #[derive(Clone, Copy)]
-pub struct Report {
+pub struct Report<T> {
     pub number: usize,
-    pub first: usize,
-    pub second: usize,
+    pub place: usize,
+    pub value: T,
 }
 
-// Of the quotas: entries written, seats.
-pub fn quota_report(answer: QuotaAnswer) -> Report
-    ensures { (result.number ≡ (quota_report_lem answer).number) × (result.first ≡ (quota_report_lem answer).value.leaves) × (result.second ≡ (quota_report_lem answer).value.seats) }
-{
-    match answer {
-        QuotaAnswer::Seated { leaves, seats } => Report {
-            number: 0,
-            first: leaves,
-            second: seats,
-        },
-        QuotaAnswer::TooManyPoints => Report {
-            number: 8,
-            first: 0,
-            second: 0,
-        },
-        QuotaAnswer::ShortList => Report {
-            number: 11,
-            first: 0,
-            second: 0,
-        },
+impl<T: Copy> Report<T> {
+    // What is told of an answer.
+    pub fn of(answer: Result<T, Refusal>, zero: T) -> Report<T>
+        ensures { told result ≡ answer_of (λ x. x) zero answer }
+    {
+        match answer {
+            Ok(value) => Report {
+                number: 0,
+                place: 0,
+                value,
+            },
+            Err(refusal) => Report {
+                number: refusal.number(),
+                place: refusal.place(),
+                value: zero,
+            },
+        }
     }
 }
 
-// Of sampling: place, rows written.
-pub fn sample_report(answer: SampleAnswer) -> Report
-    ensures { (result.number ≡ (sample_report_lem answer).number) × (result.first ≡ (sample_report_lem answer).place) × (result.second ≡ (sample_report_lem answer).value.rows) }
-{
-    match answer {
-        SampleAnswer::Sampled { rows, cover: _ } => Report {
-            number: 0,
-            first: 0,
-            second: rows,
-        },
-        SampleAnswer::Refused(number, place) => Report {
-            number: number as usize,
-            first: place,
-            second: 0,
-        },
-    }
-}
-
-// The cover of a sampling, or 0 for a refusal.
-pub fn sample_cover(answer: SampleAnswer) -> f64
-    ensures { result ≡ (sample_report_lem answer).value.cover }
-{
-    match answer {
-        SampleAnswer::Sampled { rows: _, cover } => cover,
-        SampleAnswer::Refused(_, _) => 0.0,
-    }
-}
-
-// The seven lengths that a build is to be lent, to the front of a slot.
-pub fn put_sizes(res: &mut [usize], sizes: BuildSizes)
+// The seven lengths that a build is to be lent, to the front of a slot: 0 where the call is refused. What it returns is the refusal's number.
+pub fn put_sizes(res: &mut [usize], answer: Result<BuildSizes, Refusal>) -> usize
     requires { 7 ≤ length res.old }
-    ensures { res.new ≡ put res.old 0 (lengths_of (sizes_of sizes)) }
+    ensures slot { res.new ≡ put res.old 0 (sizes_slot (sizes_report answer)) }
+    ensures number { result ≡ (sizes_report answer).number }
 {
+    let told = Report::of(answer, NO_SIZES);
+    let sizes = told.value;
     let seven = [
         sizes.level_points,
         sizes.internals,
@@ -149,53 +79,51 @@ pub fn put_sizes(res: &mut [usize], sizes: BuildSizes)
         sizes.wholes,
     ];
     stretches::copy_rows(&seven, 0, 7, res, 0);
+    told.number
 }
 
-// The policy: 0 is Auto, any other number Fixed.
-fn policy_of(policy: u32, coarse_threshold: u32) -> SizePolicy
-    ensures { threshold_policy result ≡ policy_from policy coarse_threshold }
-{
-    if policy == 0 {
-        return SizePolicy::Auto;
-    }
-    SizePolicy::Fixed(coarse_threshold)
-}
-
-// The settings, from the numbers of the call.
+// The settings, from the numbers of the call: of the policy, 0 is Auto, and any other number Fixed.
 pub fn params_of(leaf: u32, neighbours: u32, factor: u32, policy: u32, threshold: u32) -> DDMParams
     ensures { (d : ℕ) → settings_of_lem d result ≡ settings_from d leaf neighbours factor policy threshold }
 {
-    let size = policy_of(policy, threshold);
+    let coarse_threshold = if policy == 0 {
+        SizePolicy::Auto
+    } else {
+        SizePolicy::Fixed(threshold)
+    };
     DDMParams {
         leaf_threshold: leaf,
         overlap_knn: neighbours,
         coarse_reduction_factor: factor,
-        coarse_threshold: size,
+        coarse_threshold,
     }
 }
 
-// Place, levels, the rows of each level and the domains of each level to the front of a slot.
-pub fn put_counts(
-    res: &mut [usize],
-    place: usize,
-    levels: usize,
-    rows: [usize; 4],
-    domains: [usize; 4],
-)
+// What a build or a load answers, to the front of a slot: place, levels, the rows of each level and the domains of each level, which are 0
+// where the call is refused. What it returns is the refusal's number.
+pub fn put_tree(res: &mut [usize], answer: Result<DDMTree, Refusal>) -> usize
     requires { 10 ≤ length res.old }
-    ensures { res.new ≡ put res.old 0 (place ∷ levels ∷ rows ++ domains) }
+    ensures slot { res.new ≡ put res.old 0 (build_slot (tree_answer_lem answer)) }
+    ensures number { result ≡ (tree_answer_lem answer).number }
 {
-    stretches::put_pair(res, 0, place, levels);
+    let told = Report::of(answer, DDMTree::none());
+    let DDMTree {
+        levels,
+        rows,
+        domains,
+    } = told.value;
+    stretches::put_pair(res, 0, told.place, levels);
     stretches::copy_rows(&rows, 0, 4, res, 2);
     stretches::copy_rows(&domains, 0, 4, res, 6);
+    told.number
 }
 
 // The counts of a tree, from the slot that a build or a load wrote.
-pub fn counts_from(tree: &[usize]) -> TreeCounts
+pub fn counts_from(tree: &[usize]) -> DDMTree
     requires { 10 ≤ length tree.now }
     ensures { counts_given result ≡ counts_in tree.now }
 {
-    TreeCounts {
+    DDMTree {
         levels: tree[1],
         rows: [tree[2], tree[3], tree[4], tree[5]],
         domains: [tree[6], tree[7], tree[8], tree[9]],
