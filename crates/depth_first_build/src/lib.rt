@@ -11,6 +11,7 @@ use cut_engine::Engine;
 use record_checks::RecordSizes;
 use refusal::Refusal;
 use tree_answer::DDMTree;
+use tree_lists::{Records, Room, TreeLists};
 
 // The build over all points, depth first. A refused call writes to no list. An accepted one writes the tree of a build to the fronts of
 // the five lists, and the records of its fine levels, one after the other, to the fronts of `cuts` and `planes`; what stands past them
@@ -49,19 +50,22 @@ pub fn build_depth_first(
         planes: planes.len(),
     };
     record_checks::check_depth_first(points, dimensions, params, lent, record_lent)?;
-    Ok(grow::grow(
-        Engine::DepthFirst,
-        points,
-        dimensions,
-        params,
+    let mut lists = TreeLists {
         level_points,
         internals,
         domains,
         boxes,
         borrowed,
-        floats,
-        wholes,
-        cuts,
-        planes,
+    };
+    let mut room = Room { floats, wholes };
+    let mut records = Records { cuts, planes };
+    Ok(grow::grow(
+        Engine::DepthFirst,
+        points,
+        dimensions,
+        params,
+        &mut lists,
+        &mut room,
+        &mut records,
     ))
 }

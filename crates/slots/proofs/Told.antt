@@ -3,7 +3,7 @@
 -- Holds: told-short, told-long, told-value, quotas-short, quotas-long, sample-cover-short, sample-short, sample-long, tree-short,
 --   tree-long, build-short, build-long, slots-short, slots-long, depth-first-short, depth-first-long, store-short,
 --   store-tree-short, store_long, load-short, load-long, add-short, add-long, retire-told
-use mathlib.Core.Path.{◌≡◌, refl, subst, ap, ap₂, ◌∙◌}
+use mathlib.Core.Path.{◌≡◌, refl, subst, ap, ◌∙◌}
 use mathlib.Core.List.{List, [], ◌∷◌}
 use Prim.Native.Nat.{ℕ, ◌≤◌, ◌<◌}
 use native.Mathlib.Omega.{arith}
@@ -21,7 +21,7 @@ use Rattle.definition.specs.Slots.{slots_call, slots_answer, slots_lists}
 use Rattle.stored.specs.Outcome.{write_answer, write_output, load_answer, load_lists_lem}
 use Rattle.quotas.specs.Outcome.{SeatsShared}
 use Rattle.sampling.specs.Outcome.{RowsSampled}
-use Rattle.slots.specs.Slots.{value_slot, sample_slot, cover_slot, placed_slot, build_slot, counts_in, head_written, table_from}
+use Rattle.slots.specs.Slots.{value_slot, quota_slot, sample_slot, cover_slot, placed_slot, build_slot, counts_in, head_written, table_from}
 use Rattle.slots.specs.Told.{Told, QuotasTold, SampleTold, TreeTold, BuildTold, SlotsTold, DepthFirstTold, StoreTold, LoadTold, AddTold, RetireTold}
 use Rattle.slots.proofs.Slots.{slot-short, slot-long, slot-written, room-short, room-long, number-long}
 
@@ -51,11 +51,12 @@ module _ (sizes : List ℕ) (wanted : ℕ) (out wholes slot : List ℕ) where
   quotas-short h =
       record { told = told-short 2 _ slot _ h; output = slot-short 2 slot _ _ h; wholes_free = room-short 2 slot _ _ h }
 
-  pub quotas-long : (out' wholes' slot' : List ℕ) (k x y : ℕ) (a : Answer Shared) → 2 ≤ length slot → SeatsShared sizes wanted out out' wholes wholes' a
-      → k ≡ a.number → x ≡ a.value.leaves → y ≡ a.value.seats → slot' ≡ put slot 0 (x ∷ y ∷ []) → QuotasTold sizes wanted out out' wholes wholes' slot slot' k
-  quotas-long out' wholes' slot' k x y a h o e f g w =
+  -- b is what is told, and a what the call behind it answers
+  pub quotas-long : (out' wholes' slot' : List ℕ) (a b : Answer Shared) → 2 ≤ length slot → SeatsShared sizes wanted out out' wholes wholes' a
+      → b ≡ a → slot' ≡ put slot 0 (quota_slot b) → QuotasTold sizes wanted out out' wholes wholes' slot slot' b.number
+  quotas-long out' wholes' slot' a b h o e w =
       record {
-        told = told-long 2 _ slot slot' k a _ h e (w ∙ rw (f, g)) o.answers;
+        told = told-long 2 _ slot slot' b.number b _ h refl w (e ∙ o.answers);
         output = slot-long 2 slot _ _ _ h o.output;
         wholes_free = room-long 2 slot _ _ _ h o.wholes_free;
       }
@@ -91,15 +92,15 @@ module _ (d : ℕ) (cs : List Float) (wanted seed : ℕ) (out : List ℕ) (float
           wholes_free = room-long 1 cover _ _ _ h (room-short 2 slot _ _ g);
         }
 
-    -- z is the cover, x the place and y the rows of the answer a
-    pub sample-long : (out' : List ℕ) (floats' : List Float) (wholes' slot' : List ℕ) (k x y : ℕ) (z : Float) (a : Answer Sampled) → 2 ≤ length slot
-        → RowsSampled d cs wanted seed out out' floats floats' wholes wholes' a → k ≡ a.number → x ≡ a.place → y ≡ a.value.rows → z ≡ a.value.cover
-        → slot' ≡ put slot 0 (x ∷ y ∷ []) → SampleTold d cs wanted seed out out' floats floats' wholes wholes' cover (set cover 0 z) slot slot' k
-    sample-long out' floats' wholes' slot' k x y z a g o e p q r w =
+    -- b is what is told, and a what the call behind it answers
+    pub sample-long : (out' : List ℕ) (floats' : List Float) (wholes' slot' : List ℕ) (a b : Answer Sampled) → 2 ≤ length slot
+        → RowsSampled d cs wanted seed out out' floats floats' wholes wholes' a → b ≡ a
+        → slot' ≡ put slot 0 (sample_slot b) → SampleTold d cs wanted seed out out' floats floats' wholes wholes' cover (set cover 0 b.value.cover) slot slot' b.number
+    sample-long out' floats' wholes' slot' a b g o e w =
         record {
-          number_is = slot-long 1 cover _ _ _ h (number-long 2 slot a _ k g e o.answers);
-          cover_is = slot-long 1 cover _ _ _ h (slot-long 2 slot _ _ _ g (set-written cover z h ∙ ap (λ (u : List Float). written u cover) (ap (λ (u : Float). u ∷ []) r ∙ ap cover_slot o.answers)));
-          slot_is = slot-long 1 cover _ _ _ h (slot-written 2 slot _ slot' g (w ∙ ap (put slot 0) (ap₂ (λ (u v : ℕ). u ∷ v ∷ []) p q ∙ ap sample_slot o.answers)));
+          number_is = slot-long 1 cover _ _ _ h (number-long 2 slot b _ b.number g refl (e ∙ o.answers));
+          cover_is = slot-long 1 cover _ _ _ h (slot-long 2 slot _ _ _ g (set-written cover b.value.cover h ∙ ap (λ (u : List Float). written u cover) (ap cover_slot (e ∙ o.answers))));
+          slot_is = slot-long 1 cover _ _ _ h (slot-written 2 slot _ slot' g (w ∙ ap (put slot 0) (ap sample_slot (e ∙ o.answers))));
           output = slot-long 1 cover _ _ _ h (slot-long 2 slot _ _ _ g o.output);
           floats_free = room-long 1 cover _ _ _ h (room-long 2 slot _ _ _ g o.floats_free);
           wholes_free = room-long 1 cover _ _ _ h (room-long 2 slot _ _ _ g o.wholes_free);
@@ -116,12 +117,12 @@ module _ (v : Verdict) (due : Answer Counts) (due-lists old : TreeLists) (floats
         wholes_free = room-short 10 slot _ _ h;
       }
 
-  pub tree-long : (new : TreeLists) (floats' : List Float) (wholes' slot' : List ℕ) (a : Answer Counts) → 10 ≤ length slot
+  pub tree-long : (new : TreeLists) (floats' : List Float) (wholes' slot' : List ℕ) (k : ℕ) (a : Answer Counts) → 10 ≤ length slot → k ≡ a.number
       → slot' ≡ put slot 0 (build_slot a) → a ≡ due → new ≡ due-lists → RoomAfter v floats floats' → RoomAfter v wholes wholes'
-      → TreeTold v due due-lists old new floats floats' wholes wholes' slot slot' a.number
-  tree-long new floats' wholes' slot' a h w answers lists free-floats free-wholes =
+      → TreeTold v due due-lists old new floats floats' wholes wholes' slot slot' k
+  tree-long new floats' wholes' slot' k a h m w answers lists free-floats free-wholes =
       record {
-        told = told-long 10 build_slot slot slot' a.number a _ h refl w answers;
+        told = told-long 10 build_slot slot slot' k a _ h m w answers;
         lists = slot-long 10 slot _ _ _ h lists;
         floats_free = room-long 10 slot _ _ _ h free-floats;
         wholes_free = room-long 10 slot _ _ _ h free-wholes;
@@ -133,26 +134,26 @@ module _ (cs : List Float) (old : TreeLists) (floats : List Float) (wholes slot 
   build-short s h = tree-short _ _ _ old floats wholes slot h
 
   -- s is the code's settings, and t the same from the numbers of the call
-  pub build-long : (new : TreeLists) (floats' : List Float) (wholes' slot' : List ℕ) (a : Answer Counts) (s t : Settings) → s ≡ t → 10 ≤ length slot
+  pub build-long : (new : TreeLists) (floats' : List Float) (wholes' slot' : List ℕ) (k : ℕ) (a : Answer Counts) (s t : Settings) → s ≡ t → 10 ≤ length slot → k ≡ a.number
       → slot' ≡ put slot 0 (build_slot a) → a ≡ build_answer s cs old floats wholes → new ≡ build_lists s cs old floats wholes
       → RoomAfter (build_call s cs old floats wholes) floats floats' → RoomAfter (build_call s cs old floats wholes) wholes wholes'
-      → BuildTold t cs old new floats floats' wholes wholes' slot slot' a.number
-  build-long new floats' wholes' slot' a s t e h w answers lists free-floats free-wholes =
-      subst (λ (u : Settings). BuildTold u cs old new floats floats' wholes wholes' slot slot' a.number) e
-      (tree-long _ _ _ old floats wholes slot new floats' wholes' slot' a h w answers lists free-floats free-wholes)
+      → BuildTold t cs old new floats floats' wholes wholes' slot slot' k
+  build-long new floats' wholes' slot' k a s t e h m w answers lists free-floats free-wholes =
+      subst (λ (u : Settings). BuildTold u cs old new floats floats' wholes wholes' slot slot' k) e
+      (tree-long _ _ _ old floats wholes slot new floats' wholes' slot' k a h m w answers lists free-floats free-wholes)
 
 -- over the live slots of a table
 module _ (x : Table) (old : TreeLists) (floats : List Float) (wholes slot : List ℕ) where
   pub slots-short : (s : Settings) → length slot < 10 → SlotsTold s x old old floats floats wholes wholes slot slot 11
   slots-short s h = tree-short _ _ _ old floats wholes slot h
 
-  pub slots-long : (new : TreeLists) (floats' : List Float) (wholes' slot' : List ℕ) (a : Answer Counts) (s t : Settings) → s ≡ t → 10 ≤ length slot
+  pub slots-long : (new : TreeLists) (floats' : List Float) (wholes' slot' : List ℕ) (k : ℕ) (a : Answer Counts) (s t : Settings) → s ≡ t → 10 ≤ length slot → k ≡ a.number
       → slot' ≡ put slot 0 (build_slot a) → a ≡ slots_answer s x old floats wholes → new ≡ slots_lists s x old floats wholes
       → RoomAfter (slots_call s x old floats wholes) floats floats' → RoomAfter (slots_call s x old floats wholes) wholes wholes'
-      → SlotsTold t x old new floats floats' wholes wholes' slot slot' a.number
-  slots-long new floats' wholes' slot' a s t e h w answers lists free-floats free-wholes =
-      subst (λ (u : Settings). SlotsTold u x old new floats floats' wholes wholes' slot slot' a.number) e
-      (tree-long _ _ _ old floats wholes slot new floats' wholes' slot' a h w answers lists free-floats free-wholes)
+      → SlotsTold t x old new floats floats' wholes wholes' slot slot' k
+  slots-long new floats' wholes' slot' k a s t e h m w answers lists free-floats free-wholes =
+      subst (λ (u : Settings). SlotsTold u x old new floats floats' wholes wholes' slot slot' k) e
+      (tree-long _ _ _ old floats wholes slot new floats' wholes' slot' k a h m w answers lists free-floats free-wholes)
 
 -- ---- the build that cuts depth first
 module _ (cs : List Float) (old : TreeLists) (floats : List Float) (wholes : List ℕ) (records-old : RecordLists) (slot : List ℕ) where
@@ -167,15 +168,15 @@ module _ (cs : List Float) (old : TreeLists) (floats : List Float) (wholes : Lis
       }
 
   -- s is the code's settings, and t the same from the numbers of the call
-  pub depth-first-long : (new : TreeLists) (floats' : List Float) (wholes' : List ℕ) (records-new : RecordLists) (slot' : List ℕ) (a : Answer Counts) (s t : Settings) → s ≡ t
-      → 10 ≤ length slot → slot' ≡ put slot 0 (build_slot a) → a ≡ depth_first_answer s cs old floats wholes records-old → new ≡ depth_first_lists s cs old floats wholes records-old
+  pub depth-first-long : (new : TreeLists) (floats' : List Float) (wholes' : List ℕ) (records-new : RecordLists) (slot' : List ℕ) (k : ℕ) (a : Answer Counts) (s t : Settings) → s ≡ t
+      → 10 ≤ length slot → k ≡ a.number → slot' ≡ put slot 0 (build_slot a) → a ≡ depth_first_answer s cs old floats wholes records-old → new ≡ depth_first_lists s cs old floats wholes records-old
       → records-new ≡ depth_first_records s cs old floats wholes records-old
       → RoomAfter (depth_first_call s cs old floats wholes records-old) floats floats' → RoomAfter (depth_first_call s cs old floats wholes records-old) wholes wholes'
-      → DepthFirstTold t cs old new floats floats' wholes wholes' records-old records-new slot slot' a.number
-  depth-first-long new floats' wholes' records-new slot' a s t e h w answers lists records free-floats free-wholes =
-      subst (λ (u : Settings). DepthFirstTold u cs old new floats floats' wholes wholes' records-old records-new slot slot' a.number) e
+      → DepthFirstTold t cs old new floats floats' wholes wholes' records-old records-new slot slot' k
+  depth-first-long new floats' wholes' records-new slot' k a s t e h m w answers lists records free-floats free-wholes =
+      subst (λ (u : Settings). DepthFirstTold u cs old new floats floats' wholes wholes' records-old records-new slot slot' k) e
       record {
-        told = told-long 10 build_slot slot slot' a.number a _ h refl w answers;
+        told = told-long 10 build_slot slot slot' k a _ h m w answers;
         lists = slot-long 10 slot _ _ _ h lists;
         records = slot-long 10 slot _ _ _ h records;
         floats_free = room-long 10 slot _ _ _ h free-floats;
@@ -219,14 +220,14 @@ module _ (cs : List Float) (bs : List ℕ) (old : TreeLists) (slot : List ℕ) w
       }
 
   -- s is the code's settings, and t the same from the numbers of the call
-  pub load-long : (new : TreeLists) (slot' : List ℕ) (a : Answer Counts) (s t : Settings) → s ≡ t → 10 ≤ length slot → slot' ≡ put slot 0 (build_slot a)
+  pub load-long : (new : TreeLists) (slot' : List ℕ) (k : ℕ) (a : Answer Counts) (s t : Settings) → s ≡ t → 10 ≤ length slot → k ≡ a.number → slot' ≡ put slot 0 (build_slot a)
       → a ≡ load_answer s cs bs old → new.level_points ≡ (load_lists_lem s cs bs old).level_points → new.internals ≡ (load_lists_lem s cs bs old).internals
       → new.domains ≡ (load_lists_lem s cs bs old).domains → new.boxes ≡ (load_lists_lem s cs bs old).boxes → new.borrowed ≡ (load_lists_lem s cs bs old).borrowed
-      → LoadTold t cs bs old new slot slot' a.number
-  load-long new slot' a s t e h w answers level_points internals domains boxes borrowed =
-      subst (λ (u : Settings). LoadTold u cs bs old new slot slot' a.number) e
+      → LoadTold t cs bs old new slot slot' k
+  load-long new slot' k a s t e h m w answers level_points internals domains boxes borrowed =
+      subst (λ (u : Settings). LoadTold u cs bs old new slot slot' k) e
       record {
-        told = told-long 10 build_slot slot slot' a.number a _ h refl w answers;
+        told = told-long 10 build_slot slot slot' k a _ h m w answers;
         level_points = slot-long 10 slot _ _ _ h level_points;
         internals = slot-long 10 slot _ _ _ h internals;
         domains = slot-long 10 slot _ _ _ h domains;

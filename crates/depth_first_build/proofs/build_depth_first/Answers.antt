@@ -1,5 +1,5 @@
 -- `depth_first_build::build_depth_first` meets its contract. Assumes nothing.
-use mathlib.Core.Path.{sym, ◌∙◌}
+use mathlib.Core.Path.{◌≡◌, sym, ◌∙◌}
 use Rattle.std.proofs.lemmas.Result.{err_from_is_err_and}
 use borrow.Author.Rules.{rules}
 use Rattle.definition.specs.Tree.{levels}
@@ -10,6 +10,7 @@ use Rattle.config.specs.Params.{settings_of_lem}
 use Rattle.refusal.proofs.Answers.{answer-refused, answer-accepted}
 use Rattle.tree_answer.specs.Answers.{counts_given, lists_of}
 use Rattle.record_checks.proofs.Verdicts.{both-accepted}
+use Rattle.tree_lists.specs.Lent.{lists_in}
 use Rattle.grow.proofs.Outcomes.{room-refused, room-accepted, lists-refused, lists-accepted, whole-lists}
 use Rattle.depth_first_build.specs.Outcome.{records_of}
 use Rattle.depth_first_build.proofs.Outcomes.{records-refused, records-accepted, whole-records, records-room, built-depth-first}
@@ -51,4 +52,6 @@ returns c = let P = c.args in
     let w = c.grow.ensures in
     let lists = whole-lists w.level_points w.internals w.domains w.boxes w.borrowed ∙ lists-accepted v (levels s cs) old e in
     let taken = whole-records w.cuts w.planes ∙ records-accepted v s cs (levels s cs) records e in
-    built-depth-first s cs old P.floats.now P.wholes.now records (answer-accepted counts_given _ (counts_of (levels s cs)) zero_counts v e w.counts) lists taken (room-accepted v _ _ e (search rules)) (room-accepted v _ _ e (search rules))
+    let back : _ ≡ lists_in c.grow.new.lists = search rules in
+    let recorded : _ ≡ records_of c.grow.new.records.cuts.now c.grow.new.records.planes.now = search rules in
+    built-depth-first s cs old P.floats.now P.wholes.now records (answer-accepted counts_given _ (counts_of (levels s cs)) zero_counts v e w.counts) (back ∙ lists) (recorded ∙ taken) (room-accepted v _ _ e (search rules)) (room-accepted v _ _ e (search rules))
