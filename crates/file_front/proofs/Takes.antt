@@ -1,21 +1,22 @@
 -- What the build takes, group by group: the settings, the count of the points, and their coordinates. Assumes nothing.
--- Holds: taken-numbered, settings-refused, head_is, head-axes, buildable-is
+-- Holds: ok-taken, when_ok, settings-refused, head_is, head-axes, buildable-is
+use Rattle.std.specs.Prelude.{Result, Ok, Err, is_ok, OnOk}
 use mathlib.Core.Path.{◌≡◌, refl, sym, ap, ap₂, ◌∙◌}
 use mathlib.Core.Bool.{Bool, true, false, not, ◌&&◌, cond}
-use Prim.Native.Nat.{ℕ, zero, suc, ◌*◌, ◌/◌, ◌%◌, ◌≤◌, ◌<◌}
+use Prim.Native.Nat.{ℕ, ◌*◌, ◌/◌, ◌%◌, ◌≤◌}
 use native.Mathlib.Nat.{mul-mod_left, mul-div_cancel}
-use native.Mathlib.Omega.{arith}
 use mathlib.Core.List.{List, [], ◌∷◌, ◌++◌}
 use lib.Dec.{eqb}
-use borrow.Author.Tests.{eq-eqb, ne_eqb}
+use borrow.Author.Tests.{eq-eqb}
 use lib.Ieee.{Float}
 use lib.Ieee.Scale.{finite}
 use Rattle.lists.specs.Lists.{any_of}
-use Rattle.lists.proofs.Tests.{and-fst}
+use Rattle.lists.proofs.Tests.{clash, and-fst}
 use Rattle.definition.specs.Tree.{Settings, point_count}
 use Rattle.definition.specs.Refusals.{Test, Verdict, accepted, refused, on, verdict, not_finite_lem, settings_tests, points_tests, build_tests}
 use Rattle.definition_laws.proofs.Accepted.{passes, right-dimension}
-use Rattle.build_checks.specs.Verdicts.{numbered_verdict}
+use Rattle.refusal.specs.declared.Refusal.{Refusal}
+use Rattle.refusal.specs.Refusals.{verdict_of}
 use Rattle.build_checks.proofs.Laws.{and_then, verdict-append}
 use Rattle.stored.specs.Stored.{taken, buildable}
 use Rattle.stored_laws.proofs.ReadBack.{taken_is}
@@ -39,27 +40,32 @@ taken-one t = go t.holds
 taken-append : (ts us : List Test) → taken (verdict (ts ++ us)) ≡ taken (verdict ts) && taken (verdict us)
 taken-append ts us = ap taken (verdict-append ts us) ∙ taken_then (verdict ts) (verdict us)
 
--- a verdict by its number
-pub taken-numbered : (k : ℕ) (v : Verdict) → numbered_verdict k ≡ v → eqb k 0 ≡ taken v
+-- a verdict that an answer stands for
+pub ok-taken : {A : Type 0} (r : Result A Refusal) (v : Verdict) → verdict_of r ≡ v → is_ok r ≡ taken v
 unfolding taken
-taken-numbered zero v e = ap taken e
-taken-numbered (suc k) v e = ne_eqb (suc k) 0 (λ z. omega arith) ∙ ap taken e
+ok-taken (Ok x) v e = ap taken e
+ok-taken (Err x) v e = ap taken e
+
+-- what is promised of an accepted call
+pub when_ok : {A : Type 0} {P : Type 0} (r : Result A Refusal) → OnOk r P → is_ok r ≡ true → P
+when_ok (Ok x) p h = p
+when_ok (Err x) p h = clash h refl
 
 -- ---- settings and count
-module _ (s : Settings) (n k : ℕ) (e : numbered_verdict k ≡ verdict (settings_tests s)) where
-  pub settings-refused : 0 < k → false ≡ head_taken s n
+module _ {A : Type 0} (s : Settings) (n : ℕ) (r : Result A Refusal) (e : verdict_of r ≡ verdict (settings_tests s)) where
+  pub settings-refused : is_ok r ≡ false → false ≡ head_taken s n
   unfolding head_taken
   settings-refused h =
-      let out : taken (verdict (settings_tests s)) ≡ false = sym (taken-numbered k (verdict (settings_tests s)) e) ∙ ne_eqb k 0 (λ z. omega arith) in
+      let out : taken (verdict (settings_tests s)) ≡ false = sym (ok-taken r (verdict (settings_tests s)) e) ∙ h in
       sym (ap (λ (b : Bool). b && taken (verdict (points_tests s n false))) out)
 
   -- the points' tests see n points of d coordinates
-  pub head_is : k ≤ 0 → (j d : ℕ) → 1 ≤ d → numbered_verdict j ≡ verdict (points_tests s (n * d / d) (not (eqb (n * d % d) 0))) → eqb j 0 ≡ head_taken s n
+  pub head_is : is_ok r ≡ true → (j : Result A Refusal) (d : ℕ) → 1 ≤ d → verdict_of j ≡ verdict (points_tests s (n * d / d) (not (eqb (n * d % d) 0))) → is_ok j ≡ head_taken s n
   unfolding head_taken
   head_is h j d f q =
-      let fine : taken (verdict (settings_tests s)) ≡ true = sym (taken-numbered k (verdict (settings_tests s)) e) ∙ eq-eqb k 0 (omega arith) in
+      let fine : taken (verdict (settings_tests s)) ≡ true = sym (ok-taken r (verdict (settings_tests s)) e) ∙ h in
       let known = ap₂ (λ (m : ℕ) (b : Bool). verdict (points_tests s m b)) (mul-div_cancel n f) (ap not (eq-eqb (n * d % d) 0 (mul-mod_left n d))) in
-      taken-numbered j (verdict (points_tests s n false)) (q ∙ known) ∙ sym (ap (λ (b : Bool). b && taken (verdict (points_tests s n false))) fine)
+      ok-taken j (verdict (points_tests s n false)) (q ∙ known) ∙ sym (ap (λ (b : Bool). b && taken (verdict (points_tests s n false))) fine)
 
 axes-taken : (s : Settings) → verdict (settings_tests s) ≡ accepted → (1 ≤ s.dimension) × (s.dimension ≤ 3)
 axes-taken s e = right-dimension s.dimension (passes _ _ e).0

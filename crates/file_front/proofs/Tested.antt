@@ -117,9 +117,9 @@ front-facts bs h =
     }
 
 -- what was read: settings, a count and the size of a point's record
-pub front_read : (good : Bool) (settings : read.Settings) (m size : ℕ) (bs : List ℕ) → settings_are settings ≡ settings_in bs → m ≡ count_in bs → size ≡ point_size_lem settings.dimensions → FrontIs bs true
-    → FrontRead (record { good = good; settings = settings; n = m; next = head_size + m * size }) bs
-front_read good settings m size bs e k z h =
+pub front_read : (settings : read.Settings) (m size : ℕ) (bs : List ℕ) → settings_are settings ≡ settings_in bs → m ≡ count_in bs → size ≡ point_size_lem settings.dimensions → FrontIs bs true
+    → FrontRead (record { settings = settings; n = m; next = head_size + m * size }) bs
+front_read settings m size bs e k z h =
     let has = front-facts bs h in
     let axes : settings.dimensions ≡ (settings_in bs).dimension = ap (λ (s : Settings). s.dimension) e in
     let place : head_size + m * size ≡ levels_place bs = ap₂ (λ (i j : ℕ). head_size + i * j) k (z ∙ ap point_size_lem axes) in

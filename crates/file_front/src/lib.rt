@@ -1,7 +1,7 @@
 // The head and the points of a stored tree, tested where they stand in the caller's bytes, and compared with the present points.
 #![tactic(auto)]
 
-ghost use Rattle.std.specs.Prelude.{◌≡◌, true, false, not, ◌&&◌, ◌+◌, ◌*◌, ◌^◌, ◌≤◌, ◌<◌, length, drop};
+ghost use Rattle.std.specs.Prelude.{◌≡◌, true, not, ◌&&◌, ◌+◌, ◌*◌, ◌^◌, ◌≤◌, ◌<◌, length, drop, is_some, IfSome};
 ghost use Rattle.std.specs.Float.Ieee.Scale.{finite};
 ghost use Rattle.lists.specs.Lists.{any_of, part};
 ghost use Rattle.definition.specs.Tree.{point_count};
@@ -17,16 +17,14 @@ ghost use Rattle.settings_record.specs.Reading.{settings_are};
 ghost use Rattle.file_front.specs.Fronts.{points_at, head_taken};
 ghost use Rattle.file_front.specs.Reading.{FrontRead};
 
-use config::{DDMParams, SizePolicy};
 use settings_record::Settings;
 
 // The head's bytes: the settings record's, and the point count's.
-const HEAD: usize = settings_record::SIZE + bytes_in::NUMBER;
+pub const HEAD: usize = settings_record::SIZE + bytes_in::NUMBER;
 
-// Whether the head and the points of a file pass; where they do, the settings and the point count in it, and where the levels begin.
+// The head and the points of a file that pass: the settings and the point count in it, and where the levels begin.
 #[derive(Clone, Copy)]
 pub struct Front {
-    pub good: bool,
     pub settings: Settings,
     pub n: usize,
     pub next: usize,
@@ -49,8 +47,7 @@ pub fn points_pass(bytes: &[u8], n: usize, dimensions: usize) -> bool
 {
     let size = point_size(dimensions);
     let mut at = HEAD;
-    let mut i = 0;
-    while i < n {
+    for _i in 0..n {
         if !bytes_in::record_at(bytes, at, size, 0x54, 0x50) {
             return false;
         }
@@ -58,7 +55,6 @@ pub fn points_pass(bytes: &[u8], n: usize, dimensions: usize) -> bool
             return false;
         }
         at += size;
-        i += 1;
     }
     true
 }
@@ -68,60 +64,33 @@ fn head_passes(settings: Settings, n: usize) -> bool
     requires { n < 2 ^ 32 }
     ensures { result ≡ head_taken (settings_are settings) n }
 {
-    let dimensions = settings.dimensions;
-    let params = settings.params;
-    if 0 < build_checks::settings_fault(dimensions, params) {
-        return false;
-    }
-    build_checks::points_fault(n * dimensions, dimensions, params) == 0
-}
-
-// A front that does not pass.
-fn no_front() -> Front
-    ensures { result.good ≡ false }
-{
-    let params = DDMParams {
-        leaf_threshold: 0,
-        overlap_knn: 0,
-        coarse_reduction_factor: 0,
-        coarse_threshold: SizePolicy::Auto,
-    };
-    Front {
-        good: false,
-        settings: Settings {
-            dimensions: 0,
-            params,
-        },
-        n: 0,
-        next: 0,
-    }
+    let Settings { dimensions, params } = settings;
+    build_checks::settings_fault(dimensions, params).is_ok()
+        && build_checks::points_fault(n * dimensions, dimensions, params).is_ok()
 }
 
 // Tests the head and the points of a file: each record stands whole at its place, and the build takes what stands in them.
-pub fn check_front(bytes: &[u8]) -> Front
-    ensures good { result.good ≡ front_whole bytes.now && buildable (settings_in bytes.now) (points_in bytes.now) }
-    ensures read { result.good ≡ true → FrontRead result bytes.now }
+pub fn check_front(bytes: &[u8]) -> Option<Front>
+    ensures good { is_some result ≡ front_whole bytes.now && buildable (settings_in bytes.now) (points_in bytes.now) }
+    ensures read { IfSome result (λ front. FrontRead front bytes.now) }
 {
     if !bytes_in::record_at(bytes, 0, HEAD, 0x54, 0x48) {
-        return no_front();
+        return None;
     }
     if !settings_record::policy_fits(bytes) {
-        return no_front();
+        return None;
     }
     let settings = settings_record::settings_of(bytes);
     let n = bytes_in::number_at(bytes, settings_record::SIZE);
     if !head_passes(settings, n) {
-        return no_front();
+        return None;
     }
     let dimensions = settings.dimensions;
-    let good = points_pass(bytes, n, dimensions);
-    let next = HEAD + n * point_size(dimensions);
-    Front {
-        good,
-        settings,
-        n,
-        next,
+    if !points_pass(bytes, n, dimensions) {
+        return None;
     }
+    let next = HEAD + n * point_size(dimensions);
+    Some(Front { settings, n, next })
 }
 
 // ---- compared
@@ -131,13 +100,11 @@ fn floats_are(xs: &[f64], start: usize, count: usize, bytes: &[u8], at: usize) -
     requires { (start + count ≤ length xs.now) × (at + float_size * count ≤ length bytes.now) }
     ensures { result ≡ same (floats_bytes (part xs.now start count)) (part bytes.now at (float_size * count)) }
 {
-    let mut i = 0;
-    while i < count {
+    for i in 0..count {
         let bits = bytes_out::bits_of(xs[start + i]);
         if bits != bytes_in::bits_at(bytes, at + bytes_in::FLOAT * i) {
             return false;
         }
-        i += 1;
     }
     true
 }
@@ -156,8 +123,7 @@ pub fn same_points(points: &[f64], dimensions: usize, bytes: &[u8]) -> bool
     }
     let size = point_size(dimensions);
     let mut at = HEAD;
-    let mut i = 0;
-    while i < n {
+    for i in 0..n {
         if !floats_are(
             points,
             i * dimensions,
@@ -168,7 +134,6 @@ pub fn same_points(points: &[f64], dimensions: usize, bytes: &[u8]) -> bool
             return false;
         }
         at += size;
-        i += 1;
     }
     true
 }

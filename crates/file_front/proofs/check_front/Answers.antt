@@ -4,7 +4,6 @@ use mathlib.Core.Bool.{true, false}
 use Prim.Native.Nat.{ℕ, ◌*◌}
 use native.Mathlib.Nat.{mul-le-mul_left}
 use native.Mathlib.Omega.{arith}
-use Rattle.lists.proofs.Tests.{clash}
 use Rattle.formats.specs.Bytes.{whole}
 use Rattle.formats.specs.Stream.{policy_fits_lem}
 use Rattle.stored.specs.File.{head_mark}
@@ -18,8 +17,8 @@ pub returns-then-not-record_at : goal.returns-then-not-record_at
 returns-then-not-record_at c = let bs = c.args.bytes.now in
     let stands : whole head_mark head_size bs ≡ false = sym c.record_at.ensures ∙ c.if-not-record_at.true in
     record {
-      good = c.no_front.ensures ∙ head-broken bs stands;
-      read = λ t. clash t c.no_front.ensures;
+      good = head-broken bs stands;
+      read = tt;
     }
 
 pub policy_fits-requires : goal.policy_fits-requires
@@ -32,8 +31,8 @@ returns-then-not-policy_fits c = let bs = c.args.bytes.now in
     let stands : whole head_mark head_size bs ≡ true = sym c.record_at.ensures ∙ c.if-not-record_at.false in
     let fits : policy_fits_lem bs ≡ false = sym c.policy_fits.ensures ∙ c.if-not-policy_fits.true in
     record {
-      good = c.no_front-then-not-policy_fits.ensures ∙ policy-broken bs stands fits;
-      read = λ t. clash t c.no_front-then-not-policy_fits.ensures;
+      good = policy-broken bs stands fits;
+      read = tt;
     }
 
 pub settings_of-settings-requires : goal.settings_of-settings-requires
@@ -54,12 +53,12 @@ returns-then-not-head_passes c = let bs = c.args.bytes.now in
     let n = c.number_at-n in
     let refused = sym c.head_passes.ensures ∙ c.if-not-head_passes.true in
     record {
-      good = c.no_front-then-not-head_passes.ensures ∙ head-refused bs stands fits (settings_are settings.result) n.result settings.ensures n.ensures.0 refused;
-      read = λ t. clash t c.no_front-then-not-head_passes.ensures;
+      good = head-refused bs stands fits (settings_are settings.result) n.result settings.ensures n.ensures.0 refused;
+      read = tt;
     }
 
-pub points_pass-good-requires : goal.points_pass-good-requires
-points_pass-good-requires c = let bs = c.args.bytes.now in
+pub points_pass-requires : goal.points_pass-requires
+points_pass-requires c = let bs = c.args.bytes.now in
     let stands : whole head_mark head_size bs ≡ true = sym c.record_at.ensures ∙ c.if-not-record_at.false in
     let axes = head-axes (settings_are c.settings_of-settings.result) c.number_at-n.result (sym c.head_passes.ensures ∙ c.if-not-head_passes.false) in
     (head-inside bs stands, axes.1, c.number_at-n.ensures.1)
@@ -77,16 +76,24 @@ overflow_add-next c = let axes = head-axes (settings_are c.settings_of-settings.
     let n = c.number_at-n.result in
     omega (arith, mul-le-mul_left n axes.1, ap (λ (k : ℕ). n * k) c.point_size.ensures)
 
+pub returns-then-not-points_pass : goal.returns-then-not-points_pass
+returns-then-not-points_pass c = let bs = c.args.bytes.now in
+    let stands : whole head_mark head_size bs ≡ true = sym c.record_at.ensures ∙ c.if-not-record_at.false in
+    let fits : policy_fits_lem bs ≡ true = sym c.policy_fits.ensures ∙ c.if-not-policy_fits.false in
+    let settings = c.settings_of-settings in
+    let n = c.number_at-n in
+    let takes = sym c.head_passes.ensures ∙ c.if-not-head_passes.false in
+    record {
+      good = points-decide bs stands fits (settings_are settings.result) n.result settings.ensures n.ensures.0 takes false (sym c.if-not-points_pass.true ∙ c.points_pass.ensures);
+      read = tt;
+    }
+
 pub returns : goal.returns
 returns c = let bs = c.args.bytes.now in
     let stands : whole head_mark head_size bs ≡ true = sym c.record_at.ensures ∙ c.if-not-record_at.false in
     let fits : policy_fits_lem bs ≡ true = sym c.policy_fits.ensures ∙ c.if-not-policy_fits.false in
     let settings = c.settings_of-settings in
     let n = c.number_at-n in
-    let points = c.points_pass-good in
     let takes = sym c.head_passes.ensures ∙ c.if-not-head_passes.false in
-    let good = points-decide bs stands fits (settings_are settings.result) n.result settings.ensures n.ensures.0 takes points.result points.ensures in
-    record {
-      good = good;
-      read = λ t. front_read points.result settings.result n.result c.point_size.result bs settings.ensures n.ensures.0 c.point_size.ensures (sym t ∙ good);
-    }
+    let good = points-decide bs stands fits (settings_are settings.result) n.result settings.ensures n.ensures.0 takes true (sym c.if-not-points_pass.false ∙ c.points_pass.ensures) in
+    record { good = good; read = front_read settings.result n.result c.point_size.result bs settings.ensures n.ensures.0 c.point_size.ensures good }

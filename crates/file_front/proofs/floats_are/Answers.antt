@@ -1,6 +1,5 @@
 -- `file_front::floats_are` meets its contract: before float i, the floats before it agree. Assumes nothing.
-use mathlib.Core.Bool.{false}
-use Prim.Native.Nat.{◌+◌, ◌-◌}
+use Prim.Native.Nat.{◌+◌}
 use native.Mathlib.Omega.{arith}
 use borrow.Author.Rules.{rules}
 use Rattle.formats.specs.Bytes.{float_size}
@@ -9,7 +8,7 @@ use Rattle.file_front.proofs.Compared.{differs, float_after, floats-found, float
 use Rattle.file_front.proofs.floats_are.Goals as goal
 
 pub loop-i-init : goal.loop-i-init
-loop-i-init c = (omega arith, none-tested _)
+loop-i-init c = none-tested _
 
 pub returns-then-bits-bits_at : goal.returns-then-bits-bits_at
 returns-then-bits-bits_at c = let at-loop = c in
@@ -25,8 +24,8 @@ loop-i-preserved c = let at-loop = c in
     let i = at-loop.loop-i.i in
     let fit = at-loop.shared_slice_known-1.given (a.start + i) in
     let here = float-agrees a.xs.now a.start a.at i a.bytes.now fit (λ k. omega (arith, at-loop.shared_slice_known-2-1.given k)) (search rules) c.bits_of-bits.result c.bits_at.result c.bits_of-bits.ensures c.bits_at.ensures c.if-bits-bits_at.false in
-    (search rules, none_more (differs (float_after a.xs.now a.start) float_size a.at a.bytes.now) i at-loop.loop-i.invariant.1 here)
+    none_more (differs (float_after a.xs.now a.start) float_size a.at a.bytes.now) i at-loop.loop-i.invariant here
 
 pub returns : goal.returns
 returns c = let a = c.args in
-    floats-end a.xs.now a.start a.count a.at a.bytes.now (search rules) (search rules) c.loop-i.i (search rules) c.loop-i.invariant.1
+    floats-end a.xs.now a.start a.count a.at a.bytes.now (search rules) (search rules) c.loop-i.i (search rules) c.loop-i.invariant

@@ -1,6 +1,5 @@
 -- `file_front::same_points` meets its contract: before row i, the rows before it agree. Assumes nothing.
 use mathlib.Core.Path.{sym, ◌∙◌}
-use Prim.Native.Nat.{◌-◌}
 use native.Mathlib.Omega.{arith}
 use borrow.Author.Rules.{rules}
 use Rattle.file_front.proofs.Tested.{head-inside}
@@ -18,37 +17,37 @@ returns-then-points-dimensions c = let start = c in
 
 pub loop-i-init : goal.loop-i-init
 loop-i-init c = let start = c in
-    (omega arith, comparing-start start.requires.0 start.requires.1 (λ i. omega (arith, c.shared_slice_known-2-1.given i)) (omega (arith, start.requires.4)) c.if-points-dimensions.false c.number_at-n.ensures.0)
+    comparing-start start.requires.0 start.requires.1 (λ i. omega (arith, c.shared_slice_known-2-1.given i)) (omega (arith, start.requires.4)) c.if-points-dimensions.false c.number_at-n.ensures.0
 
 pub overflow_mul-i : goal.overflow_mul-i
 overflow_mul-i c = let at-loop = c in
-    let t = at-loop.loop-i.invariant.1 in
+    let t = at-loop.loop-i.invariant in
     omega (arith, comparing-listed t (search rules))
 
 pub overflow_add-at : goal.overflow_add-at
 overflow_add-at c = let at-loop = c in
-    let t = at-loop.loop-i.invariant.1 in
+    let t = at-loop.loop-i.invariant in
     omega (arith, comparing-inside t (search rules))
 
 pub floats_are-requires : goal.floats_are-requires
 floats_are-requires c = let at-loop = c in
-    let t = at-loop.loop-i.invariant.1 in
+    let t = at-loop.loop-i.invariant in
     (comparing-listed t (search rules), omega (arith, comparing-inside t (search rules)))
 
 pub returns-then-not-floats_are : goal.returns-then-not-floats_are
 returns-then-not-floats_are c = let at-loop = c in
-    let t = at-loop.loop-i.invariant.1 in
+    let t = at-loop.loop-i.invariant in
     comparing-found t (search rules) c.floats_are.result c.floats_are.ensures c.if-not-floats_are.true
 
 pub overflow_add-at-in-loop-i : goal.overflow_add-at-in-loop-i
 overflow_add-at-in-loop-i c = let at-loop = c in
-    let t = at-loop.loop-i.invariant.1 in
+    let t = at-loop.loop-i.invariant in
     omega (arith, comparing-inside t (search rules))
 
 pub loop-i-preserved : goal.loop-i-preserved
 loop-i-preserved c = let at-loop = c in
-    let t = at-loop.loop-i.invariant.1 in
-    (search rules, comparing-next t (search rules) c.floats_are.result c.floats_are.ensures c.if-not-floats_are.false at-loop.point_size-size.result at-loop.point_size-size.ensures)
+    let t = at-loop.loop-i.invariant in
+    comparing-next t (search rules) c.floats_are.result c.floats_are.ensures c.if-not-floats_are.false at-loop.point_size-size.result at-loop.point_size-size.ensures
 
 pub returns : goal.returns
-returns c = comparing-end c.loop-i.invariant.1 (search rules)
+returns c = comparing-end c.loop-i.invariant (search rules)
