@@ -4,3 +4,4 @@ pub mod OwnRows
 pub mod Unpacked
 pub mod Packing
 pub mod Standing
+pub mod Leaves

@@ -3,7 +3,9 @@
 
 ghost use Rattle.std.specs.Prelude.{◌≡◌, ◌+◌, ◌*◌, ◌^◌, ◌≤◌, ◌<◌, length};
 ghost use Rattle.definition.specs.Packed.{row_numbers, row_floats_lem};
+ghost use Rattle.packed.specs.Reading.{RowFits, read_leaf};
 ghost use Rattle.packed.specs.Rows.{plain_row, IsRow, put_row_lem, put_own_lem, put_borrowed_lem};
+ghost use Rattle.packed.specs.View.{packed_of, leaf_of};
 
 // How many whole numbers a domain row has.
 pub const ROW_NUMBERS: usize = 5;
@@ -44,6 +46,36 @@ pub struct Packed<'a> {
     pub boxes: &'a [f64],
     pub borrowed: &'a [usize],
     pub dimensions: usize,
+}
+
+// A leaf in the packed lists: its own rows, the rows that it borrows, its box, its cover and its depth. A contract reads it by
+// `leaf_of`, as the leaf of the definition.
+#[derive(Clone, Copy)]
+pub struct Leaf<'a> {
+    pub own: &'a [usize],
+    pub borrowed: &'a [usize],
+    pub bounds: &'a [f64],
+    pub cover: f64,
+    pub depth: usize,
+}
+
+impl<'a> Packed<'a> {
+    // The leaf of the domain row number j.
+    pub fn leaf(self, j: usize) -> Leaf<'a>
+        requires { RowFits (packed_of self) j }
+        ensures { leaf_of result ≡ read_leaf (packed_of self.entry) j }
+    {
+        let row = read_row(self.domains, j);
+        let start = floats_before(self.dimensions, j);
+        let end = start + boxes::box_width(self.dimensions);
+        Leaf {
+            own: &self.internals[row.internal_start..row.internal_start + row.internal_count],
+            borrowed: &self.borrowed[row.borrowed_start..row.borrowed_start + row.borrowed_count],
+            bounds: &self.boxes[start..end],
+            cover: self.boxes[end],
+            depth: row.depth,
+        }
+    }
 }
 
 // How many floats a domain row has: those of its box, and its cover.

@@ -1,5 +1,4 @@
 -- Laws on the lines of a tree.
 pub mod Lines
 pub mod Grow
-pub mod Leaves
 pub mod Levels

@@ -1,5 +1,5 @@
 -- The lines of the printout as the texts that the code writes one after the other. Assumes nothing.
--- Holds: domain_texts, domain-texts, level_texts, level-texts, box-fine, box-coarse, tree_texts, tree-texts
+-- Holds: domain_texts, domain-texts, leaf-line, level_texts, level-texts, box-fine, box-coarse, tree_texts, tree-texts
 use mathlib.Core.Path.{◌≡◌}
 use Prim.Native.Nat.{ℕ}
 use mathlib.Core.Bool.{Bool, true, false}
@@ -8,8 +8,9 @@ use lib.Ieee.{Float}
 use lib.ListN.{length}
 use Rattle.lists.specs.Lists.{joined}
 use Rattle.definition.specs.Tree.{Leaf, Level}
+use Rattle.packed.specs.Reading.{Packed, read_leaf}
 use Rattle.formats.specs.Printout.{ascii, decimal, rows_text, floats_text, domain_line, level_line, levels_text, tree_text}
-use Rattle.print_tree.specs.Unpack.{box_part, points_line}
+use Rattle.print_tree.specs.Unpack.{box_part, points_line, leaf_line}
 
 abbrev pub domain_texts : ℕ → Leaf → List ℕ → List (List ℕ)
 domain_texts i f box =
@@ -26,6 +27,11 @@ domain_texts i f box =
 pub domain-texts : (i : ℕ) (f : Leaf) (box : List ℕ) → domain_line i f box ≡ joined (domain_texts i f box)
 unfolding joined domain_line
 domain-texts i f box = simp (append_assoc, append-nil)
+
+-- by the leaf that the code read
+pub leaf-line : (fine : Bool) (i : ℕ) (p : Packed) (j : ℕ) (f : Leaf) → f ≡ read_leaf p j → leaf_line fine i p j ≡ domain_line i f (box_part fine f.box)
+unfolding leaf_line
+leaf-line fine i p j f e = rw e
 
 abbrev pub level_texts : ℕ → List ℕ → List (List ℕ)
 level_texts t rows = (ascii "level " ++ decimal t) ∷ (ascii " points" ++ rows_text rows) ∷ ascii "\n" ∷ []

@@ -1,11 +1,7 @@
 -- The texts of a tree's parts, from packed lists. Definitions only.
 use Rattle.std.specs.Prelude.{ℕ, Bool, false, cond, List, [], ◌++◌, Float}
-use Rattle.definition.specs.Tree.{Leaf}
 use Rattle.packed.specs.Reading.{Packed, read_leaf, read_leaves}
 use Rattle.formats.specs.Printout.{ascii, floats_text, level_line, domain_line, fine_lines}
-
-abbrev pub leaf_of : List ℕ → List ℕ → List Float → Float → ℕ → Leaf
-leaf_of own borrowed box cover depth = record { own = own; borrowed = borrowed; box = box; cover = cover; depth = depth }
 
 -- the text of a box; a dash for the coarse domain's
 unfoldable pub box_part : Bool → List Float → List ℕ

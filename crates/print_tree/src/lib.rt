@@ -7,10 +7,10 @@ ghost use Rattle.std.specs.Prelude.{ℕ, ◌+◌, ◌<◌};
 ghost use Rattle.formats.specs.Printout.{domain_line, fine_lines, levels_text, tree_text};
 ghost use Rattle.bytes_out.specs.Wrote.{Wrote, RoomFor};
 ghost use Rattle.packed.specs.Reading.{RowFits, read_leaves, Stands, read_levels};
-ghost use Rattle.packed.specs.View.{packed_of};
-ghost use Rattle.print_tree.specs.Unpack.{leaf_of, box_part, points_line, leaf_line, fine_level_text, coarse_level_text};
+ghost use Rattle.packed.specs.View.{packed_of, leaf_of};
+ghost use Rattle.print_tree.specs.Unpack.{box_part, points_line, leaf_line, fine_level_text, coarse_level_text};
 
-use packed::Packed;
+use packed::{Leaf, Packed};
 
 // The bounds of a box; a dash for the coarse domain's.
 fn write_box(fine: bool, bounds: &[f64], out: &mut [u8], at: usize) -> usize
@@ -23,28 +23,18 @@ fn write_box(fine: bool, bounds: &[f64], out: &mut [u8], at: usize) -> usize
     print_texts::write_text(b" -", out, at)
 }
 
-// The line of the domain number i.
-fn write_domain(
-    i: usize,
-    own: &[usize],
-    borrowed: &[usize],
-    fine: bool,
-    bounds: &[f64],
-    cover: f64,
-    depth: usize,
-    out: &mut [u8],
-    at: usize,
-) -> usize
-    requires { RoomFor out.old at (domain_line i (leaf_of own.now borrowed.now bounds.now cover depth) (box_part fine bounds.now)) }
-    ensures { Wrote out.old at (domain_line i (leaf_of own.now borrowed.now bounds.now cover depth) (box_part fine bounds.now)) result out.new }
+// The line of the domain number i; the coarse domain has a dash for its box.
+fn write_domain(i: usize, leaf: Leaf<'_>, fine: bool, out: &mut [u8], at: usize) -> usize
+    requires { RoomFor out.old at (domain_line i (leaf_of leaf) (box_part fine (leaf_of leaf).box)) }
+    ensures { Wrote out.old at (domain_line i (leaf_of leaf.entry) (box_part fine (leaf_of leaf.entry).box)) result out.new }
 {
     let named = print_texts::write_numbered(b"domain ", i, out, at);
-    let owned = print_texts::write_listed(b" internal", own, out, named);
-    let lent = print_texts::write_listed(b" overlap", borrowed, out, owned);
+    let owned = print_texts::write_listed(b" internal", leaf.own, out, named);
+    let lent = print_texts::write_listed(b" overlap", leaf.borrowed, out, owned);
     let boxed = print_texts::write_text(b" box", out, lent);
-    let bounded = write_box(fine, bounds, out, boxed);
-    let covered = print_texts::write_valued(b" cover", cover, out, bounded);
-    let done = print_texts::write_numbered(b" depth ", depth, out, covered);
+    let bounded = write_box(fine, leaf.bounds, out, boxed);
+    let covered = print_texts::write_valued(b" cover", leaf.cover, out, bounded);
+    let done = print_texts::write_numbered(b" depth ", leaf.depth, out, covered);
     print_texts::write_byte(b'\n', out, done)
 }
 
@@ -64,25 +54,7 @@ fn write_leaf(fine: bool, i: usize, j: usize, tree: Packed<'_>, out: &mut [u8], 
     requires room_for { RoomFor out.old at (leaf_line fine i (packed_of tree) j) }
     ensures { Wrote out.old at (leaf_line fine i (packed_of tree.entry) j) result out.new }
 {
-    let row = packed::read_row(tree.domains, j);
-    let o = row.internal_start;
-    let oe = o + row.internal_count;
-    let b = row.borrowed_start;
-    let be = b + row.borrowed_count;
-    let x = packed::floats_before(tree.dimensions, j);
-    let xe = x + boxes::box_width(tree.dimensions);
-    let cover = tree.boxes[xe];
-    write_domain(
-        i,
-        &tree.internals[o..oe],
-        &tree.borrowed[b..be],
-        fine,
-        &tree.boxes[x..xe],
-        cover,
-        row.depth,
-        out,
-        at,
-    )
+    write_domain(i, tree.leaf(j), fine, out, at)
 }
 
 // The lines of m fine domains, from the domain row number j on.

@@ -1,27 +1,21 @@
 -- The records of a stored tree as the parts that the code writes one after the other. Assumes nothing.
--- Holds: lent, counts-parts, head-parts, point-parts, level-parts, cover-given, all-given, domain_parts, domain-parts
-use mathlib.Core.Path.{◌≡◌, sym, ap, ap₂, ◌∙◌}
-use Prim.Native.Nat.{ℕ, suc, ◌+◌, ◌-◌, ◌*◌, ◌≤◌}
-use native.Mathlib.Nat.{mul-add}
-use native.Mathlib.Omega.{arith}
+-- Holds: lent, counts-parts, head-parts, point-parts, level-parts, domain_parts, domain-parts, no-bounds, all-bounds
+use mathlib.Core.Path.{◌≡◌, sym}
+use Prim.Native.Nat.{ℕ, ◌+◌, ◌-◌, ◌*◌, ◌≤◌}
 use mathlib.Core.Bool.{Bool, true, false}
 use mathlib.Core.List.{List, [], ◌∷◌, ◌++◌, map, append_assoc, append-nil}
 use lib.ListN.{length, take, drop}
 use lib.Ieee.{Float, nan}
 use Rattle.lists.specs.Lists.{joined, part, from}
-use Rattle.lists.proofs.Put.{length_part, part-nil, part-cons, part-append, get_d_part, part-lent}
+use Rattle.lists.proofs.Put.{length_part, get_d_part, part-lent}
+use Rattle.lists.proofs.Joined.{joined-map-snoc}
 use Rattle.lists.proofs.From.{list-below}
-use Rattle.definition.specs.Number.{plus_zero}
-use Rattle.definition.specs.Points.{coordinate, box_width_lem}
-use Rattle.definition.specs.Tree.{Settings}
-use Rattle.definition.specs.Packed.{row_floats_lem}
+use Rattle.definition.specs.Points.{coordinate}
+use Rattle.definition.specs.Tree.{Settings, Leaf}
 use Rattle.formats.specs.Bytes.{Mark, mark_bytes, number_bytes, numbers_bytes, float_bytes, floats_bytes}
 use Rattle.formats.specs.Stream.{settings_bytes}
-use Rattle.packed.specs.declared.DomainRow.{DomainRow}
-use Rattle.packed.specs.Reading.{Packed, read_leaf, own_at, borrowed_at, box_at_lem, cover_at, RowFits, own_start, own_count, borrowed_start, borrowed_count, depth_at}
-use Rattle.packed.specs.Rows.{IsRow}
 use Rattle.stored.specs.File.{head_mark, file_point_mark, level_mark, domain_mark, head_bytes_lem, point_bytes, domain_bytes}
-use Rattle.store_records.specs.Records.{counts_bytes, level_record, bounds_given, floats_given, domain_record}
+use Rattle.store_records.specs.Records.{counts_bytes, level_record, bounds_given, domain_record}
 
 -- a stretch of a list, as the code lends it
 abbrev pub lent : {A : Type 0} → List A → ℕ → ℕ → List A
@@ -48,58 +42,43 @@ pub level-parts : (rows : List ℕ) (m : ℕ) → level_record rows m ≡ joined
 unfolding level_record numbers_bytes joined
 level-parts rows m = rw append-nil
 
--- ---- the floats of a domain row, found at x, and the cover w floats on
-module _ (coarse : Bool) (d : ℕ) (boxes : List Float) (j : ℕ) (fits : row_floats_lem d * (j + 1) ≤ length boxes) (x : ℕ) (ex : x ≡ row_floats_lem d * j) where
-  cover_one : part boxes (row_floats_lem d * j + box_width_lem d) 1 ≡ cover_at d boxes j ∷ []
-  cover_one =
-      let k = row_floats_lem d * j + box_width_lem d in
-      part-cons boxes k 0 plus_zero (omega (arith, fits, mul-add (row_floats_lem d) j 1)) ∙ ap (λ (xs : List Float). cover_at d boxes j ∷ xs) (part-nil boxes (suc k))
-
-  module _ (n : ℕ) (en : n ≡ row_floats_lem d) where
-    -- the coarse domain's cover alone
-    pub cover-given : coarse ≡ true
-        → floats_bytes (floats_given coarse (box_at_lem d boxes j) (cover_at d boxes j))
-        ≡ joined (map float_bytes (take (x + n - (x + n - 1)) (drop (x + n - 1) boxes)))
-    unfolding bounds_given floats_bytes
-    cover-given e =
-        let k = row_floats_lem d * j + box_width_lem d in
-        let first : k ≡ x + n - 1 = omega (arith, ex, en) in
-        let last : k + 1 ≡ x + n = omega (arith, ex, en) in
-        rw e (ap floats_bytes (sym cover_one ∙ sym (part-lent boxes k 1)))
-        ∙ ap₂ (λ (i m : ℕ). floats_bytes (take (m - i) (drop i boxes))) first last
-
-    -- all of a fine domain's
-    pub all-given : coarse ≡ false
-        → floats_bytes (floats_given coarse (box_at_lem d boxes j) (cover_at d boxes j)) ≡ joined (map float_bytes (lent boxes x n))
-    unfolding bounds_given floats_bytes
-    all-given e =
-        rw (e, part-lent boxes x n, ex, en)
-        (ap floats_bytes (ap (λ (xs : List Float). box_at_lem d boxes j ++ xs) (sym cover_one) ∙ part-append boxes (row_floats_lem d * j) (box_width_lem d) 1))
-
--- ---- a domain's record, by the row r that was read
-seven-parts : (a b c d e f g : List ℕ) → a ++ b ++ c ++ d ++ e ++ f ++ g ≡ joined ((a ++ b ++ c) ∷ d ∷ e ∷ f ∷ g ∷ [])
+-- ---- a domain's record, by the leaf that was read
+eight-parts : (a b c d e f g h : List ℕ) → a ++ b ++ c ++ d ++ e ++ (f ++ g) ++ h ≡ joined ((a ++ b ++ c) ∷ d ∷ e ∷ f ∷ g ∷ h ∷ [])
 unfolding joined
-seven-parts a b c d e f g = simp (append_assoc, append-nil)
+eight-parts a b c d e f g h = simp (append_assoc, append-nil)
 
-module _ (coarse : Bool) (p : Packed) (j : ℕ) (fits : RowFits p j) (r : DomainRow) (e : IsRow r p.domains j) where
+module _ (coarse : Bool) (f : Leaf) where
   abbrev pub domain_parts : List (List ℕ)
   domain_parts =
-      counts_bytes domain_mark r.internal_count r.borrowed_count
-      ∷ joined (map number_bytes (lent p.internals r.internal_start r.internal_count))
-      ∷ joined (map number_bytes (lent p.borrowed r.borrowed_start r.borrowed_count))
-      ∷ floats_bytes (floats_given coarse (box_at_lem p.dimension p.boxes j) (cover_at p.dimension p.boxes j))
-      ∷ number_bytes r.depth
+      counts_bytes domain_mark (length f.own) (length f.borrowed)
+      ∷ joined (map number_bytes f.own)
+      ∷ joined (map number_bytes f.borrowed)
+      ∷ floats_bytes (bounds_given coarse f.box)
+      ∷ float_bytes f.cover
+      ∷ number_bytes f.depth
       ∷ []
 
-  pub domain-parts : domain_record coarse (read_leaf p j) ≡ joined domain_parts
-  unfolding domain_record domain_bytes read_leaf counts_bytes numbers_bytes
-  domain-parts =
-      let own = own_at p.internals p.domains j in
-      let borrowed = borrowed_at p.borrowed p.domains j in
-      let floats = floats_bytes (floats_given coarse (box_at_lem p.dimension p.boxes j) (cover_at p.dimension p.boxes j)) in
-      let depth = number_bytes (depth_at p.domains j) in
-      rw (part-lent p.internals r.internal_start r.internal_count, part-lent p.borrowed r.borrowed_start r.borrowed_count, e.own_start, e.own_count, e.borrowed_start, e.borrowed_count, e.depth)
-      (seven-parts (mark_bytes domain_mark) (number_bytes (length own)) (number_bytes (length borrowed)) (numbers_bytes own) (numbers_bytes borrowed) floats depth
-      ∙ ap₂ (λ (x y : ℕ). joined ((mark_bytes domain_mark ++ number_bytes x ++ number_bytes y) ∷ numbers_bytes own ∷ numbers_bytes borrowed ∷ floats ∷ depth ∷ []))
-      (length_part p.internals (own_start p.domains j) (own_count p.domains j) fits.own)
-      (length_part p.borrowed (borrowed_start p.domains j) (borrowed_count p.domains j) fits.borrowed))
+  with_cover : (b : List Float) → floats_bytes (b ++ f.cover ∷ []) ≡ floats_bytes b ++ float_bytes f.cover
+  unfolding floats_bytes
+  with_cover b = joined-map-snoc float_bytes b f.cover
+
+  pub domain-parts : (g : Leaf) → f ≡ g → domain_record coarse g ≡ joined domain_parts
+  unfolding domain_record domain_bytes counts_bytes numbers_bytes
+  domain-parts g e = rw (← e, with_cover (bounds_given coarse f.box)) (eight-parts
+      (mark_bytes domain_mark)
+      (number_bytes (length f.own))
+      (number_bytes (length f.borrowed))
+      (joined (map number_bytes f.own))
+      (joined (map number_bytes f.borrowed))
+      (floats_bytes (bounds_given coarse f.box))
+      (float_bytes f.cover)
+      (number_bytes f.depth))
+
+-- the bounds that a record has
+pub no-bounds : (coarse : Bool) (bounds : List Float) → coarse ≡ true → floats_bytes (bounds_given coarse bounds) ≡ []
+unfolding bounds_given floats_bytes joined
+no-bounds coarse bounds e = rw e
+
+pub all-bounds : (coarse : Bool) (bounds : List Float) → coarse ≡ false → floats_bytes (bounds_given coarse bounds) ≡ joined (map float_bytes bounds)
+unfolding bounds_given floats_bytes
+all-bounds coarse bounds e = rw e

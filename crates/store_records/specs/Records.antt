@@ -1,8 +1,7 @@
 -- The records of a stored tree, as the code writes them. Definitions only.
-use Rattle.std.specs.Prelude.{ℕ, Bool, cond, List, [], ◌∷◌, ◌++◌, length, Float}
+use Rattle.std.specs.Prelude.{ℕ, Bool, cond, List, [], ◌++◌, length, Float}
 use Rattle.definition.specs.Tree.{Leaf}
 use Rattle.formats.specs.Bytes.{Mark, mark_bytes, number_bytes, numbers_bytes}
-use Rattle.packed.specs.Reading.{Packed, box_at_lem, cover_at}
 use Rattle.stored.specs.File.{level_mark, domain_bytes}
 
 -- how a level's record, and a domain's, begins: its mark and two counts
@@ -16,14 +15,6 @@ level_record rows m = counts_bytes level_mark (length rows) m ++ numbers_bytes r
 -- the bounds that a domain's record has: those of its box; the coarse domain has none
 unfoldable pub bounds_given : Bool → List Float → List Float
 bounds_given coarse box = cond coarse [] box
-
--- the floats that it has
-abbrev pub floats_given : Bool → List Float → Float → List Float
-floats_given coarse box cover = bounds_given coarse box ++ cover ∷ []
-
--- those of the domain row number j
-abbrev pub row_floats_given : Bool → Packed → ℕ → List Float
-row_floats_given coarse p j = floats_given coarse (box_at_lem p.dimension p.boxes j) (cover_at p.dimension p.boxes j)
 
 -- a domain's record
 unfoldable pub domain_record : Bool → Leaf → List ℕ

@@ -11,9 +11,9 @@ ghost use Rattle.bytes_out.specs.Wrote.{Wrote, RoomFor};
 ghost use Rattle.packed.specs.Reading.{RowFits, read_leaf};
 ghost use Rattle.packed.specs.View.{packed_of};
 ghost use Rattle.stored.specs.File.{head_bytes_lem, point_bytes};
-ghost use Rattle.store_records.specs.Records.{counts_bytes, level_record, row_floats_given, domain_record};
+ghost use Rattle.store_records.specs.Records.{counts_bytes, level_record, bounds_given, domain_record};
 
-use bytes_in::{MARK, NUMBER};
+use bytes_in::{FLOAT, MARK, NUMBER};
 use bytes_out::Field;
 use config::DDMParams;
 use packed::Packed;
@@ -53,18 +53,15 @@ fn put_counts(kind: u8, first: usize, second: usize, out: &mut [u8], at: usize) 
     last + NUMBER
 }
 
-// The floats of the domain row number j, its box and its cover; of the coarse domain's the cover alone.
-fn put_row_floats(tree: Packed<'_>, j: usize, coarse: bool, out: &mut [u8], at: usize) -> usize
-    requires row_fits { RowFits (packed_of tree) j }
-    requires room_for { RoomFor out.old at (floats_bytes (row_floats_given coarse (packed_of tree) j)) }
-    ensures { Wrote out.old at (floats_bytes (row_floats_given coarse (packed_of tree.entry) j)) result out.new }
+// The bounds of a domain's box; the coarse domain's record has none.
+fn put_bounds(coarse: bool, bounds: &[f64], out: &mut [u8], at: usize) -> usize
+    requires { RoomFor out.old at (floats_bytes (bounds_given coarse bounds.now)) }
+    ensures { Wrote out.old at (floats_bytes (bounds_given coarse bounds.now)) result out.new }
 {
-    let start = packed::floats_before(tree.dimensions, j);
-    let end = start + packed::row_floats(tree.dimensions);
     if coarse {
-        return put_list(&tree.boxes[end - packed::COVER..end], out, at);
+        return at;
     }
-    put_list(&tree.boxes[start..end], out, at)
+    put_list(bounds, out, at)
 }
 
 // ---- records
@@ -107,13 +104,13 @@ pub fn put_domain(tree: Packed<'_>, j: usize, coarse: bool, out: &mut [u8], at: 
     requires room_for { RoomFor out.old at (domain_record coarse (read_leaf (packed_of tree) j)) }
     ensures { Wrote out.old at (domain_record coarse (read_leaf (packed_of tree.entry) j)) result out.new }
 {
-    let row = packed::read_row(tree.domains, j);
-    let own = &tree.internals[row.internal_start..row.internal_start + row.internal_count];
-    let lent = &tree.borrowed[row.borrowed_start..row.borrowed_start + row.borrowed_count];
-    let counted = put_counts(DOMAIN, row.internal_count, row.borrowed_count, out, at);
-    let owned = put_list(own, out, counted);
-    let listed = put_list(lent, out, owned);
-    let covered = put_row_floats(tree, j, coarse, out, listed);
-    bytes_out::put_short(row.depth, out, covered);
+    let leaf = tree.leaf(j);
+    let counted = put_counts(DOMAIN, leaf.own.len(), leaf.borrowed.len(), out, at);
+    let owned = put_list(leaf.own, out, counted);
+    let listed = put_list(leaf.borrowed, out, owned);
+    let bounded = put_bounds(coarse, leaf.bounds, out, listed);
+    bytes_out::put_float(leaf.cover, out, bounded);
+    let covered = bounded + FLOAT;
+    bytes_out::put_short(leaf.depth, out, covered);
     covered + NUMBER
 }

@@ -1,5 +1,6 @@
 -- `print_tree::write_domain` meets its contract. Assumes nothing.
-use Rattle.print_tree.specs.Unpack.{leaf_of, box_part}
+use Rattle.packed.specs.View.{leaf_of}
+use Rattle.print_tree.specs.Unpack.{box_part}
 use Rattle.formats.specs.Printout.{ascii}
 use Rattle.print_texts.proofs.Writing.{begin, text-room, text-added, finish}
 use Rattle.print_tree.proofs.Lines.{domain-texts, domain_texts}
@@ -9,8 +10,8 @@ pub write_numbered-named-requires : goal.write_numbered-named-requires
 unfolding ascii
 write_numbered-named-requires c = let start = c in
     let a = start.args in
-    let f = leaf_of a.own.now a.borrowed.now a.bounds.now a.cover a.depth in
-    let box = box_part a.fine a.bounds.now in
+    let f = leaf_of a.leaf in
+    let box = box_part a.fine f.box in
     let w0 = begin (domain_texts a.i f box) (domain-texts a.i f box) start.requires in
     text-room w0 tt
 
@@ -18,8 +19,8 @@ pub write_listed-owned-requires : goal.write_listed-owned-requires
 unfolding ascii
 write_listed-owned-requires c = let start = c in
     let a = start.args in
-    let f = leaf_of a.own.now a.borrowed.now a.bounds.now a.cover a.depth in
-    let box = box_part a.fine a.bounds.now in
+    let f = leaf_of a.leaf in
+    let box = box_part a.fine f.box in
     let w0 = begin (domain_texts a.i f box) (domain-texts a.i f box) start.requires in
     let w1 = text-added w0 tt c.write_numbered-named.ensures in
     text-room w1 tt
@@ -28,8 +29,8 @@ pub write_listed-lent-requires : goal.write_listed-lent-requires
 unfolding ascii
 write_listed-lent-requires c = let start = c in
     let a = start.args in
-    let f = leaf_of a.own.now a.borrowed.now a.bounds.now a.cover a.depth in
-    let box = box_part a.fine a.bounds.now in
+    let f = leaf_of a.leaf in
+    let box = box_part a.fine f.box in
     let w0 = begin (domain_texts a.i f box) (domain-texts a.i f box) start.requires in
     let w1 = text-added w0 tt c.write_numbered-named.ensures in
     let w2 = text-added w1 tt c.write_listed-owned.ensures in
@@ -39,8 +40,8 @@ pub write_text-boxed-requires : goal.write_text-boxed-requires
 unfolding ascii
 write_text-boxed-requires c = let start = c in
     let a = start.args in
-    let f = leaf_of a.own.now a.borrowed.now a.bounds.now a.cover a.depth in
-    let box = box_part a.fine a.bounds.now in
+    let f = leaf_of a.leaf in
+    let box = box_part a.fine f.box in
     let w0 = begin (domain_texts a.i f box) (domain-texts a.i f box) start.requires in
     let w1 = text-added w0 tt c.write_numbered-named.ensures in
     let w2 = text-added w1 tt c.write_listed-owned.ensures in
@@ -51,8 +52,8 @@ pub write_box-bounded-requires : goal.write_box-bounded-requires
 unfolding ascii
 write_box-bounded-requires c = let start = c in
     let a = start.args in
-    let f = leaf_of a.own.now a.borrowed.now a.bounds.now a.cover a.depth in
-    let box = box_part a.fine a.bounds.now in
+    let f = leaf_of a.leaf in
+    let box = box_part a.fine f.box in
     let w0 = begin (domain_texts a.i f box) (domain-texts a.i f box) start.requires in
     let w1 = text-added w0 tt c.write_numbered-named.ensures in
     let w2 = text-added w1 tt c.write_listed-owned.ensures in
@@ -64,8 +65,8 @@ pub write_valued-covered-requires : goal.write_valued-covered-requires
 unfolding ascii
 write_valued-covered-requires c = let start = c in
     let a = start.args in
-    let f = leaf_of a.own.now a.borrowed.now a.bounds.now a.cover a.depth in
-    let box = box_part a.fine a.bounds.now in
+    let f = leaf_of a.leaf in
+    let box = box_part a.fine f.box in
     let w0 = begin (domain_texts a.i f box) (domain-texts a.i f box) start.requires in
     let w1 = text-added w0 tt c.write_numbered-named.ensures in
     let w2 = text-added w1 tt c.write_listed-owned.ensures in
@@ -78,8 +79,8 @@ pub write_numbered-done-requires : goal.write_numbered-done-requires
 unfolding ascii
 write_numbered-done-requires c = let start = c in
     let a = start.args in
-    let f = leaf_of a.own.now a.borrowed.now a.bounds.now a.cover a.depth in
-    let box = box_part a.fine a.bounds.now in
+    let f = leaf_of a.leaf in
+    let box = box_part a.fine f.box in
     let w0 = begin (domain_texts a.i f box) (domain-texts a.i f box) start.requires in
     let w1 = text-added w0 tt c.write_numbered-named.ensures in
     let w2 = text-added w1 tt c.write_listed-owned.ensures in
@@ -93,8 +94,8 @@ pub write_byte-requires : goal.write_byte-requires
 unfolding ascii
 write_byte-requires c = let start = c in
     let a = start.args in
-    let f = leaf_of a.own.now a.borrowed.now a.bounds.now a.cover a.depth in
-    let box = box_part a.fine a.bounds.now in
+    let f = leaf_of a.leaf in
+    let box = box_part a.fine f.box in
     let w0 = begin (domain_texts a.i f box) (domain-texts a.i f box) start.requires in
     let w1 = text-added w0 tt c.write_numbered-named.ensures in
     let w2 = text-added w1 tt c.write_listed-owned.ensures in
@@ -109,8 +110,8 @@ pub returns : goal.returns
 unfolding ascii
 returns c = let start = c in
     let a = start.args in
-    let f = leaf_of a.own.now a.borrowed.now a.bounds.now a.cover a.depth in
-    let box = box_part a.fine a.bounds.now in
+    let f = leaf_of a.leaf in
+    let box = box_part a.fine f.box in
     let w0 = begin (domain_texts a.i f box) (domain-texts a.i f box) start.requires in
     let w1 = text-added w0 tt c.write_numbered-named.ensures in
     let w2 = text-added w1 tt c.write_listed-owned.ensures in

@@ -1,6 +1,5 @@
--- A domain's line, from its domain row. Assumes nothing.
+-- A leaf, from its domain row and its stretches as the code lends them. Assumes nothing.
 use mathlib.Core.Path.{◌≡◌, sym, ap, ◌∙◌}
-use mathlib.Core.Bool.{Bool}
 use mathlib.Core.List.{List, map-id}
 use Prim.Native.Nat.{ℕ, ◌+◌, ◌-◌, ◌*◌, ◌<◌}
 use native.Mathlib.Nat.{mul-add}
@@ -11,12 +10,11 @@ use Rattle.lists.proofs.Map.{get_d-map-in}
 use Rattle.lists.proofs.Put.{part-lent}
 use Rattle.definition.specs.Number.{plus_zero}
 use Rattle.definition.specs.Points.{box_width_lem}
+use Rattle.definition.specs.Tree.{Leaf}
 use Rattle.definition.specs.Packed.{row_floats_lem}
-use Rattle.formats.specs.Printout.{domain_line}
 use Rattle.packed.specs.declared.DomainRow.{DomainRow}
 use Rattle.packed.specs.Reading.{Packed, own_start, own_count, borrowed_start, borrowed_count, cover_at, read_leaf, RowFits}
 use Rattle.packed.specs.Rows.{IsRow}
-use Rattle.print_tree.specs.Unpack.{leaf_of, leaf_line, box_part}
 
 -- the cover is within the list, so what a reader takes past its end does not matter
 cover-read : (p : Packed) (j : ℕ) → RowFits p j
@@ -27,18 +25,23 @@ cover-read p j fits =
     ap (λ (l : List Float). get_or l at plus_zero) (sym (map-id p.boxes)) ∙ get_d-map-in (λ (x : Float). x) p.boxes at nan plus_zero inside
 
 -- the row r read, the box found at x, with w bounds, and the cover behind it
-module _ (fine : Bool) (i : ℕ) (p : Packed) (j : ℕ) (r : DomainRow) (e : IsRow r p.domains j) (x w : ℕ) (ex : x ≡ row_floats_lem p.dimension * j)
+module _ (p : Packed) (j : ℕ) (r : DomainRow) (e : IsRow r p.domains j) (x w : ℕ) (ex : x ≡ row_floats_lem p.dimension * j)
     (ew : w ≡ box_width_lem p.dimension) (fits : RowFits p j) where
-  pub leaf-line :
+  abbrev pub leaf_lent : Leaf
+  leaf_lent =
       let o = r.internal_start in
       let b = r.borrowed_start in
-      let box = take (x + w - x) (drop x p.boxes) in
-      leaf_line fine i p j
-      ≡ domain_line i
-      (leaf_of (take (o + r.internal_count - o) (drop o p.internals)) (take (b + r.borrowed_count - b) (drop b p.borrowed)) box (get_or p.boxes (x + w) nan) r.depth)
-      (box_part fine box)
-  unfolding leaf_line read_leaf
-  leaf-line =
+      record {
+        own = take (o + r.internal_count - o) (drop o p.internals);
+        borrowed = take (b + r.borrowed_count - b) (drop b p.borrowed);
+        box = take (x + w - x) (drop x p.boxes);
+        cover = get_or p.boxes (x + w) nan;
+        depth = r.depth;
+      }
+
+  pub leaf-lent : leaf_lent ≡ read_leaf p j
+  unfolding read_leaf
+  leaf-lent =
       rw (
         e.own_start,
         e.own_count,
