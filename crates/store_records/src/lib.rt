@@ -19,15 +19,15 @@ use config::DDMParams;
 use packed::Packed;
 
 // The first byte of every mark, and the second one of the head's, a point's, a level's and a domain's.
-const TREE: u8 = 0x54;
+const TREE: u8 = b'T';
 
-const HEAD: u8 = 0x48;
+const HEAD: u8 = b'H';
 
-const POINT: u8 = 0x50;
+const POINT: u8 = b'P';
 
-const LEVEL: u8 = 0x4c;
+const LEVEL: u8 = b'L';
 
-const DOMAIN: u8 = 0x44;
+const DOMAIN: u8 = b'D';
 
 // ---- parts of records
 
