@@ -9,54 +9,44 @@ use Rattle.sampling_seed.proofs.Nearest.{from_center, center-square, center-good
 use Rattle.sampling_seed.proofs.sampling_seed.Goals.{then-square-low+then-apart-near, then-square-low+else-apart-near, else-square-low}
 use Rattle.sampling_seed.proofs.sampling_seed.Goals as goal
 
-pub get_centroid-center-requires : goal.get_centroid-center-requires
-get_centroid-center-requires c = let p = c.requires in (p.0, p.1)
-
-pub bounds-rows-0 : goal.bounds-rows-0
-bounds-rows-0 c = c.requires.2
-
 pub overflow_mul-first : goal.overflow_mul-first
-overflow_mul-first c = let s = c in
-    omega (
-      arith,
-      s.well_formed,
-      (good-at s.args.rows.now s.requires.0 0 s.requires.2).inside,
-    )
+overflow_mul-first c = omega (
+  arith,
+  c.well_formed,
+  (good-at c.args.rows.now c.requires.0 0 c.requires.2).inside,
+)
 
 pub distance_sq_at-low-requires : goal.distance_sq_at-low-requires
-distance_sq_at-low-requires c = let s = c in (
-  omega (arith, s.requires.1, c.get_centroid-center.type_inv),
-  (good-at s.args.rows.now s.requires.0 0 s.requires.2).inside,
+distance_sq_at-low-requires c = (
+  omega (arith, c.requires.1, c.get_centroid-center.type_inv),
+  (good-at c.args.rows.now c.requires.0 0 c.requires.2).inside,
 )
 
 pub loop-i-init : goal.loop-i-init
-loop-i-init c = let s = c in
-    let a = s.args in
+loop-i-init c = let a = c.args in
     let m = c.get_centroid-center in
     let v = from_center a.dimensions a.points.now a.rows.now in
-    let g = center-good a.dimensions a.points.now a.rows.now s.requires.0 s.requires.2 in
-    nearest-start v _ _ (g 0 s.requires.2) (center-square _ _ _ m.result 0 _ m.ensures c.distance_sq_at-low.ensures) c.root-near.ensures
+    let g = center-good a.dimensions a.points.now a.rows.now c.requires.0 c.requires.2 in
+    nearest-start v _ _ (g 0 c.requires.2) (center-square _ _ _ m.result 0 _ m.ensures c.distance_sq_at-low.ensures) c.root-near.ensures
 
 pub overflow_mul-row : goal.overflow_mul-row
-overflow_mul-row c = let s = c in
-    omega (
-      arith,
-      s.well_formed,
-      (good-at s.args.rows.now s.requires.0 c.loop-i.i c.loop-i-test.true).inside,
-    )
+overflow_mul-row c = omega (
+  arith,
+  c.well_formed,
+  (good-at c.args.rows.now c.requires.0 c.loop-i.i c.loop-i-test.true).inside,
+)
 
 pub distance_sq_at-square-requires : goal.distance_sq_at-square-requires
-distance_sq_at-square-requires c = let s = c in (
-  omega (arith, s.requires.1, c.get_centroid-center.type_inv),
-  (good-at s.args.rows.now s.requires.0 c.loop-i.i c.loop-i-test.true).inside,
+distance_sq_at-square-requires c = (
+  omega (arith, c.requires.1, c.get_centroid-center.type_inv),
+  (good-at c.args.rows.now c.requires.0 c.loop-i.i c.loop-i-test.true).inside,
 )
 
 pub loop-i-preserved : goal.loop-i-preserved
-loop-i-preserved c = let s = c in
-    let a = s.args in
+loop-i-preserved c = let a = c.args in
     let m = c.get_centroid-center in
     let v = from_center a.dimensions a.points.now a.rows.now in
-    let g = center-good a.dimensions a.points.now a.rows.now s.requires.0 s.requires.2 in
+    let g = center-good a.dimensions a.points.now a.rows.now c.requires.0 c.requires.2 in
     let l = c.loop-i in
     let h = c.loop-i-test.true in
     let q = c.distance_sq_at-square in
