@@ -1,6 +1,6 @@
 -- How the steps fit together: sizes, quotas, what each leaf sends, and the sorted rows behind the active ones. Assumes nothing.
 -- Holds: counts_all, leaves-fit, sent-size, up-size, sorted-up, covers_up, written-up, reordered, quotas-front, own-lent,
---   lent-good, lent_length, leaf_room, leaf-end, leaf-list
+--   lent-good, leaf_room, leaf-end, leaf-list
 use mathlib.Core.Path.{◌≡◌, sym, ap, ◌∙◌}
 use mathlib.Core.List.{List, [], map, zip_with, map-map}
 use Prim.Native.Nat.{ℕ, ◌+◌, ◌-◌, ◌≤◌, ◌<◌}
@@ -182,9 +182,6 @@ own-lent I D r row e = part-lent I row.internal_start row.internal_count ∙ row
 module _ (d : ℕ) (cs : List Float) (I D : List ℕ) (r quota k : ℕ) (f : LeafFits d cs I D r quota k) (rows : List ℕ) (e : rows ≡ own_at I D r) where
   pub lent-good : GoodRows d cs rows
   lent-good = rw e f.rows
-
-  pub lent_length : length rows ≡ own_count D r
-  lent_length = ap length e ∙ length_part I (own_start D r) (own_count D r) f.stretch
 
 -- ---- the turn of the loop over the leaves
 module _ (d : ℕ) (cs : List Float) (I D : List ℕ) (first m : ℕ) (shares out : List ℕ) (at k : ℕ) (f : LeavesFit d cs I D first m shares out at k) where

@@ -9,9 +9,8 @@ use Rattle.coarse_points.proofs.Stages.{counts_all, leaves-fit, sent-size, up-si
 use Rattle.coarse_points.proofs.coarse_points.Goals as goal
 
 pub leaf_quotas-requires : goal.leaf_quotas-requires
-leaf_quotas-requires c = let s = c in
-    let a = s.args in
-    let p = s.requires in
+leaf_quotas-requires c = let a = c.args in
+    let p = c.requires in
     let n = length_part a.level_points.now a.from a.a (omega (arith, p.room.1)) in (
       p.rows.leaves.rows,
       p.room.2,
@@ -20,28 +19,23 @@ leaf_quotas-requires c = let s = c in
       p.room.0,
     )
 
-pub send_leaves-end-requires : goal.send_leaves-end-requires
-send_leaves-end-requires c = let s = c in
-    let a = s.args in
-    let p = s.requires in
-    let n = length_part a.level_points.now a.from a.a (omega (arith, p.room.1)) in record {
-      leaves = leaves-fit _ _ _ _ _ _ _ p.rows a.size (omega (arith, n, p.room.0)) _ (omega (arith, p.room.2)) c.leaf_quotas.ensures _ _ _ p.room.1 (omega (arith, n));
-      room = p.room.3;
-    }
+pub send_leaves-end-requires-clause-leaves : goal.send_leaves-end-requires-clause-leaves
+send_leaves-end-requires-clause-leaves c = let a = c.args in
+    let p = c.requires in
+    let n = length_part a.level_points.now a.from a.a (omega (arith, p.room.1)) in
+    leaves-fit _ _ _ _ _ _ _ p.rows a.size (omega (arith, n, p.room.0)) _ (omega (arith, p.room.2)) c.leaf_quotas.ensures _ _ _ p.room.1 (omega (arith, n))
 
 pub sort_stretch-requires : goal.sort_stretch-requires
-sort_stretch-requires c = let s = c in
-    let a = s.args in
-    let p = s.requires in
+sort_stretch-requires c = let a = c.args in
+    let p = c.requires in
     let k = c.send_leaves-end.ensures.sent in
     let n = length_part a.level_points.now a.from a.a (omega (arith, p.room.1)) in
     let z = sent-size _ _ _ _ _ _ _ p.rows a.size (omega (arith, n, p.room.0)) _ (omega (arith, p.room.2)) c.leaf_quotas.ensures in
     (omega (arith, k.0), omega (arith, k.0, z, p.room.1))
 
 pub returns : goal.returns
-returns c = let s = c in
-    let a = s.args in
-    let p = s.requires in
+returns c = let a = c.args in
+    let p = c.requires in
     let sent = c.send_leaves-end.ensures in
     let k = sent.sent in
     let q = c.leaf_quotas.ensures in

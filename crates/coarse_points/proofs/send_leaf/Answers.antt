@@ -1,20 +1,11 @@
 -- `coarse_points::send_leaf` meets its contract: the lent stretch of the internals is the leaf's own rows. Assumes nothing.
-use native.Mathlib.Omega.{arith}
 use Rattle.coarse_points.proofs.Covering.{leaf-lent}
-use Rattle.coarse_points.proofs.Stages.{own-lent, lent-good, lent_length}
+use Rattle.coarse_points.proofs.Stages.{own-lent, lent-good}
 use Rattle.coarse_points.proofs.send_leaf.Goals as goal
 
-pub sample_leaf-requires : goal.sample_leaf-requires
-sample_leaf-requires c = let s = c in
-    let a = s.args in
-    let f = s.requires.leaf in
-    let row = c.read_row-row in
-    let e = own-lent a.internals.now a.domains.now a.r row.result row.ensures in
-    let n = lent_length _ _ _ _ _ _ _ f _ e in record {
-      rows = lent-good _ _ _ _ _ _ _ f _ e;
-      few = (f.axes, omega (arith, n, f.within));
-      room = (s.requires.room, omega (arith, n, f.floats));
-    }
+pub sample_leaf-requires-clause-rows : goal.sample_leaf-requires-clause-rows
+sample_leaf-requires-clause-rows c = let a = c.args in
+    lent-good _ _ _ _ _ _ _ c.requires.leaf _ (own-lent a.internals.now a.domains.now a.r c.read_row-row.result c.read_row-row.ensures)
 
 pub returns : goal.returns
 returns c = let a = c.args in
