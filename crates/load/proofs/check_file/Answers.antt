@@ -1,29 +1,19 @@
 -- `load::check_file` meets its contract. Assumes nothing.
-use mathlib.Core.Path.{refl, sym, ◌∙◌}
+use mathlib.Core.Path.{sym, ◌∙◌}
 use native.Mathlib.Omega.{arith}
-use borrow.Author.Tests.{not-true, not-false}
-use Rattle.lists.proofs.Tests.{clash}
 use Rattle.load.proofs.FileTests.{front-fails, levels-decide}
 use Rattle.load.proofs.check_file.Goals as goal
 
-pub returns-then-not-front : goal.returns-then-not-front
-returns-then-not-front c = let bs = c.args.bytes.now in
-    let front = c.check_front-front in
-    record {
-      good = front-fails bs (λ k. omega (arith, c.shared_slice_known-1.given k)) (sym front.ensures.good ∙ (not-true _ c.if-not-front.true));
-      place = λ t. clash t refl;
-    }
+pub returns-in_err-settings-clause-good : goal.returns-in_err-settings-clause-good
+returns-in_err-settings-clause-good c =
+    rw c.from_residual.ensures (front-fails c.args.bytes.now (λ k. omega (arith, c.type_inv.bytes k)) (sym c.in_err-settings.ensures.good))
 
-pub check_tree-good-requires : goal.check_tree-good-requires
-check_tree-good-requires c = let read = c.check_front-front.ensures.read (not-false _ c.if-not-front.false) in
-    (read.axes_few, read.rows_few, read.neighbours_few, read.inside)
+pub returns-then-not-check_tree-clause-good : goal.returns-then-not-check_tree-clause-good
+returns-then-not-check_tree-clause-good c = let front = c.in_ok-settings in
+    sym c.if-not-check_tree.true
+    ∙ levels-decide c.args.bytes.now (λ k. omega (arith, c.type_inv.bytes k)) (sym front.ensures.good) front.field-0 front.ensures.read c.check_tree.result c.check_tree.ensures
 
-pub returns : goal.returns
-returns c = let bs = c.args.bytes.now in
-    let front = c.check_front-front in
-    let good = (not-false _ c.if-not-front.false) in
-    let read = front.ensures.read good in
-    record {
-      good = levels-decide bs (λ k. omega (arith, c.shared_slice_known-1.given k)) (sym front.ensures.good ∙ good) front.result read c.check_tree-good.result c.check_tree-good.ensures;
-      place = λ t. read.place;
-    }
+pub returns-clause-good : goal.returns-clause-good
+returns-clause-good c = let front = c.in_ok-settings in
+    sym c.if-not-check_tree.false
+    ∙ levels-decide c.args.bytes.now (λ k. omega (arith, c.type_inv.bytes k)) (sym front.ensures.good) front.field-0 front.ensures.read c.check_tree.result c.check_tree.ensures

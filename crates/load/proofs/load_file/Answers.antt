@@ -1,8 +1,8 @@
 -- `load::load_file` meets its contract: each way out has its law. Assumes nothing.
-use mathlib.Core.Path.{◌≡◌, refl, sym, ◌∙◌}
+use mathlib.Core.Path.{◌≡◌, refl, sym, ap, ◌∙◌}
 use mathlib.Core.Bool.{true, false}
 use native.Mathlib.Omega.{arith}
-use borrow.Author.Tests.{not-true, not-false}
+use Rattle.definition.specs.Packed.{Counts}
 use Rattle.stored.specs.Stored.{well_formed}
 use Rattle.stored.specs.Outcome.{same_settings_lem, same_points_lem}
 use Rattle.config.specs.Params.{settings_of_lem}
@@ -11,14 +11,13 @@ use Rattle.load.proofs.SameFile.{front-stands, settings-inside, taken-with, its-
 use Rattle.load.proofs.Outcomes.{loaded-refused, refused-20, refused-18, refused-19, loaded-accepted}
 use Rattle.load.proofs.load_file.Goals as goal
 
-pub returns-then-not-file : goal.returns-then-not-file
-returns-then-not-file c = let start = c in
+pub returns-in_default : goal.returns-in_default
+returns-in_default c = let start = c in
     let s = settings_of_lem start.args.dimensions start.args.params in
     let cs = start.args.points.now in
     let bs = start.args.bytes.now in
     let old = lists_of start.args.level_points.now start.args.internals.now start.args.domains.now start.args.boxes.now start.args.borrowed.now in
-    let out : well_formed bs ≡ false = sym c.check_file-file.ensures.good ∙ (not-true _ c.if-not-file.true) in
-    loaded-refused s cs bs old _ (refused-20 s cs bs old start.requires out) c.refusal.ensures
+    loaded-refused s cs bs old _ (refused-20 s cs bs old start.requires (sym c.in_default.ensures.good)) refl
 
 pub same_settings-requires : goal.same_settings-requires
 same_settings-requires c = let start = c in
@@ -26,7 +25,7 @@ same_settings-requires c = let start = c in
     let cs = start.args.points.now in
     let bs = start.args.bytes.now in
     let old = lists_of start.args.level_points.now start.args.internals.now start.args.domains.now start.args.boxes.now start.args.borrowed.now in
-    let well : well_formed bs ≡ true = sym c.check_file-file.ensures.good ∙ (not-false _ c.if-not-file.false) in
+    let well : well_formed bs ≡ true = sym c.in-Some.ensures.good in
     (settings-inside bs well, omega (arith, (taken-with s cs old start.requires).axes_few))
 
 pub returns-then-not-same_settings : goal.returns-then-not-same_settings
@@ -35,9 +34,9 @@ returns-then-not-same_settings c = let start = c in
     let cs = start.args.points.now in
     let bs = start.args.bytes.now in
     let old = lists_of start.args.level_points.now start.args.internals.now start.args.domains.now start.args.boxes.now start.args.borrowed.now in
-    let well : well_formed bs ≡ true = sym c.check_file-file.ensures.good ∙ (not-false _ c.if-not-file.false) in
+    let well : well_formed bs ≡ true = sym c.in-Some.ensures.good in
     let out : same_settings_lem s bs ≡ false = sym c.same_settings.ensures ∙ c.if-not-same_settings.true in
-    loaded-refused s cs bs old _ (refused-18 s cs bs old start.requires well out) c.refusal-then-not-same_settings.ensures
+    loaded-refused s cs bs old _ (refused-18 s cs bs old start.requires well out) refl
 
 pub same_points-requires : goal.same_points-requires
 same_points-requires c = let start = c in
@@ -45,7 +44,7 @@ same_points-requires c = let start = c in
     let cs = start.args.points.now in
     let bs = start.args.bytes.now in
     let old = lists_of start.args.level_points.now start.args.internals.now start.args.domains.now start.args.boxes.now start.args.borrowed.now in
-    let well : well_formed bs ≡ true = sym c.check_file-file.ensures.good ∙ (not-false _ c.if-not-file.false) in
+    let well : well_formed bs ≡ true = sym c.in-Some.ensures.good in
     let settings : same_settings_lem s bs ≡ true = sym c.same_settings.ensures ∙ c.if-not-same_settings.false in
     let has = taken-with s cs old start.requires in
     (front-stands bs well, its-dimension s cs old start.requires bs well settings, has.axes, has.axes_few, has.rows_few)
@@ -56,10 +55,10 @@ returns-then-not-same_points c = let start = c in
     let cs = start.args.points.now in
     let bs = start.args.bytes.now in
     let old = lists_of start.args.level_points.now start.args.internals.now start.args.domains.now start.args.boxes.now start.args.borrowed.now in
-    let well : well_formed bs ≡ true = sym c.check_file-file.ensures.good ∙ (not-false _ c.if-not-file.false) in
+    let well : well_formed bs ≡ true = sym c.in-Some.ensures.good in
     let settings : same_settings_lem s bs ≡ true = sym c.same_settings.ensures ∙ c.if-not-same_settings.false in
     let out : same_points_lem s cs bs ≡ false = sym (c.same_points.ensures s refl settings) ∙ c.if-not-same_points.true in
-    loaded-refused s cs bs old _ (refused-19 s cs bs old start.requires well settings out) c.refusal-then-not-same_points.ensures
+    loaded-refused s cs bs old _ (refused-19 s cs bs old start.requires well settings out) refl
 
 pub put_levels-requires : goal.put_levels-requires
 put_levels-requires c = let start = c in
@@ -67,14 +66,13 @@ put_levels-requires c = let start = c in
     let cs = start.args.points.now in
     let bs = start.args.bytes.now in
     let old = lists_of start.args.level_points.now start.args.internals.now start.args.domains.now start.args.boxes.now start.args.borrowed.now in
-    let well : well_formed bs ≡ true = sym c.check_file-file.ensures.good ∙ (not-false _ c.if-not-file.false) in
+    let well : well_formed bs ≡ true = sym c.in-Some.ensures.good in
     let settings : same_settings_lem s bs ≡ true = sym c.same_settings.ensures ∙ c.if-not-same_settings.false in
     let points : same_points_lem s cs bs ≡ true = sym (c.same_points.ensures s refl settings) ∙ c.if-not-same_points.false in
-    let file = c.check_file-file in
-    let place = file.ensures.place (file.ensures.good ∙ well) in
+    let place = c.in-Some.ensures.place in
     record {
-      dimensions_bound = ((taken-with s cs old start.requires).axes_few, levels-here s cs old start.requires bs well settings points file.result.next place);
-      can_hold = can-hold-it s cs old start.requires bs well settings points file.result.next place;
+      dimensions_bound = ((taken-with s cs old start.requires).axes_few, levels-here s cs old start.requires bs well settings points c.in-Some.place place);
+      can_hold = can-hold-it s cs old start.requires bs well settings points c.in-Some.place place;
     }
 
 pub returns : goal.returns
@@ -83,10 +81,9 @@ returns c = let start = c in
     let cs = start.args.points.now in
     let bs = start.args.bytes.now in
     let old = lists_of start.args.level_points.now start.args.internals.now start.args.domains.now start.args.boxes.now start.args.borrowed.now in
-    let well : well_formed bs ≡ true = sym c.check_file-file.ensures.good ∙ (not-false _ c.if-not-file.false) in
+    let well : well_formed bs ≡ true = sym c.in-Some.ensures.good in
     let settings : same_settings_lem s bs ≡ true = sym c.same_settings.ensures ∙ c.if-not-same_settings.false in
     let points : same_points_lem s cs bs ≡ true = sym (c.same_points.ensures s refl settings) ∙ c.if-not-same_points.false in
-    let file = c.check_file-file in
-    let place = file.ensures.place (file.ensures.good ∙ well) in
+    let place = c.in-Some.ensures.place in
     let w = c.put_levels.ensures in
-    loaded-accepted s cs bs old start.requires well settings points file.result.next place w.counts w.level_points w.internals w.domains w.boxes w.borrowed
+    loaded-accepted s cs bs old start.requires well settings points c.in-Some.place place (ap (λ (n : Counts). record { number = 0; place = 0; value = n }) w.counts) w.level_points w.internals w.domains w.boxes w.borrowed

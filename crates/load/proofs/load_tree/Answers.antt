@@ -1,20 +1,20 @@
 -- `load::load_tree` meets its contract. Assumes nothing.
-use mathlib.Core.Path.{refl, sym, ap, ◌∙◌}
+use mathlib.Core.Path.{refl, sym}
+use Rattle.std.proofs.lemmas.Result.{err_from_is_err_and}
 use Rattle.config.specs.Params.{settings_of_lem}
-use Rattle.build_checks.specs.Verdicts.{verdict_of}
 use Rattle.tree_answer.specs.Answers.{lists_of}
 use Rattle.load.proofs.Outcomes.{own-refused, loaded-refused}
 use Rattle.load.proofs.load_tree.Goals as goal
 
 pub load_file-requires : goal.load_file-requires
-load_file-requires c = sym (c.check_tree-checked.ensures _ (record { level_points = refl; internals = refl; domains = refl; boxes = refl; borrowed = refl }))
-    ∙ ap verdict_of c.in-Accepted.is
+load_file-requires c = sym (c.in_ok-check_tree.ensures _ (record { level_points = refl; internals = refl; domains = refl; boxes = refl; borrowed = refl }))
 
-pub returns-in-Refused : goal.returns-in-Refused
-returns-in-Refused c = let start = c in
-    let s = settings_of_lem start.args.dimensions start.args.params in
-    let cs = start.args.points.now in
-    let bs = start.args.bytes.now in
-    let old = lists_of start.args.level_points.now start.args.internals.now start.args.domains.now start.args.boxes.now start.args.borrowed.now in
-    let e = sym (c.check_tree-checked.ensures old (record { level_points = refl; internals = refl; domains = refl; boxes = refl; borrowed = refl })) ∙ ap verdict_of c.in-Refused.is in
-    loaded-refused s cs bs old _ (own-refused s cs bs old _ e) c.refusal.ensures
+pub returns-in_err-check_tree : goal.returns-in_err-check_tree
+returns-in_err-check_tree c = let a = c.args in
+    let s = settings_of_lem a.dimensions a.params in
+    let cs = a.points.now in
+    let bs = a.bytes.now in
+    let old = lists_of a.level_points.now a.internals.now a.domains.now a.boxes.now a.borrowed.now in
+    let p = err_from_is_err_and c.from_residual.result c.from_residual.ensures.1 in
+    let e = sym (c.in_err-check_tree.ensures old (record { level_points = refl; internals = refl; domains = refl; boxes = refl; borrowed = refl })) in
+    rw (p.1, p.2) (loaded-refused s cs bs old _ (own-refused s cs bs old _ e) refl)
