@@ -1,14 +1,14 @@
 -- One pass over the rows: the values are lessened, and the greatest of them is found with a bound of those before it.
 -- Assumes nothing.
--- Holds: PassedTo, passed_none, passed-more, lessened-at, pair-good, lessened-kept, lessened-good, Seen, seen_none, seen-greater,
---   seen_other, seen_all, peaked-in
+-- Holds: PassedTo, passed-more, lessened-at, pair-good, lessened-kept, lessened-good, Seen, seen-greater,
+--   seen_other, seen_all
 use mathlib.Core.Path.{◌≡◌, refl, sym, ap₂, ◌∙◌}
 use mathlib.Core.Logic.{◌⊎◌, inl, inr, ⊎_elim}
 use mathlib.Core.Bool.{Bool, true, false, cond}
 use mathlib.Core.List.{List}
 use Prim.Native.Nat.{ℕ, ◌+◌, ◌≤◌, ◌<◌}
 use native.Mathlib.Omega.{arith}
-use borrow.Author.Count.{below_none, below_more}
+use borrow.Author.Count.{below_more}
 use lib.ListN.{length, get_or, set, length-set}
 use lib.Seq.{get_or-set_other}
 use lib.Ieee.{Float, nan, lt}
@@ -28,9 +28,6 @@ pub record PassedTo (v : ℕ → Float) (l₀ l : List Float) (i : ℕ) : Type 0
   pub left : (k : ℕ) → i ≤ k → get_or l k nan ≡ get_or l₀ k nan
 
 module _ (v : ℕ → Float) (l₀ : List Float) where
-  pub passed_none : PassedTo v l₀ l₀ 0
-  passed_none = record { same = refl; done = below_none _; left = λ k h. refl }
-
   pub passed-more : (l : List Float) (i : ℕ) (x : Float) → PassedTo v l₀ l i → i < length l → x ≡ v i → PassedTo v l₀ (set l i x) (i + 1)
   passed-more l i x p h e =
       record {
@@ -70,15 +67,6 @@ pub record Seen (v : ℕ → Float) (i place : ℕ) (most second : Float) : Type
   pub found : ((place ≡ 0) × (most ≡ minus_one)) ⊎ ((place < i) × (most ≡ v place))
 
 module _ (v : ℕ → Float) where
-  pub seen_none : Seen v 0 0 minus_one minus_one
-  seen_none =
-      record {
-        kept = inl refl;
-        greatest = below_none _;
-        earlier = record { kept = inl refl; bound = below_none _ };
-        found = inl (refl, refl);
-      }
-
   module _ (i place : ℕ) (most second : Float) (s : Seen v i place most second) where
     -- the value at i is greater than those before it
     pub seen-greater : (x : Float) → x ≡ v i → ((j : ℕ) → j ≤ i → KeptSquare (v j)) → lt most x ≡ true → Seen v (i + 1) i x most
@@ -115,14 +103,3 @@ module _ (v : ℕ → Float) where
       })
       (λ f. record { inside = f.0; here = f.1; greatest = s.greatest; earlier = s.earlier })
       s.found
-
--- the values as the list holds them
-pub peaked-in : (v : ℕ → Float) (l : List Float) (n place : ℕ) (most second : Float) → ((i : ℕ) → i < n → get_or l i nan ≡ v i)
-    → Peaked v n place most second → Peaked (λ i. get_or l i nan) n place most second
-peaked-in v l n place most second s p =
-    record {
-      inside = p.inside;
-      here = p.here ∙ sym (s place p.inside);
-      greatest = λ j h. rw (s j h) (p.greatest j h);
-      earlier = record { kept = p.earlier.kept; bound = λ j h. rw (s j (omega (arith, p.inside))) (p.earlier.bound j h) };
-    }

@@ -1,5 +1,5 @@
 -- The first place with the greatest root, found by few roots: roots keep the order of their squares. Assumes nothing.
--- Holds: root_below, Looked, looked-none, looked-near, looked-low, looked-less, looked-here, looked-all, none_before,
+-- Holds: root_below, Looked, looked-none, looked-near, looked-low, looked-less, looked-here, none_before,
 --   less-before, greatest-good, peak-worst, first-chosen
 use mathlib.Core.Path.{◌≡◌, refl, ap, ◌∙◌, subst}
 use mathlib.Core.Logic.{⊎_elim, inl, inr}
@@ -77,9 +77,6 @@ module _ (v : ℕ → Float) (best : ℕ) (g : good (v best) ≡ true) where
         same = lt_irrefl (square_root_lem (v best)) (root-good (v best) g);
         earlier = h;
       }
-
-  pub looked-all : (i : ℕ) (low : Float) → Looked v (square_root_lem (v best)) low i → i ≡ best → Earliest v best best
-  looked-all i low s e = itself (λ j h. s.passed j (omega arith))
 
   -- ---- what the second square tells
   module _ (second : Float) (h : Held v best second) where

@@ -8,18 +8,8 @@ use Rattle.sampling_rounds.proofs.Roots.{none_before, less-before}
 use Rattle.sampling_rounds.proofs.first_farthest.Goals as goal
 
 pub returns-then-peak : goal.returns-then-peak
-returns-then-peak c = let s = c in
-    none_before _ s.args.peak.place (subst (λ (x : Float). good x ≡ true) s.requires.place_in_bounds.1 s.requires.most_value) s.args.peak.second s.requires.held c.if-peak.true
+returns-then-peak c = none_before _ c.args.peak.place (subst (λ (x : Float). good x ≡ true) c.requires.place_in_bounds.1 c.requires.most_value) c.args.peak.second c.requires.held c.if-peak.true
 
 pub returns-then-root : goal.returns-then-root
-returns-then-root c = let s = c in
-    less-before _ s.args.peak.place (subst (λ (x : Float). good x ≡ true) s.requires.place_in_bounds.1 s.requires.most_value) s.args.peak.second s.requires.held
-    (ap₂ lt (sym c.root.ensures) (sym (c.root-2.ensures ∙ ap square_root_lem s.requires.place_in_bounds.1)) ∙ c.if-root.true)
-
-pub look_back-requires : goal.look_back-requires
-look_back-requires c = let s = c in
-    record {
-      best_in_bounds = s.requires.place_in_bounds.0;
-      nan_value = (subst (λ (x : Float). good x ≡ true) s.requires.place_in_bounds.1 s.requires.most_value);
-      by_index = s.requires.by_index;
-    }
+returns-then-root c = less-before _ c.args.peak.place (subst (λ (x : Float). good x ≡ true) c.requires.place_in_bounds.1 c.requires.most_value) c.args.peak.second c.requires.held
+    (ap₂ lt (sym c.root.ensures) (sym (c.root-2.ensures ∙ ap square_root_lem c.requires.place_in_bounds.1)) ∙ c.if-root.true)

@@ -1,9 +1,7 @@
-use Prim.Native.Nat.{◌≤◌}
-use lib.ListN.{length}
 use Rattle.sampling_rounds.specs.Rounds.{lessened}
 use Rattle.sampling_rounds.proofs.Passes.{PassedTo, Seen}
 use Rattle.sampling_rounds.proofs.lessen.Given as goal
 
 abbrev pub invariant-loop-i : goal.invariant-loop-i
-invariant-loop-i l = (length l.rows ≤ length l.initial.floats) × (PassedTo (lessened l.dimensions l.points l.rows l.fn.last.0 l.initial.floats) l.initial.floats l.floats l.i
-    × Seen (lessened l.dimensions l.points l.rows l.fn.last.0 l.initial.floats) l.i l.place l.most l.second)
+invariant-loop-i l = PassedTo (lessened l.dimensions l.points l.rows l.fn.last.0 l.initial.floats) l.initial.floats l.floats l.i
+    × Seen (lessened l.dimensions l.points l.rows l.fn.last.0 l.initial.floats) l.i l.place l.most l.second

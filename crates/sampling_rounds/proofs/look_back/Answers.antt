@@ -7,7 +7,7 @@ use lib.Ieee.{Float, nan}
 use Rattle.definition.specs.Number.{square_root_lem}
 use Rattle.root_laws.proofs.Values.{root-good}
 use Rattle.sampling_rounds.proofs.Orders.{near-good, kept-good}
-use Rattle.sampling_rounds.proofs.Roots.{looked-none, looked-near, looked-low, looked-less, looked-here, looked-all}
+use Rattle.sampling_rounds.proofs.Roots.{looked-none, looked-near, looked-low, looked-less, looked-here}
 use Rattle.sampling_rounds.proofs.look_back.Goals.{then-root-top, else-root-top, then-low-value+then-root-top-2, else-low-value}
 use Rattle.sampling_rounds.proofs.look_back.Goals as goal
 
@@ -15,40 +15,29 @@ abbrev value : List Float → ℕ → Float
 value floats i = get_or floats i nan
 
 pub loop-i-init : goal.loop-i-init
-loop-i-init c = let s = c in
-    let g = s.requires.nan_value in
+loop-i-init c = let g = c.requires.nan_value in
     let t = c.root-top.ensures in
     elim c.if-root-top.branch [
-      | then-root-top w ↦ (s.requires.best_in_bounds, rw w.low-is (looked-near _ _ _ (root-good _ g) (near-good _ g) (rw (← c.root.ensures, ← t) w.if-root-top.true)))
-      | else-root-top w ↦ (s.requires.best_in_bounds, rw w.low-is (looked-none _ _))
+      | then-root-top w ↦ rw w.low-is (looked-near _ _ _ (root-good _ g) (near-good _ g) (rw (← c.root.ensures, ← t) w.if-root-top.true))
+      | else-root-top w ↦ rw w.low-is (looked-none _ _)
     ]
 
 pub returns-else-root-top-2 : goal.returns-else-root-top-2
-returns-else-root-top-2 c = let s = c in
-    let l = c.loop-i in
-    let v = value s.args.floats.now in
+returns-else-root-top-2 c = let l = c.loop-i in
+    let v = value c.args.floats.now in
     let h = c.loop-i-test.true in
-    looked-here v s.args.best l.i l.low l.invariant.1 (omega arith)
-    (kept-good l.low (v l.i) l.invariant.1.kept (s.requires.by_index l.i h) c.if-low-value.true)
+    looked-here v c.args.best l.i l.low l.invariant (omega arith)
+    (kept-good l.low (v l.i) l.invariant.kept (c.requires.by_index l.i h) c.if-low-value.true)
     (rw (← c.root-then-low-value.ensures, ← c.root-top.ensures) c.if-root-top-2.false)
 
 pub loop-i-preserved : goal.loop-i-preserved
-loop-i-preserved c = let s = c in
-    let l = c.loop-i in
-    let v = value s.args.floats.now in
+loop-i-preserved c = let l = c.loop-i in
+    let v = value c.args.floats.now in
     let h = c.loop-i-test.true in
-    let r = square_root_lem (v s.args.best) in
-    let q = l.invariant.1 in
+    let r = square_root_lem (v c.args.best) in
+    let q = l.invariant in
     elim c.if-low-value.branch [
-      | then-low-value+then-root-top-2 w ↦ (
-        l.invariant.0,
-        rw w.low-is (looked-less v r l.low l.i q (root-good _ s.requires.nan_value)
-            (kept-good l.low (v l.i) q.kept (s.requires.by_index l.i h) w.if-low-value.true) (rw (← w.root-then-low-value.ensures, ← c.root-top.ensures) w.if-root-top-2.true)),
-      )
-      | else-low-value w ↦ (l.invariant.0, rw w.low-is (looked-low v r l.low l.i q w.if-low-value.false))
+      | then-low-value+then-root-top-2 w ↦ rw w.low-is (looked-less v r l.low l.i q (root-good _ c.requires.nan_value)
+          (kept-good l.low (v l.i) q.kept (c.requires.by_index l.i h) w.if-low-value.true) (rw (← w.root-then-low-value.ensures, ← c.root-top.ensures) w.if-root-top-2.true))
+      | else-low-value w ↦ rw w.low-is (looked-low v r l.low l.i q w.if-low-value.false)
     ]
-
-pub returns : goal.returns
-returns c = let s = c in
-    let l = c.loop-i in
-    looked-all (value s.args.floats.now) s.args.best s.requires.nan_value l.i l.low l.invariant.1 (omega arith)
