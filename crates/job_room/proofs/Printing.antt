@@ -1,6 +1,5 @@
 -- The outcome of a call that prints a text into a lent list, from what it wrote; and what a caller finds there. Assumes nothing.
--- Holds: text-room, refusal-room, refusal-numbered, answer-short, output-short, answer-long, output-long, count_fits, text-fits, text-printed,
---   long-taken
+-- Holds: text-room, refusal-room, refusal-numbered, answer-short, output-short, answer-long, output-long, count_fits, taken, found
 use mathlib.Core.Path.{◌≡◌, refl, ap, ◌∙◌}
 use mathlib.Core.Logic.{⊎_elim}
 use Prim.Native.Nat.{ℕ, ◌≤◌, ◌<◌}
@@ -10,7 +9,7 @@ use mathlib.Core.List.{List, ◌++◌}
 use lib.ListN.{length, take, drop, length-append}
 use lib.Seq.{take_at}
 use borrow.Author.Tests.{le-ltb, lt-ltb}
-use Rattle.std.specs.Prelude.{Err}
+use Rattle.std.specs.Prelude.{Result, Ok, Err, IsOk}
 use Rattle.lists.proofs.Put.{put-zero}
 use Rattle.lists.proofs.Tests.{le-or-lt}
 use Rattle.definition.specs.Refusals.{accepted, refused, verdict}
@@ -111,15 +110,26 @@ module _ (text output : List ℕ) where
       unfolding print_output list_after written
       text-written = f ∙ rw (call_long long)
 
-      pub text-fits : r.value ≤ length after
+      text-fits : r.value ≤ length after
       text-fits = omega (arith, text-counted, ap length text-written, length-append text (drop (length text) output))
 
-      pub text-printed : take r.value after ≡ text
+      text-printed : take r.value after ≡ text
       text-printed = rw (text-counted, text-written) (take_at text (drop (length text) output) (length text) refl)
 
-  -- a list that is long enough is not refused
-  pub long-taken : (x : Refusal) → printed_answer (Err x) ≡ print_answer_lem text output → most_bytes ≤ length output → ⊥
+  -- ---- the same by the result: of a list that is long enough the call is not refused
+  long-taken : (x : Refusal) → printed_answer (Err x) ≡ print_answer_lem text output → most_bytes ≤ length output → ⊥
   unfolding print_answer_lem number_of
   long-taken x e long =
       let n : refusal_number x ≡ 0 = ap (λ (a : Answer ℕ). a.number) e ∙ rw (call_long long) in
       omega (arith, refusal-numbered x)
+
+  pub taken : (r : Result ℕ Refusal) → printed_answer r ≡ print_answer_lem text output → most_bytes ≤ length output → IsOk r
+  taken (Ok n) e long = refl
+  taken (Err x) e long = absurd (long-taken x e long)
+
+  -- and its text is at the front
+  pub found : (r : Result ℕ Refusal) (n : ℕ) → r ≡ Ok n → printed_answer r ≡ print_answer_lem text output → most_bytes ≤ length output
+      → (after : List ℕ) → after ≡ print_output text output → (n ≤ length after) × (take n after ≡ text)
+  found r n is e long after f =
+      let q = rw is at e in
+      (text-fits (printed_answer (Ok n)) q long after f, text-printed (printed_answer (Ok n)) q long after f)
