@@ -5,6 +5,7 @@ ghost use Rattle.std.specs.Prelude.{◌≡◌, true, ◌^◌, ◌≤◌};
 ghost use Rattle.replay_builds.specs.Room.{Fitting};
 
 use build_sizes::BuildSizes;
+use refusal::Refusal;
 use table::Head;
 use tree_answer::DDMTree;
 
@@ -51,44 +52,32 @@ fn lengths(record: &[u8], at: usize) -> BuildSizes
 fn fit(size: BuildSizes) -> bool
     ensures { result ≡ true → Fitting size }
 {
-    if LEVEL_POINTS < size.level_points {
-        return false;
-    }
-    if INTERNALS < size.internals {
-        return false;
-    }
-    if DOMAINS < size.domains {
-        return false;
-    }
-    if BOXES < size.boxes {
-        return false;
-    }
-    if BORROWED < size.borrowed {
-        return false;
-    }
-    if FLOATS < size.floats {
-        return false;
-    }
-    if WHOLES < size.wholes {
-        return false;
-    }
-    true
+    size.level_points <= LEVEL_POINTS
+        && size.internals <= INTERNALS
+        && size.domains <= DOMAINS
+        && size.boxes <= BOXES
+        && size.borrowed <= BORROWED
+        && size.floats <= FLOATS
+        && size.wholes <= WHOLES
 }
 
 // Whether the working room is as it was, where the call is refused. The fronts at `at` are then empty.
-fn room_agrees(tree: DDMTree, record: &[u8], at: usize, floats: &[f64], wholes: &[usize]) -> bool
+fn room_agrees(
+    answer: Result<DDMTree, Refusal>,
+    record: &[u8],
+    at: usize,
+    floats: &[f64],
+    wholes: &[usize],
+) -> bool
     requires { at ≤ 2 ^ 41 }
 {
-    if tree.number == 0 {
-        return true;
-    }
-    call_records::floats_agree(floats, record, at)
-        && call_records::numbers_agree(wholes, record, at)
+    answer.is_ok()
+        || call_records::agree(floats, record, at) && call_records::agree(wholes, record, at)
 }
 
 // Whether this outcome stands from `at` on.
 fn outcome_agrees(
-    tree: DDMTree,
+    answer: Result<DDMTree, Refusal>,
     record: &[u8],
     at: usize,
     level_points: &[usize],
@@ -103,8 +92,8 @@ fn outcome_agrees(
         return false;
     }
     let fronts = at + call_records::ANSWER;
-    call_records::answer_agrees(tree, record, at)
-        && room_agrees(tree, record, fronts, floats, wholes)
+    call_records::answer_agrees(answer, record, at)
+        && room_agrees(answer, record, fronts, floats, wholes)
         && call_records::lists_agree(
             record,
             fronts,
@@ -131,7 +120,7 @@ fn build_agrees(
     floats: &mut [f64],
     wholes: &mut [usize],
 ) -> bool {
-    let tree = table_build::build_slots(
+    let answer = table_build::build_slots(
         head,
         flags,
         coordinates,
@@ -146,7 +135,7 @@ fn build_agrees(
         wholes,
     );
     outcome_agrees(
-        tree,
+        answer,
         record,
         after,
         level_points,
@@ -203,8 +192,5 @@ pub fn agrees(record: &[u8], at: usize, flags: &[u8], coordinates: &[f64]) -> bo
     };
     let place = at + HEAD;
     let size = lengths(record, place);
-    if !fit(size) {
-        return false;
-    }
-    nines_agree(record, head, place + LENGTHS, flags, coordinates, size)
+    fit(size) && nines_agree(record, head, place + LENGTHS, flags, coordinates, size)
 }

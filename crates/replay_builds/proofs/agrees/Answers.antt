@@ -2,4 +2,4 @@
 use Rattle.replay_builds.proofs.agrees.Goals as goal
 
 pub nines_agree-requires : goal.nines_agree-requires
-nines_agree-requires c = c.fit.ensures c.if-not-fit.false
+nines_agree-requires c = c.fit.ensures c.if-fit.true
