@@ -1,5 +1,6 @@
 -- A call whose own tests passed, and a sound tree in its lists: the counts keep to their limits, and give the length of the file. Assumes nothing.
 -- Holds: own-passed, tree-bad, tree-good, tree-packs, tree-sound, tree-room, tree-limited, tree-size
+use Rattle.std.specs.Prelude.{Some, None}
 use mathlib.Core.Path.{◌≡◌, sym, ap, ◌∙◌}
 use mathlib.Core.Bool.{Bool, true, false, ◌&&◌}
 use mathlib.Core.List.{List}
@@ -41,13 +42,12 @@ own-passed s cs l own =
     (lists_short_lem l (build_stated s.dimension (point_count s.dimension cs) s.neighbours)) (not_finite_lem cs) own
 
 -- ---- a tree in the lists that is not sound
-pub tree-bad : (s : Settings) (n : ℕ) (c : Counts) (l : TreeLists) (r : ListsPassed) → TreePassed s n c l r → r.good ≡ false
-    → packs c l (tree_held s.dimension c l) && sound s n (tree_held s.dimension c l) ≡ false
-tree-bad s n c l r tested bad = sym tested.passed ∙ bad
+pub tree-bad : (s : Settings) (n : ℕ) (c : Counts) (l : TreeLists) → TreePassed s n c l None → packs c l (tree_held s.dimension c l) && sound s n (tree_held s.dimension c l) ≡ false
+tree-bad s n c l tested = sym tested.passed
 
 -- ---- a sound one
 module _ (s : Settings) (cs : List Float) (c : Counts) (l : TreeLists) (own : verdict (own_tests s cs l) ≡ accepted) (r : ListsPassed)
-    (tested : TreePassed s (point_count s.dimension cs) c l r) (good : r.good ≡ true) where
+    (tested : TreePassed s (point_count s.dimension cs) c l (Some r)) where
   abbrev d : ℕ
   d = s.dimension
 
@@ -58,7 +58,7 @@ module _ (s : Settings) (cs : List Float) (c : Counts) (l : TreeLists) (own : ve
   ls = tree_held d c l
 
   pub tree-good : packs c l (tree_held s.dimension c l) && sound s (point_count s.dimension cs) (tree_held s.dimension c l) ≡ true
-  tree-good = sym tested.passed ∙ good
+  tree-good = sym tested.passed
 
   pub tree-packs : packs c l (tree_held s.dimension c l) ≡ true
   tree-packs = and-fst (packs c l ls) (sound s n ls) tree-good
@@ -94,10 +94,10 @@ module _ (s : Settings) (cs : List Float) (c : Counts) (l : TreeLists) (own : ve
         axes = p.axes_few;
         points = p.rows_few;
         few = omega (arith, levels-are, few);
-        rows_few = omega (arith, tested.rows good, rows);
-        some = omega (arith, tested.domains good, held-some s n c l tree-packs tree-sound tree-room);
-        domains_few = omega (arith, tested.domains good, leb-true (length (leaves_in_lem ls)) (most_rows n) (and-fst few-leaves few-borrowed passes.2));
-        borrowed_few = omega (arith, tested.borrowed good, borrowed);
+        rows_few = omega (arith, tested.rows, rows);
+        some = omega (arith, tested.domains, held-some s n c l tree-packs tree-sound tree-room);
+        domains_few = omega (arith, tested.domains, leb-true (length (leaves_in_lem ls)) (most_rows n) (and-fst few-leaves few-borrowed passes.2));
+        borrowed_few = omega (arith, tested.borrowed, borrowed);
       }
 
   -- and give the length of the file
@@ -105,4 +105,4 @@ module _ (s : Settings) (cs : List Float) (c : Counts) (l : TreeLists) (own : ve
       → size ≡ length (file_bytes s cs (tree_held s.dimension c l))
   tree-size size e =
       e ∙ ap (λ (k : ℕ). file_size_lem d n k r.rows r.domains r.borrowed) levels-are
-      ∙ rw (tested.rows good, tested.domains good, tested.borrowed good) (sym (file-length s cs n ls passes.1))
+      ∙ rw (tested.rows, tested.domains, tested.borrowed) (sym (file-length s cs n ls passes.1))

@@ -10,9 +10,10 @@ ghost use Rattle.tree_tests.specs.Size.{file_size_lem};
 ghost use Rattle.store.specs.Limits.{Limited};
 ghost use Rattle.store.specs.Outcome.{store_report, Stored};
 
-use build_checks::Checked;
 use config::DDMParams;
-use tree_answer::TreeCounts;
+use packed::Packed;
+use refusal::Refusal;
+use tree_answer::DDMTree;
 use tree_checks::TreeSizes;
 
 // The head's bytes: the settings record's, and the point count's.
@@ -23,25 +24,6 @@ const COUNTS: usize = bytes_in::MARK + 2 * bytes_in::NUMBER;
 
 // A domain's bytes after its rows and its box: the cover's, and the depth's.
 const END: usize = bytes_in::FLOAT + bytes_in::NUMBER;
-
-// The number of a refusal (0 for none) and its place, and how many bytes were written.
-#[derive(Clone, Copy)]
-pub struct StoreAnswer {
-    pub number: usize,
-    pub place: usize,
-    pub bytes: usize,
-}
-
-// A refusal: no bytes.
-fn refusal(number: usize, place: usize) -> StoreAnswer
-    ensures { store_report result ≡ record { number = number; place = place; value = 0 } }
-{
-    StoreAnswer {
-        number: number,
-        place: place,
-        bytes: 0,
-    }
-}
 
 // The bytes of a tree's file, by its counts: the rows, domains and borrowed rows of all its levels. Each of its rows stands in it twice, as
 // a level's row and as a domain's own; each domain has a cover and a depth, and all but the coarse one a box.
@@ -66,67 +48,37 @@ fn file_size(
 }
 
 // The tree of a call that the build's own tests let pass: 20 where the lists and counts are not those of a sound tree, 11 where the file list
-// has no room for its file, and the file otherwise.
+// has no room for its file, and the file otherwise. How many bytes were written.
 fn store_sound(
     points: &[f64],
-    dimensions: usize,
     params: DDMParams,
-    counts: TreeCounts,
+    counts: DDMTree,
     level_points: &[usize],
-    internals: &[usize],
-    domains: &[usize],
-    boxes: &[f64],
-    borrowed: &[usize],
+    tree: Packed<'_>,
     file: &mut [u8],
-) -> StoreAnswer
-    requires { verdict (own_tests (settings_of_lem dimensions params) points.now (lists_of level_points.now internals.now domains.now boxes.now borrowed.now)) ≡ accepted }
-    ensures { Stored (settings_of_lem dimensions params) points.now (counts_given counts)
-        (lists_of level_points.now internals.now domains.now boxes.now borrowed.now)
+) -> Result<usize, Refusal>
+    requires { verdict (own_tests (settings_of_lem tree.dimensions params) points.now (lists_of level_points.now tree.internals.now tree.domains.now tree.boxes.now tree.borrowed.now)) ≡ accepted }
+    ensures { Stored (settings_of_lem tree.entry.dimensions params) points.now (counts_given counts)
+        (lists_of level_points.now tree.entry.internals.now tree.entry.domains.now tree.entry.boxes.now tree.entry.borrowed.now)
         file.old file.new (store_report result) }
 {
-    let n = points.len() / dimensions;
-    let tree = list_levels::check_lists(
-        level_points,
-        internals,
-        domains,
-        boxes,
-        borrowed,
-        dimensions,
-        n,
-        params.overlap_knn as usize,
-        counts,
-    );
-    if !tree.good {
-        return refusal(20, 0);
-    }
+    let n = points.len() / tree.dimensions;
+    let neighbours = params.overlap_knn as usize;
+    let Some(passed) = list_levels::check_lists(level_points, tree, n, neighbours, counts) else {
+        return Err(Refusal::NoSoundTree);
+    };
     let size = file_size(
-        dimensions,
+        tree.dimensions,
         n,
         counts.levels,
-        tree.rows,
-        tree.domains,
-        tree.borrowed,
+        passed.rows,
+        passed.domains,
+        passed.borrowed,
     );
     if file.len() < size {
-        return refusal(11, 0);
+        return Err(Refusal::ShortList);
     }
-    let bytes = store_bytes::put_file(
-        points,
-        dimensions,
-        params,
-        counts,
-        level_points,
-        internals,
-        domains,
-        boxes,
-        borrowed,
-        file,
-    );
-    StoreAnswer {
-        number: 0,
-        place: 0,
-        bytes: bytes,
-    }
+    Ok(store_bytes::put_file(points, params, counts, level_points, tree, file))
 }
 
 // Writes the file of the tree that stands in the lists with these counts, over these points and settings. The bytes go to the front of the
@@ -135,14 +87,14 @@ pub fn store_tree(
     points: &[f64],
     dimensions: usize,
     params: DDMParams,
-    counts: TreeCounts,
+    counts: DDMTree,
     level_points: &[usize],
     internals: &[usize],
     domains: &[usize],
     boxes: &[f64],
     borrowed: &[usize],
     file: &mut [u8],
-) -> StoreAnswer
+) -> Result<usize, Refusal>
     ensures { Stored (settings_of_lem dimensions params) points.now (counts_given counts)
         (lists_of level_points.now internals.now domains.now boxes.now borrowed.now)
         file.old file.new (store_report result) }
@@ -154,20 +106,13 @@ pub fn store_tree(
         boxes: boxes.len(),
         borrowed: borrowed.len(),
     };
-    let checked = tree_checks::check_tree(points, dimensions, params, lent);
-    match checked {
-        Checked::Refused(number, place) => refusal(number, place),
-        Checked::Accepted => store_sound(
-            points,
-            dimensions,
-            params,
-            counts,
-            level_points,
-            internals,
-            domains,
-            boxes,
-            borrowed,
-            file,
-        ),
-    }
+    tree_checks::check_tree(points, dimensions, params, lent)?;
+    let tree = Packed {
+        internals,
+        domains,
+        boxes,
+        borrowed,
+        dimensions,
+    };
+    store_sound(points, params, counts, level_points, tree, file)
 }
