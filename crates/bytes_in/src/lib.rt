@@ -48,7 +48,8 @@ pub fn bits_at(input: &[u8], at: usize) -> u64
     (low + 0x1_0000_0000 * high) as u64
 }
 
-// Whether these are the bits of not-a-number: above infinity's, the sign apart.
+// Whether these are the bits of not-a-number: above infinity's, the sign apart. `f64::is_nan` has no say here: `from_bits` takes no
+// pattern of not-a-number.
 pub fn bits_are_nan(bits: u64) -> bool
     ensures { result ≡ is_nan (of_bits binary64 bits) }
 {

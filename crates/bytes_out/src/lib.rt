@@ -38,7 +38,7 @@ pub fn put_short(n: usize, out: &mut [u8], at: usize)
     out[at..at + NUMBER].copy_from_slice(&n.to_le_bytes()[..NUMBER]);
 }
 
-// The bits of a float; not-a-number has one pattern here.
+// The bits of a float. Not-a-number has one pattern here, since `to_bits` takes none.
 pub fn bits_of(x: f64) -> u64
     ensures { result ≡ to_bits binary64 x }
 {

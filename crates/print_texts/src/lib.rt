@@ -38,7 +38,7 @@ fn digit_of(n: u8) -> u8
     if n < 10 { b'0' + n } else { b'a' - 10 + n }
 }
 
-// A number in decimal.
+// A number in decimal. The digits are put by hand, here and below: `write!` is no plainer, since it needs a writer and answers a result.
 fn write_decimal(n: usize, out: &mut [u8], at: usize) -> usize
     requires { RoomFor out.old at (decimal n) }
     ensures { Wrote out.old at (decimal n) result out.new }

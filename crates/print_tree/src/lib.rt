@@ -12,7 +12,8 @@ ghost use Rattle.print_tree.specs.Unpack.{box_part, points_line, leaf_line, fine
 
 use packed::{Leaf, Packed};
 
-// The bounds of a box; a dash for the coarse domain's.
+// The bounds of a box; a dash for the coarse domain's. The flag stays: an Option of the bounds is no plainer, since each contract
+// would take it apart again.
 fn write_box(fine: bool, bounds: &[f64], out: &mut [u8], at: usize) -> usize
     requires { RoomFor out.old at (box_part fine bounds.now) }
     ensures { Wrote out.old at (box_part fine bounds.now) result out.new }
@@ -134,7 +135,8 @@ fn write_levels(
     write_coarse(last, &level_points[a..e], j, tree, out, next)
 }
 
-// The whole tree: its levels with their row and domain counts, and the packed lists.
+// The whole tree: its levels with their row and domain counts, and the packed lists. The counts stay lists of any length: the struct
+// of a tree's counts holds four levels.
 pub fn write_tree(
     levels: usize,
     rows: &[usize],

@@ -53,7 +53,8 @@ fn put_counts(kind: u8, first: usize, second: usize, out: &mut [u8], at: usize) 
     last + NUMBER
 }
 
-// The bounds of a domain's box; the coarse domain's record has none.
+// The bounds of a domain's box; the coarse domain's record has none. The flag stays: an Option of the bounds is no plainer, since
+// each contract would take it apart again.
 fn put_bounds(coarse: bool, bounds: &[f64], out: &mut [u8], at: usize) -> usize
     requires { RoomFor out.old at (floats_bytes (bounds_given coarse bounds.now)) }
     ensures { Wrote out.old at (floats_bytes (bounds_given coarse bounds.now)) result out.new }

@@ -6,16 +6,12 @@ use Rattle.bytes_out.proofs.Wrote.{spelt, wrote_none}
 use Prim.Native.Nat.{◌+◌}
 use mathlib.Core.Bool.{true}
 use mathlib.Core.Path.{◌≡◌, sym, ap}
-use native.Mathlib.Omega.{arith}
 use borrow.Author.Rules.{rules}
 use Rattle.print_tree.proofs.write_leaves.Goals as goal
 
 pub loop-i-init : goal.loop-i-init
 loop-i-init c = let a = c.args in
     (spelt (sym (fine-none (packed_of a.tree) a.j)) (wrote_none _ _))
-
-pub overflow_add-j : goal.overflow_add-j
-overflow_add-j c = omega (arith, (c.requires.by_index c.loop-i.i c.loop-i-test.true).row)
 
 pub write_leaf-next-requires : goal.write_leaf-next-requires
 write_leaf-next-requires c = let start = c in

@@ -13,9 +13,6 @@ use mathlib.Core.Path.{◌≡◌, refl, sym, ap, ◌∙◌}
 use native.Mathlib.Omega.{arith}
 use Rattle.print_tree.proofs.write_levels.Goals as goal
 
-pub overflow_sub-last : goal.overflow_sub-last
-overflow_sub-last c = omega (arith, c.requires.stands.some)
-
 pub loop-t-init : goal.loop-t-init
 loop-t-init c = let start = c in
     let a = start.args in
@@ -26,9 +23,6 @@ loop-t-init c = let start = c in
       spelt (sym (front-none p a.level_points.now a.rows.now a.counts.now))
           (wrote_none _ _),
     )
-
-pub bounds-rows-t : goal.bounds-rows-t
-bounds-rows-t c = omega (arith, c.requires.stands.rowed)
 
 pub overflow_add-e : goal.overflow_add-e
 overflow_add-e c = let start = c in
@@ -42,9 +36,6 @@ overflow_add-e c = let start = c in
           (omega (arith, s.some, c.loop-t-test.true)),
       start.well_formed,
     )
-
-pub bounds-counts-t : goal.bounds-counts-t
-bounds-counts-t c = omega (arith, c.requires.stands.counted)
 
 pub offset_bounds-level_points-a : goal.offset_bounds-level_points-a
 offset_bounds-level_points-a c = let start = c in
@@ -111,10 +102,6 @@ loop-t-preserved c = let start = c in
           (sym (fine-here p a.level_points.now a.rows.now a.counts.now v.t v.a v.j v.invariant.0 v.invariant.1))
           c.write_fine-next.ensures),
     )
-
-pub bounds-rows-last : goal.bounds-rows-last
-bounds-rows-last c = let start = c in
-    omega (arith, start.requires.stands.rowed, start.requires.stands.some)
 
 pub overflow_add-e-2 : goal.overflow_add-e-2
 overflow_add-e-2 c = let start = c in

@@ -18,9 +18,6 @@ loop-i-init c = let start = c in
     let f = domain_at_lem a.coarse p in
     (begin (map f (from (a.j + 0) (a.m - 0))) (domain-run a.coarse p a.j a.m) start.requires.room_for)
 
-pub overflow_add-j : goal.overflow_add-j
-overflow_add-j c = omega (arith, (c.requires.by_index c.loop-i.i c.loop-i-test.true).row)
-
 pub put_domain-next-requires : goal.put_domain-next-requires
 put_domain-next-requires c = let start = c in
     let a = start.args in
