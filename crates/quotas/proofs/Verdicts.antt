@@ -1,19 +1,16 @@
--- The outcome of a call of `get_domain_coarse_quotas`, refusal by refusal: answer, output and working room. Assumes nothing.
--- Holds: Outcome, refused-8, refused-11-out, refused-11-wholes, seated
-use Prim.Native.Nat.{ℕ, ◌≤◌, ◌<◌}
-use mathlib.Core.Path.{◌≡◌, refl, ap, ◌∙◌}
+-- The outcome of an accepted call of `get_domain_coarse_quotas`: answer, output and working room. Assumes nothing.
+-- Holds: Outcome, seated
+use Prim.Native.Nat.{ℕ, ◌≤◌}
+use mathlib.Core.Path.{◌≡◌, ap, ◌∙◌}
 use mathlib.Core.List.{List}
 use lib.ListN.{length}
-use borrow.Author.Tests.{lt-ltb, le-ltb}
+use borrow.Author.Tests.{le-ltb}
 use Rattle.lists.specs.Lists.{total}
 use Rattle.definition.specs.Quotas.{held_seats, quotas, quotas_for}
 use Rattle.definition.specs.Packed.{quota_stated}
-use Rattle.definition.specs.Refusals.{accepted, refused, verdict, most_points, quota_short, quota_verdict}
+use Rattle.definition.specs.Refusals.{accepted, verdict, most_points, quota_short, quota_verdict}
 use Rattle.definition.specs.Outcome.{Answer, Shared, number_of, place_of, value_of, written, list_after, RoomAfter, quota_call, quota_answer, quota_output}
-use Rattle.std.specs.Prelude.{Ok, Err}
-use Rattle.refusal.specs.declared.Refusal.{Refusal}
-use Rattle.refusal.specs.declared.Refusal.TheVariants.{ManyPoints, ShortList}
-use Rattle.refusal.specs.Refusals.{as_refusal}
+use Rattle.std.specs.Prelude.{Ok}
 use Rattle.quotas.specs.Answers.{quota_report_lem}
 use Rattle.quotas.specs.Outcome.{SeatsShared}
 
@@ -22,23 +19,6 @@ abbrev pub Outcome : List ℕ → ℕ → List ℕ → List ℕ → Answer Share
 Outcome sizes s out wholes answer out' wholes' = SeatsShared sizes s out out' wholes wholes' answer
 
 module _ (sizes : List ℕ) (s : ℕ) (out wholes : List ℕ) where
-  -- a refusal: nothing is written
-  refusal : (r : Refusal) → quota_call sizes out wholes ≡ refused (as_refusal r) → Outcome sizes s out wholes (quota_report_lem (Err r)) out wholes
-  unfolding quota_answer quota_output number_of place_of value_of list_after RoomAfter
-  refusal r e = record { answers = simp e; output = simp e; wholes_free = simp e refl }
-
-  pub refused-8 : most_points < total sizes → Outcome sizes s out wholes (quota_report_lem (Err ManyPoints)) out wholes
-  unfolding quota_verdict verdict
-  refused-8 h = refusal ManyPoints (simp (lt-ltb _ _ h))
-
-  pub refused-11-out : total sizes ≤ most_points → length out < length sizes → Outcome sizes s out wholes (quota_report_lem (Err ShortList)) out wholes
-  unfolding quota_verdict verdict quota_short quota_stated
-  refused-11-out h l = refusal ShortList (simp (le-ltb _ _ h, lt-ltb _ _ l))
-
-  pub refused-11-wholes : total sizes ≤ most_points → length sizes ≤ length out → length wholes < length sizes → Outcome sizes s out wholes (quota_report_lem (Err ShortList)) out wholes
-  unfolding quota_verdict verdict quota_short quota_stated
-  refused-11-wholes h l m = refusal ShortList (simp (le-ltb _ _ h, le-ltb _ _ l, lt-ltb _ _ m))
-
   passed : total sizes ≤ most_points → length sizes ≤ length out → length sizes ≤ length wholes → quota_call sizes out wholes ≡ accepted
   unfolding quota_verdict verdict quota_short quota_stated
   passed h l m = simp (le-ltb _ _ h, le-ltb _ _ l, le-ltb _ _ m)

@@ -168,6 +168,7 @@ pub fn share_in_place(list: &mut [usize], m: usize, rows: usize, s: usize)
 
 // The quotas for `wanted` seats, held to the total. Document 01's refusals come in its order: 8, 11. The sharing works in the
 // output alone: of the lent `wholes` only the length is looked at, and nothing is written to it.
+#[tactic(auto, using(std::proofs::lemmas::Bool::Decides::nat_tests), unfolding(definition::specs::Outcome::quota_answer, definition::specs::Outcome::quota_output, definition::specs::Refusals::quota_verdict, definition::specs::Refusals::verdict, definition::specs::Refusals::quota_short, definition::specs::Packed::quota_stated, definition::specs::Outcome::number_of, definition::specs::Outcome::place_of, definition::specs::Outcome::value_of, definition::specs::Outcome::list_after, definition::specs::Outcome::RoomAfter))]
 pub fn get_domain_coarse_quotas(
     sizes: &[usize],
     wanted: usize,

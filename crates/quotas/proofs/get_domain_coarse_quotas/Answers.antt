@@ -1,4 +1,4 @@
--- `quotas::get_domain_coarse_quotas` meets its contract: the tests that led to each `return` say which outcome is due.
+-- `quotas::get_domain_coarse_quotas` meets its contract: where it is accepted the quotas stand in the place of the sizes.
 -- Assumes nothing.
 use mathlib.Core.Path.{◌≡◌, refl, sym, ap, ◌∙◌}
 use mathlib.Core.List.{List, ◌++◌}
@@ -10,8 +10,7 @@ use Rattle.definition.specs.Quotas.{quotas_for}
 use Rattle.definition.specs.Outcome.{written}
 use Rattle.definition.proofs.Fairness.{quotas-length}
 use Rattle.quotas.proofs.Written.{length-written, take-written, written_over}
-use Rattle.quotas.proofs.Verdicts.{refused-8, refused-11-out, refused-11-wholes, seated}
-use Rattle.quotas.proofs.get_domain_coarse_quotas.Goals.{then-quotas-leaves-via-then-quotas-leaves, then-quotas-leaves-via-else-quotas-leaves+then-wholes-leaves}
+use Rattle.quotas.proofs.Verdicts.{seated}
 use Rattle.quotas.proofs.get_domain_coarse_quotas.Goals as goal
 
 -- the sizes stand at the front of the output, and then their quotas
@@ -36,16 +35,6 @@ module _ (sizes old front : List ℕ) (e : front ≡ sizes) where
   unfolding mid
   shared new s h g =
       g ∙ ap (λ (l : List ℕ). written (quotas_for l s) mid) copied ∙ ap (written (quotas_for sizes s)) placed ∙ written_over (quotas_for sizes s) sizes old (quotas-length sizes s h)
-
-pub returns-in_default : goal.returns-in_default
-returns-in_default c = refused-8 _ _ _ _ c.in_default.ensures
-
-pub returns-then-quotas-leaves : goal.returns-then-quotas-leaves
-returns-then-quotas-leaves c = let i = c.in-Some.ensures in
-    elim c.then-quotas-leaves.branch [
-      | then-quotas-leaves-via-then-quotas-leaves w ↦ refused-11-out _ _ _ _ (omega arith) w.if-quotas-leaves.true
-      | then-quotas-leaves-via-else-quotas-leaves+then-wholes-leaves w ↦ refused-11-wholes _ _ _ _ (omega arith) w.if-quotas-leaves.false w.if-wholes-leaves.true
-    ]
 
 pub share_in_place-requires : goal.share_in_place-requires
 share_in_place-requires c = let a = c.args in
