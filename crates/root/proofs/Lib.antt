@@ -1,4 +1,3 @@
 -- Laws that the proofs of the numbers cite.
-pub mod Steps
 mod Whole
 mod Cases
