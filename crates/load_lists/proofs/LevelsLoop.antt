@@ -1,6 +1,6 @@
 -- The loop over the levels: those before the cursor are written and counted. Assumes nothing.
--- Holds: row_count_lem, domain_count_lem, start, tree-room, Inv, levels-start, points-long, rows-slots,
---   counts-many, end-points, end-internals, end-domains, end-boxes, end-borrowed, end-counts, level-stands, levels-below,
+-- Holds: row_count_lem, domain_count_lem, start, tree-room, Inv, levels-start, points-long,
+--   end-points, end-internals, end-domains, end-boxes, end-borrowed, end-counts, level-stands, levels-below,
 --   points-room, level-room, levels-next
 use mathlib.Core.Path.{◌≡◌, refl, sym, ap, ◌∙◌}
 use mathlib.Core.Bool.{Bool, true, false, cond}
@@ -64,9 +64,6 @@ abbrev zeros : List ℕ
 zeros = replicate most_levels 0
 
 module _ (f : Level → ℕ) (ls : List Level) {counts : List ℕ} (e : counts ≡ put (replicate most_levels 0) 0 (map f ls)) where
-  counts-slots : length ls ≤ most_levels → length counts ≡ most_levels
-  counts-slots h = ap length e ∙ length-put zeros 0 (map f ls) (omega (arith, length-map ls f))
-
   counts-next : (l : Level) (n x : ℕ) → n ≡ length ls → n < most_levels → x ≡ f l → set counts n x ≡ put (replicate most_levels 0) 0 (map f (ls ++ l ∷ []))
   counts-next l n x en h ex =
       rw (e, ex, map_snoc f ls l) (put-snoc zeros 0 (map f ls) (f l) n (omega (arith, length-map ls f)) (omega arith))
@@ -148,12 +145,6 @@ module _ {d : ℕ} {file : List ℕ} {at : ℕ} {c : Cursor} {P P₁ : List ℕ}
 
   pub points-long : length P₁ ≡ length P
   points-long = ap length v.level_points ∙ length-put P 0 (packed_level_points done) (omega (arith, points_few))
-
-  pub rows-slots : length rows ≡ most_levels
-  rows-slots = counts-slots row_count_lem done v.row_counts (omega (arith, v.few, v.number))
-
-  pub counts-many : length counts ≡ most_levels
-  counts-many = counts-slots domain_count_lem done v.domain-counts (omega (arith, v.few, v.number))
 
   -- ---- none is left
   module _ (none : left ≡ 0) where

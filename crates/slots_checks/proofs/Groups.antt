@@ -1,25 +1,21 @@
--- The tests of a build over slots, group by group; products of slots and axes are small. Assumes nothing.
--- Holds: slots-times, slot-inside, rows-tests, refused-27, refused-9, refused-11, judged-last
+-- The tests of a build over slots, group by group. Assumes nothing.
+-- Holds: slot-inside, rows-tests, refused-27, refused-9, refused-11, judged-last
 use mathlib.Core.Path.{◌≡◌, sym, ap, ap₂, ◌∙◌}
 use mathlib.Core.Bool.{Bool, true, false, not, ◌||◌}
 use mathlib.Core.List.{[], ◌∷◌, ◌++◌}
 use Prim.Native.Nat.{ℕ, suc, ◌+◌, ◌*◌, ◌/◌, ◌%◌, ◌≤◌, ◌<◌}
 use native.Mathlib.Omega.{arith}
-use native.Mathlib.Nat.{mul-le-mul, mul-le-mul_right, suc-mul, mul-div_cancel, mul-mod_left}
+use native.Mathlib.Nat.{mul-le-mul_right, suc-mul, mul-div_cancel, mul-mod_left}
 use borrow.Author.Tests.{eq-eqb}
 use lib.Dec.{eqb}
 use Rattle.lists.specs.Lists.{keep, from}
 use Rattle.definition.specs.Tree.{Settings}
 use Rattle.definition.specs.Packed.{BuildSizes, build_stated}
-use Rattle.definition.specs.Refusals.{Refusal, accepted, refused, on, verdict, most_points, settings_tests, points_tests, build_short}
+use Rattle.definition.specs.Refusals.{Refusal, accepted, refused, on, verdict, settings_tests, points_tests, build_short}
 use Rattle.definition.specs.Table.{Table, flagged, live_slots_lem, unsound, coordinates_short}
 use Rattle.definition.specs.Slots.{rows_not_finite, rows_of, slots_verdict}
 use Rattle.definition_laws.proofs.Accepted.{decides, pass}
 use Rattle.build_checks.proofs.Laws.{tests-stop, tests-pass}
-
--- slots on up to three axes
-pub slots-times : (n d : ℕ) → n ≤ most_points → d ≤ 3 → n * d ≤ 3145728
-slots-times n d h g = mul-le-mul h g
 
 -- the coordinates of slot i stand before those of slot n
 pub slot-inside : (i n d : ℕ) → i < n → i * d + d ≤ n * d

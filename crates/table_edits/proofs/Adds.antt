@@ -60,7 +60,8 @@ module _ (d : ℕ) (t : Table) (point : List Float) where
       pub record AddRoom : Type 0 where
         pub below : slot < capacity t.flags
         pub in-flags : slot < length t.flags
-        pub in-coordinates : slot * d + length point ≤ length t.coordinates
+        pub long : length point ≡ d
+        pub in-coordinates : slot * d + d ≤ length t.coordinates
         pub few : slot * d < 3 * most_points
         pub live-few : t.head.live ≤ most_points
 
@@ -76,7 +77,8 @@ module _ (d : ℕ) (t : Table) (point : List Float) where
             record {
               below = u;
               in-flags = omega arith;
-              in-coordinates = omega (arith, mul-le-mul_right d u, suc-mul slot d, long, able.room);
+              long = long;
+              in-coordinates = omega (arith, mul-le-mul_right d u, suc-mul slot d, able.room);
               few = omega (arith, mul-le-mul u able.axes_few, suc-mul slot d, able.axes);
               live-few = omega (arith, live_below d t able, able.sound.within);
             }

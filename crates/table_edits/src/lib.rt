@@ -1,8 +1,7 @@
 // Adding a well to a table and retiring one, on plain numbers and lists.
 #![tactic(auto)]
 
-ghost use Rattle.std.specs.Prelude.{◌≡◌, not, [], ◌∷◌, ◌+◌, ◌≤◌, eqb, length, IfOk};
-ghost use Rattle.lists.specs.Lists.{put};
+ghost use Rattle.std.specs.Prelude.{◌≡◌, not, [], ◌∷◌, eqb, length, IfOk};
 ghost use Rattle.definition.specs.Refusals.{on, verdict, not_finite_lem};
 ghost use Rattle.definition.specs.Table.{next_slot, table_tests};
 ghost use Rattle.refusal.specs.Refusals.{verdict_of};
@@ -54,14 +53,6 @@ fn point_fault(point: &[f64], dimensions: usize) -> Result<(), Refusal>
     }
 }
 
-// Writes the point's coordinates, from `at` on.
-fn write_point(coordinates: &mut [f64], at: usize, point: &[f64])
-    requires { at + length point.now ≤ length coordinates.old }
-    ensures { coordinates.new ≡ put coordinates.old at point.now }
-{
-    coordinates[at..at + point.len()].copy_from_slice(point);
-}
-
 // Adds a point to the table: 1, 11, 27, 7, 10 and 21 are tried before anything is written.
 pub fn added(
     slots: usize,
@@ -80,7 +71,7 @@ pub fn added(
         return Err(Refusal::FullTable);
     }
     flags[slot] = 1;
-    write_point(coordinates, slot * dimensions, point);
+    stretches::copy_rows(point, 0, dimensions, coordinates, slot * dimensions);
     Ok(Edited {
         slot,
         slots: slots.max(slot + 1),

@@ -2,6 +2,7 @@
 use mathlib.Core.Path.{◌∙◌}
 use native.Mathlib.Omega.{arith}
 use Rattle.std.proofs.lemmas.Result.{err_from_is_err_and}
+use Rattle.lists.proofs.Put.{part-whole}
 use Rattle.table_checks.specs.Tables.{table_of}
 use Rattle.table_edits.proofs.Adds.{kept-table, kept-point, kept-full, add-room, add-done}
 use Rattle.table_edits.proofs.added.Goals as goal
@@ -30,10 +31,10 @@ overflow_mul-slot c = let a = c.args in
     let room = add-room a.dimensions (table_of a.slots a.live a.flags.now a.coordinates.now) a.point.now c.in_ok-slot.ensures.verdict c.in_ok-point_fault.ensures _ c.in_ok-slot.ensures.next _ c.capacity-room.ensures c.else-slot-slots.either in
     omega (arith, room.few)
 
-pub write_point-requires : goal.write_point-requires
-write_point-requires c = let a = c.args in
+pub copy_rows-requires : goal.copy_rows-requires
+copy_rows-requires c = let a = c.args in
     let room = add-room a.dimensions (table_of a.slots a.live a.flags.now a.coordinates.now) a.point.now c.in_ok-slot.ensures.verdict c.in_ok-point_fault.ensures _ c.in_ok-slot.ensures.next _ c.capacity-room.ensures c.else-slot-slots.either in
-    room.in-coordinates
+    (omega (arith, room.long), room.in-coordinates)
 
 pub overflow_add-slot : goal.overflow_add-slot
 overflow_add-slot c = let a = c.args in
@@ -47,5 +48,7 @@ overflow_add-result c = let a = c.args in
 
 pub returns : goal.returns
 returns c = let a = c.args in
-    rw (c.write_point.ensures, c.max.ensures)
-    (add-done a.dimensions (table_of a.slots a.live a.flags.now a.coordinates.now) a.point.now c.in_ok-slot.ensures.verdict c.in_ok-point_fault.ensures _ c.in_ok-slot.ensures.next _ c.capacity-room.ensures c.else-slot-slots.either)
+    let t = table_of a.slots a.live a.flags.now a.coordinates.now in
+    let room = add-room a.dimensions t a.point.now c.in_ok-slot.ensures.verdict c.in_ok-point_fault.ensures _ c.in_ok-slot.ensures.next _ c.capacity-room.ensures c.else-slot-slots.either in
+    rw (c.copy_rows.ensures, part-whole a.point.now a.dimensions room.long, c.max.ensures)
+    (add-done a.dimensions t a.point.now c.in_ok-slot.ensures.verdict c.in_ok-point_fault.ensures _ c.in_ok-slot.ensures.next _ c.capacity-room.ensures c.else-slot-slots.either)
