@@ -19,6 +19,14 @@ pub struct Sampled {
     pub cover: f64,
 }
 
+// The lengths of the lent lists.
+#[derive(Clone, Copy)]
+struct Lent {
+    output: usize,
+    floats: usize,
+    wholes: usize,
+}
+
 // Whether the dimension is not 1, 2 or 3.
 fn wrong_dimension(dimensions: usize) -> bool
     ensures { result ≡ wrong_dimension_lem dimensions }
@@ -35,25 +43,23 @@ fn wrong_choice(rows: usize, wanted: usize, seed: usize) -> bool
 
 // Whether a lent list is shorter than stated.
 #[tactic(auto, unfolding(definition::specs::Refusals::sample_short, definition::specs::Packed::sample_stated))]
-fn lists_short(rows: usize, wanted: usize, output: usize, floats: usize, wholes: usize) -> bool
+fn lists_short(rows: usize, wanted: usize, lent: Lent) -> bool
     requires { rows ≤ most_points }
-    ensures { result ≡ sample_short (sample_lent output floats wholes) (sample_stated rows wanted) }
+    ensures { result ≡ sample_short (sample_lent lent.output lent.floats lent.wholes) (sample_stated rows wanted) }
 {
-    output < wanted || floats < 2 * rows || wholes < rows
+    lent.output < wanted || lent.floats < 2 * rows || lent.wholes < rows
 }
 
-// The refusal of a sampling, if there is one. `output`, `floats` and `wholes` are the lengths of the lent lists.
+// The refusal of a sampling, if there is one.
 #[tactic(auto, using(std::proofs::lemmas::Bool::Decides::nat_tests), unfolding(definition::specs::Refusals::sample_verdict, definition::specs::Refusals::verdict))]
 fn sampling_verdict(
     points: &[f64],
     dimensions: usize,
     wanted: usize,
     seed: usize,
-    output: usize,
-    floats: usize,
-    wholes: usize,
+    lent: Lent,
 ) -> Result<(), Refusal>
-    ensures { verdict_of result ≡ sample_verdict dimensions points.now wanted seed (sample_lent output floats wholes) }
+    ensures { verdict_of result ≡ sample_verdict dimensions points.now wanted seed (sample_lent lent.output lent.floats lent.wholes) }
 {
     if wrong_dimension(dimensions) {
         return Err(Refusal::WrongDimension);
@@ -72,7 +78,7 @@ fn sampling_verdict(
     if wrong_choice(rows, wanted, seed) {
         return Err(Refusal::WrongChoice);
     }
-    if lists_short(rows, wanted, output, floats, wholes) {
+    if lists_short(rows, wanted, lent) {
         return Err(Refusal::ShortList);
     }
     match finite::first_not_finite(points) {
@@ -96,15 +102,12 @@ pub fn farthest_point_sampling(
     ensures { RowsSampled dimensions points.now wanted seed out.old out.new
         floats.old floats.new wholes.old wholes.new (sample_report_lem result) }
 {
-    sampling_verdict(
-        points,
-        dimensions,
-        wanted,
-        seed,
-        out.len(),
-        floats.len(),
-        wholes.len(),
-    )?;
+    let lent = Lent {
+        output: out.len(),
+        floats: floats.len(),
+        wholes: wholes.len(),
+    };
+    sampling_verdict(points, dimensions, wanted, seed, lent)?;
     let rows = points.len() / dimensions;
     stretches::number_rows(wholes, rows);
     let cover = sampling_rounds::sample_rows(
