@@ -25,7 +25,6 @@ use Rattle.stored_laws.proofs.Loaded.{file_tests, tests-passed}
 use Rattle.definition_laws.proofs.Accepted.{first-accepts, second-accepts}
 use Rattle.stored_laws.proofs.WellFormed.{well-formed-sound}
 use Rattle.stream_laws.specs.Sizes.{JobLimits}
-use Rattle.print_texts.specs.Refusals.{refusal_of}
 use Rattle.load.specs.Loading.{Loaded}
 use Rattle.load.proofs.SameFile.{its-dimension}
 use Rattle.job_room.proofs.Lists.{lent_lists}
@@ -74,12 +73,12 @@ module _ (s : Settings) (cs : List Float) (bs : List ℕ) (limits : JobLimits s 
   place_is = ap (λ (a : Answer Counts). a.place) w.answers
 
   -- by the number: the text of the refusal
-  text-refused : (v : Verdict) → r.number ≡ number_of v → r.place ≡ place_of v → 0 < r.number → reloaded_by v bs ≡ refusal_text (refusal_of r.number r.place)
+  text-refused : (v : Verdict) → r.number ≡ number_of v → r.place ≡ place_of v → 0 < r.number → reloaded_by v bs ≡ refusal_text (record { number = r.number; place = r.place })
   unfolding reloaded_by number_of place_of
   text-refused accepted en ep h = absurd (omega arith)
   text-refused (refused q) en ep h = rw (en, ep)
 
-  pub load-refused : 0 < r.number → loaded_text s cs bs ≡ refusal_text (refusal_of r.number r.place)
+  pub load-refused : 0 < r.number → loaded_text s cs bs ≡ refusal_text (record { number = r.number; place = r.place })
   load-refused h = text-is ∙ text-refused call number_is place_is h
 
   -- or the text of the tree, which the counts and the lists hold

@@ -7,17 +7,19 @@ use lib.ListN.{length, take}
 use lib.Ieee.{Float}
 use borrow.Author.Tests.{le-ltb, lt-ltb}
 use Rattle.definition.specs.Tree as tree
-use Rattle.formats.specs.Stream.{Job, job, job_in}
+use Rattle.formats.specs.Stream as format
+use Rattle.formats.specs.Stream.{job, job_in}
 use Rattle.formats.specs.Printout.{refusal_text}
 use Rattle.stored.specs.Programs.{most_file, reloaded_for, reloaded}
 use Rattle.stream_laws.specs.Sizes.{JobLimits, most_bytes}
 use Rattle.reload_laws.proofs.ReloadedLong.{reloaded-for-long}
 use Rattle.bytes_out.specs.Wrote.{RoomFor}
-use Rattle.print_texts.specs.Refusals.{refusal_of}
-use Rattle.settings_record.specs.declared.Settings.{Settings}
+use Rattle.std.specs.Prelude.{Result, Ok, Err}
+use Rattle.refusal.specs.declared.Refusal.{Refusal}
+use Rattle.refusal.specs.declared.Refusal.TheVariants.{LargeJob}
+use Rattle.refusal.specs.Refusals.{as_refusal}
 use Rattle.settings_record.specs.Reading.{settings_are}
-use Rattle.stream_reader.specs.declared.Read.{Read}
-use Rattle.stream_reader.specs.declared.Read.TheVariants.{Whole, Broken}
+use Rattle.stream_reader.specs.declared.Job.{Job}
 use Rattle.stream_reader.specs.Reading.{job_of}
 use Rattle.job_room.proofs.JobRead.{broken-read, whole-read}
 use Rattle.job_room.proofs.Printing.{text-room}
@@ -25,7 +27,7 @@ use Rattle.reload.specs.Loading.{loaded_text}
 
 -- ---- by the file's length
 module _ (s : tree.Settings) (cs : List Float) (bs : List ℕ) where
-  pub too_long : most_file < length bs → refusal_text (refusal_of 17 0) ≡ reloaded_for (job s cs) bs
+  pub too_long : most_file < length bs → refusal_text (as_refusal LargeJob) ≡ reloaded_for (job s cs) bs
   unfolding reloaded_for
   too_long h = rw (lt-ltb most_file (length bs) h)
 
@@ -37,11 +39,11 @@ module _ (s : tree.Settings) (cs : List Float) (bs : List ℕ) where
   loaded-room out limits long h = rw (not-too-long h) (text-room (reloaded_for (job s cs) bs) out (reloaded-for-long (job s cs) bs limits) long)
 
 -- ---- by the reader's answer
-module _ (r : Read) (cs : List Float) (stream bs : List ℕ) (h : job_of r cs ≡ job_in stream) where
-  pub broken-reloaded : (number place : ℕ) → r ≡ Broken number place → refusal_text (refusal_of number place) ≡ reloaded stream bs
+module _ (r : Result Job Refusal) (cs : List Float) (stream bs : List ℕ) (h : job_of r cs ≡ job_in stream) where
+  pub broken-reloaded : (x : Refusal) → r ≡ Err x → refusal_text (as_refusal x) ≡ reloaded stream bs
   unfolding reloaded_for reloaded
-  broken-reloaded number place e = ap (λ (j : Job). reloaded_for j bs) (broken-read r cs stream h number place e)
+  broken-reloaded x e = ap (λ (j : format.Job). reloaded_for j bs) (broken-read r cs stream h x e)
 
-  pub whole-reloaded : (s : Settings) (n : ℕ) → r ≡ Whole s n → reloaded_for (job (settings_are s) (take (n * s.dimensions) cs)) bs ≡ reloaded stream bs
+  pub whole-reloaded : (j : Job) → r ≡ Ok j → reloaded_for (job (settings_are j.settings) (take (j.points * j.settings.dimensions) cs)) bs ≡ reloaded stream bs
   unfolding reloaded
-  whole-reloaded s n e = ap (λ (j : Job). reloaded_for j bs) (whole-read r cs stream h s n e)
+  whole-reloaded j e = ap (λ (k : format.Job). reloaded_for k bs) (whole-read r cs stream h j e)

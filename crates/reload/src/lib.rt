@@ -11,28 +11,27 @@ ghost use Rattle.bytes_out.specs.Wrote.{Wrote, RoomFor};
 ghost use Rattle.job_room.specs.Printing.{print_answer_lem, print_output, printed_answer};
 ghost use Rattle.reload.specs.Loading.{loaded_text};
 
-use job_room::Printed;
+use packed::Packed;
+use refusal::Refusal;
 use settings_record::Settings;
-use stream_reader::Read;
 
 // The longest file that is taken.
 pub const MOST_FILE: usize = 1048576;
 
 // The text of the tree that is loaded for a job, or of the loader's refusal. The lists suffice for the largest job.
-fn write_loaded(s: Settings, points: &[f64], file: &[u8], out: &mut [u8]) -> usize
-    requires { JobLimits (settings_are s) points.now × RoomFor out.old 0 (loaded_text (settings_are s) points.now file.now) }
-    ensures { Wrote out.old 0 (loaded_text (settings_are s) points.now file.now) result out.new }
+fn write_loaded(settings: Settings, points: &[f64], file: &[u8], out: &mut [u8]) -> usize
+    requires { JobLimits (settings_are settings) points.now × RoomFor out.old 0 (loaded_text (settings_are settings) points.now file.now) }
+    ensures { Wrote out.old 0 (loaded_text (settings_are settings) points.now file.now) result out.new }
 {
     let mut level_points = [0usize; job_room::LEVEL_POINTS];
     let mut internals = [0usize; job_room::LEVEL_POINTS];
     let mut domains = [0usize; job_room::DOMAINS];
     let mut boxes = [0.0; job_room::BOXES];
     let mut borrowed = [0usize; job_room::BORROWED];
-    let d = s.dimensions;
-    let params = s.params;
-    let tree = load::load_tree(
+    let Settings { dimensions, params } = settings;
+    let loaded = load::load_tree(
         points,
-        d,
+        dimensions,
         params,
         file,
         &mut level_points,
@@ -41,38 +40,38 @@ fn write_loaded(s: Settings, points: &[f64], file: &[u8], out: &mut [u8]) -> usi
         &mut boxes,
         &mut borrowed,
     );
-    let number = tree.number;
-    let place = tree.place;
-    if 0 < number {
-        return print_texts::write_refusal(number, place, out, 0);
+    match loaded {
+        Ok(tree) => {
+            let lists = Packed {
+                internals: &internals,
+                domains: &domains,
+                boxes: &boxes,
+                borrowed: &borrowed,
+                dimensions,
+            };
+            print_tree::write_tree(
+                tree.levels,
+                &tree.rows,
+                &tree.domains,
+                &level_points,
+                lists,
+                out,
+                0,
+            )
+        }
+        Err(refusal) => print_texts::write_refusal(refusal, out, 0),
     }
-    let levels = tree.levels;
-    let rows = tree.rows;
-    let counts = tree.domains;
-    print_tree::write_tree(
-        levels,
-        &rows,
-        &counts,
-        &level_points,
-        &internals,
-        &domains,
-        &boxes,
-        &borrowed,
-        d,
-        out,
-        0,
-    )
 }
 
-// The text for a job that was read: 17 where the file is too long.
-fn write_job(s: Settings, points: &[f64], file: &[u8], out: &mut [u8]) -> usize
-    requires { JobLimits (settings_are s) points.now × (most_bytes ≤ length out.old) }
-    ensures { Wrote out.old 0 (reloaded_for (job (settings_are s) points.now) file.now) result out.new }
+// The text for a job that was read: a large one's refusal where the file is too long.
+fn write_job(settings: Settings, points: &[f64], file: &[u8], out: &mut [u8]) -> usize
+    requires { JobLimits (settings_are settings) points.now × (most_bytes ≤ length out.old) }
+    ensures { Wrote out.old 0 (reloaded_for (job (settings_are settings) points.now) file.now) result out.new }
 {
     if MOST_FILE < file.len() {
-        return print_texts::write_refusal(17, 0, out, 0);
+        return print_texts::write_refusal(Refusal::LargeJob, out, 0);
     }
-    write_loaded(s, points, file, out)
+    write_loaded(settings, points, file, out)
 }
 
 // The text for a stream and a file that is lent room for every text.
@@ -83,31 +82,22 @@ fn write_reloaded(stream: &[u8], file: &[u8], output: &mut [u8]) -> usize
     let mut points = [0.0; job_room::COORDINATES];
     let read = stream_reader::read_job(stream, &mut points);
     match read {
-        Read::Broken(number, place) => print_texts::write_refusal(number, place, output, 0),
-        Read::Whole(s, n) => {
-            let k = n * s.dimensions;
-            write_job(s, &points[..k], file, output)
+        Ok(job) => {
+            let k = job.points * job.settings.dimensions;
+            write_job(job.settings, &points[..k], file, output)
         }
+        Err(refusal) => print_texts::write_refusal(refusal, output, 0),
     }
 }
 
 // What is printed for a stream and a file, written to the front of `output`, which is to have `job_room::TEXT` bytes at least: no text is
-// longer.
-pub fn reload(stream: &[u8], file: &[u8], output: &mut [u8]) -> Printed
+// longer. The answer is how many bytes were written.
+pub fn reload(stream: &[u8], file: &[u8], output: &mut [u8]) -> Result<usize, Refusal>
     ensures answer { printed_answer result ≡ print_answer_lem (reloaded stream.now file.now) output.old }
     ensures output { output.new ≡ print_output (reloaded stream.now file.now) output.old }
 {
     if output.len() < job_room::TEXT {
-        return Printed {
-            number: 11,
-            place: 0,
-            count: 0,
-        };
+        return Err(Refusal::ShortList);
     }
-    let count = write_reloaded(stream, file, output);
-    Printed {
-        number: 0,
-        place: 0,
-        count,
-    }
+    Ok(write_reloaded(stream, file, output))
 }

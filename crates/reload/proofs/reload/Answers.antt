@@ -17,7 +17,7 @@ pub returns : goal.returns
 returns c = let a = c.args in
     let text = reloaded a.stream.now a.file.now in
     let long = c.if-output-lt-TEXT.false in
-    let w = c.write_reloaded-count.ensures in
+    let w = c.write_reloaded.ensures in
     record {
       answer = answer-long text a.output.now long _ _ w;
       output = output-long text a.output.now long _ _ w;
