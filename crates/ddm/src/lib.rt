@@ -6,26 +6,27 @@ ghost use Rattle.config.specs.Params.{settings_of_lem};
 ghost use Rattle.tree_answer.specs.Answers.{tree_answer_lem, lists_of};
 ghost use Rattle.ddm.specs.Build.{Built};
 
-use build_checks::Checked;
 use cut_engine::Engine;
+use tree_lists::{Records, Room, TreeLists};
 
 // The settings, and the other calls, each with its answer.
-pub use build_sizes::{BuildSizes, SizesAnswer, build_sizes};
+pub use build_sizes::{BuildSizes, build_sizes};
 pub use closing::closed;
 pub use config::{DDMParams, SizePolicy};
 pub use depth_first_build::build_depth_first;
 pub use leaf_rows::{Which, row_test, rows_of};
-pub use level_sizes::{LevelSize, get_num_level_coarse_points};
+pub use level_sizes::get_num_level_coarse_points;
 pub use load::load_tree;
 pub use packed::DomainRow;
-pub use quotas::{QuotaAnswer, get_domain_coarse_quotas};
-pub use root::{RootAnswer, square_root};
-pub use sampling::{SampleAnswer, farthest_point_sampling};
-pub use store::{StoreAnswer, store_tree};
+pub use quotas::{Seated, get_domain_coarse_quotas};
+pub use refusal::Refusal;
+pub use root::square_root;
+pub use sampling::{Sampled, farthest_point_sampling};
+pub use store::store_tree;
 pub use table::{Head, add, close, retire};
 pub use table_build::build_slots;
-pub use table_edits::{EditAnswer, added, retired};
-pub use tree_answer::{DDMTree, TreeCounts};
+pub use table_edits::{Edited, added, retired};
+pub use tree_answer::DDMTree;
 
 // The build over all points. A refused call writes to no list. An accepted one writes its tree to the fronts of the five lists, and
 // leaves what stands past it as it was; of the working room it keeps only the length.
@@ -40,7 +41,7 @@ pub fn build(
     borrowed: &mut [usize],
     floats: &mut [f64],
     wholes: &mut [usize],
-) -> DDMTree
+) -> Result<DDMTree, Refusal>
     ensures { Built (settings_of_lem dimensions params) points.now
         (lists_of level_points.old internals.old domains.old boxes.old borrowed.old)
         (lists_of level_points.new internals.new domains.new boxes.new borrowed.new)
@@ -55,27 +56,26 @@ pub fn build(
         floats: floats.len(),
         wholes: wholes.len(),
     };
-    let checked = build_checks::check_build(points, dimensions, params, lent);
-    match checked {
-        Checked::Refused(number, place) => tree_answer::refusal(number, place),
-        Checked::Accepted => {
-            let mut cuts = [0; 1];
-            let mut planes = [0.0; 1];
-            grow::grow(
-                Engine::Queue,
-                points,
-                dimensions,
-                params,
-                level_points,
-                internals,
-                domains,
-                boxes,
-                borrowed,
-                floats,
-                wholes,
-                &mut cuts,
-                &mut planes,
-            )
-        }
-    }
+    build_checks::check_build(points, dimensions, params, lent)?;
+    let mut lists = TreeLists {
+        level_points,
+        internals,
+        domains,
+        boxes,
+        borrowed,
+    };
+    let mut room = Room { floats, wholes };
+    let mut records = Records {
+        cuts: &mut [],
+        planes: &mut [],
+    };
+    Ok(grow::grow(
+        Engine::Queue,
+        points,
+        dimensions,
+        params,
+        &mut lists,
+        &mut room,
+        &mut records,
+    ))
 }

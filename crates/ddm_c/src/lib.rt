@@ -13,6 +13,10 @@ ghost use Rattle.slots.specs.Slots.{value_slot, sizes_slot, version_number};
 ghost use Rattle.table_checks.specs.Tables.{table_of};
 ghost use Rattle.slots.specs.Told.{Told, QuotasTold, SampleTold, BuildTold, DepthFirstTold, StoreTold, LoadTold, AddTold, RetireTold, SlotsTold};
 
+use quotas::Seated;
+use refusal::Refusal;
+use sampling::Sampled;
+use slots::Report;
 use table::Head;
 
 // The version as one number: major * 10000 + minor * 100 + patch.
@@ -28,12 +32,12 @@ pub extern "C" fn ddm_version() -> usize
 pub extern "C" fn ddm_square_root(x: f64, res: &mut [f64]) -> usize
     ensures { Told 1 value_slot res.old res.new result (root_answer x) }
 {
-    if res.len() < 1 {
-        return 11;
+    if res.is_empty() {
+        return Refusal::ShortList.number();
     }
-    let answer = root::square_root(x);
-    res[0] = slots::root_value(answer);
-    slots::root_number(answer)
+    let told = Report::of(root::square_root(x), 0.0);
+    res[0] = told.value;
+    told.number
 }
 
 // The size of the next level, of a active rows at the threshold c with r reductions left. Refusals 4, 8, 14, 9.
@@ -41,12 +45,12 @@ pub extern "C" fn ddm_square_root(x: f64, res: &mut [f64]) -> usize
 pub extern "C" fn ddm_level_size(a: usize, c: u32, r: u32, res: &mut [usize]) -> usize
     ensures { Told 1 value_slot res.old res.new result (size_answer a c r) }
 {
-    if res.len() < 1 {
-        return 11;
+    if res.is_empty() {
+        return Refusal::ShortList.number();
     }
-    let size = level_sizes::get_num_level_coarse_points(a, c, r);
-    res[0] = slots::size_value(size);
-    slots::size_number(size)
+    let told = Report::of(level_sizes::get_num_level_coarse_points(a, c, r), 0);
+    res[0] = told.value;
+    told.number
 }
 
 // The quotas of leaves of these sizes for `wanted` seats. The slot: entries written, seats. Refusals 8, 11.
@@ -62,11 +66,17 @@ pub extern "C" fn ddm_quotas(
         res.old res.new result }
 {
     if res.len() < 2 {
-        return 11;
+        return Refusal::ShortList.number();
     }
     let answer = quotas::get_domain_coarse_quotas(sizes, wanted, quotas, wholes);
-    let told = slots::quota_report(answer);
-    stretches::put_pair(res, 0, told.first, told.second);
+    let told = Report::of(
+        answer,
+        Seated {
+            leaves: 0,
+            seats: 0,
+        },
+    );
+    stretches::put_pair(res, 0, told.value.leaves, told.value.seats);
     told.number
 }
 
@@ -87,18 +97,24 @@ pub extern "C" fn ddm_sample(
     ensures { SampleTold dimensions points.now wanted seed out.old out.new
         floats.old floats.new wholes.old wholes.new cover.old cover.new res.old res.new result }
 {
-    if cover.len() < 1 {
-        return 11;
+    if cover.is_empty() {
+        return Refusal::ShortList.number();
     }
     if res.len() < 2 {
-        return 11;
+        return Refusal::ShortList.number();
     }
     let answer = sampling::farthest_point_sampling(
         points, dimensions, wanted, seed, out, floats, wholes,
     );
-    cover[0] = slots::sample_cover(answer);
-    let told = slots::sample_report(answer);
-    stretches::put_pair(res, 0, told.first, told.second);
+    let told = Report::of(
+        answer,
+        Sampled {
+            rows: 0,
+            cover: 0.0,
+        },
+    );
+    cover[0] = told.value.cover;
+    stretches::put_pair(res, 0, told.place, told.value.rows);
     told.number
 }
 
@@ -107,7 +123,10 @@ pub extern "C" fn ddm_sample(
 pub extern "C" fn ddm_row_test(start: usize, count: usize, list_len: usize) -> usize
     ensures { result ≡ number_of (stretch_verdict start count list_len) }
 {
-    leaf_rows::stretch_test(list_len, start, count) as usize
+    match leaf_rows::stretch_test(list_len, start, count) {
+        Ok(()) => 0,
+        Err(refusal) => refusal.number(),
+    }
 }
 
 // The lengths of the lists that a build over n points is to be lent. The slot: level points, internals, domain rows, boxes, borrowed
@@ -122,12 +141,9 @@ pub extern "C" fn ddm_build_sizes(
     ensures { Told 7 sizes_slot res.old res.new result (sizes_answer dimensions n neighbours) }
 {
     if res.len() < 7 {
-        return 11;
+        return Refusal::ShortList.number();
     }
-    let answer = build_sizes::build_sizes(n, dimensions, neighbours);
-    let sizes = answer.sizes;
-    slots::put_sizes(res, sizes);
-    answer.number
+    slots::put_sizes(res, build_sizes::build_sizes(n, dimensions, neighbours))
 }
 
 // Builds the tree. The slot: place, levels, rows of levels 0 to 3, domains of levels 0 to 3. Refusals 1 to 11.
@@ -155,7 +171,7 @@ pub extern "C" fn ddm_build(
         floats.old floats.new wholes.old wholes.new res.old res.new result }
 {
     if res.len() < 10 {
-        return 11;
+        return Refusal::ShortList.number();
     }
     let params = slots::params_of(leaf, neighbours, factor, policy, threshold);
     let tree = ddm::build(
@@ -170,10 +186,7 @@ pub extern "C" fn ddm_build(
         floats,
         wholes,
     );
-    let rows = tree.rows;
-    let each = tree.domains;
-    slots::put_counts(res, tree.place, tree.levels, rows, each);
-    tree.number
+    slots::put_tree(res, tree)
 }
 
 // Builds the tree depth first, and writes the records of its cuts: an axis, or 3 plus a leaf's number, to `cuts`, and the plane or +0 to
@@ -205,7 +218,7 @@ pub extern "C" fn ddm_build_depth_first(
         (records_of cuts.old planes.old) (records_of cuts.new planes.new) res.old res.new result }
 {
     if res.len() < 10 {
-        return 11;
+        return Refusal::ShortList.number();
     }
     let params = slots::params_of(leaf, neighbours, factor, policy, threshold);
     let tree = depth_first_build::build_depth_first(
@@ -222,10 +235,7 @@ pub extern "C" fn ddm_build_depth_first(
         cuts,
         planes,
     );
-    let rows = tree.rows;
-    let each = tree.domains;
-    slots::put_counts(res, tree.place, tree.levels, rows, each);
-    tree.number
+    slots::put_tree(res, tree)
 }
 
 // Writes the tree that stands in the lists to the bytes of a file. `tree` is the slot that its build or load wrote. The slot `result`: place,
@@ -253,11 +263,11 @@ pub extern "C" fn ddm_store(
         file.old file.new res.old res.new result }
 {
     if res.len() < 2 {
-        return 11;
+        return Refusal::ShortList.number();
     }
     if tree.len() < 10 {
         stretches::put_pair(res, 0, 0, 0);
-        return 11;
+        return Refusal::ShortList.number();
     }
     let params = slots::params_of(leaf, neighbours, factor, policy, threshold);
     let counts = slots::counts_from(tree);
@@ -273,8 +283,9 @@ pub extern "C" fn ddm_store(
         borrowed,
         file,
     );
-    stretches::put_pair(res, 0, stored.place, stored.bytes);
-    stored.number
+    let told = Report::of(stored, 0);
+    stretches::put_pair(res, 0, told.place, told.value);
+    told.number
 }
 
 // Hands out the tree that stands in the bytes of a file, for these points and settings. The slot is that of a build. Refusals 1 to 11,
@@ -302,7 +313,7 @@ pub extern "C" fn ddm_load(
         res.old res.new result }
 {
     if res.len() < 10 {
-        return 11;
+        return Refusal::ShortList.number();
     }
     let params = slots::params_of(leaf, neighbours, factor, policy, threshold);
     let tree = load::load_tree(
@@ -316,10 +327,7 @@ pub extern "C" fn ddm_load(
         boxes,
         borrowed,
     );
-    let rows = tree.rows;
-    let each = tree.domains;
-    slots::put_counts(res, tree.place, tree.levels, rows, each);
-    tree.number
+    slots::put_tree(res, tree)
 }
 
 // Adds a point to the table whose head, its slot count and its live count, stands where the caller keeps it. The slot: place, slot taken.
@@ -337,13 +345,18 @@ pub extern "C" fn ddm_add(
         coordinates.old coordinates.new point.now res.old res.new result }
 {
     if res.len() < 2 {
-        return 11;
+        return Refusal::ShortList.number();
     }
-    let answer = table_edits::added(head[0], head[1], flags, coordinates, dimensions, point);
-    head[0] = answer.slots;
-    head[1] = answer.live;
-    stretches::put_pair(res, 0, answer.place, answer.slot);
-    answer.number
+    let mut counters = Head {
+        slots: head[0],
+        live: head[1],
+    };
+    let answer = table::add(&mut counters, flags, coordinates, dimensions, point);
+    head[0] = counters.slots;
+    head[1] = counters.live;
+    let told = Report::of(answer, 0);
+    stretches::put_pair(res, 0, told.place, told.value);
+    told.number
 }
 
 // Retires a slot of the table. No refusal names a place, and nothing is answered, so there is no slot. Refusals 1, 11, 27, 22.
@@ -357,10 +370,14 @@ pub extern "C" fn ddm_retire(
 ) -> usize
     ensures { RetireTold dimensions head.old head.new flags.old flags.new coordinates.now slot result }
 {
-    let answer = table_edits::retired(head[0], head[1], flags, coordinates, dimensions, slot);
-    head[0] = answer.slots;
-    head[1] = answer.live;
-    answer.number
+    let mut counters = Head {
+        slots: head[0],
+        live: head[1],
+    };
+    let answer = table::retire(&mut counters, flags, coordinates, dimensions, slot);
+    head[0] = counters.slots;
+    head[1] = counters.live;
+    Report::of(answer, ()).number
 }
 
 // Builds the tree over the live slots of a table: rows in every list are slots, and n is the live count. The slot is that of a build.
@@ -392,13 +409,10 @@ pub extern "C" fn ddm_build_slots(
         floats.old floats.new wholes.old wholes.new res.old res.new result }
 {
     if res.len() < 10 {
-        return 11;
+        return Refusal::ShortList.number();
     }
     let params = slots::params_of(leaf, neighbours, factor, policy, threshold);
-    let head = Head {
-        slots: slots,
-        live: live,
-    };
+    let head = Head { slots, live };
     let tree = table_build::build_slots(
         head,
         flags,
@@ -413,8 +427,5 @@ pub extern "C" fn ddm_build_slots(
         floats,
         wholes,
     );
-    let rows = tree.rows;
-    let each = tree.domains;
-    slots::put_counts(res, tree.place, tree.levels, rows, each);
-    tree.number
+    slots::put_tree(res, tree)
 }

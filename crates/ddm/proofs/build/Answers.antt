@@ -1,40 +1,46 @@
 -- `ddm::build` meets its contract. Assumes nothing.
-use mathlib.Core.Path.{sym, ap, ◌∙◌}
+use mathlib.Core.Path.{◌≡◌, sym, ◌∙◌}
 use native.Mathlib.Omega.{arith}
 use borrow.Author.Rules.{rules}
+use Rattle.std.proofs.lemmas.Result.{err_from_is_err_and}
 use Rattle.definition.specs.Tree.{levels}
-use Rattle.definition.specs.Outcome.{build_call}
+use Rattle.definition.specs.Packed.{counts_of}
+use Rattle.definition.specs.Outcome.{build_call, zero_counts}
 use Rattle.config.specs.Params.{settings_of_lem}
-use Rattle.build_checks.specs.Verdicts.{verdict_of}
-use Rattle.tree_answer.specs.Answers.{lists_of}
-use Rattle.grow.proofs.Outcomes.{room-refused, room-accepted, answer-refused, lists-refused, answer-accepted, lists-accepted, whole-lists}
+use Rattle.refusal.proofs.Answers.{answer-refused, answer-accepted}
+use Rattle.tree_answer.specs.Answers.{counts_given, lists_of}
+use Rattle.tree_lists.specs.Lent.{lists_in}
+use Rattle.grow.proofs.Outcomes.{room-refused, room-accepted, lists-refused, lists-accepted, whole-lists}
 use Rattle.ddm.proofs.Outcomes.{built}
 use Rattle.ddm.proofs.build.Goals as goal
 
 pub grow-requires : goal.grow-requires
 grow-requires c = record {
-  wholes_value = sym c.check_build-checked.ensures ∙ ap verdict_of c.in-Accepted.is;
+  wholes_value = sym c.in_ok-check_build.ensures;
   record_room = (omega arith, omega arith);
 }
 
-pub returns-in-Refused : goal.returns-in-Refused
-returns-in-Refused c = let P = c.args in
+pub returns-in_err-check_build : goal.returns-in_err-check_build
+returns-in_err-check_build c = let P = c.args in
     let s = settings_of_lem P.dimensions P.params in
     let cs = P.points.now in
     let old = lists_of P.level_points.now P.internals.now P.domains.now P.boxes.now P.borrowed.now in
-    let e = sym c.check_build-checked.ensures ∙ ap verdict_of c.in-Refused.is in
-    let l = lists-refused (build_call s cs old P.floats.now P.wholes.now) (levels s cs) old _ e in
-    let answer = c.refusal.ensures ∙ answer-refused (build_call s cs old P.floats.now P.wholes.now) (levels s cs) old _ e in
-    built s cs old P.floats.now P.wholes.now answer l (room-refused _ _ P.floats.now e) (room-refused _ _ P.wholes.now e)
+    let v = build_call s cs old P.floats.now P.wholes.now in
+    let p = err_from_is_err_and c.from_residual.result c.from_residual.ensures.1 in
+    let e = sym c.in_err-check_build.ensures in
+    rw (p.1, p.2)
+    (built s cs old P.floats.now P.wholes.now (answer-refused counts_given (counts_of (levels s cs)) zero_counts v _ e) (lists-refused v (levels s cs) old _ e)
+    (room-refused v _ P.floats.now e) (room-refused v _ P.wholes.now e))
 
-pub returns-in-Accepted : goal.returns-in-Accepted
-returns-in-Accepted c = let P = c.args in
+pub returns : goal.returns
+returns c = let P = c.args in
     let s = settings_of_lem P.dimensions P.params in
     let cs = P.points.now in
     let old = lists_of P.level_points.now P.internals.now P.domains.now P.boxes.now P.borrowed.now in
-    let e = sym c.check_build-checked.ensures ∙ ap verdict_of c.in-Accepted.is in
-    let l = lists-accepted (build_call s cs old P.floats.now P.wholes.now) (levels s cs) old e in
+    let v = build_call s cs old P.floats.now P.wholes.now in
+    let e = sym c.in_ok-check_build.ensures in
     let w = c.grow.ensures in
-    let answer = w.counts ∙ answer-accepted (build_call s cs old P.floats.now P.wholes.now) (levels s cs) old e in
-    let lists = whole-lists w.level_points w.internals w.domains w.boxes w.borrowed ∙ l in
-    built s cs old P.floats.now P.wholes.now answer lists (room-accepted _ _ _ e (search rules)) (room-accepted _ _ _ e (search rules))
+    let lists = whole-lists w.level_points w.internals w.domains w.boxes w.borrowed ∙ lists-accepted v (levels s cs) old e in
+    let back : _ ≡ lists_in c.grow.new.lists = search rules in
+    built s cs old P.floats.now P.wholes.now (answer-accepted counts_given _ (counts_of (levels s cs)) zero_counts v e w.counts) (back ∙ lists)
+    (room-accepted v _ _ e (search rules)) (room-accepted v _ _ e (search rules))

@@ -1,17 +1,17 @@
 -- `ddm_c::ddm_add` meets its contract. Assumes nothing.
-use mathlib.Core.Path.{refl}
+use mathlib.Core.Path.{refl, ◌∙◌}
 use native.Mathlib.Omega.{arith}
 use Rattle.table_checks.specs.Tables.{table_of}
-use Rattle.table_edits.specs.Edits.{edit_answer}
+use Rattle.slots.specs.Slots.{told}
 use Rattle.slots.proofs.Told.{add-short, add-long}
 use Rattle.ddm_c.proofs.ddm_add.Goals as goal
 
 pub returns-then-res-lt2 : goal.returns-then-res-lt2
-returns-then-res-lt2 c = add-short _ _ _ _ _ _ c.if-res-lt2.true
+returns-then-res-lt2 c = rw c.number.ensures (add-short _ _ _ _ _ _ c.if-res-lt2.true)
 
 pub returns : goal.returns
 returns c = let P = c.args in
-    let q = c.added-answer in
+    let q = c.add-answer in
     let w = q.ensures in
-    add-long P.dimensions P.head.now P.flags.now P.coordinates.now P.point.now P.res.now _ _ _ (edit_answer q.result)
-    (table_of q.result.slots q.result.live q.new.flags q.new.coordinates) (omega arith) c.put_pair.ensures w.answers w.table refl refl
+    add-long P.dimensions P.head.now P.flags.now P.coordinates.now P.point.now P.res.now _ _ _ (told c.of-told.result)
+    (table_of q.new.head.slots q.new.head.live q.new.flags q.new.coordinates) (omega arith) c.put_pair.ensures (c.of-told.ensures ∙ w.answers) w.table refl refl

@@ -7,14 +7,14 @@ use Rattle.slots.proofs.Told.{build-short, build-long}
 use Rattle.ddm_c.proofs.ddm_build.Goals as goal
 
 pub returns-then-res-lt10 : goal.returns-then-res-lt10
-returns-then-res-lt10 c = build-short _ (lists_of _ _ _ _ _) _ _ _ _ (omega arith)
+returns-then-res-lt10 c = rw c.number.ensures (build-short _ (lists_of _ _ _ _ _) _ _ _ _ (omega arith))
 
 pub returns : goal.returns
 returns c = let a = c.args in
     let p = c.params_of-params in
     let q = c.build-tree in
     let w = q.ensures in
-    build-long _ (lists_of _ _ _ _ _) _ _ _ (lists_of _ _ _ _ _) _ _ _ (tree_answer_lem q.result) (settings_of_lem _ p.result)
+    build-long _ (lists_of _ _ _ _ _) _ _ _ (lists_of _ _ _ _ _) _ _ _ _ (tree_answer_lem q.result) (settings_of_lem _ p.result)
     (settings_from a.dimensions a.leaf a.neighbours a.factor a.policy a.threshold)
     (p.ensures _)
-    c.if-res-lt10.false c.put_counts.ensures w.answers w.lists w.floats_free w.wholes_free
+    c.if-res-lt10.false c.put_tree.ensures.number c.put_tree.ensures.slot w.answers w.lists w.floats_free w.wholes_free

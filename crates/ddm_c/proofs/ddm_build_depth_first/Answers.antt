@@ -8,14 +8,14 @@ use Rattle.slots.proofs.Told.{depth-first-short, depth-first-long}
 use Rattle.ddm_c.proofs.ddm_build_depth_first.Goals as goal
 
 pub returns-then-res-lt10 : goal.returns-then-res-lt10
-returns-then-res-lt10 c = depth-first-short _ (lists_of _ _ _ _ _) _ _ (records_of _ _) _ _ (omega arith)
+returns-then-res-lt10 c = rw c.number.ensures (depth-first-short _ (lists_of _ _ _ _ _) _ _ (records_of _ _) _ _ (omega arith))
 
 pub returns : goal.returns
 returns c = let a = c.args in
     let p = c.params_of-params in
     let q = c.build_depth_first-tree in
     let w = q.ensures in
-    depth-first-long _ (lists_of _ _ _ _ _) _ _ (records_of _ _) _ (lists_of _ _ _ _ _) _ _ (records_of _ _) _ (tree_answer_lem q.result) (settings_of_lem _ p.result)
+    depth-first-long _ (lists_of _ _ _ _ _) _ _ (records_of _ _) _ (lists_of _ _ _ _ _) _ _ (records_of _ _) _ _ (tree_answer_lem q.result) (settings_of_lem _ p.result)
     (settings_from a.dimensions a.leaf a.neighbours a.factor a.policy a.threshold)
     (p.ensures _)
-    c.if-res-lt10.false c.put_counts.ensures w.answers w.lists w.records w.floats_free w.wholes_free
+    c.if-res-lt10.false c.put_tree.ensures.number c.put_tree.ensures.slot w.answers w.lists w.records w.floats_free w.wholes_free

@@ -1,12 +1,15 @@
 -- `ddm_c::ddm_quotas` meets its contract. Assumes nothing.
+use mathlib.Core.Path.{refl}
+use Rattle.quotas.specs.Answers.{as_shared, no_seats, quota_report_lem}
+use Rattle.slots.proofs.Slots.{seen}
 use Rattle.slots.proofs.Told.{quotas-short, quotas-long}
 use Rattle.ddm_c.proofs.ddm_quotas.Goals as goal
 
 pub returns-then-res-lt2 : goal.returns-then-res-lt2
-returns-then-res-lt2 c = quotas-short _ _ _ _ _ c.if-res-lt2.true
+returns-then-res-lt2 c = rw c.number.ensures (quotas-short _ _ _ _ _ c.if-res-lt2.true)
 
 pub returns : goal.returns
-returns c = let h = c.if-res-lt2.false in
-    let q = c.get_domain_coarse_quotas-answer.ensures in
-    let t = c.quota_report-told.ensures in
-    quotas-long _ _ _ _ _ _ _ _ _ _ _ _ h q t.0 t.1 t.2 c.put_pair.ensures
+returns c = let q = c.get_domain_coarse_quotas-answer in
+    let t = c.of-told in
+    quotas-long _ _ _ _ _ _ _ _ (quota_report_lem q.result) (record { number = t.result.number; place = t.result.place; value = as_shared t.result.value })
+    c.if-res-lt2.false q.ensures (seen as_shared no_seats _ q.result t.result t.ensures refl) c.put_pair.ensures

@@ -1,16 +1,23 @@
 -- `ddm_c::ddm_sample` meets its contract. Assumes nothing.
+use mathlib.Core.Path.{refl}
+use lib.ListN.{length}
+use Prim.Native.Nat.{◌≤◌, ◌<◌}
+use Rattle.std.proofs.lemmas.Bool.Decides.{nat_tests}
+use native.Mathlib.Omega.{arith}
+use Rattle.definition.specs.Number.{plus_zero}
+use Rattle.sampling.specs.Answers.{as_sampled, sample_report_lem}
+use Rattle.slots.proofs.Slots.{seen}
 use Rattle.slots.proofs.Told.{sample-cover-short, sample-short, sample-long}
 use Rattle.ddm_c.proofs.ddm_sample.Goals as goal
 
-pub returns-then-cover-lt1 : goal.returns-then-cover-lt1
-returns-then-cover-lt1 c = sample-cover-short _ _ _ _ _ _ _ _ _ c.if-cover-lt1.true
+pub returns-then-is_empty : goal.returns-then-is_empty
+returns-then-is_empty c = rw c.number.ensures (sample-cover-short _ _ _ _ _ _ _ _ _ (let h : length c.args.cover.now < 1 = grind (arith, nat_tests) in h))
 
 pub returns-then-res-lt2 : goal.returns-then-res-lt2
-returns-then-res-lt2 c = sample-short _ _ _ _ _ _ _ _ _ c.if-cover-lt1.false c.if-res-lt2.true
+returns-then-res-lt2 c = rw c.number-then-res-lt2.ensures (sample-short _ _ _ _ _ _ _ _ _ (let h : 1 ≤ length c.args.cover.now = grind (arith, nat_tests) in h) c.if-res-lt2.true)
 
 pub returns : goal.returns
-returns c = let h = c.if-cover-lt1.false in
-    let g = c.if-res-lt2.false in
-    let q = c.farthest_point_sampling-answer.ensures in
-    let t = c.sample_report-told.ensures in
-    sample-long _ _ _ _ _ _ _ _ _ h _ _ _ _ _ _ _ _ _ g q t.0 t.1 t.2 c.sample_cover.ensures c.put_pair.ensures
+returns c = let q = c.farthest_point_sampling-answer in
+    let t = c.of-told in
+    sample-long _ _ _ _ _ _ _ _ _ (let h : 1 ≤ length c.args.cover.now = grind (arith, nat_tests) in h) _ _ _ _ (sample_report_lem q.result) (record { number = t.result.number; place = t.result.place; value = as_sampled t.result.value })
+    c.if-res-lt2.false q.ensures (seen as_sampled (record { rows = 0; cover = plus_zero }) _ q.result t.result t.ensures refl) c.put_pair.ensures

@@ -1,9 +1,15 @@
 -- `ddm_c::ddm_square_root` meets its contract. Assumes nothing.
+use mathlib.Core.Path.{refl, ◌∙◌}
+use native.Mathlib.Omega.{arith}
+use lib.ListN.{length}
+use Prim.Native.Nat.{◌≤◌, ◌<◌}
+use Rattle.std.proofs.lemmas.Bool.Decides.{nat_tests}
+use Rattle.slots.specs.Slots.{told}
 use Rattle.slots.proofs.Told.{told-short, told-value}
 use Rattle.ddm_c.proofs.ddm_square_root.Goals as goal
 
-pub returns-then-res-lt1 : goal.returns-then-res-lt1
-returns-then-res-lt1 c = told-short _ _ _ _ c.if-res-lt1.true
+pub returns-then-is_empty : goal.returns-then-is_empty
+returns-then-is_empty c = rw c.number.ensures (told-short _ _ _ _ (let h : length c.args.res.now < 1 = grind (arith, nat_tests) in h))
 
 pub returns : goal.returns
-returns c = told-value _ _ _ _ _ c.if-res-lt1.false c.root_number.ensures c.root_value.ensures c.square_root-answer.ensures
+returns c = told-value _ _ _ (told c.of-told.result) _ (let h : 1 ≤ length c.args.res.now = grind (arith, nat_tests) in h) refl refl (c.of-told.ensures ∙ c.square_root.ensures)
