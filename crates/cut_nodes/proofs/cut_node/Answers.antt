@@ -1,17 +1,10 @@
 -- `cut_nodes::cut_node` meets its contract. Assumes nothing.
-use mathlib.Core.Path.{ap, sym, ◌∙◌}
+use mathlib.Core.Path.{ap, ◌∙◌}
 use native.Mathlib.Omega.{arith}
 use borrow.Author.Rules.{rules}
 use lib.ListN.{length, set}
 use lib.Seq.{length-take-le, drop_at}
 use Rattle.cut_nodes.proofs.cut_node.Goals as goal
-
-pub slice_bounds-cut_stretch-end-2 : goal.slice_bounds-cut_stretch-end-2
-slice_bounds-cut_stretch-end-2 c = sym (length-take-le _ _ (omega (arith, c.requires.3)))
-
-pub cut_stretch-at-requires : goal.cut_stretch-at-requires
-cut_stretch-at-requires c = let p = c.requires in
-    (p.0, p.1, p.2, length-take-le _ _ (omega (arith, p.3)))
 
 pub returns : goal.returns
 returns c = let a = c in

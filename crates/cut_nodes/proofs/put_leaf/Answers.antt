@@ -2,27 +2,15 @@
 use mathlib.Core.Path.{refl, sym, ap, ◌∙◌}
 use mathlib.Core.List.{[], ◌∷◌}
 use Prim.Native.Nat.{ℕ, ◌+◌, ◌*◌}
-use native.Mathlib.Nat.{mul-add, mul-one}
 use native.Mathlib.Omega.{arith}
 use borrow.Author.Rules.{rules}
 use lib.ListN.{length}
-use Rattle.definition.specs.Points.{box_width_lem}
 use Rattle.lists.specs.Lists.{put}
 use Rattle.lists.proofs.Put.{part-back}
 use Rattle.boxes.specs.Boxes.{floats_of}
 use Rattle.cut_nodes.specs.Written.{domain_of}
 use Rattle.cut_nodes.proofs.Laws.{leaf-written}
 use Rattle.cut_nodes.proofs.put_leaf.Goals as goal
-
-pub bounds_before-at-requires : goal.bounds_before-at-requires
-bounds_before-at-requires c = let a = c.args in
-    let w = box_width_lem a.whole.dimensions in
-    (c.requires.0, omega (arith, c.requires.2, mul-add w a.from.leaves 1, mul-one w))
-
-pub write_box-requires : goal.write_box-requires
-write_box-requires c = let a = c.args in
-    let w = box_width_lem a.whole.dimensions in
-    (omega (arith, c.requires.2, mul-add w a.from.leaves 1, mul-one w, c.bounds_before-at.ensures), c.requires.0)
 
 pub returns : goal.returns
 returns c = record {

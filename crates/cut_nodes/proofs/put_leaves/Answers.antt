@@ -1,5 +1,5 @@
 -- `cut_nodes::put_leaves` meets its contract. Assumes nothing.
-use mathlib.Core.Path.{◌≡◌, ap, sym, ◌∙◌}
+use mathlib.Core.Path.{ap, sym, ◌∙◌}
 use Prim.Native.Nat.{ℕ, ◌*◌}
 use native.Mathlib.Nat.{mul-add, mul-one}
 use native.Mathlib.Omega.{arith}
@@ -9,21 +9,6 @@ use Rattle.cut_nodes.specs.Written.{domain_of}
 use Rattle.record_laws.proofs.Entries.{boxes-under-leaf, leaf-count-leaf}
 use Rattle.cut_nodes.proofs.Laws.{written_on, written-two}
 use Rattle.cut_nodes.proofs.put_leaves.Goals as goal
-
-pub put_leaf-requires : goal.put_leaf-requires
-put_leaf-requires c = let a = c in
-    let p = a.requires in
-    let k = c.put_leaf-middle in
-    let n = k.ensures.next in
-    let w = box_width_lem a.args.left.dimensions in
-    let f = a.args.from.leaves in
-    let g : box_width_lem a.args.right.dimensions ≡ w = ap box_width_lem p.1 in (
-      omega (arith, p.0, p.1),
-      omega (arith, p.3, n.1, k.ensures.same.wholes_len),
-      rw (g, n.1) (omega (arith, p.4, k.ensures.same.floats_len)),
-      omega (arith, p.5, n.0, k.ensures.same.cuts_len),
-      omega (arith, p.6, n.0, k.ensures.same.planes_len),
-    )
 
 pub returns-clause-written : goal.returns-clause-written
 returns-clause-written c l m el em = let a = c in

@@ -7,9 +7,6 @@ use Rattle.packed.proofs.OwnRows.{row-own}
 use Rattle.overlap_owners.proofs.Marks.{leaf-inside, leaf-more, marked-owned}
 use Rattle.overlap_owners.proofs.owners.Goals as goal
 
-pub loop-leaf-init : goal.loop-leaf-init
-loop-leaf-init c = λ l p h g i. absurd (omega arith)
-
 pub mark_leaf-requires : goal.mark_leaf-requires
 mark_leaf-requires c =
     let a = c.args in

@@ -3,7 +3,7 @@ use Prim.Native.Nat.{ℕ, ◌+◌, ◌*◌, ◌≤◌}
 use mathlib.Core.Path.{◌≡◌, subst}
 use lib.ListN.{length}
 use Rattle.overlap_pairs.specs.Pairs.{Collected}
-use Rattle.overlap_pairs.proofs.Collects.{collect-none, collect-room, collect-owners, collect-more}
+use Rattle.overlap_pairs.proofs.Collects.{collect-none, collect-room, collect-more}
 use native.Mathlib.Omega.{arith}
 use Rattle.overlap_pairs.proofs.collect.Goals as goal
 
@@ -11,21 +11,6 @@ pub loop-p-init : goal.loop-p-init
 loop-p-init c = let s = c in
     let a = s.args in
     collect-none a.dimensions a.points.now a.neighbours a.active.now s.requires.0.ascends a.wholes.now
-
-pub send_row-n-requires : goal.send_row-n-requires
-send_row-n-requires c = let s = c in
-    let a = s.args in
-    let l = c.loop-p in
-    let k = l.invariant in
-    let t = c.loop-p-test.true in
-    let o = collect-room a.dimensions a.points.now a.neighbours a.active.now s.requires.0.ascends a.wholes.now l.p l.n t k.few in (
-      s.requires.0,
-      s.requires.1,
-      t,
-      collect-owners a.dimensions a.points.now a.neighbours a.active.now s.requires.0.ascends a.wholes.now l.wholes l.p l.n k l.auto.wholes s.requires.2,
-      k.start,
-      omega (arith, l.auto.wholes, s.requires.3),
-    )
 
 pub loop-p-preserved : goal.loop-p-preserved
 loop-p-preserved c = let s = c in

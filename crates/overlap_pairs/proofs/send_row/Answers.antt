@@ -1,6 +1,6 @@
 -- `overlap_pairs::send_row` meets its contract. Assumes nothing.
 use Rattle.overlap_pairs.proofs.Collects.{row_room}
-use mathlib.Core.Path.{◌≡◌, sym}
+use mathlib.Core.Path.{◌≡◌}
 use lib.ListN.{length, get_or, take}
 use lib.Seq.{length-take-le}
 use Rattle.definition.specs.Refusals.{most_neighbours}
@@ -16,12 +16,6 @@ nearest-count-requires c = let s = c in
       omega arith,
       omega arith,
     )
-
-pub slice_bounds-send-end : goal.slice_bounds-send-end
-slice_bounds-send-end c = let s = c in
-    let f = c.nearest-count in
-    let g : length f.new.near ≡ most_neighbours = omega arith in
-    sym (length-take-le f.result f.new.near (omega arith))
 
 pub send-requires : goal.send-requires
 send-requires c = let s = c in

@@ -1,16 +1,13 @@
 -- `overlaps::drop_repeats` meets its contract. Assumes nothing.
 use mathlib.Core.Path.{sym, ◌∙◌}
-use borrow.Author.Tests.{eqb-true, eqb-false}
+use borrow.Author.Tests.{eqb-true}
 use native.Mathlib.Omega.{arith}
-use Rattle.overlaps.proofs.Drops.{drop-first, drop-same, drop-new, drop-end, drop-none}
+use Rattle.overlaps.proofs.Drops.{drop-same, drop-new, drop-end, drop-none}
 use Rattle.overlaps.proofs.drop_repeats.Goals.{then-codes-kept, else-codes-kept}
 use Rattle.overlaps.proofs.drop_repeats.Goals as goal
 
 pub returns-then-is_empty : goal.returns-then-is_empty
 returns-then-is_empty c = (omega arith, drop-none c.args.codes.now c.args.codes.now (eqb-true _ _ (sym c.is_empty.ensures ∙ c.if-is_empty.true)))
-
-pub loop-r-init : goal.loop-r-init
-loop-r-init c = let n = eqb-false _ _ (sym c.is_empty.ensures ∙ c.if-is_empty.false) in drop-first c.args.codes.now (omega (arith, n))
 
 pub loop-r-preserved : goal.loop-r-preserved
 loop-r-preserved c = let v = c.loop-r in

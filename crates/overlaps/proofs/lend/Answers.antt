@@ -7,10 +7,6 @@ use Rattle.overlaps.proofs.Lends.{small-lists, distinct-codes, distinct-rows, di
 use native.Mathlib.Omega.{arith}
 use Rattle.overlaps.proofs.lend.Goals as goal
 
-pub slice_bounds-write_rows-end-2 : goal.slice_bounds-write_rows-end-2
-slice_bounds-write_rows-end-2 c = let f = c.order_once-count in
-    sym (length-take-le f.result f.new.codes (omega (arith, f.ensures.0)))
-
 pub write_rows-requires : goal.write_rows-requires
 write_rows-requires c = let s = c in
     let a = s.args in
@@ -18,11 +14,6 @@ write_rows-requires c = let s = c in
       omega (arith, f.ensures.1.short, s.requires.3),
       distinct-inside a.codes.now (take f.result f.new.codes) (length a.active.now) f.ensures.1 s.requires.4,
     )
-
-pub slice_bounds-write_columns-end-2 : goal.slice_bounds-write_columns-end-2
-slice_bounds-write_columns-end-2 c = let f = c.order_once-count in
-    sym (length-take-le f.result f.new.codes (omega
-    (arith, f.ensures.0)))
 
 pub returns : goal.returns
 returns c = let s = c in

@@ -3,9 +3,6 @@ use native.Mathlib.Omega.{arith}
 use borrow.Author.Count.{below_more}
 use Rattle.overlaps.proofs.reach.Goals as goal
 
-pub loop-k-init : goal.loop-k-init
-loop-k-init c = λ j a b. absurd (omega arith)
-
 pub returns-then-limit-codes : goal.returns-then-limit-codes
 returns-then-limit-codes c = let v = c.loop-k in
     record { start = omega arith; inside = omega arith; under = λ k a b. v.invariant k b a; stop = λ h. c.if-limit-codes.true }
