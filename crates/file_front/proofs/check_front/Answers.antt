@@ -13,49 +13,25 @@ use Rattle.file_front.proofs.Takes.{head-axes}
 use Rattle.file_front.proofs.Tested.{head-broken, head-inside, policy-broken, head-refused, points-decide, front_read}
 use Rattle.file_front.proofs.check_front.Goals as goal
 
-pub returns-then-not-record_at : goal.returns-then-not-record_at
-returns-then-not-record_at c = let bs = c.args.bytes.now in
+pub returns-then-not-record_at-clause-good : goal.returns-then-not-record_at-clause-good
+returns-then-not-record_at-clause-good c = let bs = c.args.bytes.now in
     let stands : whole head_mark head_size bs ≡ false = sym c.record_at.ensures ∙ c.if-not-record_at.true in
-    record {
-      good = head-broken bs stands;
-      read = tt;
-    }
+    head-broken bs stands
 
-pub policy_fits-requires : goal.policy_fits-requires
-policy_fits-requires c = let bs = c.args.bytes.now in
-    let stands : whole head_mark head_size bs ≡ true = sym c.record_at.ensures ∙ c.if-not-record_at.false in
-    omega (arith, head-inside bs stands)
-
-pub returns-then-not-policy_fits : goal.returns-then-not-policy_fits
-returns-then-not-policy_fits c = let bs = c.args.bytes.now in
+pub returns-then-not-policy_fits-clause-good : goal.returns-then-not-policy_fits-clause-good
+returns-then-not-policy_fits-clause-good c = let bs = c.args.bytes.now in
     let stands : whole head_mark head_size bs ≡ true = sym c.record_at.ensures ∙ c.if-not-record_at.false in
     let fits : policy_fits_lem bs ≡ false = sym c.policy_fits.ensures ∙ c.if-not-policy_fits.true in
-    record {
-      good = policy-broken bs stands fits;
-      read = tt;
-    }
+    policy-broken bs stands fits
 
-pub settings_of-settings-requires : goal.settings_of-settings-requires
-settings_of-settings-requires c = let bs = c.args.bytes.now in
-    let stands : whole head_mark head_size bs ≡ true = sym c.record_at.ensures ∙ c.if-not-record_at.false in
-    omega (arith, head-inside bs stands)
-
-pub number_at-n-requires : goal.number_at-n-requires
-number_at-n-requires c = let bs = c.args.bytes.now in
-    let stands : whole head_mark head_size bs ≡ true = sym c.record_at.ensures ∙ c.if-not-record_at.false in
-    omega (arith, head-inside bs stands)
-
-pub returns-then-not-head_passes : goal.returns-then-not-head_passes
-returns-then-not-head_passes c = let bs = c.args.bytes.now in
+pub returns-then-not-head_passes-clause-good : goal.returns-then-not-head_passes-clause-good
+returns-then-not-head_passes-clause-good c = let bs = c.args.bytes.now in
     let stands : whole head_mark head_size bs ≡ true = sym c.record_at.ensures ∙ c.if-not-record_at.false in
     let fits : policy_fits_lem bs ≡ true = sym c.policy_fits.ensures ∙ c.if-not-policy_fits.false in
     let settings = c.settings_of-settings in
     let n = c.number_at-n in
     let refused = sym c.head_passes.ensures ∙ c.if-not-head_passes.true in
-    record {
-      good = head-refused bs stands fits (settings_are settings.result) n.result settings.ensures n.ensures.0 refused;
-      read = tt;
-    }
+    head-refused bs stands fits (settings_are settings.result) n.result settings.ensures n.ensures.0 refused
 
 pub points_pass-requires : goal.points_pass-requires
 points_pass-requires c = let bs = c.args.bytes.now in
@@ -76,17 +52,14 @@ overflow_add-next c = let axes = head-axes (settings_are c.settings_of-settings.
     let n = c.number_at-n.result in
     omega (arith, mul-le-mul_left n axes.1, ap (λ (k : ℕ). n * k) c.point_size.ensures)
 
-pub returns-then-not-points_pass : goal.returns-then-not-points_pass
-returns-then-not-points_pass c = let bs = c.args.bytes.now in
+pub returns-then-not-points_pass-clause-good : goal.returns-then-not-points_pass-clause-good
+returns-then-not-points_pass-clause-good c = let bs = c.args.bytes.now in
     let stands : whole head_mark head_size bs ≡ true = sym c.record_at.ensures ∙ c.if-not-record_at.false in
     let fits : policy_fits_lem bs ≡ true = sym c.policy_fits.ensures ∙ c.if-not-policy_fits.false in
     let settings = c.settings_of-settings in
     let n = c.number_at-n in
     let takes = sym c.head_passes.ensures ∙ c.if-not-head_passes.false in
-    record {
-      good = points-decide bs stands fits (settings_are settings.result) n.result settings.ensures n.ensures.0 takes false (sym c.if-not-points_pass.true ∙ c.points_pass.ensures);
-      read = tt;
-    }
+    points-decide bs stands fits (settings_are settings.result) n.result settings.ensures n.ensures.0 takes false (sym c.if-not-points_pass.true ∙ c.points_pass.ensures)
 
 pub returns : goal.returns
 returns c = let bs = c.args.bytes.now in

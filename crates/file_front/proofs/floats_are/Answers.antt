@@ -11,20 +11,20 @@ pub loop-i-init : goal.loop-i-init
 loop-i-init c = none-tested _
 
 pub returns-then-bits-bits_at : goal.returns-then-bits-bits_at
-returns-then-bits-bits_at c = let at-loop = c in
-    let a = at-loop.args in
-    let i = at-loop.loop-i.i in
-    let fit = at-loop.shared_slice_known-1.given (a.start + i) in
-    let here = float-differs a.xs.now a.start a.at i a.bytes.now fit (λ k. omega (arith, at-loop.shared_slice_known-2-1.given k)) (search rules) c.bits_of-bits.result c.bits_at.result c.bits_of-bits.ensures c.bits_at.ensures c.if-bits-bits_at.true in
+returns-then-bits-bits_at c =
+    let a = c.args in
+    let i = c.loop-i.i in
+    let fit = c.type_inv.xs (a.start + i) in
+    let here = float-differs a.xs.now a.start a.at i a.bytes.now fit (λ k. omega (arith, c.type_inv.bytes k)) (search rules) c.bits_of-bits.result c.bits_at.result c.bits_of-bits.ensures c.bits_at.ensures c.if-bits-bits_at.true in
     floats-found a.xs.now a.start a.count a.at a.bytes.now (search rules) (search rules) i (search rules) here
 
 pub loop-i-preserved : goal.loop-i-preserved
-loop-i-preserved c = let at-loop = c in
-    let a = at-loop.args in
-    let i = at-loop.loop-i.i in
-    let fit = at-loop.shared_slice_known-1.given (a.start + i) in
-    let here = float-agrees a.xs.now a.start a.at i a.bytes.now fit (λ k. omega (arith, at-loop.shared_slice_known-2-1.given k)) (search rules) c.bits_of-bits.result c.bits_at.result c.bits_of-bits.ensures c.bits_at.ensures c.if-bits-bits_at.false in
-    none_more (differs (float_after a.xs.now a.start) float_size a.at a.bytes.now) i at-loop.loop-i.invariant here
+loop-i-preserved c =
+    let a = c.args in
+    let i = c.loop-i.i in
+    let fit = c.type_inv.xs (a.start + i) in
+    let here = float-agrees a.xs.now a.start a.at i a.bytes.now fit (λ k. omega (arith, c.type_inv.bytes k)) (search rules) c.bits_of-bits.result c.bits_at.result c.bits_of-bits.ensures c.bits_at.ensures c.if-bits-bits_at.false in
+    none_more (differs (float_after a.xs.now a.start) float_size a.at a.bytes.now) i c.loop-i.invariant here
 
 pub returns : goal.returns
 returns c = let a = c.args in

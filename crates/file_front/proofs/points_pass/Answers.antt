@@ -1,6 +1,6 @@
 -- `file_front::points_pass` meets its contract: before row i, the rows before it pass. Assumes nothing.
 use borrow.Author.Rules.{rules}
-use Rattle.file_front.proofs.Points.{passing-start, passing-inside, passing-broken, passing-bad, passing-next, passing-end}
+use Rattle.file_front.proofs.Points.{passing-start, passing-broken, passing-bad, passing-next, passing-end}
 use Rattle.file_front.proofs.points_pass.Goals as goal
 
 pub loop-i-init : goal.loop-i-init
@@ -12,33 +12,12 @@ returns-then-not-record_at c = let at-loop = c in
     let stands = c.record_at in
     passing-broken at-loop.loop-i.invariant size.result size.ensures stands.result stands.ensures _ (search rules) c.if-not-record_at.true
 
-pub overflow_add-at : goal.overflow_add-at
-overflow_add-at c = let at-loop = c in
-    let size = at-loop.point_size-size in
-    let stands = c.record_at in
-    let inside = passing-inside at-loop.loop-i.invariant size.result size.ensures stands.result stands.ensures c.if-not-record_at.false in
-    search rules
-
-pub finite_at-requires : goal.finite_at-requires
-finite_at-requires c = let at-loop = c in
-    let size = at-loop.point_size-size in
-    let stands = c.record_at in
-    let inside = passing-inside at-loop.loop-i.invariant size.result size.ensures stands.result stands.ensures c.if-not-record_at.false in
-    search rules
-
 pub returns-then-not-finite_at : goal.returns-then-not-finite_at
 returns-then-not-finite_at c = let at-loop = c in
     let size = at-loop.point_size-size in
     let stands = c.record_at in
     let known = c.finite_at in
     passing-bad at-loop.loop-i.invariant size.result size.ensures stands.result stands.ensures c.if-not-record_at.false known.result known.ensures _ (search rules) c.if-not-finite_at.true
-
-pub overflow_add-at-in-loop-i : goal.overflow_add-at-in-loop-i
-overflow_add-at-in-loop-i c = let at-loop = c in
-    let size = at-loop.point_size-size in
-    let stands = c.record_at in
-    let inside = passing-inside at-loop.loop-i.invariant size.result size.ensures stands.result stands.ensures c.if-not-record_at.false in
-    search rules
 
 pub loop-i-preserved : goal.loop-i-preserved
 loop-i-preserved c = let at-loop = c in
