@@ -2,42 +2,8 @@
 use mathlib.Core.Path.{refl, sym, ◌∙◌}
 use native.Mathlib.Omega.{arith}
 use lib.ListN.{drop, length-drop}
-use Rattle.file_reader.proofs.Fetches.{counts-room, number-here, not-marked, too_short, is_whole}
+use Rattle.file_reader.proofs.Fetches.{counts-room, number-here, too_short, is_whole}
 use Rattle.file_reader.proofs.domain_at.Goals as goal
-
-pub returns-then-not-counts_stand : goal.returns-then-not-counts_stand
-returns-then-not-counts_stand c = let e = c in
-    not-marked _ _ _ (sym e.counts_stand.ensures ∙ c.if-not-counts_stand.true)
-
-pub overflow_add-at : goal.overflow_add-at
-overflow_add-at c = let e = c in
-    let a = e.args in
-    let marked = sym e.counts_stand.ensures ∙ e.if-not-counts_stand.false in
-    omega (arith, counts-room a.at a.bytes.now marked)
-
-pub number_at-own-requires : goal.number_at-own-requires
-number_at-own-requires c = let e = c in
-    let a = e.args in
-    let marked = sym e.counts_stand.ensures ∙ e.if-not-counts_stand.false in
-    omega (arith, counts-room a.at a.bytes.now marked)
-
-pub overflow_add-at-2 : goal.overflow_add-at-2
-overflow_add-at-2 c = let e = c in
-    let a = e.args in
-    let marked = sym e.counts_stand.ensures ∙ e.if-not-counts_stand.false in
-    omega (arith, counts-room a.at a.bytes.now marked)
-
-pub number_at-borrowed-requires : goal.number_at-borrowed-requires
-number_at-borrowed-requires c = let e = c in
-    let a = e.args in
-    let marked = sym e.counts_stand.ensures ∙ e.if-not-counts_stand.false in
-    omega (arith, counts-room a.at a.bytes.now marked)
-
-pub overflow_sub-left : goal.overflow_sub-left
-overflow_sub-left c = let e = c in
-    let a = e.args in
-    let marked = sym e.counts_stand.ensures ∙ e.if-not-counts_stand.false in
-    omega (arith, counts-room a.at a.bytes.now marked)
 
 pub returns-then-left-place : goal.returns-then-left-place
 returns-then-left-place c = let n = c in
