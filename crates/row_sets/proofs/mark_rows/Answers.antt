@@ -2,7 +2,7 @@
 use Prim.Native.Nat.{◌<◌}
 use native.Mathlib.Omega.{arith}
 use lib.ListN.{length}
-use Rattle.row_sets.proofs.Loops.{marking-start, marking-within, marking-clear, marking-next, marking-end}
+use Rattle.row_sets.proofs.Loops.{marking-start, marking-within, marking-clear, marking-next}
 use borrow.Author.Rules.{rules}
 use Rattle.row_sets.proofs.mark_rows.Goals as goal
 
@@ -19,6 +19,3 @@ pub loop-i-preserved : goal.loop-i-preserved
 loop-i-preserved g c =
     let here : c.loop-i.i < length (g.R.Rows.rows c.args.rows.now) = omega arith in
     marking-next c.loop-i.invariant _ here c.row-row.ensures _ (search rules) c.mark.ensures.1
-
-pub returns : goal.returns
-returns g c = marking-end c.loop-i.invariant (omega arith)
