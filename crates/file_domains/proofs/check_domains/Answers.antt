@@ -7,9 +7,6 @@ use Rattle.file_domains.proofs.check_domains.Goals as goal
 pub loop-i-init : goal.loop-i-init
 loop-i-init c = tested-start _ _ _ _ _ _ _ _ c.requires.1 c.requires.2
 
-pub check_domain-requires : goal.check_domain-requires
-check_domain-requires c = (c.requires.0, c.loop-i.invariant.within, c.loop-i.invariant.inside)
-
 pub returns-in_err-f : goal.returns-in_err-f
 returns-in_err-f c = λ p q a b. rw c.from_residual.ensures (tested-bad _ _ _ _ _ _ _ _ _ _ _ _ _ _ _ c.loop-i.invariant (search rules) _ _ _ c.check_domain.ensures c.in_err-f.was p q a b)
 
