@@ -8,10 +8,6 @@ use Rattle.file_levels.proofs.check_levels.Goals as goal
 pub loop-i-init : goal.loop-i-init
 loop-i-init c = levels-start _ _ _ _ _ _ c.requires.2 c.requires.4
 
-pub check_level-requires : goal.check_level-requires
-check_level-requires c = let s = c.loop-i.invariant in
-    (c.requires.0, s.within, omega (arith, s.left-length, s.listed-length, c.requires.3))
-
 pub returns-in_err-l : goal.returns-in_err-l
 returns-in_err-l c = rw c.from_residual.ensures (level-bad _ _ _ _ _ _ _ _ _ _ _ _ _ _ c.loop-i.invariant (search rules) _ _ c.check_level.ensures c.in_err-l.was)
 

@@ -4,15 +4,10 @@ use native.Mathlib.Omega.{arith}
 use borrow.Author.Tests.{lt-leb}
 use Rattle.marks.proofs.Marks.{marked-zeros}
 use Rattle.file_levels.proofs.WholeTree.{levels-fail, domains-fail, borrowed-decide}
-use borrow.Author.Rules.{rules}
 use Rattle.file_levels.proofs.check_tree.Goals as goal
 
 pub mark_below-requires : goal.mark_below-requires
 mark_below-requires c = (marked-zeros 16384, omega arith)
-
-pub check_levels-requires : goal.check_levels-requires
-check_levels-requires c = let a = c in
-    (a.requires.0, a.requires.1, a.requires.3, search rules, c.mark_below.ensures)
 
 pub returns-in_default : goal.returns-in_default
 returns-in_default c = λ s d k. levels-fail _ _ _ _ _ c.check_levels.ensures s d _ k c.in_default.is

@@ -3,26 +3,8 @@ use mathlib.Core.Path.{refl, sym, ◌∙◌}
 use native.Mathlib.Omega.{arith}
 use lib.ListN.{drop, length-drop}
 use Rattle.file_reader.proofs.Fetches.{number-here}
-use Rattle.file_levels.proofs.LevelHeads.{head-room, no-level, short-level, is-level}
+use Rattle.file_levels.proofs.LevelHeads.{is-level}
 use Rattle.file_levels.proofs.level_at.Goals as goal
-
-pub returns-then-not-record_at : goal.returns-then-not-record_at
-returns-then-not-record_at c = no-level _ _ (sym c.record_at.ensures ∙ c.if-not-record_at.true)
-
-pub number_at-rows-requires : goal.number_at-rows-requires
-number_at-rows-requires c = let a = c.args in
-    let marked = sym c.record_at.ensures ∙ c.if-not-record_at.false in
-    omega (arith, head-room a.at a.bytes.now marked)
-
-pub number_at-domains-requires : goal.number_at-domains-requires
-number_at-domains-requires c = let a = c.args in
-    let marked = sym c.record_at.ensures ∙ c.if-not-record_at.false in
-    omega (arith, head-room a.at a.bytes.now marked)
-
-pub returns-then-bytes-at : goal.returns-then-bytes-at
-returns-then-bytes-at c = let a = c.args in
-    let rows = c.number_at-rows.ensures.0 ∙ number-here a.at a.bytes.now 2 in
-    short-level _ _ (omega (arith, length-drop a.at a.bytes.now))
 
 pub returns : goal.returns
 returns c = let a = c.args in
