@@ -1,14 +1,11 @@
 -- `list_levels::check_levels` meets its contract: before level t those before it passed, and the rest decides. Assumes nothing.
 use mathlib.Core.Path.{refl}
 use native.Mathlib.Omega.{arith}
-use Rattle.list_levels.proofs.BetweenLevels.{between_start, between-end, next-ready, between-out, between_next}
+use Rattle.list_levels.proofs.BetweenLevels.{between_start, between-end, between-out, between_next}
 use Rattle.list_levels.proofs.check_levels.Goals as goal
 
 pub loop-t-init : goal.loop-t-init
 loop-t-init c = between_start c.requires
-
-pub next_level-requires : goal.next_level-requires
-next_level-requires c = next-ready c.requires c.loop-t.invariant c.loop-t-test.true
 
 pub returns-in_err-done : goal.returns-in_err-done
 returns-in_err-done c =
