@@ -1,5 +1,5 @@
 -- The outcome of a build from the verdict on it, for either build. Assumes nothing.
--- Holds: whole-lists, room-refused, room-accepted, written_is, answer-refused, lists-refused, answer-accepted, lists-accepted
+-- Holds: whole-lists, room-refused, room-accepted, written_is, lists-refused, lists-accepted
 use mathlib.Core.Path.{◌≡◌, refl}
 use mathlib.Core.List.{List}
 use Prim.Native.Nat.{ℕ}
@@ -8,9 +8,9 @@ use lib.Ieee.{Float}
 use Rattle.lists.specs.Lists.{put}
 use Rattle.lists.proofs.Put.{put-zero}
 use Rattle.definition.specs.Tree.{Level}
-use Rattle.definition.specs.Packed.{counts_of, packed_level_points, packed_internals, packed_domains, packed_boxes, packed_borrowed}
+use Rattle.definition.specs.Packed.{packed_level_points, packed_internals, packed_domains, packed_boxes, packed_borrowed}
 use Rattle.definition.specs.Refusals.{Refusal, Verdict, accepted, refused}
-use Rattle.definition.specs.Outcome.{TreeLists, answered, number_of, place_of, value_of, written, list_after, tree_lists_after, RoomAfter, zero_counts}
+use Rattle.definition.specs.Outcome.{TreeLists, written, list_after, tree_lists_after, RoomAfter}
 use Rattle.tree_answer.specs.Answers.{lists_of}
 
 -- ---- the lists one by one, and together
@@ -32,22 +32,14 @@ unfolding list_after written
 written_is l xs = put-zero l xs
 
 module _ (v : Verdict) (tree : List Level) (old : TreeLists) where
-  -- ---- a refused call: its number and place, zeros, and the lists as they were
+  -- ---- a refused call: the lists as they were
   module _ (r : Refusal) (e : v ≡ refused r) where
-    pub answer-refused : record { number = r.number; place = r.place; value = zero_counts } ≡ answered v (counts_of tree) zero_counts
-    unfolding number_of place_of value_of
-    answer-refused = rw e
-
     pub lists-refused : old ≡ tree_lists_after v tree old
     unfolding tree_lists_after list_after
     lists-refused = rw e
 
-  -- ---- an accepted call: the tree's counts, and its lists written over the fronts of the old ones
+  -- ---- an accepted call: the tree's lists written over the fronts of the old ones
   module _ (e : v ≡ accepted) where
-    pub answer-accepted : record { number = 0; place = 0; value = counts_of tree } ≡ answered v (counts_of tree) zero_counts
-    unfolding number_of place_of value_of
-    answer-accepted = rw e
-
     pub lists-accepted :
         record {
           level_points = put old.level_points 0 (packed_level_points tree);
