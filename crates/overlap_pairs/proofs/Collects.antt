@@ -1,5 +1,5 @@
 -- The turns of the loop over the active rows. Assumes nothing.
--- Holds: collect-none, collect-room, collect-owners, collect-more, row_room
+-- Holds: collect-none, collect-room, collect-more, row_room
 use mathlib.Core.Path.{◌≡◌, refl, sym, ap, ◌∙◌, subst}
 use mathlib.Core.Logic.{inl, inr, ⊎_elim}
 use mathlib.Core.List.{List, [], ◌++◌, Memᴰ}
@@ -47,9 +47,6 @@ module _ (d : ℕ) (cs : List Float) (neighbours : ℕ) (active : List ℕ) (up 
       let e : (p + 1) * q ≡ p * q + 1 * q = add-mul p 1 q in
       let m : (p + 1) * q ≤ a * q = mul-le-mul_right q (omega arith) in
       omega (arith, one-mul q)
-
-  pub collect-owners : (wholes : List ℕ) (n r : ℕ) → Collected d cs neighbours active old n wholes r → length wholes ≡ length old → Owners a old → Owners a wholes
-  collect-owners wholes n r c l o = record { few = o.few; room = (let t = o.room in omega arith); small = λ i h. rw (c.stay i h) (o.small i h) }
 
   module _ (wholes : List ℕ) (p n : ℕ) (c : Collected d cs neighbours active old p wholes n) (here : p < a) (room : n + 2 * neighbours ≤ length wholes)
       (wholes' : List ℕ) (r : ℕ) (t : Taken d cs neighbours active p wholes wholes' n r) where

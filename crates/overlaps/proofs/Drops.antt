@@ -1,6 +1,6 @@
 -- The turns of the loop that drops repeats. Assumes nothing.
--- Holds: Dropped, drop-first, drop-same, drop-new, drop-end, drop-none
-use mathlib.Core.Path.{◌≡◌, refl, sym, ap, ◌∙◌, subst}
+-- Holds: Dropped, drop-same, drop-new, drop-end, drop-none
+use mathlib.Core.Path.{◌≡◌, sym, ap, ◌∙◌, subst}
 use mathlib.Core.Logic.{◌⊎◌, ⊎_elim}
 use Prim.Native.Nat.{ℕ, ◌+◌, ◌-◌, ◌≤◌, ◌<◌}
 use native.Mathlib.Omega.{arith}
@@ -29,19 +29,6 @@ pub record Dropped (s l : List ℕ) (w r : ℕ) : Type 0 where
   pub asc : (i j : ℕ) → i < j → j < w → get_or l i 0 < get_or l j 0
   pub more : (k : ℕ) → k < r → (i : ℕ) × (i < w) × (get_or l i 0 ≡ get_or s k 0)
   pub less : (i : ℕ) → i < w → (k : ℕ) × (k < r) × (get_or l i 0 ≡ get_or s k 0)
-
-pub drop-first : (s : List ℕ) → 0 < length s → Dropped s s 1 1
-drop-first s h = record {
-  some = omega arith;
-  behind = omega arith;
-  inside = h;
-  long = refl;
-  rest = λ k g. refl;
-  top = refl;
-  asc = λ i j a b. absurd (omega arith);
-  more = λ k g. (k, g, refl);
-  less = λ i g. (i, g, refl);
-}
 
 module _ (s l : List ℕ) (w r : ℕ) (d : Dropped s l w r) (here : r < length s) where
   module _ (e : get_or l (w - 1) 0 ≡ get_or l r 0) where
