@@ -14,12 +14,30 @@ const MOST: u64 = 100000;
 // The room for a record.
 const ROOM: usize = 65536;
 
-// The kinds of a record.
-const ADD: usize = 1;
+// What a record calls.
+#[derive(Clone, Copy)]
+enum Kind {
+    Add,
+    Retire,
+    Build,
+}
 
-const RETIRE: usize = 2;
+// A code that names no kind of record.
+#[derive(Clone, Copy)]
+struct UnknownKind;
 
-const BUILD: usize = 3;
+impl TryFrom<usize> for Kind {
+    type Error = UnknownKind;
+
+    fn try_from(code: usize) -> Result<Self, UnknownKind> {
+        match code {
+            1 => Ok(Kind::Add),
+            2 => Ok(Kind::Retire),
+            3 => Ok(Kind::Build),
+            _ => Err(UnknownKind),
+        }
+    }
+}
 
 // The most entries of a table's lists in a record.
 const FLAGS: usize = 40;
@@ -31,42 +49,34 @@ const COORDINATES: usize = 130;
 struct Tally {
     calls: u64,
     differ: u64,
-    first: u64,
+    first: Option<u64>,
 }
 
 // Whether the call on this table has the record's outcome. The head stands at `at`.
 fn call_agrees(record: &[u8], at: usize, flags: &mut [u8], coordinates: &mut [f64]) -> bool
     requires { at ≤ 2 ^ 40 }
 {
-    let kind = call_records::byte(record, 0);
-    if kind == ADD {
-        return replay_edits::add_agrees(record, at, flags, coordinates);
+    match Kind::try_from(call_records::byte(record, 0)) {
+        Ok(Kind::Add) => replay_edits::add_agrees(record, at, flags, coordinates),
+        Ok(Kind::Retire) => replay_edits::retire_agrees(record, at, flags, coordinates),
+        Ok(Kind::Build) => replay_builds::agrees(record, at, flags, coordinates),
+        Err(UnknownKind) => false,
     }
-    if kind == RETIRE {
-        return replay_edits::retire_agrees(record, at, flags, coordinates);
-    }
-    if kind == BUILD {
-        return replay_builds::agrees(record, at, flags, coordinates);
-    }
-    false
 }
 
 // Whether the call of a record has the record's outcome.
 fn agrees(record: &[u8]) -> bool {
-    let place = call_records::past(record, call_records::POINTS_PLACE);
-    let head = call_records::past_bytes(record, place);
+    let place = call_records::past::<f64>(record, call_records::POINTS_PLACE);
+    let head = call_records::past::<u8>(record, place);
     let many = call_records::number(record, call_records::POINTS_PLACE);
     let capacity = call_records::number(record, place);
-    if COORDINATES < many {
-        return false;
-    }
-    if FLAGS < capacity {
+    if COORDINATES < many || FLAGS < capacity {
         return false;
     }
     let mut coordinates = [9.0; COORDINATES];
     let mut flags = [9u8; FLAGS];
-    call_records::fill_floats(record, call_records::POINTS_PLACE, &mut coordinates);
-    call_records::fill_bytes(record, place, &mut flags);
+    call_records::fill(record, call_records::POINTS_PLACE, &mut coordinates);
+    call_records::fill(record, place, &mut flags);
     call_agrees(
         record,
         head,
@@ -77,28 +87,35 @@ fn agrees(record: &[u8]) -> bool {
 
 // All records of the file. One that cannot be read whole counts as one that differs, and is the last.
 fn replay<R: Read>(file: &mut R, room: &mut [u8]) -> Tally {
-    let mut calls: u64 = 0;
-    let mut differ: u64 = 0;
-    let mut first: u64 = 0;
-    while calls < MOST {
+    let mut differ = 0;
+    let mut first = None;
+    for calls in 0..MOST {
         let next = record_file::read_next(file, room);
-        if !next.found {
-            break;
+        let same = match next {
+            Ok(None) => {
+                return Tally {
+                    calls,
+                    differ,
+                    first,
+                };
+            }
+            Ok(Some(size)) => agrees(&room[..size]),
+            Err(_) => false,
+        };
+        if !same {
+            differ += 1;
+            first = first.or(Some(calls + 1));
         }
-        calls += 1;
-        if next.whole && agrees(&room[..next.size]) {
-            continue;
-        }
-        if differ == 0 {
-            first = calls;
-        }
-        differ += 1;
-        if !next.whole {
-            break;
+        if next.is_err() {
+            return Tally {
+                calls: calls + 1,
+                differ,
+                first,
+            };
         }
     }
     Tally {
-        calls,
+        calls: MOST,
         differ,
         first,
     }
@@ -106,11 +123,13 @@ fn replay<R: Read>(file: &mut R, room: &mut [u8]) -> Tally {
 
 // Writes the number of calls, and how many of them differ.
 fn print_tally<W: Write>(to: &mut W, tally: Tally) -> io::Result<()> {
-    let calls = tally.calls;
-    let differ = tally.differ;
+    let Tally {
+        calls,
+        differ,
+        first,
+    } = tally;
     write!(to, "{calls} calls, {differ} differ")?;
-    if 0 < differ {
-        let first = tally.first;
+    if let Some(first) = first {
         write!(to, ", the first is call {first}")?;
     }
     to.write_all(b"\n")
