@@ -37,7 +37,7 @@ fn load_agrees(
 ) -> bool
     requires { (file ≤ end) × (end ≤ 2 ^ 37) × (end ≤ length «record».now) }
 {
-    let tree = load::load_tree(
+    let answer = load::load_tree(
         points,
         call_records::dimensions(record),
         call_records::params(record),
@@ -57,7 +57,7 @@ fn load_agrees(
         boxes,
         borrowed,
     );
-    same & call_records::answer_agrees(tree, record, end)
+    same & call_records::answer_agrees(answer, record, end)
 }
 
 // The same with lists of these lengths, which hold 9.
@@ -84,14 +84,14 @@ fn nines_agree(record: &[u8], file: usize, end: usize, points: &[f64], size: Len
 
 // Whether the load has the record's outcome.
 pub fn agrees(record: &[u8]) -> bool {
-    let at = call_records::past(record, call_records::POINTS_PLACE);
+    let at = call_records::past::<f64>(record, call_records::POINTS_PLACE);
     let file = at + LENGTHS;
-    let end = call_records::past_bytes(record, file);
+    let end = call_records::past::<u8>(record, file);
     let size = lengths(record, at);
     if record.len() < end || !call_records::fit(size) {
         return false;
     }
     let mut points = [9.0; call_records::POINTS];
-    call_records::fill_floats(record, call_records::POINTS_PLACE, &mut points);
+    call_records::fill(record, call_records::POINTS_PLACE, &mut points);
     nines_agree(record, file + 4, end, &points[..size.points], size)
 }
