@@ -1,6 +1,6 @@
 -- The tests of a build, group by group. Assumes nothing.
--- Holds: and_then, verdict-append, build-groups, reductions-many, checked-reductions, bad-test, fault-first, fault-second, tests-stop,
---   tests-pass
+-- Holds: and_then, verdict-append, build-groups, reductions-many, checked-reductions, bad-test, fault-first, fault-second,
+--   tests-stop, tests-pass
 use mathlib.Core.Path.{◌≡◌, refl, sym, ap, ◌∙◌}
 use mathlib.Core.Bool.{Bool, true, false, not, ◌||◌, cond}
 use mathlib.Core.List.{List, [], ◌∷◌, ◌++◌}

@@ -1,6 +1,6 @@
 -- How many bytes a number and a float have: the laws of the trait of fields. Assumes nothing.
 use Rattle.std.specs.Prelude.{◌≡◌, ℕ, zero, suc, length, Float, refl}
-use Rattle.std.proofs.Common.{ap}
+use mathlib.Core.Path.{ap}
 use Rattle.std.specs.Float.{binary64}
 use Rattle.std.specs.Float.Ieee.{to_bits}
 use Rattle.formats.specs.Bytes.{bytes_of, number_bytes, number_size, float_bytes, float_size}

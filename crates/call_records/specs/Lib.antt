@@ -1,2 +1,3 @@
 -- What the contracts of the replay cite.
 pub mod Room
+pub mod Sizes

@@ -1,6 +1,6 @@
 // What stands for an entry of a list in a record.
 ghost use Rattle.std.specs.Prelude.{ℕ, ◌≤◌};
-ghost use Rattle.std.proofs.Common.{rules};
+ghost use Rattle.call_records.specs.Sizes.{one-small, eight-small};
 
 use crate::fields;
 
@@ -28,7 +28,7 @@ pub trait Entry: Copy {
 impl Entry for usize {
     ghost SIZE = { 8 };
 
-    ghost size_small = { Prim.search rules };
+    ghost size_small = { eight-small };
 
     const SIZE: usize = 8;
 
@@ -50,7 +50,7 @@ impl Entry for usize {
 impl Entry for f64 {
     ghost SIZE = { 8 };
 
-    ghost size_small = { Prim.search rules };
+    ghost size_small = { eight-small };
 
     const SIZE: usize = 8;
 
@@ -72,7 +72,7 @@ impl Entry for f64 {
 impl Entry for u8 {
     ghost SIZE = { 1 };
 
-    ghost size_small = { Prim.search rules };
+    ghost size_small = { one-small };
 
     const SIZE: usize = 1;
 

@@ -1,5 +1,4 @@
 -- What a table has that passes what closing tries first. Assumes nothing.
--- Holds: is_short, none-lacks, closable
 use mathlib.Core.Path.{◌≡◌}
 use mathlib.Core.Bool.{Bool, false, ◌||◌}
 use mathlib.Core.List.{[], ◌∷◌}

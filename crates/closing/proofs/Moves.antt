@@ -1,6 +1,5 @@
 -- The pass over the slots: what it has written after i of them, at its start, at each turn and at its end. Assumes nothing.
--- Holds: slot-room, is-retired, is_live, live-one-more, live_same, live-low, parts-length, MovedDown, starts, ends,
---   low, turn
+-- Holds: slot-room, is-retired, is_live, live-one-more, live_same, live-low, parts-length, MovedDown, starts, ends, low, turn
 use mathlib.Core.Path.{◌≡◌, refl, sym, ap, ◌∙◌}
 use mathlib.Core.Logic.{⊎_elim}
 use mathlib.Core.Bool.{true, false, cond}

@@ -11,7 +11,8 @@ ghost use Rattle.queue.specs.Rows.{domain_own, with_own};
 ghost use Rattle.rows.specs.Rows.{GoodRows};
 ghost use Rattle.cut_engine.specs.Engines.{record_by, nodes_for};
 
-// How a level is cut: domains wait in a queue, or the left half is cut completely before the right.
+// How a level is cut: domains wait in a queue, or the left half is cut completely before the right. An enum, as document 02 names it for
+// this place, and matched in one function only.
 #[derive(Clone, Copy)]
 pub enum Engine {
     Queue,

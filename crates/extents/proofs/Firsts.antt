@@ -1,5 +1,5 @@
 -- The best value of some rows, found from the front on. Assumes nothing.
--- Holds: later-below, later-end, later-row, best_in, bound-yes, bound-no, bound-first, bound-end, least-is, greatest-is
+-- Holds: later, later-below, later-end, later-row, best_in, bound-yes, bound-no, bound-first, bound-end, least-is, greatest-is
 use mathlib.Core.Path.{◌≡◌, refl, sym, ap, ◌∙◌}
 use mathlib.Core.Bool.{Bool, true, false, cond}
 use mathlib.Core.List.{List, [], ◌∷◌, map}

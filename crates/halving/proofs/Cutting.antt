@@ -1,5 +1,4 @@
 -- The cut of the rows, step by step. Assumes nothing.
--- Holds: low-most, middle-inside, rows_cut
 use mathlib.Core.Path.{◌≡◌, refl, ap, ap₂, ◌∙◌}
 use mathlib.Core.Bool.{Bool, true, not}
 use mathlib.Core.List.{List, ◌++◌}

@@ -1,5 +1,6 @@
 -- The outcome of a call that prints a text into a lent list, from what it wrote; and what a caller finds there. Assumes nothing.
--- Holds: text-room, refusal-room, refusal-numbered, answer-short, output-short, answer-long, output-long, count_fits, taken, found
+-- Holds: text-room, refusal-room, refusal-numbered, answer-short, output-short, answer-long, output-long, count_fits, taken,
+--   found
 use mathlib.Core.Path.{◌≡◌, refl, ap, ◌∙◌}
 use mathlib.Core.Logic.{⊎_elim}
 use Prim.Native.Nat.{ℕ, ◌≤◌, ◌<◌}

@@ -1,5 +1,4 @@
 -- The tests of a domain row's floats come to those of the leaf's box and cover. Assumes nothing.
--- Holds: box-tests, bounds-off, bounds-on
 use mathlib.Core.Path.{◌≡◌, refl, sym, ap, ◌∙◌}
 use mathlib.Core.Bool.{Bool, true, false, not, ◌&&◌, ◌||◌}
 use mathlib.Core.List.{List, [], ◌∷◌, ◌++◌, map, map-id}

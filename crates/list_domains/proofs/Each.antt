@@ -1,5 +1,4 @@
 -- What an iterator's `all` says of a list, whether each element passes the test; and a stretch of a list by its range. Assumes nothing.
--- Holds: all-told, stretch_is
 use Rattle.std.specs.Bool.{MatchBool}
 use Rattle.std.specs.List.{AllWithin, HoldsAt}
 use mathlib.Core.Path.{◌≡◌, sym, ap}

@@ -1,5 +1,4 @@
 -- One level: its rows asked for in the set above, both sets made its rows, and its domain rows checked with them. Assumes nothing.
--- Holds: level_out, domains-ready, level-tell
 use Rattle.std.specs.Prelude.{Option, None}
 use mathlib.Core.Path.{◌≡◌, refl, sym, ◌∙◌}
 use mathlib.Core.Bool.{Bool, true, false}

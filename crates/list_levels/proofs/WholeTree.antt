@@ -1,5 +1,4 @@
 -- The whole tree in the lists: counts that do not stand, and levels that are checked. Assumes nothing.
--- Holds: tree-out, tree-tell, levels-ready
 use Rattle.std.specs.Prelude.{Option, Some, None}
 use mathlib.Core.Path.{◌≡◌, refl, sym, ◌∙◌}
 use mathlib.Core.Bool.{Bool, true, false, ◌&&◌}

@@ -1,7 +1,6 @@
 -- The loop over the levels: those before the cursor are written and counted. Assumes nothing.
--- Holds: row_count_lem, domain_count_lem, start, tree-room, Inv, levels-start, points-long,
---   end-points, end-internals, end-domains, end-boxes, end-borrowed, end-counts, level-stands, levels-below,
---   points-room, level-room, levels-next
+-- Holds: row_count_lem, domain_count_lem, start, tree-room, Inv, levels-start, points-long, end-points, end-internals,
+--   end-domains, end-boxes, end-borrowed, end-counts, level-stands, levels-below, points-room, level-room, levels-next
 use mathlib.Core.Path.{◌≡◌, refl, sym, ap, ◌∙◌}
 use mathlib.Core.Bool.{Bool, true, false, cond}
 use mathlib.Core.List.{List, [], ◌∷◌, ◌++◌, map, append_assoc, append-nil}

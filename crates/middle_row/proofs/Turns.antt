@@ -1,6 +1,6 @@
 -- The turns of the loops that count and that keep the rows on one side, for any test. Assumes nothing.
--- Holds: CountedTo, counted-first, counted-in, counted-out, counted-end, Moving, moving-first, moving-here, moving_row, moving_in,
---   moving_out, KeptFront, kept-first, kept_in, kept_out
+-- Holds: CountedTo, counted-first, counted-in, counted-out, counted-end, Moving, moving-first, moving-here, moving_row,
+--   moving_in, moving_out, KeptFront, kept-first, kept_in, kept_out
 use mathlib.Core.Path.{◌≡◌, refl, sym, ap, ◌∙◌}
 use Prim.Native.Nat.{ℕ, ◌+◌, ◌≤◌, ◌<◌}
 use native.Mathlib.Omega.{arith}

@@ -1,6 +1,6 @@
 -- The digits of a number: each text is that of the number without its last digit_of_lem, and the last digit_of_lem. Assumes nothing.
--- Holds: hex-onto, hex-none, hex-step, one-digit, more-digits, same-fuel, decimal-onto, decimal-one,
---   decimal_step, bits_text, bits-text
+-- Holds: hex-onto, hex-none, hex-step, one-digit, more-digits, same-fuel, decimal-onto, decimal-one, decimal_step, bits_text,
+--   bits-text
 use mathlib.Core.Path.{◌≡◌, refl, sym, ap, ap₂, ◌∙◌}
 use Prim.Native.Nat.{ℕ, zero, suc, ◌/◌, ◌%◌, ◌^◌, ◌-◌, ◌≤◌, ◌<◌}
 use native.Mathlib.Nat.{mod-eq_of_lt, pow-succ'}

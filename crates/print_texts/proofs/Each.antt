@@ -1,6 +1,5 @@
 -- The texts of a list's elements, one after the other. Assumes nothing.
--- Holds: each_none, each_all, each-room, more_room, each_more, floats-text, valued-text, rows-dash,
---   rows-listed
+-- Holds: each_none, each_all, each-room, more_room, each_more, floats-text, valued-text, rows-dash, rows-listed
 use mathlib.Core.Path.{◌≡◌, refl, sym}
 use Prim.Native.Nat.{ℕ, ◌+◌, ◌≤◌, ◌<◌}
 use native.Mathlib.Omega.{arith}

@@ -1,8 +1,8 @@
 -- The invariant of the loop over the queue, in the code's terms, and its turns, for any kind of domain. The queue stands in a list
 -- `room`, three numbers a stretch, from its `head`-th up to its `tail`-th; `ds` are the domains that wait. Assumes nothing.
--- Holds: queued, cuts_left, StateOf, Inv, inv-first, inv-end, inv-next, turn_inside, turn-good, turn-same,
---   turn-shallow, turn-left, turn-right, turn-rows, turn-full, turn_end, turn-leaves, turn-wait, turn-done, turn-room, inv-wait,
---   less-wait, inv-done, less_done
+-- Holds: queued, cuts_left, StateOf, Inv, inv-first, inv-end, inv-next, turn_inside, turn-good, turn-same, turn-shallow,
+--   turn-left, turn-right, turn-rows, turn-full, turn_end, turn-leaves, turn-wait, turn-done, turn-room, inv-wait, less-wait,
+--   inv-done, less_done
 use mathlib.Core.Path.{◌≡◌}
 use Prim.Native.Nat.{ℕ, suc, ◌+◌, ◌-◌, ◌*◌, ◌/◌, ◌≤◌, ◌<◌}
 use native.Mathlib.Omega.{arith}

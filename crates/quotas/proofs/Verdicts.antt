@@ -1,5 +1,4 @@
 -- The outcome of an accepted call of `get_domain_coarse_quotas`: answer, output and working room. Assumes nothing.
--- Holds: Outcome, seated
 use Prim.Native.Nat.{ℕ, ◌≤◌}
 use mathlib.Core.Path.{◌≡◌, ap, ◌∙◌}
 use mathlib.Core.List.{List}

@@ -1,5 +1,4 @@
 -- A lent list whose front was written. Assumes nothing.
--- Holds: length-written, take-written, written_over
 use Prim.Native.Nat.{ℕ, ◌≤◌}
 use mathlib.Core.Path.{◌≡◌}
 use mathlib.Core.List.{List}

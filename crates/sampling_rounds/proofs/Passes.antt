@@ -1,7 +1,6 @@
 -- One pass over the rows: the values are lessened, and the greatest of them is found with a bound of those before it.
 -- Assumes nothing.
--- Holds: PassedTo, passed-more, lessened-at, pair-good, lessened-kept, lessened-good, Seen, seen-greater,
---   seen_other, seen_all
+-- Holds: PassedTo, passed-more, lessened-at, pair-good, lessened-kept, lessened-good, Seen, seen-greater, seen_other, seen_all
 use mathlib.Core.Path.{◌≡◌, refl, sym, ap₂, ◌∙◌}
 use mathlib.Core.Logic.{◌⊎◌, inl, inr, ⊎_elim}
 use mathlib.Core.Bool.{Bool, true, false, cond}

@@ -1,6 +1,6 @@
 -- The first place with the greatest root, found by few roots: roots keep the order of their squares. Assumes nothing.
--- Holds: root_below, Looked, looked-none, looked-near, looked-low, looked-less, looked-here, none_before,
---   less-before, greatest-good, peak-worst, first-chosen
+-- Holds: root_below, Looked, looked-none, looked-near, looked-low, looked-less, looked-here, none_before, less-before,
+--   greatest-good, peak-worst, first-chosen
 use mathlib.Core.Path.{◌≡◌, refl, ap, ◌∙◌, subst}
 use mathlib.Core.Logic.{⊎_elim, inl, inr}
 use mathlib.Core.Bool.{true, false}

@@ -1,4 +1,5 @@
 -- The test of a head against its flags, from what the pass found. Assumes nothing.
+-- Holds: unsound-high, unsound-live, sound-live, next-is
 use mathlib.Core.Path.{◌≡◌}
 use mathlib.Core.Bool.{true, false, not}
 use mathlib.Core.List.{List}

@@ -1,5 +1,4 @@
 -- What a table has that passes the tests that every edit tries first. Assumes nothing.
--- Holds: Editable, editable, live_below
 use mathlib.Core.Path.{◌≡◌}
 use Prim.Native.Nat.{ℕ, ◌*◌, ◌≤◌}
 use native.Mathlib.Omega.{arith}
