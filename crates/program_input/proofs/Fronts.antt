@@ -1,9 +1,10 @@
 -- Where reading stands after each read, and what the bytes that were read decide. Assumes nothing.
-use lib.Seq.{take-add}
+-- Holds: known-more, known-open, count-within, front-decides
+use lib.Seq.{take-add, take-append-le, length-take-le}
 use native.Mathlib.Omega.{arith}
-use Rattle.std.proofs.Common.{◌≡◌, ℕ, ◌+◌, ◌≤◌, List, ◌++◌, length, take, drop, sym, ap, subst, ◌∙◌}
+use Rattle.std.proofs.Common.{◌≡◌, ℕ, ◌+◌, ◌≤◌, List, ◌++◌, length, take, drop, sym, ap, subst, ◌∙◌, append-nil, take_all, IfSome, None, Some}
 use Rattle.std.specs.declared.option.Option.{Option}
-use Rattle.std.specs.Io.KnownBytes.{Consumes}
+use Rattle.std.specs.Io.KnownBytes.{Consumes, IsAtEnd}
 use Rattle.std.proofs.KnownBytes.{Consumes-trans}
 use Rattle.program_input.specs.declared.Front.{Front}
 use Rattle.program_input.specs.declared.Front.TheVariants.{Open, Ended}
@@ -14,6 +15,22 @@ pub known-more : (old mid new : Option (List ℕ)) (n k m : ℕ) (before after :
     → take n after ≡ take n before → Consumes mid new (take k (drop n after)) → n + k ≡ m → Consumes old new (take m after)
 known-more old mid new n k m before after p stays q e =
     subst (Consumes old new) (ap (λ l. l ++ take k (drop n after)) (sym stays) ∙ sym (take-add n k after) ∙ ap (λ i. take i after) e) (Consumes-trans old mid new _ _ p q)
+
+-- the list is full
+pub known-open : (old new : Option (List ℕ)) (n : ℕ) (input : List ℕ) → n ≤ length input → Consumes old new (take n input)
+    → IfSome old (λ stream. MayBe (Open n) input stream)
+known-open None new n input h p = tt
+known-open (Some xs) None n input h p = absurd p
+known-open (Some xs) (Some ys) n input h p =
+    let whole : length (take n input) ≡ n = length-take-le n input h in
+    ap (take n) p ∙ take-append-le n (take n input) ys (omega (arith, whole)) ∙ take_all n (take n input) (omega (arith, whole))
+
+-- the input ended
+known-ended : (old new : Option (List ℕ)) (n : ℕ) (input : List ℕ) → Consumes old new (take n input) → IsAtEnd new
+    → IfSome old (λ stream. MayBe (Ended n) input stream)
+known-ended None new n input p q = tt
+known-ended (Some xs) None n input p q = absurd p
+known-ended (Some xs) (Some ys) n input p q = p ∙ ap (λ l. take n input ++ l) q ∙ append-nil (take n input)
 
 -- no more was read than there is room for
 pub count-within : (front : Front) (most : ℕ) → Stopped most front → front_count front ≤ most
