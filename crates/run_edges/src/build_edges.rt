@@ -1,9 +1,24 @@
 // Edges of the build: the lengths to lend, and what each call answers, with the front of each list of whole numbers that it was lent.
 // The lists hold nines before the call.
+use build_sizes::BuildSizes;
 use config::{DDMParams, SizePolicy};
-use printing::{print_front, print_named, print_number, print_text};
+use printing::{print_front, print_list, print_named, print_number, print_text};
 use std::io;
 use std::io::Write;
+use tree_answer::DDMTree;
+
+// The seven lengths.
+fn lengths_of(sizes: BuildSizes) -> [usize; 7] {
+    [
+        sizes.level_points,
+        sizes.internals,
+        sizes.domains,
+        sizes.boxes,
+        sizes.borrowed,
+        sizes.floats,
+        sizes.wholes,
+    ]
+}
 
 // The lengths that a build over n points is to be lent.
 fn print_lent<W: Write>(
@@ -15,16 +30,13 @@ fn print_lent<W: Write>(
     print_named(to, b"lent", n)?;
     print_number(to, dimensions)?;
     print_number(to, neighbours as usize)?;
-    let answer = build_sizes::build_sizes(n, dimensions, neighbours);
-    let sizes = answer.sizes;
-    print_named(to, b": refused", answer.number)?;
-    print_named(to, b" lengths", sizes.level_points)?;
-    print_number(to, sizes.internals)?;
-    print_number(to, sizes.domains)?;
-    print_number(to, sizes.boxes)?;
-    print_number(to, sizes.borrowed)?;
-    print_number(to, sizes.floats)?;
-    print_number(to, sizes.wholes)?;
+    let (number, lengths) = match build_sizes::build_sizes(n, dimensions, neighbours) {
+        Ok(sizes) => (0, lengths_of(sizes)),
+        Err(refusal) => (refusal.number(), [0; 7]),
+    };
+    print_named(to, b": refused", number)?;
+    print_text(to, b" lengths")?;
+    print_list(to, &lengths)?;
     print_text(to, b"\n")
 }
 
@@ -52,12 +64,6 @@ fn print_answer<W: Write>(
     print_text(to, b"\n")
 }
 
-// Writes the name and the count of each level.
-fn print_counts<W: Write>(to: &mut W, name: &[u8], counts: [usize; 4]) -> io::Result<()> {
-    print_front(to, name, &counts, 4)?;
-    Ok(())
-}
-
 // A build in these lists.
 fn run<W: Write>(
     to: &mut W,
@@ -72,7 +78,7 @@ fn run<W: Write>(
     floats: &mut [f64],
     wholes: &mut [usize],
 ) -> io::Result<()> {
-    let tree = ddm::build(
+    let answer = ddm::build(
         points,
         dimensions,
         params,
@@ -84,11 +90,13 @@ fn run<W: Write>(
         floats,
         wholes,
     );
-    let rows = tree.rows;
-    let each = tree.domains;
-    print_answer(to, tree.number, tree.place, tree.levels)?;
-    print_counts(to, b"  rows", rows)?;
-    print_counts(to, b"  domains", each)?;
+    let (number, place, tree) = match answer {
+        Ok(tree) => (0, 0, tree),
+        Err(refusal) => (refusal.number(), refusal.place(), DDMTree::none()),
+    };
+    print_answer(to, number, place, tree.levels)?;
+    print_front(to, b"  rows", &tree.rows, 4)?;
+    print_front(to, b"  domains", &tree.domains, 4)?;
     print_front(to, b"  level points", level_points, 20)?;
     print_front(to, b"  internals", internals, 20)?;
     print_front(to, b"  domain rows", domains, 80)?;

@@ -1,6 +1,5 @@
 // Edges of the level arithmetic.
 use config::SizePolicy;
-use level_sizes::LevelSize;
 use printing::{print_named, print_number, print_text};
 use std::io;
 use std::io::Write;
@@ -37,13 +36,9 @@ fn print_size<W: Write>(to: &mut W, a: usize, c: u32, r: u32) -> io::Result<()> 
     print_named(to, b"size", a)?;
     print_number(to, c as usize)?;
     print_number(to, r as usize)?;
-    let s = level_sizes::get_num_level_coarse_points(a, c, r);
-    match s {
-        LevelSize::Points(m) => print_named(to, b":", m)?,
-        LevelSize::ZeroThreshold => print_named(to, b": refused", 4)?,
-        LevelSize::TooManyPoints => print_named(to, b": refused", 8)?,
-        LevelSize::NotAboveThreshold => print_named(to, b": refused", 14)?,
-        LevelSize::WrongReductions => print_named(to, b": refused", 9)?,
+    match level_sizes::get_num_level_coarse_points(a, c, r) {
+        Ok(m) => print_named(to, b":", m)?,
+        Err(refusal) => print_named(to, b": refused", refusal.number())?,
     }
     print_text(to, b"\n")
 }

@@ -1,16 +1,8 @@
 // Edges of the quotas.
-use printing::{print_list, print_named, print_number, print_text};
-use quotas::QuotaAnswer;
+use printing::{print_list, print_named, print_text};
+use quotas::Seated;
 use std::io;
 use std::io::Write;
-
-// A refusal's number, and the working room after it.
-fn print_refused<W: Write>(to: &mut W, number: usize, wholes: &[usize]) -> io::Result<()> {
-    print_named(to, b" refused", number)?;
-    print_text(to, b" room")?;
-    print_list(to, wholes)?;
-    Ok(())
-}
 
 // The quotas, with the output after the call, and the working room too where the call is refused.
 fn print_quotas<W: Write>(
@@ -24,14 +16,16 @@ fn print_quotas<W: Write>(
     print_list(to, sizes)?;
     print_named(to, b" for", wanted)?;
     print_text(to, b":")?;
-    let q = quotas::get_domain_coarse_quotas(sizes, wanted, out, wholes);
-    match q {
-        QuotaAnswer::Seated { leaves, seats } => {
+    match quotas::get_domain_coarse_quotas(sizes, wanted, out, wholes) {
+        Ok(Seated { leaves, seats }) => {
             print_named(to, b" leaves", leaves)?;
             print_named(to, b" seats", seats)?;
         }
-        QuotaAnswer::TooManyPoints => print_refused(to, 8, wholes)?,
-        QuotaAnswer::ShortList => print_refused(to, 11, wholes)?,
+        Err(refusal) => {
+            print_named(to, b" refused", refusal.number())?;
+            print_text(to, b" room")?;
+            print_list(to, wholes)?;
+        }
     }
     print_text(to, b" output")?;
     print_list(to, out)?;

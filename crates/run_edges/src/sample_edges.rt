@@ -1,17 +1,8 @@
 // Samples, and each refusal of a sampling. (Refusal 8 needs a list longer than a program's stack holds.)
 use printing::{print_list, print_named, print_text};
-use sampling::SampleAnswer;
+use sampling::Sampled;
 use std::io;
 use std::io::Write;
-
-// The bits of a float; not-a-number has one pattern here.
-fn bits_of(x: f64) -> u64 {
-    if x == x {
-        f64::to_bits(x)
-    } else {
-        0x7ff8_0000_0000_0000
-    }
-}
 
 // One call, with the output after it, and the working room too where the call is refused.
 fn print_sample<W: Write>(
@@ -30,15 +21,15 @@ fn print_sample<W: Write>(
         points, dimensions, wanted, seed, out, floats, wholes,
     );
     match answer {
-        SampleAnswer::Sampled { rows, cover } => {
+        Ok(Sampled { rows, cover }) => {
             print_named(to, b": rows", rows)?;
             print_text(to, b" cover ")?;
-            let bits = bits_of(cover);
+            let bits = bytes_out::bits_of(cover);
             write!(to, "{bits:016x}")?;
         }
-        SampleAnswer::Refused(number, place) => {
-            print_named(to, b": refused", number as usize)?;
-            print_named(to, b" at", place)?;
+        Err(refusal) => {
+            print_named(to, b": refused", refusal.number())?;
+            print_named(to, b" at", refusal.place())?;
             print_text(to, b" room")?;
             print_list(to, wholes)?;
         }
