@@ -5,8 +5,8 @@ ghost use Rattle.std.specs.Prelude.{◌+◌, ◌^◌, ◌≤◌};
 ghost use Rattle.call_records.specs.Room.{Fitting};
 
 use call_records::{Lengths, Places};
-use store::StoreAnswer;
-use tree_answer::TreeCounts;
+use refusal::Refusal;
+use tree_answer::DDMTree;
 
 // The most entries of a file list in the stored calls.
 const FILE: usize = 2000;
@@ -36,10 +36,10 @@ fn four(record: &[u8], at: usize) -> [usize; 4]
 }
 
 // The counts that are given, from `at` on.
-fn counts(record: &[u8], at: usize) -> TreeCounts
+fn counts(record: &[u8], at: usize) -> DDMTree
     requires { at ≤ 2 ^ 40 }
 {
-    TreeCounts {
+    DDMTree {
         levels: count(record, at),
         rows: four(record, at + 8),
         domains: four(record, at + 40),
@@ -59,14 +59,18 @@ fn lengths(record: &[u8], places: Places) -> Lengths {
 }
 
 // Whether an answer and the file stand from `at` on, and the record ends there.
-fn outcome_agrees(answer: StoreAnswer, file: &[u8], record: &[u8], at: usize) -> bool
+fn outcome_agrees(answer: Result<usize, Refusal>, file: &[u8], record: &[u8], at: usize) -> bool
     requires { at ≤ 2 ^ 40 + 4 }
 {
-    answer.number == call_records::byte(record, at)
-        && answer.place == call_records::number(record, at + 1)
-        && answer.bytes == call_records::number(record, at + 5)
-        && call_records::bytes_agree(file, record, at + 9)
-        && call_records::past_bytes(record, at + 9) == record.len()
+    let (number, place, bytes) = match answer {
+        Ok(bytes) => (0, 0, bytes),
+        Err(refusal) => (refusal.number(), refusal.place(), 0),
+    };
+    number == call_records::byte(record, at)
+        && place == call_records::number(record, at + 1)
+        && bytes == call_records::number(record, at + 5)
+        && call_records::agree(file, record, at + 9)
+        && call_records::past::<u8>(record, at + 9) == record.len()
 }
 
 // Fills the five lists with those that stand from `at` on. `false` says that one of them has no room.
@@ -82,11 +86,11 @@ fn fill_lists(
     requires { at ≤ 2 ^ 38 }
 {
     let at = call_records::list_places(record, at, LENGTH);
-    let a = call_records::fill_numbers(record, at.level_points + LENGTH, level_points);
-    let b = call_records::fill_numbers(record, at.internals + LENGTH, internals);
-    let c = call_records::fill_numbers(record, at.domains + LENGTH, domains);
-    let d = call_records::fill_floats(record, at.boxes + LENGTH, boxes);
-    let e = call_records::fill_numbers(record, at.borrowed + LENGTH, borrowed);
+    let a = call_records::fill(record, at.level_points + LENGTH, level_points);
+    let b = call_records::fill(record, at.internals + LENGTH, internals);
+    let c = call_records::fill(record, at.domains + LENGTH, domains);
+    let d = call_records::fill(record, at.boxes + LENGTH, boxes);
+    let e = call_records::fill(record, at.borrowed + LENGTH, borrowed);
     a & b & c & d & e
 }
 
@@ -162,7 +166,7 @@ fn nines_agree(
 
 // Whether the store has the record's outcome.
 pub fn agrees(record: &[u8]) -> bool {
-    let at = call_records::past(record, call_records::POINTS_PLACE);
+    let at = call_records::past::<f64>(record, call_records::POINTS_PLACE);
     let places = call_records::list_places(record, at + COUNTS, LENGTH);
     let size = lengths(record, places);
     let room = call_records::number(record, places.next);
@@ -170,7 +174,7 @@ pub fn agrees(record: &[u8]) -> bool {
         return false;
     }
     let mut points = [9.0; call_records::POINTS];
-    call_records::fill_floats(record, call_records::POINTS_PLACE, &mut points);
+    call_records::fill(record, call_records::POINTS_PLACE, &mut points);
     nines_agree(
         record,
         at,
