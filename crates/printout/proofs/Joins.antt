@@ -7,6 +7,7 @@ use native.Mathlib.Omega.{arith}
 use mathlib.Core.List.{List}
 use lib.ListN.{length, take, drop}
 use lib.Ieee.{Float}
+use Rattle.std.specs.Prelude.{Result, Ok, Err}
 use Rattle.lists.proofs.Map.{get_d-map-in}
 use Rattle.definition.specs.Tree as tree
 use Rattle.definition.specs.Packed.{Counts, BuildSizes, build_stated, counts_of, packed_level_points, packed_internals, packed_borrowed, packed_boxes, packed_domains}
@@ -19,13 +20,12 @@ use Rattle.stream_laws.specs.Sizes.{JobLimits, most_bytes}
 use Rattle.stream_laws.proofs.Long.{job-long}
 use Rattle.stream_laws.proofs.Shape.{tree-shaped}
 use Rattle.bytes_out.specs.Wrote.{RoomFor}
-use Rattle.print_texts.specs.Refusals.{refusal_of}
 use Rattle.packed.specs.Reading.{Packed, packed, Stands, read_levels}
 use Rattle.packed.proofs.Counts.{no_level}
 use Rattle.packed.proofs.Unpacked.{Packs, levels-are, tree-back, tree-stands}
-use Rattle.settings_record.specs.declared.Settings.{Settings}
-use Rattle.stream_reader.specs.declared.Read.{Read}
-use Rattle.stream_reader.specs.declared.Read.TheVariants.{Whole, Broken}
+use Rattle.refusal.specs.declared.Refusal.{Refusal}
+use Rattle.refusal.specs.Refusals.{as_refusal}
+use Rattle.stream_reader.specs.declared.Job.{Job}
 use Rattle.settings_record.specs.Reading.{settings_are}
 use Rattle.stream_reader.specs.Reading.{job_of}
 use Rattle.job_room.proofs.Lists.{build-as-stated}
@@ -55,12 +55,12 @@ module _ (s : tree.Settings) (cs : List Float) (old : TreeLists) (floats : List 
       unfolding build_answer
       place_is = ap (λ (a : Answer Counts). a.place) e
 
-      text-refused : (v : Verdict) → r.number ≡ number_of v → r.place ≡ place_of v → 0 < r.number → built_text v s cs ≡ refusal_text (refusal_of r.number r.place)
+      text-refused : (v : Verdict) → r.number ≡ number_of v → r.place ≡ place_of v → 0 < r.number → built_text v s cs ≡ refusal_text (record { number = r.number; place = r.place })
       unfolding built_text number_of place_of
       text-refused accepted en ep h = absurd (omega arith)
       text-refused (refused q) en ep h = rw (en, ep)
 
-      pub job-refused : 0 < r.number → job_text (job s cs) ≡ refusal_text (refusal_of r.number r.place)
+      pub job-refused : 0 < r.number → job_text (job s cs) ≡ refusal_text (record { number = r.number; place = r.place })
       unfolding job_text
       job-refused h = ap (λ (v : Verdict). built_text v s cs) (sym as-printed) ∙ text-refused call number_is place_is h
 
@@ -134,11 +134,11 @@ pub room_for : (s : tree.Settings) (cs : List Float) (out : List ℕ) → JobLim
 room_for s cs out h g = text-room (job_text (job s cs)) out (job-long (job s cs) h) g
 
 -- ---- by the reader's answer
-module _ (r : Read) (cs : List Float) (bs : List ℕ) (h : job_of r cs ≡ job_in bs) where
-  pub broken-printed : (number place : ℕ) → r ≡ Broken number place → refusal_text (refusal_of number place) ≡ printout bs
+module _ (r : Result Job Refusal) (cs : List Float) (bs : List ℕ) (h : job_of r cs ≡ job_in bs) where
+  pub broken-printed : (x : Refusal) → r ≡ Err x → refusal_text (as_refusal x) ≡ printout bs
   unfolding job_text printout
-  broken-printed number place e = ap job_text (broken-read r cs bs h number place e)
+  broken-printed x e = ap job_text (broken-read r cs bs h x e)
 
-  pub whole-printed : (s : Settings) (n : ℕ) → r ≡ Whole s n → job_text (job (settings_are s) (take (n * s.dimensions) cs)) ≡ printout bs
+  pub whole-printed : (j : Job) → r ≡ Ok j → job_text (job (settings_are j.settings) (take (j.points * j.settings.dimensions) cs)) ≡ printout bs
   unfolding printout
-  whole-printed s n e = ap job_text (whole-read r cs bs h s n e)
+  whole-printed j e = ap job_text (whole-read r cs bs h j e)

@@ -9,14 +9,14 @@ ghost use Rattle.settings_record.specs.Reading.{settings_are};
 ghost use Rattle.bytes_out.specs.Wrote.{Wrote};
 ghost use Rattle.job_room.specs.Printing.{print_answer_lem, print_output, printed_answer};
 
-use job_room::Printed;
+use packed::Packed;
+use refusal::Refusal;
 use settings_record::Settings;
-use stream_reader::Read;
 
 // The text of a job: of its tree, or of the build's refusal. The lists suffice for the largest job.
-fn write_job(s: Settings, points: &[f64], out: &mut [u8]) -> usize
-    requires { JobLimits (settings_are s) points.now × (most_bytes ≤ length out.old) }
-    ensures { Wrote out.old 0 (job_text (job (settings_are s) points.now)) result out.new }
+fn write_job(settings: Settings, points: &[f64], out: &mut [u8]) -> usize
+    requires { JobLimits (settings_are settings) points.now × (most_bytes ≤ length out.old) }
+    ensures { Wrote out.old 0 (job_text (job (settings_are settings) points.now)) result out.new }
 {
     let mut level_points = [0usize; job_room::LEVEL_POINTS];
     let mut internals = [0usize; job_room::LEVEL_POINTS];
@@ -25,11 +25,10 @@ fn write_job(s: Settings, points: &[f64], out: &mut [u8]) -> usize
     let mut borrowed = [0usize; job_room::BORROWED];
     let mut floats = [0.0; job_room::FLOATS];
     let mut wholes = [0usize; job_room::WHOLES];
-    let d = s.dimensions;
-    let params = s.params;
-    let tree = ddm::build(
+    let Settings { dimensions, params } = settings;
+    let built = ddm::build(
         points,
-        d,
+        dimensions,
         params,
         &mut level_points,
         &mut internals,
@@ -39,27 +38,27 @@ fn write_job(s: Settings, points: &[f64], out: &mut [u8]) -> usize
         &mut floats,
         &mut wholes,
     );
-    let number = tree.number;
-    let place = tree.place;
-    if 0 < number {
-        return print_texts::write_refusal(number, place, out, 0);
+    match built {
+        Ok(tree) => {
+            let lists = Packed {
+                internals: &internals,
+                domains: &domains,
+                boxes: &boxes,
+                borrowed: &borrowed,
+                dimensions,
+            };
+            print_tree::write_tree(
+                tree.levels,
+                &tree.rows,
+                &tree.domains,
+                &level_points,
+                lists,
+                out,
+                0,
+            )
+        }
+        Err(refusal) => print_texts::write_refusal(refusal, out, 0),
     }
-    let levels = tree.levels;
-    let rows = tree.rows;
-    let counts = tree.domains;
-    print_tree::write_tree(
-        levels,
-        &rows,
-        &counts,
-        &level_points,
-        &internals,
-        &domains,
-        &boxes,
-        &borrowed,
-        d,
-        out,
-        0,
-    )
 }
 
 // The printout of a stream that is lent room for every printout.
@@ -70,31 +69,22 @@ fn write_printout(input: &[u8], output: &mut [u8]) -> usize
     let mut points = [0.0; job_room::COORDINATES];
     let read = stream_reader::read_job(input, &mut points);
     match read {
-        Read::Broken(number, place) => print_texts::write_refusal(number, place, output, 0),
-        Read::Whole(s, n) => {
-            let k = n * s.dimensions;
-            write_job(s, &points[..k], output)
+        Ok(job) => {
+            let k = job.points * job.settings.dimensions;
+            write_job(job.settings, &points[..k], output)
         }
+        Err(refusal) => print_texts::write_refusal(refusal, output, 0),
     }
 }
 
 // What the program prints for a stream, written to the front of `output`, which is to have `job_room::TEXT` bytes at least: no printout
-// is longer.
-pub fn printout(input: &[u8], output: &mut [u8]) -> Printed
+// is longer. The answer is how many bytes were written.
+pub fn printout(input: &[u8], output: &mut [u8]) -> Result<usize, Refusal>
     ensures answer { printed_answer result ≡ print_answer_lem (printed input.now) output.old }
     ensures output { output.new ≡ print_output (printed input.now) output.old }
 {
     if output.len() < job_room::TEXT {
-        return Printed {
-            number: 11,
-            place: 0,
-            count: 0,
-        };
+        return Err(Refusal::ShortList);
     }
-    let count = write_printout(input, output);
-    Printed {
-        number: 0,
-        place: 0,
-        count,
-    }
+    Ok(write_printout(input, output))
 }

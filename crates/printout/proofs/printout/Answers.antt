@@ -14,7 +14,7 @@ returns-then-output-lt-TEXT c = let a = c.args in
 pub returns : goal.returns
 returns c = let a = c.args in
     let long = c.if-output-lt-TEXT.false in
-    let w = c.write_printout-count.ensures in
+    let w = c.write_printout.ensures in
     record {
       answer = answer-long (printed a.input.now) a.output.now long _ _ w;
       output = output-long (printed a.input.now) a.output.now long _ _ w;
