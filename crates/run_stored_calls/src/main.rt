@@ -12,10 +12,28 @@ const MOST: u64 = 100000;
 // The room for a record.
 const ROOM: usize = 4096;
 
-// The kinds of a record.
-const LOAD: usize = 1;
+// What a record calls.
+#[derive(Clone, Copy)]
+enum Kind {
+    Load,
+    Store,
+}
 
-const STORE: usize = 2;
+// A code that names no kind of record.
+#[derive(Clone, Copy)]
+struct UnknownKind;
+
+impl TryFrom<usize> for Kind {
+    type Error = UnknownKind;
+
+    fn try_from(code: usize) -> Result<Self, UnknownKind> {
+        match code {
+            1 => Ok(Kind::Load),
+            2 => Ok(Kind::Store),
+            _ => Err(UnknownKind),
+        }
+    }
+}
 
 // How many calls were made, and how many of them differ.
 #[derive(Clone, Copy)]
@@ -26,42 +44,41 @@ struct Tally {
 
 // Whether the call of a record has the record's outcome.
 fn agrees(record: &[u8]) -> bool {
-    let kind = call_records::byte(record, 0);
-    if kind == LOAD {
-        return replay_loads::agrees(record);
+    match Kind::try_from(call_records::byte(record, 0)) {
+        Ok(Kind::Load) => replay_loads::agrees(record),
+        Ok(Kind::Store) => replay_stores::agrees(record),
+        Err(UnknownKind) => false,
     }
-    if kind == STORE {
-        return replay_stores::agrees(record);
-    }
-    false
 }
 
 // All records of the file. One that cannot be read whole counts as one that differs, and is the last.
 fn replay<R: Read>(file: &mut R, room: &mut [u8]) -> Tally {
-    let mut calls: u64 = 0;
-    let mut differ: u64 = 0;
-    while calls < MOST {
-        let next = record_file::read_next(file, room);
-        if !next.found {
-            break;
-        }
-        calls += 1;
-        if !next.whole {
-            differ += 1;
-            break;
-        }
-        if !agrees(&room[..next.size]) {
-            differ += 1;
+    let mut differ = 0;
+    for calls in 0..MOST {
+        match record_file::read_next(file, room) {
+            Ok(None) => return Tally { calls, differ },
+            Ok(Some(size)) => {
+                if !agrees(&room[..size]) {
+                    differ += 1;
+                }
+            }
+            Err(_) => {
+                return Tally {
+                    calls: calls + 1,
+                    differ: differ + 1,
+                };
+            }
         }
     }
-    Tally { calls, differ }
+    Tally {
+        calls: MOST,
+        differ,
+    }
 }
 
 fn main(rt: HostRuntime) -> io::Result<()> {
     let mut file = program_input::open_argument(&rt, 1)?;
     let mut room = [0u8; ROOM];
-    let tally = replay(&mut file, &mut room);
-    let calls = tally.calls;
-    let differ = tally.differ;
+    let Tally { calls, differ } = replay(&mut file, &mut room);
     println!(rt; "{calls} calls, {differ} differ")
 }
