@@ -20,7 +20,6 @@ use Rattle.stream_laws.specs.Sizes.{JobLimits}
 use Rattle.reload_laws.specs.Sizes.{most_file_bytes}
 use Rattle.reload_laws.proofs.KeptFits.{sound-file-fits}
 use Rattle.store.specs.Outcome.{Stored}
-use Rattle.print_texts.specs.Refusals.{refusal_of}
 use Rattle.job_room.proofs.Lists.{build-as-stated, lent_lists, lent_floats, lent_wholes, lent-largest}
 use Rattle.keep.specs.Keeping.{keep_answer, keep_output}
 use Rattle.keep.proofs.Outcomes.{answer-refused, output-refused, answer-file, output-file}
@@ -46,19 +45,19 @@ module _ (s : Settings) (cs : List Float) (limits : JobLimits s cs) (lent : List
 
     -- ---- refused
     module _ (h : 0 < r.number) where
-      by_number : (v : Verdict) → r.number ≡ number_of v → r.place ≡ place_of v → kept_by v s cs ≡ nothing (refusal_of r.number r.place)
+      by_number : (v : Verdict) → r.number ≡ number_of v → r.place ≡ place_of v → kept_by v s cs ≡ nothing (record { number = r.number; place = r.place })
       unfolding kept_by number_of place_of
       by_number accepted en ep = absurd (omega arith)
       by_number (refused q) en ep = rw (en, ep)
 
-      kept-nothing : kept_job (job s cs) ≡ nothing (refusal_of r.number r.place)
+      kept-nothing : kept_job (job s cs) ≡ nothing (record { number = r.number; place = r.place })
       kept-nothing = kept-is ∙ by_number call number_is place_is
 
       pub refused-answer : record { number = r.number; place = r.place; value = 0 } ≡ keep_answer (kept_job (job s cs)) lent
-      refused-answer = rw kept-nothing (sym (answer-refused lent long r.number r.place))
+      refused-answer = rw kept-nothing (sym (answer-refused lent long (record { number = r.number; place = r.place })))
 
       pub refused-output : lent ≡ keep_output (kept_job (job s cs)) lent
-      refused-output = rw kept-nothing (sym (output-refused lent long r.number r.place))
+      refused-output = rw kept-nothing (sym (output-refused lent long (record { number = r.number; place = r.place })))
 
     -- ---- accepted: the file is written from the counts and the lists
     module _ (h : r.number ≤ 0) (new : TreeLists) (f : new ≡ build_lists s cs lent_lists lent_floats lent_wholes) where

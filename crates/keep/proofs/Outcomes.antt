@@ -5,16 +5,15 @@ use Prim.Native.Nat.{ℕ, ◌≤◌, ◌<◌}
 use mathlib.Core.List.{List}
 use lib.ListN.{length}
 use borrow.Author.Tests.{le-ltb, lt-ltb}
-use Rattle.definition.specs.Refusals.{refused}
+use Rattle.definition.specs.Refusals.{Refusal, refused}
 use Rattle.definition.specs.Outcome.{number_of, place_of, value_of, written, list_after}
 use Rattle.stored.specs.Programs.{Kept, file, nothing}
 use Rattle.reload_laws.specs.Sizes.{most_file_bytes}
-use Rattle.print_texts.specs.Refusals.{refusal_of}
 use Rattle.keep.specs.Keeping.{kept_verdict, kept_bytes, keep_call, keep_answer, keep_output}
 
 -- ---- a list that is too short
 module _ (k : Kept) (lent : List ℕ) (h : length lent < most_file_bytes) where
-  call-short : keep_call k lent ≡ refused (refusal_of 11 0)
+  call-short : keep_call k lent ≡ refused (record { number = 11; place = 0 })
   unfolding keep_call
   call-short = rw (lt-ltb (length lent) most_file_bytes h)
 
@@ -33,13 +32,13 @@ module _ (lent : List ℕ) (h : most_file_bytes ≤ length lent) where
   call_long k = rw (le-ltb (length lent) most_file_bytes h)
 
   -- of a refusal
-  pub answer-refused : (number place : ℕ) → keep_answer (nothing (refusal_of number place)) lent ≡ record { number = number; place = place; value = 0 }
+  pub answer-refused : (r : Refusal) → keep_answer (nothing r) lent ≡ record { number = r.number; place = r.place; value = 0 }
   unfolding keep_answer kept_verdict number_of place_of value_of
-  answer-refused number place = rw (call_long (nothing (refusal_of number place)))
+  answer-refused r = rw (call_long (nothing r))
 
-  pub output-refused : (number place : ℕ) → keep_output (nothing (refusal_of number place)) lent ≡ lent
+  pub output-refused : (r : Refusal) → keep_output (nothing r) lent ≡ lent
   unfolding keep_output kept_verdict list_after
-  output-refused number place = rw (call_long (nothing (refusal_of number place)))
+  output-refused r = rw (call_long (nothing r))
 
   -- of a file
   pub answer-file : (bytes : List ℕ) → keep_answer (file bytes) lent ≡ record { number = 0; place = 0; value = length bytes }
