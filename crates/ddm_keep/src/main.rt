@@ -7,11 +7,13 @@ ghost use Rattle.std.specs.Io.KnownBytes.{Appends};
 ghost use Rattle.stored.specs.Programs.{nothing, kept};
 ghost use Rattle.stream_laws.specs.Sizes.{decisive};
 ghost use Rattle.reload_laws.specs.Sizes.{most_file_bytes};
-ghost use Rattle.print_texts.specs.Refusals.{refusal_of};
+ghost use Rattle.refusal.specs.Refusals.{as_refusal};
+ghost use Rattle.keep.specs.Keeping.{Found};
 ghost use Rattle.program_input.specs.Input.{Stopped};
-ghost use Rattle.ddm_keep.specs.Output.{KeptFor, FileFor, RefusalFor, RefusalAdded, KeptIn, Answers, Replies};
+ghost use Rattle.ddm_keep.specs.Output.{KeptFor, FileFor, RefusalFor, RefusalAdded, KeptIn, Replies};
 
 use program_input::Front;
+use refusal::Refusal;
 use std::io;
 use std::io::{Read, Write};
 use std::process::ExitCode;
@@ -22,36 +24,21 @@ const STREAM: usize = 1024;
 // The room for the line of a refusal: none has over 53 bytes (`refusal-long` of stream_laws).
 const LINE: usize = 64;
 
-// What is to be written: so many bytes of the file, a refusal by its number and place, or nothing, since a read failed.
-#[derive(Clone, Copy)]
-enum Reply {
-    File(usize),
-    Refused(usize, usize),
-    Unread,
-}
-
-// The file of the bytes' tree, at the front of `file`, or a refusal.
-fn keep_bytes(bytes: &[u8], file: &mut [u8]) -> Reply
+// The file of the bytes' tree, at the front of `file`, or a refusal. The answer is how many bytes the file has.
+fn keep_bytes(bytes: &[u8], file: &mut [u8]) -> Result<usize, Refusal>
     requires { most_file_bytes ≤ length file.old }
-    ensures { Answers (kept bytes.now) file.new result }
+    ensures { Found (kept bytes.now) file.new result }
 {
-    let kept = keep::keep(bytes, file);
-    if 0 < kept.number {
-        return Reply::Refused(kept.number, kept.place);
-    }
-    Reply::File(kept.count)
+    keep::keep(bytes, file)
 }
 
 // The same for what was read. The list that was read to holds the decisive bytes of every stream.
-fn reply_to(input: &[u8], front: Front, file: &mut [u8]) -> Reply
+fn reply_to(input: &[u8], front: Front, file: &mut [u8]) -> Result<usize, Refusal>
     requires { Stopped (length input.now) front × (decisive ≤ length input.now) × (most_file_bytes ≤ length file.old) }
     ensures { Replies front input.now file.new result }
 {
-    match front {
-        Front::Open(n) => keep_bytes(&input[..n], file),
-        Front::Ended(n) => keep_bytes(&input[..n], file),
-        Front::Failed => Reply::Unread,
-    }
+    let n = front.count();
+    keep_bytes(&input[..n], file)
 }
 
 // Writes the file for what was read.
@@ -70,19 +57,18 @@ fn write_text<W: Write>(errors: &mut W, input: &[u8], front: Front, text: &[u8])
     errors.write_all(text)
 }
 
-// The same by the refusal's number and place.
+// The same by the refusal.
 fn write_refusal<W: Write>(
     errors: &mut W,
     input: &[u8],
     front: Front,
-    number: usize,
-    place: usize,
+    refusal: Refusal,
 ) -> io::Result<()>
-    requires { KeptFor front input.now (nothing (refusal_of number place)) }
+    requires { KeptFor front input.now (nothing (as_refusal refusal)) }
     ensures { OnOk result (RefusalAdded front input.now (W.contents errors.old) (W.contents errors.new)) }
 {
     let mut line = [0u8; LINE];
-    let count = print_texts::write_refusal(number, place, &mut line, 0);
+    let count = print_texts::write_refusal(refusal, &mut line, 0);
     write_text(errors, input, front, &line[..count])
 }
 
@@ -106,20 +92,11 @@ fn keep_stream<R: Read, W: Write, E: Write>(
 {
     let mut input = [0u8; STREAM];
     let mut file = [0u8; keep::MOST_FILE_BYTES];
-    let (front, error) = program_input::read_input(reader, &mut input);
+    let front = program_input::read_input(reader, &mut input).map_err(Failure::Input)?;
     let reply = reply_to(&input, front, &mut file);
     match reply {
-        Reply::Unread => Err(Failure::Input(program_input::cause(error))),
-        Reply::Refused(number, place) => {
-            match write_refusal(errors, &input, front, number, place) {
-                Ok(()) => Ok(()),
-                Err(e) => Err(Failure::Errors(e)),
-            }
-        }
-        Reply::File(count) => match write_file(out, &input, front, &file[..count]) {
-            Ok(()) => Ok(()),
-            Err(e) => Err(Failure::Output(e)),
-        },
+        Ok(count) => write_file(out, &input, front, &file[..count]).map_err(Failure::Output),
+        Err(refusal) => write_refusal(errors, &input, front, refusal).map_err(Failure::Errors),
     }
 }
 
