@@ -6,7 +6,7 @@ ghost use Rattle.std.specs.Io.KnownBytes.{Appends};
 ghost use Rattle.formats.specs.Printout.{printout};
 ghost use Rattle.stream_laws.specs.Sizes.{decisive, most_bytes};
 ghost use Rattle.program_input.specs.Input.{Stopped};
-ghost use Rattle.ddm_tree.specs.Output.{PrintoutFor, Replies};
+ghost use Rattle.ddm_tree.specs.Output.{PrintoutFor};
 
 use program_input::Front;
 use std::io;
@@ -19,39 +19,24 @@ const STREAM: usize = 1024;
 // The room for a printout: none is longer (`printout-long` of stream_laws).
 const TEXT: usize = job_room::TEXT;
 
-fn text_room() -> [u8; TEXT]
-    ensures { most_bytes ≡ length result }
-{
-    [0; TEXT]
-}
-
-// What is to be written: so many bytes of the text, or nothing, since a read failed.
-#[derive(Clone, Copy)]
-enum Reply {
-    Text(usize),
-    Unread,
-}
-
 // The printout of the bytes, at the front of `text`.
 fn print_bytes(bytes: &[u8], text: &mut [u8]) -> usize
     requires { most_bytes ≤ length text.old }
     ensures fits { result ≤ length text.new }
     ensures same { take result text.new ≡ printout bytes.now }
 {
-    let printed = printout::printout(bytes, text);
-    printed.count
+    // the list is long enough for every text
+    printout::printout(bytes, text).unwrap()
 }
 
 // The printout for what was read, at the front of `text`. The list that was read to holds the decisive bytes of every stream.
-fn reply_to(input: &[u8], front: Front, text: &mut [u8]) -> Reply
+fn reply_to(input: &[u8], front: Front, text: &mut [u8]) -> usize
     requires { Stopped (length input.now) front × (decisive ≤ length input.now) × (most_bytes ≤ length text.old) }
-    ensures { Replies front input.now text.new result }
+    ensures fits { result ≤ length text.new }
+    ensures same { PrintoutFor front input.now (take result text.new) }
 {
-    match front {
-        Front::Open(n) => Reply::Text(print_bytes(&input[..n], text)),
-        Front::Ended(n) => Reply::Text(print_bytes(&input[..n], text)),
-        Front::Failed => Reply::Unread,
-    }
+    let n = front.count();
+    print_bytes(&input[..n], text)
 }
 
 // Writes the printout for what was read.
@@ -75,16 +60,10 @@ fn print_stream<R: Read, W: Write>(reader: &mut R, out: &mut W) -> Result<(), Fa
         (λ stream. Appends (W.contents out.old) (W.contents out.new) (printout stream))) }
 {
     let mut input = [0u8; STREAM];
-    let mut text = text_room();
-    let (front, error) = program_input::read_input(reader, &mut input);
-    let reply = reply_to(&input, front, &mut text);
-    match reply {
-        Reply::Unread => Err(Failure::Input(program_input::cause(error))),
-        Reply::Text(count) => match write_reply(out, &input, front, &text[..count]) {
-            Ok(()) => Ok(()),
-            Err(e) => Err(Failure::Output(e)),
-        },
-    }
+    let mut text = program_input::room::<TEXT>();
+    let front = program_input::read_input(reader, &mut input).map_err(Failure::Input)?;
+    let count = reply_to(&input, front, &mut text);
+    write_reply(out, &input, front, &text[..count]).map_err(Failure::Output)
 }
 
 fn main(rt: HostRuntime) -> ExitCode {

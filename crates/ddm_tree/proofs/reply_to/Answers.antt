@@ -1,24 +1,22 @@
 -- `ddm_tree::reply_to` meets its contract. Assumes nothing.
-use mathlib.Core.Path.{sym}
+use mathlib.Core.Path.{sym, ap, ◌∙◌}
+use native.Mathlib.Omega.{arith}
+use lib.ListN.{length, take}
 use lib.Seq.{length-take-le}
-use Rattle.program_input.proofs.Fronts.{open-within, ended-within}
-use Rattle.ddm_tree.proofs.Printed.{open-printed, ended-printed}
+use Rattle.formats.specs.Printout.{printout}
+use Rattle.stream_laws.specs.Sizes.{decisive}
+use Rattle.stream_laws.proofs.Front.{front-printed}
+use Rattle.program_input.proofs.Fronts.{count-within, front-decides}
 use Rattle.ddm_tree.proofs.reply_to.Goals as goal
 
 pub slice_bounds-print_bytes-end : goal.slice_bounds-print_bytes-end
-slice_bounds-print_bytes-end c = sym (length-take-le _ _ (open-within _ _ _ c.in-Open.is c.requires.0))
+slice_bounds-print_bytes-end c = sym (length-take-le _ _ (omega (arith, c.count-n.ensures, count-within c.args.front (length c.args.input.now) c.requires.0)))
 
-pub slice_bounds-print_bytes-end-in-Ended : goal.slice_bounds-print_bytes-end-in-Ended
-slice_bounds-print_bytes-end-in-Ended c = sym (length-take-le _ _ (ended-within _ _ _ c.in-Ended.is c.requires.0))
-
-pub returns-in-Open : goal.returns-in-Open
-returns-in-Open c = let start = c in
-    let print = c.print_bytes in
-    let front = c.in-Open.is in
-    (print.ensures.fits, open-printed _ _ start.args.input.now _ front start.requires.0 start.requires.1 print.ensures.same)
-
-pub returns-in-Ended : goal.returns-in-Ended
-returns-in-Ended c = let start = c in
-    let print = c.print_bytes-in-Ended in
-    let front = c.in-Ended.is in
-    (print.ensures.fits, ended-printed _ _ start.args.input.now _ front print.ensures.same)
+pub returns : goal.returns
+returns c = let a = c.args in
+    let print = c.print_bytes.ensures in
+    record {
+      fits = print.fits;
+      same = front-decides printout decisive front-printed a.front a.input.now c.requires.0 c.requires.1 _
+          (print.same ∙ ap (λ n. printout (take n a.input.now)) c.count-n.ensures);
+    }

@@ -1,2 +1,0 @@
--- That the printout of the front is the printout of the stream.
-pub mod Printed
