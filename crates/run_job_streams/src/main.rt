@@ -4,7 +4,6 @@
 #![tactic(auto)]
 
 ghost use Rattle.std.specs.Prelude.{◌≡◌, ◌+◌, ◌≤◌, ◌<◌, length};
-ghost use Rattle.stream_laws.specs.Sizes.{most_bytes};
 
 use std::io;
 
@@ -12,18 +11,6 @@ use std::io;
 const FILE: usize = 1835008;
 
 const TEXT: usize = job_room::TEXT;
-
-fn file_room() -> [u8; FILE]
-    ensures { 1835008 ≡ length result }
-{
-    [0; FILE]
-}
-
-fn text_room() -> [u8; TEXT]
-    ensures { most_bytes ≡ length result }
-{
-    [0; TEXT]
-}
 
 // How many streams were printed, and how many of the printouts are not the stored ones.
 #[derive(Clone, Copy)]
@@ -37,16 +24,15 @@ fn number(file: &[u8], at: usize) -> usize
     requires { at + 2 ≤ length file.now }
     ensures { result < 65536 }
 {
-    let low = file[at] as usize;
-    let high = file[at + 1] as usize;
-    low + 256 * high
+    u16::from_le_bytes([file[at], file[at + 1]]) as usize
 }
 
 // Whether the printout of the stream is the answer.
 fn agrees(stream: &[u8], answer: &[u8], text: &mut [u8]) -> bool {
-    let printed = printout::printout(stream, text);
-    let count = printed.count;
-    check::same(&text[..count], answer)
+    match printout::printout(stream, text) {
+        Ok(count) => check::same(&text[..count], answer),
+        Err(_) => false,
+    }
 }
 
 // All records of the file. A record that ends past the file counts as one that differs.
@@ -54,6 +40,7 @@ fn replay(file: &[u8], text: &mut [u8]) -> Tally {
     let mut streams: u64 = 0;
     let mut differ: u64 = 0;
     let mut at = 0;
+    // a record says how long it is: no counted loop
     while at < file.len() {
         streams += 1;
         if file.len() - at < 4 {
@@ -77,11 +64,9 @@ fn replay(file: &[u8], text: &mut [u8]) -> Tally {
 
 fn main(rt: HostRuntime) -> io::Result<()> {
     let mut from = program_input::open_argument(&rt, 1)?;
-    let mut file = file_room();
+    let mut file = program_input::room::<FILE>();
     let n = program_input::read_count(&mut from, &mut file)?;
-    let mut text = text_room();
-    let tally = replay(&file[..n], &mut text);
-    let streams = tally.streams;
-    let differ = tally.differ;
+    let mut text = program_input::room::<TEXT>();
+    let Tally { streams, differ } = replay(&file[..n], &mut text);
     println!(rt; "{streams} streams, {differ} differ")
 }

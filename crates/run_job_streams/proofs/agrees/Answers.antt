@@ -7,7 +7,7 @@ use Rattle.job_room.proofs.Printing.{count_fits}
 use Rattle.run_job_streams.proofs.agrees.Goals as goal
 
 pub slice_bounds-same-end : goal.slice_bounds-same-end
-slice_bounds-same-end c = omega (arith, count_fits _ _ _ c.printout-printed.ensures.answer (printout-long _), c.printout-printed.auto)
+slice_bounds-same-end c = omega (arith, count_fits _ _ _ c.in-Ok.ensures.answer (printout-long _), c.printout.auto)
 
 pub slice_bounds-same-end-2 : goal.slice_bounds-same-end-2
-slice_bounds-same-end-2 c = sym (length-take-le _ _ (omega (arith, count_fits _ _ _ c.printout-printed.ensures.answer (printout-long _), c.printout-printed.auto)))
+slice_bounds-same-end-2 c = sym (length-take-le _ _ (omega (arith, count_fits _ _ _ c.in-Ok.ensures.answer (printout-long _), c.printout.auto)))
