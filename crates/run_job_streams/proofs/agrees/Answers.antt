@@ -9,5 +9,5 @@ use Rattle.run_job_streams.proofs.agrees.Goals as goal
 pub slice_bounds-same-end : goal.slice_bounds-same-end
 slice_bounds-same-end c = omega (arith, count_fits _ _ _ c.in-Ok.ensures.answer (printout-long _), c.printout.auto)
 
-pub slice_bounds-same-end-2 : goal.slice_bounds-same-end-2
-slice_bounds-same-end-2 c = sym (length-take-le _ _ (omega (arith, count_fits _ _ _ c.in-Ok.ensures.answer (printout-long _), c.printout.auto)))
+pub slice_bounds-same-end-in-Ok : goal.slice_bounds-same-end-in-Ok
+slice_bounds-same-end-in-Ok c = sym (length-take-le _ _ (omega (arith, count_fits _ _ _ c.in-Ok.ensures.answer (printout-long _), c.printout.auto)))
