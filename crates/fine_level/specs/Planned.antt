@@ -9,27 +9,27 @@ use Rattle.fine_level.specs.declared.Place.{Place}
 use Rattle.fine_level.specs.Fine.{divided_at, leaves_at_lem, Given, Fits}
 
 -- the leaves of the fine level over the active rows: before any row is sent up, and where `size` of them are
-abbrev pub divided_by : Plan → List Float → List ℕ → List Leaf
-divided_by p cs active = divided_at p.dimensions cs p.leaf p.neighbours active
+abbrev pub divided_by : Plan → List ℕ → List Leaf
+divided_by p active = divided_at p.points.dimensions p.points.coordinates.now p.leaf p.neighbours active
 
-abbrev pub leaves_by : Plan → List Float → ℕ → List ℕ → List Leaf
-leaves_by p cs size active = leaves_at_lem p.dimensions cs p.leaf p.neighbours size active
+abbrev pub leaves_by : Plan → ℕ → List ℕ → List Leaf
+leaves_by p size active = leaves_at_lem p.points.dimensions p.points.coordinates.now p.leaf p.neighbours size active
 
 -- the active rows, in the level points
 abbrev pub active_at : Place → List ℕ → List ℕ
 active_at w level_points = part level_points w.from w.a
 
 -- what a level is built from
-abbrev pub GivenBy : Plan → List Float → List ℕ → Type 0
-GivenBy p cs active = Given p.dimensions cs p.leaf p.neighbours active
+abbrev pub GivenBy : Plan → List ℕ → Type 0
+GivenBy p active = Given p.points.dimensions p.points.coordinates.now p.leaf p.neighbours active
 
 -- the lists are long enough for a level over `a` rows at this place
 abbrev pub FitsAt : Plan → Place → ℕ → List ℕ → List ℕ → List Float → List ℕ → Type 0
-FitsAt p w a I D B L = Fits p.dimensions p.neighbours a I D B L w.from w.first w.bat
+FitsAt p w a I D B L = Fits p.points.dimensions p.neighbours a I D B L w.from w.first w.bat
 
 -- the nodes that are written of the level's record
-abbrev pub nodes_by : Plan → List Float → List ℕ → List Node
-nodes_by p cs active = record_by p.engine p.dimensions cs p.leaf active
+abbrev pub nodes_by : Plan → List ℕ → List Node
+nodes_by p active = record_by p.engine p.points.dimensions p.points.coordinates.now p.leaf active
 
 -- both lists of the record are long enough for that of a level over `a` rows at this place
 abbrev pub RecordFits : Plan → Place → ℕ → List ℕ → List Float → Type 0

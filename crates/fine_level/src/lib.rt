@@ -14,13 +14,14 @@ ghost use Rattle.fine_level.specs.Fine.{next_at, Room as LevelRoom};
 ghost use Rattle.fine_level.specs.Planned.{divided_by, leaves_by, nodes_by, active_at, GivenBy, FitsAt, RecordFits};
 
 use cut_engine::Engine;
+use points::Points;
 use tree_lists::{Records, Room, TreeLists};
 
-// What every level of a build shares: how it is cut, the axes, the leaf threshold and the neighbour count.
+// What every level of a build shares: the points, how they are cut, the leaf threshold and the neighbour count.
 #[derive(Clone, Copy)]
-pub struct Plan {
+pub struct Plan<'a> {
+    pub points: Points<'a>,
     pub engine: Engine,
-    pub dimensions: usize,
     pub leaf: usize,
     pub neighbours: usize,
 }
@@ -47,34 +48,37 @@ pub struct Parts {
 // The leaves of the active rows, with the record, and what they borrow. Their boxes are packed where the floats of the first domain row
 // start: the engine puts them behind as many boxes as there are rows before, and `first` floats are passed over for the covers of those.
 fn divide(
-    points: &[f64],
-    plan: Plan,
+    plan: Plan<'_>,
     place: Place,
     lists: &mut TreeLists<'_>,
     room: &mut Room<'_>,
     records: &mut Records<'_>,
 ) -> Parts
-    requires given_by { (place.from + place.a ≤ length lists.old.level_points.now) × GivenBy plan points.now (active_at place lists.old.level_points.now) }
+    requires given_by { (place.from + place.a ≤ length lists.old.level_points.now) × GivenBy plan (active_at place lists.old.level_points.now) }
     requires fits_at { FitsAt plan place place.a lists.old.internals.now lists.old.domains.now lists.old.boxes.now lists.old.borrowed.now }
     requires room { LevelRoom plan.neighbours place.a room.old.floats.now room.old.wholes.now }
     requires record_fits { RecordFits plan place place.a records.old.cuts.now records.old.planes.now }
     ensures same { SameLists lists.old lists.new × SameRoom room.old room.new × SameRecords records.old records.new }
-    ensures counts { (result.leaves ≡ length (divided_by plan points.now (active_at place lists.old.level_points.now))) × (result.borrowed ≡ length (borrowed_in (divided_by plan points.now (active_at place lists.old.level_points.now))))
-        × (result.nodes ≡ length (nodes_by plan points.now (active_at place lists.old.level_points.now))) × (result.nodes ≤ nodes_for plan.engine place.a) }
+    ensures counts { (result.leaves ≡ length (divided_by plan.entry (active_at place lists.old.level_points.now))) × (result.borrowed ≡ length (borrowed_in (divided_by plan.entry (active_at place lists.old.level_points.now))))
+        × (result.nodes ≡ length (nodes_by plan.entry (active_at place lists.old.level_points.now))) × (result.nodes ≤ nodes_for plan.entry.engine place.a) }
     ensures level_points { lists.new.level_points.now ≡ lists.old.level_points.now }
-    ensures internals { lists.new.internals.now ≡ put lists.old.internals.now place.from (own_in_lem (divided_by plan points.now (active_at place lists.old.level_points.now))) }
-    ensures domains { lists.new.domains.now ≡ put lists.old.domains.now (row_numbers * place.first) (stretches place.from place.bat (divided_by plan points.now (active_at place lists.old.level_points.now))) }
-    ensures boxes { lists.new.boxes.now ≡ put lists.old.boxes.now (row_floats_lem plan.dimensions * place.first) (joined (map (λ f. f.box) (divided_by plan points.now (active_at place lists.old.level_points.now)))) }
-    ensures borrowed { lists.new.borrowed.now ≡ put lists.old.borrowed.now place.bat (borrowed_in (divided_by plan points.now (active_at place lists.old.level_points.now))) }
-    ensures cuts { records.new.cuts.now ≡ put records.old.cuts.now place.node (map whole_of (nodes_by plan points.now (active_at place lists.old.level_points.now))) }
-    ensures planes { records.new.planes.now ≡ put records.old.planes.now place.node (map float_of (nodes_by plan points.now (active_at place lists.old.level_points.now))) }
+    ensures internals { lists.new.internals.now ≡ put lists.old.internals.now place.from (own_in_lem (divided_by plan.entry (active_at place lists.old.level_points.now))) }
+    ensures domains { lists.new.domains.now ≡ put lists.old.domains.now (row_numbers * place.first) (stretches place.from place.bat (divided_by plan.entry (active_at place lists.old.level_points.now))) }
+    ensures boxes { lists.new.boxes.now ≡ put lists.old.boxes.now (row_floats_lem plan.entry.points.dimensions * place.first) (joined (map (λ f. f.box) (divided_by plan.entry (active_at place lists.old.level_points.now)))) }
+    ensures borrowed { lists.new.borrowed.now ≡ put lists.old.borrowed.now place.bat (borrowed_in (divided_by plan.entry (active_at place lists.old.level_points.now))) }
+    ensures cuts { records.new.cuts.now ≡ put records.old.cuts.now place.node (map whole_of (nodes_by plan.entry (active_at place lists.old.level_points.now))) }
+    ensures planes { records.new.planes.now ≡ put records.old.planes.now place.node (map float_of (nodes_by plan.entry (active_at place lists.old.level_points.now))) }
 {
     let Plan {
+        points,
         engine,
-        dimensions,
         leaf,
         neighbours,
     } = plan;
+    let Points {
+        coordinates,
+        dimensions,
+    } = points;
     let Place {
         from,
         a,
@@ -91,7 +95,7 @@ fn divide(
     let active: &mut [usize] = &mut level_points[from..end];
     let cut = cut_engine::cut_level(
         engine,
-        points,
+        coordinates,
         dimensions,
         leaf,
         active,
@@ -108,7 +112,7 @@ fn divide(
     );
     let leaves = cut.leaves;
     let borrowed = overlaps::overlaps(
-        points,
+        coordinates,
         dimensions,
         neighbours,
         active,
@@ -130,21 +134,20 @@ fn divide(
 // What the m leaves from the domain row `first` on send up, `size` rows in all, goes right behind the active rows; the answer is how many
 // these are. Each leaf's box, which stands packed with the others, is put to its row, with the cover of what the leaf sends behind it.
 fn send_up(
-    points: &[f64],
-    dimensions: usize,
+    points: Points<'_>,
     size: usize,
     place: Place,
     m: usize,
     lists: &mut TreeLists<'_>,
     room: &mut Room<'_>,
 ) -> usize
-    requires sends_up { SendsUp dimensions points.now (part lists.old.level_points.now place.from place.a) lists.old.internals.now lists.old.domains.now place.first m }
-    requires size_le_a { (size ≤ place.a) × (place.from + place.a + size ≤ length lists.old.level_points.now) × (m ≤ length room.old.wholes.now) × (place.a + m ≤ length room.old.floats.now) × (row_floats_lem dimensions * (place.first + m) ≤ length lists.old.boxes.now) }
+    requires sends_up { SendsUp points.dimensions points.coordinates.now (part lists.old.level_points.now place.from place.a) lists.old.internals.now lists.old.domains.now place.first m }
+    requires size_le_a { (size ≤ place.a) × (place.from + place.a + size ≤ length lists.old.level_points.now) × (m ≤ length room.old.wholes.now) × (place.a + m ≤ length room.old.floats.now) × (row_floats_lem points.dimensions * (place.first + m) ≤ length lists.old.boxes.now) }
     ensures same { SameLists lists.old lists.new × SameRoom room.old room.new }
     ensures kept { (lists.new.internals.now ≡ lists.old.internals.now) × (lists.new.domains.now ≡ lists.old.domains.now) × (lists.new.borrowed.now ≡ lists.old.borrowed.now) }
-    ensures number { (result ≡ length (sent_rows dimensions points.now (part lists.old.level_points.now place.from place.a) (read_own lists.old.internals.now lists.old.domains.now place.first m) size)) × (result ≡ size) }
-    ensures list { lists.new.level_points.now ≡ put lists.old.level_points.now (place.from + place.a) (sent_rows dimensions points.now (part lists.old.level_points.now place.from place.a) (read_own lists.old.internals.now lists.old.domains.now place.first m) size) }
-    ensures boxes { lists.new.boxes.now ≡ put lists.old.boxes.now (row_floats_lem dimensions * place.first) (covered dimensions lists.old.boxes.now (row_floats_lem dimensions * place.first) (sent_covers dimensions points.now (read_own lists.old.internals.now lists.old.domains.now place.first m) size)) }
+    ensures number { (result ≡ length (sent_rows points.entry.dimensions points.entry.coordinates.now (part lists.old.level_points.now place.from place.a) (read_own lists.old.internals.now lists.old.domains.now place.first m) size)) × (result ≡ size) }
+    ensures list { lists.new.level_points.now ≡ put lists.old.level_points.now (place.from + place.a) (sent_rows points.entry.dimensions points.entry.coordinates.now (part lists.old.level_points.now place.from place.a) (read_own lists.old.internals.now lists.old.domains.now place.first m) size) }
+    ensures boxes { lists.new.boxes.now ≡ put lists.old.boxes.now (row_floats_lem points.entry.dimensions * place.first) (covered points.entry.dimensions lists.old.boxes.now (row_floats_lem points.entry.dimensions * place.first) (sent_covers points.entry.dimensions points.entry.coordinates.now (read_own lists.old.internals.now lists.old.domains.now place.first m) size)) }
 {
     let Place { from, a, first, .. } = place;
     let level_points: &mut [usize] = lists.level_points;
@@ -152,8 +155,8 @@ fn send_up(
     let domains: &mut [usize] = lists.domains;
     let floats: &mut [f64] = room.floats;
     let next = coarse_points::coarse_points(
-        points,
-        dimensions,
+        points.coordinates,
+        points.dimensions,
         size,
         level_points,
         from,
@@ -167,7 +170,7 @@ fn send_up(
     );
     let stop = a + m;
     let covers: &mut [f64] = &mut floats[a..stop];
-    covers::put_covers(lists.boxes, dimensions, first, covers);
+    covers::put_covers(lists.boxes, points.dimensions, first, covers);
     next
 }
 
@@ -184,41 +187,32 @@ pub struct Written {
 // The fine level over the active rows of its place in the level points. Its leaves' rows go to the same place in the internals, and
 // the `size` rows that they send up right behind the active rows.
 pub fn fine_level(
-    points: &[f64],
-    plan: Plan,
+    plan: Plan<'_>,
     size: usize,
     place: Place,
     lists: &mut TreeLists<'_>,
     room: &mut Room<'_>,
     records: &mut Records<'_>,
 ) -> Written
-    requires a_in_bounds { (place.from + 2 * place.a ≤ length lists.old.level_points.now) × (size ≤ place.a) × GivenBy plan points.now (active_at place lists.old.level_points.now) }
+    requires a_in_bounds { (place.from + 2 * place.a ≤ length lists.old.level_points.now) × (size ≤ place.a) × GivenBy plan (active_at place lists.old.level_points.now) }
     requires fits_at { FitsAt plan place place.a lists.old.internals.now lists.old.domains.now lists.old.boxes.now lists.old.borrowed.now }
     requires room { LevelRoom plan.neighbours place.a room.old.floats.now room.old.wholes.now }
     requires record_fits { RecordFits plan place place.a records.old.cuts.now records.old.planes.now }
     ensures same { SameLists lists.old lists.new × SameRoom room.old room.new × SameRecords records.old records.new }
-    ensures counts { (result.leaves ≡ length (leaves_by plan points.now size (active_at place lists.old.level_points.now)))
-        × (result.borrowed ≡ length (borrowed_in (leaves_by plan points.now size (active_at place lists.old.level_points.now))))
-        × (result.next ≡ length (next_at plan.dimensions points.now plan.leaf size (active_at place lists.old.level_points.now)))
-        × (result.nodes ≡ length (nodes_by plan points.now (active_at place lists.old.level_points.now))) × (result.nodes ≤ nodes_for plan.engine place.a) }
-    ensures level_points { lists.new.level_points.now ≡ put lists.old.level_points.now (place.from + place.a) (next_at plan.dimensions points.now plan.leaf size (active_at place lists.old.level_points.now)) }
-    ensures internals { lists.new.internals.now ≡ put lists.old.internals.now place.from (own_in_lem (leaves_by plan points.now size (active_at place lists.old.level_points.now))) }
-    ensures domains { lists.new.domains.now ≡ put lists.old.domains.now (row_numbers * place.first) (stretches place.from place.bat (leaves_by plan points.now size (active_at place lists.old.level_points.now))) }
-    ensures boxes { lists.new.boxes.now ≡ put lists.old.boxes.now (row_floats_lem plan.dimensions * place.first) (boxes_in (leaves_by plan points.now size (active_at place lists.old.level_points.now))) }
-    ensures borrowed { lists.new.borrowed.now ≡ put lists.old.borrowed.now place.bat (borrowed_in (leaves_by plan points.now size (active_at place lists.old.level_points.now))) }
-    ensures cuts { records.new.cuts.now ≡ put records.old.cuts.now place.node (map whole_of (nodes_by plan points.now (active_at place lists.old.level_points.now))) }
-    ensures planes { records.new.planes.now ≡ put records.old.planes.now place.node (map float_of (nodes_by plan points.now (active_at place lists.old.level_points.now))) }
+    ensures counts { (result.leaves ≡ length (leaves_by plan.entry size (active_at place lists.old.level_points.now)))
+        × (result.borrowed ≡ length (borrowed_in (leaves_by plan.entry size (active_at place lists.old.level_points.now))))
+        × (result.next ≡ length (next_at plan.entry.points.dimensions plan.entry.points.coordinates.now plan.entry.leaf size (active_at place lists.old.level_points.now)))
+        × (result.nodes ≡ length (nodes_by plan.entry (active_at place lists.old.level_points.now))) × (result.nodes ≤ nodes_for plan.entry.engine place.a) }
+    ensures level_points { lists.new.level_points.now ≡ put lists.old.level_points.now (place.from + place.a) (next_at plan.entry.points.dimensions plan.entry.points.coordinates.now plan.entry.leaf size (active_at place lists.old.level_points.now)) }
+    ensures internals { lists.new.internals.now ≡ put lists.old.internals.now place.from (own_in_lem (leaves_by plan.entry size (active_at place lists.old.level_points.now))) }
+    ensures domains { lists.new.domains.now ≡ put lists.old.domains.now (row_numbers * place.first) (stretches place.from place.bat (leaves_by plan.entry size (active_at place lists.old.level_points.now))) }
+    ensures boxes { lists.new.boxes.now ≡ put lists.old.boxes.now (row_floats_lem plan.entry.points.dimensions * place.first) (boxes_in (leaves_by plan.entry size (active_at place lists.old.level_points.now))) }
+    ensures borrowed { lists.new.borrowed.now ≡ put lists.old.borrowed.now place.bat (borrowed_in (leaves_by plan.entry size (active_at place lists.old.level_points.now))) }
+    ensures cuts { records.new.cuts.now ≡ put records.old.cuts.now place.node (map whole_of (nodes_by plan.entry (active_at place lists.old.level_points.now))) }
+    ensures planes { records.new.planes.now ≡ put records.old.planes.now place.node (map float_of (nodes_by plan.entry (active_at place lists.old.level_points.now))) }
 {
-    let parts = divide(points, plan, place, lists, room, records);
-    let next = send_up(
-        points,
-        plan.dimensions,
-        size,
-        place,
-        parts.leaves,
-        lists,
-        room,
-    );
+    let parts = divide(plan, place, lists, room, records);
+    let next = send_up(plan.points, size, place, parts.leaves, lists, room);
     Written {
         leaves: parts.leaves,
         borrowed: parts.borrowed,

@@ -15,6 +15,7 @@ ghost use Rattle.tree_lists.specs.Lent.{lists_in, SameLists, SameRoom, SameRecor
 
 use config::DDMParams;
 use cut_engine::Engine;
+use points::Points;
 use tree_answer::DDMTree;
 use tree_lists::{Records, Room, TreeLists};
 
@@ -22,26 +23,25 @@ use tree_lists::{Records, Room, TreeLists};
 // `planes`, where the engine writes them.
 pub fn grow(
     engine: Engine,
-    points: &[f64],
-    dimensions: usize,
+    points: Points<'_>,
     params: DDMParams,
     lists: &mut TreeLists<'_>,
     room: &mut Room<'_>,
     records: &mut Records<'_>,
 ) -> DDMTree
-    requires wholes_value { build_call (settings_of_lem dimensions params) points.now (lists_in lists.old) room.old.floats.now room.old.wholes.now ≡ accepted }
-    requires record_room { RecordRoom engine (point_count dimensions points.now) records.old.cuts.now records.old.planes.now }
+    requires wholes_value { build_call (settings_of_lem points.dimensions params) points.coordinates.now (lists_in lists.old) room.old.floats.now room.old.wholes.now ≡ accepted }
+    requires record_room { RecordRoom engine (point_count points.dimensions points.coordinates.now) records.old.cuts.now records.old.planes.now }
     ensures same { SameLists lists.old lists.new × SameRoom room.old room.new × SameRecords records.old records.new }
-    ensures counts { counts_given result ≡ counts_of (levels (settings_of_lem dimensions params) points.now) }
-    ensures level_points { lists.new.level_points.now ≡ put lists.old.level_points.now 0 (packed_level_points (levels (settings_of_lem dimensions params) points.now)) }
-    ensures internals { lists.new.internals.now ≡ put lists.old.internals.now 0 (packed_internals (levels (settings_of_lem dimensions params) points.now)) }
-    ensures domains { lists.new.domains.now ≡ put lists.old.domains.now 0 (packed_domains (levels (settings_of_lem dimensions params) points.now)) }
-    ensures boxes { lists.new.boxes.now ≡ put lists.old.boxes.now 0 (packed_boxes (levels (settings_of_lem dimensions params) points.now)) }
-    ensures borrowed { lists.new.borrowed.now ≡ put lists.old.borrowed.now 0 (packed_borrowed (levels (settings_of_lem dimensions params) points.now)) }
-    ensures cuts { records.new.cuts.now ≡ put records.old.cuts.now 0 (map whole_of (records_by engine (settings_of_lem dimensions params) points.now (levels (settings_of_lem dimensions params) points.now))) }
-    ensures planes { records.new.planes.now ≡ put records.old.planes.now 0 (map float_of (records_by engine (settings_of_lem dimensions params) points.now (levels (settings_of_lem dimensions params) points.now))) }
+    ensures counts { counts_given result ≡ counts_of (levels (settings_of_lem points.entry.dimensions params) points.entry.coordinates.now) }
+    ensures level_points { lists.new.level_points.now ≡ put lists.old.level_points.now 0 (packed_level_points (levels (settings_of_lem points.entry.dimensions params) points.entry.coordinates.now)) }
+    ensures internals { lists.new.internals.now ≡ put lists.old.internals.now 0 (packed_internals (levels (settings_of_lem points.entry.dimensions params) points.entry.coordinates.now)) }
+    ensures domains { lists.new.domains.now ≡ put lists.old.domains.now 0 (packed_domains (levels (settings_of_lem points.entry.dimensions params) points.entry.coordinates.now)) }
+    ensures boxes { lists.new.boxes.now ≡ put lists.old.boxes.now 0 (packed_boxes (levels (settings_of_lem points.entry.dimensions params) points.entry.coordinates.now)) }
+    ensures borrowed { lists.new.borrowed.now ≡ put lists.old.borrowed.now 0 (packed_borrowed (levels (settings_of_lem points.entry.dimensions params) points.entry.coordinates.now)) }
+    ensures cuts { records.new.cuts.now ≡ put records.old.cuts.now 0 (map whole_of (records_by engine (settings_of_lem points.entry.dimensions params) points.entry.coordinates.now (levels (settings_of_lem points.entry.dimensions params) points.entry.coordinates.now))) }
+    ensures planes { records.new.planes.now ≡ put records.old.planes.now 0 (map float_of (records_by engine (settings_of_lem points.entry.dimensions params) points.entry.coordinates.now (levels (settings_of_lem points.entry.dimensions params) points.entry.coordinates.now))) }
 {
-    let n = points.len() / dimensions;
+    let n = points.coordinates.len() / points.dimensions;
     stretches::number_rows(lists.level_points, n);
-    grow_over::grow_over(engine, points, dimensions, params, n, lists, room, records)
+    grow_over::grow_over(engine, points, params, n, lists, room, records)
 }

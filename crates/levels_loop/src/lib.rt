@@ -10,7 +10,8 @@ ghost use Rattle.definition.specs.Number.{plus_zero};
 ghost use Rattle.definition.specs.Packed.{row_numbers, row_floats_lem, packed_level_points, packed_internals, packed_domains, packed_boxes, packed_borrowed};
 ghost use Rattle.definition.specs.Record.{whole_of, float_of};
 ghost use Rattle.fine_level.specs.Fine.{Given};
-ghost use Rattle.levels_loop.specs.After.{level_settings, levels_after, Space};
+ghost use Rattle.levels_loop.specs.After.{Space};
+ghost use Rattle.levels_loop.specs.Planned.{settings_by, levels_by};
 ghost use Rattle.levels_loop.specs.Records.{records_by, RecordRoom};
 ghost use Rattle.tree_lists.specs.Lent.{SameLists, SameRoom, SameRecords};
 
@@ -84,8 +85,7 @@ fn last_level(dimensions: usize, place: Place, lists: &mut TreeLists<'_>)
 // All levels over the n rows at the front of the level points. Each level is written behind the last: its active rows, its leaves'
 // rows, its domain rows, their boxes, the borrowed rows, and the nodes of its record that this engine writes.
 pub fn all_levels(
-    points: &[f64],
-    plan: Plan,
+    plan: Plan<'_>,
     c: usize,
     k: u32,
     n: usize,
@@ -93,20 +93,20 @@ pub fn all_levels(
     room: &mut Room<'_>,
     records: &mut Records<'_>,
 ) -> DDMTree
-    requires le_c { (1 ≤ c) × (k ≤ 3) × Given plan.dimensions points.now plan.leaf plan.neighbours (part lists.old.level_points.now 0 n) }
-    requires space { Space plan.dimensions plan.neighbours n most_fine lists.old.level_points.now lists.old.internals.now lists.old.domains.now lists.old.boxes.now lists.old.borrowed.now room.old.floats.now room.old.wholes.now 0 0 0 }
+    requires le_c { (1 ≤ c) × (k ≤ 3) × Given plan.points.dimensions plan.points.coordinates.now plan.leaf plan.neighbours (part lists.old.level_points.now 0 n) }
+    requires space { Space plan.points.dimensions plan.neighbours n most_fine lists.old.level_points.now lists.old.internals.now lists.old.domains.now lists.old.boxes.now lists.old.borrowed.now room.old.floats.now room.old.wholes.now 0 0 0 }
     requires record_room { RecordRoom plan.engine n records.old.cuts.now records.old.planes.now }
     ensures same { SameLists lists.old lists.new × SameRoom room.old room.new × SameRecords records.old records.new }
-    ensures counts { (result.levels ≡ length (levels_after plan.dimensions points.now plan.leaf plan.neighbours c k 0 (part lists.old.level_points.now 0 n)))
-        × (result.rows ≡ put (replicate 4 0) 0 (map (λ l. length l.points) (levels_after plan.dimensions points.now plan.leaf plan.neighbours c k 0 (part lists.old.level_points.now 0 n))))
-        × (result.domains ≡ put (replicate 4 0) 0 (map (λ l. length l.leaves) (levels_after plan.dimensions points.now plan.leaf plan.neighbours c k 0 (part lists.old.level_points.now 0 n)))) }
-    ensures level_points { lists.new.level_points.now ≡ put lists.old.level_points.now 0 (packed_level_points (levels_after plan.dimensions points.now plan.leaf plan.neighbours c k 0 (part lists.old.level_points.now 0 n))) }
-    ensures internals { lists.new.internals.now ≡ put lists.old.internals.now 0 (packed_internals (levels_after plan.dimensions points.now plan.leaf plan.neighbours c k 0 (part lists.old.level_points.now 0 n))) }
-    ensures domains { lists.new.domains.now ≡ put lists.old.domains.now 0 (packed_domains (levels_after plan.dimensions points.now plan.leaf plan.neighbours c k 0 (part lists.old.level_points.now 0 n))) }
-    ensures boxes { lists.new.boxes.now ≡ put lists.old.boxes.now 0 (packed_boxes (levels_after plan.dimensions points.now plan.leaf plan.neighbours c k 0 (part lists.old.level_points.now 0 n))) }
-    ensures borrowed { lists.new.borrowed.now ≡ put lists.old.borrowed.now 0 (packed_borrowed (levels_after plan.dimensions points.now plan.leaf plan.neighbours c k 0 (part lists.old.level_points.now 0 n))) }
-    ensures cuts { records.new.cuts.now ≡ put records.old.cuts.now 0 (map whole_of (records_by plan.engine (level_settings plan.dimensions plan.leaf plan.neighbours) points.now (levels_after plan.dimensions points.now plan.leaf plan.neighbours c k 0 (part lists.old.level_points.now 0 n)))) }
-    ensures planes { records.new.planes.now ≡ put records.old.planes.now 0 (map float_of (records_by plan.engine (level_settings plan.dimensions plan.leaf plan.neighbours) points.now (levels_after plan.dimensions points.now plan.leaf plan.neighbours c k 0 (part lists.old.level_points.now 0 n)))) }
+    ensures counts { (result.levels ≡ length (levels_by plan.entry c k (part lists.old.level_points.now 0 n)))
+        × (result.rows ≡ put (replicate 4 0) 0 (map (λ l. length l.points) (levels_by plan.entry c k (part lists.old.level_points.now 0 n))))
+        × (result.domains ≡ put (replicate 4 0) 0 (map (λ l. length l.leaves) (levels_by plan.entry c k (part lists.old.level_points.now 0 n)))) }
+    ensures level_points { lists.new.level_points.now ≡ put lists.old.level_points.now 0 (packed_level_points (levels_by plan.entry c k (part lists.old.level_points.now 0 n))) }
+    ensures internals { lists.new.internals.now ≡ put lists.old.internals.now 0 (packed_internals (levels_by plan.entry c k (part lists.old.level_points.now 0 n))) }
+    ensures domains { lists.new.domains.now ≡ put lists.old.domains.now 0 (packed_domains (levels_by plan.entry c k (part lists.old.level_points.now 0 n))) }
+    ensures boxes { lists.new.boxes.now ≡ put lists.old.boxes.now 0 (packed_boxes (levels_by plan.entry c k (part lists.old.level_points.now 0 n))) }
+    ensures borrowed { lists.new.borrowed.now ≡ put lists.old.borrowed.now 0 (packed_borrowed (levels_by plan.entry c k (part lists.old.level_points.now 0 n))) }
+    ensures cuts { records.new.cuts.now ≡ put records.old.cuts.now 0 (map whole_of (records_by plan.entry.engine (settings_by plan.entry) plan.entry.points.coordinates.now (levels_by plan.entry c k (part lists.old.level_points.now 0 n)))) }
+    ensures planes { records.new.planes.now ≡ put records.old.planes.now 0 (map float_of (records_by plan.entry.engine (settings_by plan.entry) plan.entry.points.coordinates.now (levels_by plan.entry c k (part lists.old.level_points.now 0 n)))) }
 {
     let mut place = Place {
         from: 0,
@@ -121,13 +121,13 @@ pub fn all_levels(
     // how many fine levels there are shows only as they are built
     while is_fine(built, place.a, c) {
         let size = next_size(place.a, c, k, built);
-        let level = fine_level::fine_level(points, plan, size, place, lists, room, records);
+        let level = fine_level::fine_level(plan, size, place, lists, room, records);
         rows[built] = place.a;
         domains[built] = level.leaves;
         place = place_after(place, level);
         built += 1;
     }
-    last_level(plan.dimensions, place, lists);
+    last_level(plan.points.dimensions, place, lists);
     rows[built] = place.a;
     domains[built] = 1;
     DDMTree {

@@ -21,7 +21,7 @@ cut_level-cut-requires c = let p = c.requires in
     let fits = rw (← n) at p.fits_at.boxes in
     rw (part-lent P.lists.now.level_points.now P.place.from P.place.a) (record {
       dimensions_nonzero = (g.axes, g.axes_few, g.leaf_some, g.rows_some, g.good);
-      active_in_bounds = (omega (arith, n, p.room.wholes), omega (arith, n, boxes-room P.plan.dimensions (length active) g.axes_few, p.room.floats));
+      active_in_bounds = (omega (arith, n, p.room.wholes), omega (arith, n, boxes-room P.plan.points.dimensions (length active) g.axes_few, p.room.floats));
       active_in_bounds_2 = (omega (arith, n, p.fits_at.internals), omega (arith, n, p.fits_at.domains), lent_fits _ _ _ _ _ g P.lists.now.boxes.now P.place.first fits);
       active_in_bounds_3 = rw n p.record_fits;
     })
@@ -57,7 +57,7 @@ returns c = let p = c.requires in
     let fits_internals = rw (← n) at p.fits_at.internals in
     let fits_domains = rw (← n) at p.fits_at.domains in
     let read = rw (← counts.0) at (leaves-read _ _ _ _ _ g _ _ _ _ fits_internals fits_domains _ _ internals domains) in
-    let borrowed = level-borrowed P.plan.dimensions P.points.now P.plan.leaf P.plan.neighbours active in
+    let borrowed = level-borrowed P.plan.points.dimensions P.plan.points.coordinates.now P.plan.leaf P.plan.neighbours active in
     let rows = overlaps-rows _ _ _ _ _ g _ _ _ _ fits_internals fits_domains _ _ internals domains P.place.bat _ (rw (read, lent) at o.domains) in
     record {
       same = search rules;

@@ -21,8 +21,8 @@ divide-parts-requires c = let p = c.requires in
 pub send_up-next-requires : goal.send_up-next-requires
 send_up-next-requires c = let p = c.requires in
     let P = c.args in
-    let d = P.plan.dimensions in
-    let cs = P.points.now in
+    let d = P.plan.points.dimensions in
+    let cs = P.plan.points.coordinates.now in
     let q = P.plan.neighbours in
     let active = part P.lists.now.level_points.now P.place.from P.place.a in
     let g = p.a_in_bounds.2 in
@@ -50,8 +50,8 @@ send_up-next-requires c = let p = c.requires in
 pub returns : goal.returns
 returns c = let p = c.requires in
     let P = c.args in
-    let d = P.plan.dimensions in
-    let cs = P.points.now in
+    let d = P.plan.points.dimensions in
+    let cs = P.plan.points.coordinates.now in
     let q = P.plan.neighbours in
     let active = part P.lists.now.level_points.now P.place.from P.place.a in
     let g = p.a_in_bounds.2 in

@@ -19,27 +19,27 @@ use Rattle.grow.proofs.grow.Goals as goal
 
 pub nonzero_div-n : goal.nonzero_div-n
 nonzero_div-n c = let P = c.args in
-    let s = settings_of_lem P.dimensions P.params in
-    let cs = P.points.now in
+    let s = settings_of_lem P.points.dimensions P.params in
+    let cs = P.points.coordinates.now in
     let old = lists_in P.lists.now in
     let acc = build-accepted s cs _ c.requires.wholes_value in
     omega (arith, acc.passes-all.axes)
 
 pub number_rows-requires : goal.number_rows-requires
 number_rows-requires c = let P = c.args in
-    let s = settings_of_lem P.dimensions P.params in
-    let cs = P.points.now in
+    let s = settings_of_lem P.points.dimensions P.params in
+    let cs = P.points.coordinates.now in
     let old = lists_in P.lists.now in
     let acc = build-accepted s cs _ c.requires.wholes_value in
     omega (arith, (all-space s cs old P.room.now.floats.now P.room.now.wholes.now acc P.lists.now.level_points.now refl).level_points)
 
 pub grow_over-requires : goal.grow_over-requires
 grow_over-requires c = let P = c.args in
-    let s = settings_of_lem P.dimensions P.params in
-    let cs = P.points.now in
+    let s = settings_of_lem P.points.dimensions P.params in
+    let cs = P.points.coordinates.now in
     let old = lists_in P.lists.now in
     let acc = build-accepted s cs _ c.requires.wholes_value in
-    let n = length cs / P.dimensions in
+    let n = length cs / P.points.dimensions in
     let first = c.number_rows.ensures in
     let space = all-space s cs old P.room.now.floats.now P.room.now.wholes.now acc P.lists.now.level_points.now refl in
     let read : part (put P.lists.now.level_points.now 0 (from 0 n)) 0 n ≡ from 0 n = part-put-same P.lists.now.level_points.now 0 (from 0 n) n (omega arith) (length_from 0 n) in
@@ -51,11 +51,11 @@ grow_over-requires c = let P = c.args in
 
 pub returns : goal.returns
 returns c = let P = c.args in
-    let s = settings_of_lem P.dimensions P.params in
-    let cs = P.points.now in
+    let s = settings_of_lem P.points.dimensions P.params in
+    let cs = P.points.coordinates.now in
     let old = lists_in P.lists.now in
     let acc = build-accepted s cs _ c.requires.wholes_value in
-    let n = length cs / P.dimensions in
+    let n = length cs / P.points.dimensions in
     let first = c.number_rows.ensures in
     let space = all-space s cs old P.room.now.floats.now P.room.now.wholes.now acc P.lists.now.level_points.now refl in
     let read : part (put P.lists.now.level_points.now 0 (from 0 n)) 0 n ≡ from 0 n = part-put-same P.lists.now.level_points.now 0 (from 0 n) n (omega arith) (length_from 0 n) in

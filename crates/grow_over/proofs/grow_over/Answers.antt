@@ -22,7 +22,7 @@ get_num_level_reductions-k-requires c = let P = c.args in
 pub all_levels-requires : goal.all_levels-requires
 all_levels-requires c = let P = c.args in
     let pre = c.requires in
-    let s = settings_of_lem P.dimensions P.params in
+    let s = settings_of_lem P.points.dimensions P.params in
     let ec = c.resolved_coarse_threshold-c.ensures in
     let ek = rw ec at c.get_num_level_reductions-k.ensures in record {
       le_c = (omega (arith, ec, pre.bound.0), omega (arith, ek, reductions-few P.n (threshold s.policy P.n) s.factor pre.bound.1), pre.bound.2);
@@ -33,8 +33,8 @@ all_levels-requires c = let P = c.args in
 pub returns : goal.returns
 returns c = let P = c.args in
     let pre = c.requires in
-    let s = settings_of_lem P.dimensions P.params in
-    let cs = P.points.now in
+    let s = settings_of_lem P.points.dimensions P.params in
+    let cs = P.points.coordinates.now in
     let rows = part P.lists.now.level_points.now 0 P.n in
     let ec = c.resolved_coarse_threshold-c.ensures in
     let ek = c.get_num_level_reductions-k.ensures in
