@@ -1,6 +1,6 @@
 -- The tests of a build, group by group. Assumes nothing.
 -- Holds: and_then, verdict-append, build-groups, reductions-many, checked-reductions, bad-test, fault-first, fault-second,
---   tests-stop, tests-pass
+--   tests-stop, tests-pass, tests-short, tests-last
 use mathlib.Core.Path.{◌≡◌, refl, sym, ap, ◌∙◌}
 use mathlib.Core.Bool.{Bool, true, false, not, ◌||◌, cond}
 use mathlib.Core.List.{List, [], ◌∷◌, ◌++◌}
@@ -102,3 +102,15 @@ module _ (s : Settings) (n : ℕ) (missing lacking : Bool) (judged : Test) where
   pub tests-pass : accepted ≡ verdict (settings_tests s ++ points_tests s n missing) → verdict (on lacking 11 ∷ judged ∷ []) ≡ verdict (build_tests s n missing lacking judged)
   unfolding build_tests
   tests-pass = fault-second (settings_tests s ++ points_tests s n missing) _
+
+  -- a list is too short
+  pub tests-short : accepted ≡ verdict (settings_tests s ++ points_tests s n missing) → lacking ≡ true
+      → refused (record { number = 11; place = 0 }) ≡ verdict (build_tests s n missing lacking judged)
+  unfolding verdict
+  tests-short e short = ap (λ (b : Bool). verdict (on b 11 ∷ judged ∷ [])) (sym short) ∙ tests-pass e
+
+  -- none is: the last test decides
+  pub tests-last : accepted ≡ verdict (settings_tests s ++ points_tests s n missing) → lacking ≡ false
+      → verdict (judged ∷ []) ≡ verdict (build_tests s n missing lacking judged)
+  unfolding verdict
+  tests-last e long = ap (λ (b : Bool). verdict (on b 11 ∷ judged ∷ [])) (sym long) ∙ tests-pass e

@@ -3,13 +3,14 @@
 
 ghost use Rattle.std.specs.Prelude.{◌≡◌, not, [], ◌∷◌, ◌++◌, ◌/◌, ◌%◌, ◌≤◌, eqb, OnOk};
 ghost use Rattle.definition.specs.Packed.{build_stated};
-ghost use Rattle.definition.specs.Refusals.{most_points, most_neighbours, on, verdict, settings_tests, points_tests, not_finite_lem, zero_threshold_lem, build_short, build_verdict};
+ghost use Rattle.definition.specs.Refusals.{most_points, most_neighbours, verdict, settings_tests, points_tests, not_finite_lem, zero_threshold_lem, build_short, build_verdict};
 ghost use Rattle.config.specs.Params.{threshold_policy, settings_of_lem};
 ghost use Rattle.build_sizes.specs.Sizes.{sizes_of};
 ghost use Rattle.refusal.specs.Refusals.{verdict_of};
 
 use build_sizes::BuildSizes;
 use config::{DDMParams, SizePolicy};
+use points::Points;
 use refusal::Refusal;
 use rows::{MOST_NEIGHBOURS, MOST_POINTS};
 
@@ -93,30 +94,25 @@ pub fn is_short(lent: BuildSizes, dimensions: usize, n: usize, neighbours: usize
         || lent.wholes < stated.wholes
 }
 
-// The last tests, over lists of which one may be short: 11, and then 10.
-pub fn last_check(points: &[f64], short: bool) -> Result<(), Refusal>
-    ensures { verdict_of result ≡ verdict (on short 11 ∷ not_finite_lem points.now ∷ []) }
+// The last test of the points: the first coordinate that is not finite, refused with 10.
+pub fn last_check(points: Points<'_>) -> Result<(), Refusal>
+    ensures { verdict_of result ≡ verdict (not_finite_lem points.entry.coordinates.now ∷ []) }
 {
-    if short {
-        return Err(Refusal::ShortList);
-    }
-    match finite::first_not_finite(points) {
+    match finite::first_not_finite(points.coordinates) {
         Some(position) => Err(Refusal::NotFinite(position)),
         None => Ok(()),
     }
 }
 
 // The tests of a build over all points, with lists of these lengths.
-pub fn check_build(
-    points: &[f64],
-    dimensions: usize,
-    params: DDMParams,
-    lent: BuildSizes,
-) -> Result<(), Refusal>
-    ensures { verdict_of result ≡ build_verdict (settings_of_lem dimensions params) points.now (sizes_of lent) }
+pub fn check_build(points: Points<'_>, params: DDMParams, lent: BuildSizes) -> Result<(), Refusal>
+    ensures { verdict_of result ≡ build_verdict (settings_of_lem points.entry.dimensions params) points.entry.coordinates.now (sizes_of lent) }
 {
-    first_fault(points.len(), dimensions, params)?;
-    let n = points.len() / dimensions;
-    let short = is_short(lent, dimensions, n, params.overlap_knn as usize);
-    last_check(points, short)
+    let count = points.coordinates.len();
+    first_fault(count, points.dimensions, params)?;
+    let n = count / points.dimensions;
+    if is_short(lent, points.dimensions, n, params.overlap_knn as usize) {
+        return Err(Refusal::ShortList);
+    }
+    last_check(points)
 }

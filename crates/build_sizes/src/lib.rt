@@ -4,11 +4,13 @@
 ghost use Rattle.std.specs.Prelude.{◌≡◌, ◌≤◌};
 ghost use Rattle.definition.specs.Packed.{build_stated};
 ghost use Rattle.definition.specs.Refusals.{most_points, most_neighbours};
-ghost use Rattle.definition.specs.Outcome.{sizes_answer};
+ghost use Rattle.definition.specs.Outcome.{lent_sizes, sizes_answer};
+ghost use Rattle.tree_lists.specs.Lent.{lists_in};
 ghost use Rattle.build_sizes.specs.Sizes.{sizes_of, sizes_report};
 
 use refusal::Refusal;
 use rows::{MOST_NEIGHBOURS, MOST_POINTS};
+use tree_lists::{Room, TreeLists};
 
 // The lengths of the five lists, and of the two lists of working room.
 #[derive(Clone, Copy)]
@@ -20,6 +22,23 @@ pub struct BuildSizes {
     pub borrowed: usize,
     pub floats: usize,
     pub wholes: usize,
+}
+
+impl BuildSizes {
+    // The lengths of the lists and of the room that a caller lends.
+    pub fn lent(lists: &TreeLists<'_>, room: &Room<'_>) -> BuildSizes
+        ensures { sizes_of result ≡ lent_sizes (lists_in lists.now) room.now.floats.now room.now.wholes.now }
+    {
+        BuildSizes {
+            level_points: lists.level_points.len(),
+            internals: lists.internals.len(),
+            domains: lists.domains.len(),
+            boxes: lists.boxes.len(),
+            borrowed: lists.borrowed.len(),
+            floats: room.floats.len(),
+            wholes: room.wholes.len(),
+        }
+    }
 }
 
 // The lengths for n points on `dimensions` axes with this neighbour count.

@@ -3,11 +3,11 @@
 #![tactic(auto)]
 
 ghost use Rattle.config.specs.Params.{settings_of_lem};
-ghost use Rattle.tree_answer.specs.Answers.{tree_answer_lem, lists_of};
+ghost use Rattle.tree_answer.specs.Answers.{tree_answer_lem};
+ghost use Rattle.tree_lists.specs.Lent.{lists_in, SameLists, SameRoom};
 ghost use Rattle.ddm.specs.Build.{Built};
 
 use cut_engine::Engine;
-use tree_lists::{Records, Room, TreeLists};
 
 // The settings, and the other calls, each with its answer.
 pub use build_sizes::{BuildSizes, build_sizes};
@@ -17,7 +17,8 @@ pub use depth_first_build::build_depth_first;
 pub use leaf_rows::{Which, row_test, rows_of};
 pub use level_sizes::get_num_level_coarse_points;
 pub use load::load_tree;
-pub use packed::DomainRow;
+pub use packed::{DomainRow, Packed};
+pub use points::Points;
 pub use quotas::{Seated, get_domain_coarse_quotas};
 pub use refusal::Refusal;
 pub use root::square_root;
@@ -27,55 +28,34 @@ pub use table::{Head, add, close, retire};
 pub use table_build::build_slots;
 pub use table_edits::{Edited, added, retired};
 pub use tree_answer::DDMTree;
+pub use tree_lists::{Records, Room, TreeLists};
 
 // The build over all points. A refused call writes to no list. An accepted one writes its tree to the fronts of the five lists, and
 // leaves what stands past it as it was; of the working room it keeps only the length.
 pub fn build(
-    points: &[f64],
-    dimensions: usize,
+    points: Points<'_>,
     params: DDMParams,
-    level_points: &mut [usize],
-    internals: &mut [usize],
-    domains: &mut [usize],
-    boxes: &mut [f64],
-    borrowed: &mut [usize],
-    floats: &mut [f64],
-    wholes: &mut [usize],
+    lists: &mut TreeLists<'_>,
+    room: &mut Room<'_>,
 ) -> Result<DDMTree, Refusal>
-    ensures { Built (settings_of_lem dimensions params) points.now
-        (lists_of level_points.old internals.old domains.old boxes.old borrowed.old)
-        (lists_of level_points.new internals.new domains.new boxes.new borrowed.new)
-        floats.old floats.new wholes.old wholes.new (tree_answer_lem result) }
+    ensures same { SameLists lists.old lists.new × SameRoom room.old room.new }
+    ensures built { Built (settings_of_lem points.entry.dimensions params) points.entry.coordinates.now
+        (lists_in lists.old) (lists_in lists.new) room.old.floats.now room.new.floats.now
+        room.old.wholes.now room.new.wholes.now (tree_answer_lem result) }
 {
-    let lent = BuildSizes {
-        level_points: level_points.len(),
-        internals: internals.len(),
-        domains: domains.len(),
-        boxes: boxes.len(),
-        borrowed: borrowed.len(),
-        floats: floats.len(),
-        wholes: wholes.len(),
-    };
-    build_checks::check_build(points, dimensions, params, lent)?;
-    let mut lists = TreeLists {
-        level_points,
-        internals,
-        domains,
-        boxes,
-        borrowed,
-    };
-    let mut room = Room { floats, wholes };
+    let lent = BuildSizes::lent(lists, room);
+    build_checks::check_build(points, params, lent)?;
     let mut records = Records {
         cuts: &mut [],
         planes: &mut [],
     };
     Ok(grow::grow(
         Engine::Queue,
-        points,
-        dimensions,
+        points.coordinates,
+        points.dimensions,
         params,
-        &mut lists,
-        &mut room,
+        lists,
+        room,
         &mut records,
     ))
 }

@@ -4,15 +4,18 @@
 ghost use Rattle.std.specs.Prelude.{◌≡◌, ◌||◌, ◌≤◌};
 ghost use Rattle.definition.specs.Packed.{build_stated};
 ghost use Rattle.definition.specs.Refusals.{most_points, most_neighbours, build_short};
-ghost use Rattle.definition.specs.DepthFirst.{record_short_lem, depth_first_verdict};
+ghost use Rattle.definition.specs.DepthFirst.{lent_records, record_short_lem, depth_first_verdict};
 ghost use Rattle.config.specs.Params.{settings_of_lem};
 ghost use Rattle.build_sizes.specs.Sizes.{sizes_of};
 ghost use Rattle.refusal.specs.Refusals.{verdict_of};
+ghost use Rattle.tree_lists.specs.Lent.{records_in};
 ghost use Rattle.record_checks.specs.Lengths.{record_sizes_of};
 
 use build_sizes::BuildSizes;
 use config::DDMParams;
+use points::Points;
 use refusal::Refusal;
+use tree_lists::Records;
 
 // The most nodes of a tree's records, for each point.
 const NODES: usize = 12;
@@ -22,6 +25,18 @@ const NODES: usize = 12;
 pub struct RecordSizes {
     pub cuts: usize,
     pub planes: usize,
+}
+
+impl RecordSizes {
+    // The lengths of the lists that a caller lends.
+    pub fn lent(records: &Records<'_>) -> RecordSizes
+        ensures { record_sizes_of result ≡ lent_records (records_in records.now) }
+    {
+        RecordSizes {
+            cuts: records.cuts.len(),
+            planes: records.planes.len(),
+        }
+    }
 }
 
 // Whether one of the two lists is shorter than n points ask for.
@@ -50,22 +65,19 @@ fn any_short(
 
 // The tests of the build over all points, with lists of these lengths.
 pub fn check_depth_first(
-    points: &[f64],
-    dimensions: usize,
+    points: Points<'_>,
     params: DDMParams,
     lent: BuildSizes,
     record_lent: RecordSizes,
 ) -> Result<(), Refusal>
-    ensures { verdict_of result ≡ depth_first_verdict (settings_of_lem dimensions params) points.now (sizes_of lent) (record_sizes_of record_lent) }
+    ensures { verdict_of result ≡ depth_first_verdict (settings_of_lem points.entry.dimensions params) points.entry.coordinates.now (sizes_of lent) (record_sizes_of record_lent) }
 {
-    build_checks::first_fault(points.len(), dimensions, params)?;
-    let n = points.len() / dimensions;
-    let short = any_short(
-        lent,
-        record_lent,
-        dimensions,
-        n,
-        params.overlap_knn as usize,
-    );
-    build_checks::last_check(points, short)
+    let count = points.coordinates.len();
+    build_checks::first_fault(count, points.dimensions, params)?;
+    let n = count / points.dimensions;
+    let neighbours = params.overlap_knn as usize;
+    if any_short(lent, record_lent, points.dimensions, n, neighbours) {
+        return Err(Refusal::ShortList);
+    }
+    build_checks::last_check(points)
 }

@@ -1,6 +1,7 @@
 -- The lists that a caller lends, as the definition has them, and that the same ones are lent on. Definitions only.
 use Rattle.std.specs.Prelude.{◌≡◌, length}
 use Rattle.definition.specs.Outcome as outcome
+use Rattle.definition.specs.DepthFirst.{RecordLists}
 use Rattle.tree_lists.specs.declared.TreeLists.{TreeLists}
 use Rattle.tree_lists.specs.declared.Room.{Room}
 use Rattle.tree_lists.specs.declared.Records.{Records}
@@ -15,6 +16,10 @@ lists_in l =
       boxes = l.boxes.now;
       borrowed = l.borrowed.now;
     }
+
+-- the two lists of the records
+abbrev pub records_in : Records → RecordLists
+records_in r = record { cuts = r.cuts.now; planes = r.planes.now }
 
 -- both hold the same five lists, each as long as it was
 pub record SameLists (l m : TreeLists) : Type 0 where

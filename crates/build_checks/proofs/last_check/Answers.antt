@@ -5,14 +5,10 @@ use Rattle.definition.specs.Refusals.{verdict}
 use Rattle.build_checks.proofs.Laws.{bad-test}
 use Rattle.build_checks.proofs.last_check.Goals as goal
 
-pub returns-then-short : goal.returns-then-short
-unfolding verdict
-returns-then-short c = grind (arith, nat_tests)
-
 pub returns-in-Some : goal.returns-in-Some
 unfolding verdict
-returns-in-Some c = grind (arith, nat_tests, bad-test 0 c.args.points.now)
+returns-in-Some c = grind (arith, nat_tests, bad-test 0 c.args.points.coordinates.now)
 
 pub returns-in-None : goal.returns-in-None
 unfolding verdict
-returns-in-None c = grind (arith, nat_tests, bad-test 0 c.args.points.now)
+returns-in-None c = grind (arith, nat_tests, bad-test 0 c.args.points.coordinates.now)

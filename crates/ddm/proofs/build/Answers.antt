@@ -8,7 +8,7 @@ use Rattle.definition.specs.Packed.{counts_of}
 use Rattle.definition.specs.Outcome.{build_call, zero_counts}
 use Rattle.config.specs.Params.{settings_of_lem}
 use Rattle.refusal.proofs.Answers.{answer-refused, answer-accepted}
-use Rattle.tree_answer.specs.Answers.{counts_given, lists_of}
+use Rattle.tree_answer.specs.Answers.{counts_given}
 use Rattle.tree_lists.specs.Lent.{lists_in}
 use Rattle.grow.proofs.Outcomes.{room-refused, room-accepted, lists-refused, lists-accepted, whole-lists}
 use Rattle.ddm.proofs.Outcomes.{built}
@@ -20,27 +20,30 @@ grow-requires c = record {
   record_room = (omega arith, omega arith);
 }
 
-pub returns-in_err-check_build : goal.returns-in_err-check_build
-returns-in_err-check_build c = let P = c.args in
-    let s = settings_of_lem P.dimensions P.params in
-    let cs = P.points.now in
-    let old = lists_of P.level_points.now P.internals.now P.domains.now P.boxes.now P.borrowed.now in
-    let v = build_call s cs old P.floats.now P.wholes.now in
+pub returns-in_err-check_build-clause-built : goal.returns-in_err-check_build-clause-built
+returns-in_err-check_build-clause-built c = let P = c.args in
+    let s = settings_of_lem P.points.dimensions P.params in
+    let cs = P.points.coordinates.now in
+    let floats = P.room.now.floats.now in
+    let wholes = P.room.now.wholes.now in
+    let old = lists_in P.lists.now in
+    let v = build_call s cs old floats wholes in
     let p = err_from_is_err_and c.from_residual.result c.from_residual.ensures.1 in
     let e = sym c.in_err-check_build.ensures in
     rw (p.1, p.2)
-    (built s cs old P.floats.now P.wholes.now (answer-refused counts_given (counts_of (levels s cs)) zero_counts v _ e) (lists-refused v (levels s cs) old _ e)
-    (room-refused v _ P.floats.now e) (room-refused v _ P.wholes.now e))
+    (built s cs old floats wholes (answer-refused counts_given (counts_of (levels s cs)) zero_counts v _ e) (lists-refused v (levels s cs) old _ e)
+    (room-refused v _ floats e) (room-refused v _ wholes e))
 
-pub returns : goal.returns
-returns c = let P = c.args in
-    let s = settings_of_lem P.dimensions P.params in
-    let cs = P.points.now in
-    let old = lists_of P.level_points.now P.internals.now P.domains.now P.boxes.now P.borrowed.now in
-    let v = build_call s cs old P.floats.now P.wholes.now in
+pub returns-clause-built : goal.returns-clause-built
+returns-clause-built c = let P = c.args in
+    let s = settings_of_lem P.points.dimensions P.params in
+    let cs = P.points.coordinates.now in
+    let floats = P.room.now.floats.now in
+    let wholes = P.room.now.wholes.now in
+    let old = lists_in P.lists.now in
+    let v = build_call s cs old floats wholes in
     let e = sym c.in_ok-check_build.ensures in
     let w = c.grow.ensures in
     let lists = whole-lists w.level_points w.internals w.domains w.boxes w.borrowed ∙ lists-accepted v (levels s cs) old e in
-    let back : _ ≡ lists_in c.grow.new.lists = search rules in
-    built s cs old P.floats.now P.wholes.now (answer-accepted counts_given _ (counts_of (levels s cs)) zero_counts v e w.counts) (back ∙ lists)
+    built s cs old floats wholes (answer-accepted counts_given _ (counts_of (levels s cs)) zero_counts v e w.counts) lists
     (room-accepted v _ _ e (search rules)) (room-accepted v _ _ e (search rules))
