@@ -13,8 +13,7 @@ pub struct TreeLists<'a> {
     pub borrowed: &'a mut [usize],
 }
 
-// What the cut of a level writes of a tree: the rows of its leaves, their domain rows and their boxes. The boxes stand packed, with no
-// covers among them, so that they are lent from another place on than in `TreeLists`.
+// What the cut of a level writes of a tree: the rows of its leaves, their domain rows and their boxes.
 #[derive(Drop)]
 pub struct LeafLists<'a> {
     pub internals: &'a mut [usize],
@@ -23,11 +22,12 @@ pub struct LeafLists<'a> {
 }
 
 // Where the cut of a level writes: the rows of its leaves go to the internals from `from` on, their domain rows and boxes from the `first`
-// on, and the nodes of its record from `node` on.
+// on, and the nodes of its record from `node` on. The boxes stand packed, behind `skip` floats that belong to no box.
 #[derive(Clone, Copy)]
 pub struct Start {
     pub from: usize,
     pub first: usize,
+    pub skip: usize,
     pub node: usize,
 }
 
