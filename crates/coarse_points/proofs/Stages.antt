@@ -1,6 +1,6 @@
 -- How the steps fit together: sizes, quotas, what each leaf sends, and the sorted rows behind the active ones. Assumes nothing.
--- Holds: counts_all, leaves-fit, sent-size, up-size, sorted-up, covers_up, written-up, reordered, quotas-front, own-lent,
---   lent-good, leaf_room, leaf-end, leaf-list
+-- Holds: counts_all, leaves-fit, sent-size, up-size, sorted-up, covers_up, written-up, reordered, quotas-front, lent-good,
+--   lent-size, leaf_room, leaf-end, leaf-list
 use mathlib.Core.Path.{◌≡◌, sym, ap, ◌∙◌}
 use mathlib.Core.List.{List, [], map, zip_with, map-map}
 use Prim.Native.Nat.{ℕ, ◌+◌, ◌-◌, ◌≤◌, ◌<◌}
@@ -12,7 +12,7 @@ use borrow.Rule.Slice.PartMut.{put_mid}
 use Rattle.lists.specs.Lists.{total, from, joined, keep, member, count, part, put}
 use Rattle.lists.specs.Ascends.{All}
 use Rattle.lists.proofs.All.{all-at, joined-all}
-use Rattle.lists.proofs.Put.{length_part, part-lent, put_next, put-over, part-put-same, mid_back}
+use Rattle.lists.proofs.Put.{length_part, put_next, put-over, part-put-same, mid_back}
 use Rattle.lists.proofs.From.{map-below-same, length-map-from, get_d-map-below}
 use Rattle.lists.proofs.Joined.{length-joined}
 use Rattle.lists.proofs.Sums.{sum-below-same, sum-below-suc, sum-below-part, sum-below-at, total-index}
@@ -30,9 +30,7 @@ use Rattle.quotas.proofs.Written.{take-written}
 use Rattle.rows.specs.Rows.{GoodRow, GoodRows}
 use Rattle.sort.specs.Heap.{Sorted}
 use Rattle.packed.specs.Reading.{own_start, own_count, own_at, read_own}
-use Rattle.packed.specs.Rows.{IsRow}
-use Rattle.packed.specs.declared.DomainRow.{DomainRow}
-use Rattle.packed.proofs.OwnRows.{read_length, read_at, row-own}
+use Rattle.packed.proofs.OwnRows.{read_length, read_at}
 use Rattle.coarse_points.specs.Sent.{sent_rows, sent_covers, counts_at, sent_at, covers_at, SendsUp, LeafFits, LeavesFit, Reordered}
 use Rattle.coarse_points.proofs.Sending.{sent-next, sent-zip, sent-many, sent-times, sorted-next, up-many}
 use Rattle.coarse_points.proofs.Covering.{covers-zip}
@@ -174,14 +172,13 @@ quotas-front sizes mid new m size h e g q =
     let n : length (quotas_for (take m mid) size) ≡ m = quotas-length (take m mid) size (rw e g) ∙ length-take-le m mid h in
     ap (take m) q ∙ take-written (quotas_for (take m mid) size) mid m n ∙ ap (λ (z : List ℕ). quotas_for z size) e
 
--- ---- one leaf's stretch, as it is lent
-pub own-lent : (I D : List ℕ) (r : ℕ) (row : DomainRow) → IsRow row D r
-    → take (row.internal_start + row.internal_count - row.internal_start) (drop row.internal_start I) ≡ own_at I D r
-own-lent I D r row e = part-lent I row.internal_start row.internal_count ∙ row-own I D r row e
-
+-- ---- one leaf's own rows, as they are lent
 module _ (d : ℕ) (cs : List Float) (I D : List ℕ) (r quota k : ℕ) (f : LeafFits d cs I D r quota k) (rows : List ℕ) (e : rows ≡ own_at I D r) where
   pub lent-good : GoodRows d cs rows
   lent-good = rw e f.rows
+
+  pub lent-size : length rows ≡ own_count D r
+  lent-size = ap length e ∙ length_part I (own_start D r) (own_count D r) f.stretch
 
 -- ---- the turn of the loop over the leaves
 module _ (d : ℕ) (cs : List Float) (I D : List ℕ) (first m : ℕ) (shares out : List ℕ) (at k : ℕ) (f : LeavesFit d cs I D first m shares out at k) where

@@ -12,6 +12,7 @@ ghost use Rattle.boxes.specs.Boxes.{floats_of};
 ghost use Rattle.record_laws.specs.Table.{entry_width};
 ghost use Rattle.cut_nodes.specs.Written.{domain_of, Written, WrittenTwo, SameLists};
 
+use points::Points;
 use boxes::Extents;
 use cut::Plane;
 use node::Node;
@@ -63,24 +64,23 @@ fn put_leaf(
 
 // Cuts the rows in place, and writes the cut's node. The ordering's room is the front of the whole numbers, one a row.
 pub fn cut_node(
-    points: &[f64],
-    dimensions: usize,
+    points: Points<'_>,
     rows: &mut [usize],
     lists: &mut Lists<'_>,
     place: usize,
 ) -> Plane
-    requires { (0 < dimensions) × (1 ≤ length rows.old) × GoodRows dimensions points.now rows.old × (length rows.old ≤ length lists.old.wholes.now)
+    requires { (0 < points.dimensions) × (1 ≤ length rows.old) × GoodRows points.dimensions points.coordinates.now rows.old × (length rows.old ≤ length lists.old.wholes.now)
         × (place < length lists.old.cuts.now) × (place < length lists.old.planes.now) }
     ensures same { SameLists lists.old lists.new × (lists.new.floats.now ≡ lists.old.floats.now) }
-    ensures plane { (result.axis ≡ longest_axis_lem dimensions points.now rows.old) × (result.value ≡ plane dimensions points.now rows.old) }
-    ensures rows { rows.new ≡ halved dimensions points.now (longest_axis_lem dimensions points.now rows.old) rows.old }
+    ensures plane { (result.axis ≡ longest_axis_lem points.entry.dimensions points.entry.coordinates.now rows.old) × (result.value ≡ plane points.entry.dimensions points.entry.coordinates.now rows.old) }
+    ensures rows { rows.new ≡ halved points.entry.dimensions points.entry.coordinates.now (longest_axis_lem points.entry.dimensions points.entry.coordinates.now rows.old) rows.old }
     ensures wholes { AsFoundFrom (length rows.old) lists.old.wholes.now lists.new.wholes.now }
-    ensures cuts { lists.new.cuts.now ≡ set lists.old.cuts.now place (longest_axis_lem dimensions points.now rows.old) }
-    ensures planes { lists.new.planes.now ≡ set lists.old.planes.now place (plane dimensions points.now rows.old) }
+    ensures cuts { lists.new.cuts.now ≡ set lists.old.cuts.now place (longest_axis_lem points.entry.dimensions points.entry.coordinates.now rows.old) }
+    ensures planes { lists.new.planes.now ≡ set lists.old.planes.now place (plane points.entry.dimensions points.entry.coordinates.now rows.old) }
 {
     let count = rows.len();
     let wholes: &mut [usize] = lists.wholes;
-    let at = cut::cut_stretch(points, dimensions, rows, &mut wholes[..count]);
+    let at = cut::cut_stretch(points, rows, &mut wholes[..count]);
     let node = Node::Cut {
         axis: at.axis,
         plane: at.value,

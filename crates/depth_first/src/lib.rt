@@ -11,6 +11,7 @@ ghost use Rattle.queue.specs.Rows.{domain_own, with_own};
 ghost use Rattle.rows.specs.Rows.{GoodRows};
 ghost use Rattle.cut_nodes.specs.Written.{SameLists};
 
+use points::Points;
 use cut_nodes::{Lists, Next};
 use split::Level;
 
@@ -66,8 +67,7 @@ fn cut_leaves(
 // each to the domain rows from the `first` on, and their boxes to `boxes` from the `first` on. The record of the cuts goes to both its lists from
 // `place` on. The answer is the number of leaves.
 pub fn leaves(
-    points: &[f64],
-    dimensions: usize,
+    points: Points<'_>,
     leaf: usize,
     active: &[usize],
     internals: &mut [usize],
@@ -81,24 +81,23 @@ pub fn leaves(
     planes: &mut [f64],
     place: usize,
 ) -> usize
-    requires dimensions_nonzero { (0 < dimensions) × (dimensions ≤ 3) × (1 ≤ leaf) × (1 ≤ length active.now) × GoodRows dimensions points.now active.now }
-    requires active_in_bounds { (7 * length active.now ≤ length wholes.old) × (box_width_lem dimensions * (2 * length active.now) ≤ length floats.old) }
-    requires active_in_bounds_2 { (at + length active.now ≤ length internals.old) × (row_numbers * (first + 2 * length active.now) ≤ length domains.old) × (box_width_lem dimensions * (first + 2 * length active.now) ≤ length boxes.old) }
+    requires dimensions_nonzero { (0 < points.dimensions) × (points.dimensions ≤ 3) × (1 ≤ leaf) × (1 ≤ length active.now) × GoodRows points.dimensions points.coordinates.now active.now }
+    requires active_in_bounds { (7 * length active.now ≤ length wholes.old) × (box_width_lem points.dimensions * (2 * length active.now) ≤ length floats.old) }
+    requires active_in_bounds_2 { (at + length active.now ≤ length internals.old) × (row_numbers * (first + 2 * length active.now) ≤ length domains.old) × (box_width_lem points.dimensions * (first + 2 * length active.now) ≤ length boxes.old) }
     requires active_in_bounds_3 { (place + 4 * length active.now ≤ length cuts.old) × (place + 4 * length active.now ≤ length planes.old) }
-    ensures number { result ≡ length (leaves_of dimensions points.now leaf active.now) }
-    ensures nodes { length (record_of dimensions points.now leaf active.now) + 1 ≡ 2 * result }
-    ensures internals { internals.new ≡ put internals.old at (joined (map (λ q. q.rows) (leaves_of dimensions points.now leaf active.now))) }
-    ensures domains { domains.new ≡ with_own at (map domain_own (leaves_of dimensions points.now leaf active.now)) first domains.old }
-    ensures boxes { boxes.new ≡ put boxes.old (box_width_lem dimensions * first) (joined (map (λ q. q.box) (leaves_of dimensions points.now leaf active.now))) }
-    ensures cuts { cuts.new ≡ put cuts.old place (map whole_of (record_of dimensions points.now leaf active.now)) }
-    ensures planes { planes.new ≡ put planes.old place (map float_of (record_of dimensions points.now leaf active.now)) }
+    ensures number { result ≡ length (leaves_of points.entry.dimensions points.entry.coordinates.now leaf active.now) }
+    ensures nodes { length (record_of points.entry.dimensions points.entry.coordinates.now leaf active.now) + 1 ≡ 2 * result }
+    ensures internals { internals.new ≡ put internals.old at (joined (map (λ q. q.rows) (leaves_of points.entry.dimensions points.entry.coordinates.now leaf active.now))) }
+    ensures domains { domains.new ≡ with_own at (map domain_own (leaves_of points.entry.dimensions points.entry.coordinates.now leaf active.now)) first domains.old }
+    ensures boxes { boxes.new ≡ put boxes.old (box_width_lem points.entry.dimensions * first) (joined (map (λ q. q.box) (leaves_of points.entry.dimensions points.entry.coordinates.now leaf active.now))) }
+    ensures cuts { cuts.new ≡ put cuts.old place (map whole_of (record_of points.entry.dimensions points.entry.coordinates.now leaf active.now)) }
+    ensures planes { planes.new ≡ put planes.old place (map float_of (record_of points.entry.dimensions points.entry.coordinates.now leaf active.now)) }
 {
     let end = at + active.len();
     let rows = &mut internals[at..end];
     rows.copy_from_slice(active);
     let level = Level {
         points,
-        dimensions,
         leaf,
         base: active.len(),
     };

@@ -1,23 +1,23 @@
--- The active rows are copied to their place in a list, and that part of the list is lent. Assumes nothing.
-use mathlib.Core.Path.{◌≡◌, refl, sym, ap, ◌∙◌}
+-- The boxes of a list are lent from some place on, and come back with a stretch written. Assumes nothing.
+-- Holds: tail_all, tail-back
+use mathlib.Core.Path.{◌≡◌, sym, ap, ◌∙◌}
 use Prim.Native.Nat.{ℕ, ◌+◌, ◌-◌, ◌≤◌}
 use native.Mathlib.Omega.{arith}
-use mathlib.Core.List.{List}
-use lib.ListN.{length, take, drop}
+use mathlib.Core.List.{List, ◌++◌, append-nil}
+use lib.ListN.{length, take, drop, length-drop, drop_of_length-le}
+use lib.Seq.{take_all}
 use borrow.Rule.Slice.PartMut.{put_mid}
-use Rattle.lists.specs.Lists.{put, part}
-use Rattle.lists.proofs.Put.{part-whole, part-put-same, part-lent, part-back, put-over}
+use Rattle.lists.specs.Lists.{put}
+use Rattle.lists.proofs.Put.{put-def, put-tail, mid_back}
 
-module _ (I active I₁ : List ℕ) (at : ℕ) (fit : at + length active ≤ length I) (e : I₁ ≡ put I at (part active 0 (length active))) where
-  copied : I₁ ≡ put I at active
-  copied = e ∙ ap (put I at) (part-whole active (length active) refl)
+module _ {A : Type 0} where
+  pub tail_all : (l : List A) (at : ℕ) → take (length l - at) (drop at l) ≡ drop at l
+  tail_all l at = take_all (length l - at) (drop at l) (simp length-drop (omega arith))
 
-  pub place-lent : take (at + length active - at) (drop at I₁) ≡ active
-  place-lent =
-      part-lent I₁ at (length active) ∙ ap (λ (z : List ℕ). part z at (length active)) copied
-      ∙ part-put-same I at active (length active) (omega arith) refl
-
-  -- what comes back is all that was written
-  pub place-back : (ys : List ℕ) → length ys ≡ length active → put_mid at (at + length active - at) I₁ ys ≡ put I at ys
-  place-back ys h =
-      part-back I₁ at (length active) ys h ∙ ap (λ (z : List ℕ). put z at ys) copied ∙ put-over I at active ys (omega arith) (sym h)
+  pub tail-back : (l : List A) (at i : ℕ) (xs ys : List A) → at ≤ length l → length ys ≡ length (take (length l - at) (drop at l))
+      → ys ≡ put (take (length l - at) (drop at l)) i xs → put_mid at (length l - at) l ys ≡ put l (at + i) xs
+  tail-back l at i xs ys h m e =
+      let n : length ys ≡ length l - at = m ∙ ap length (tail_all l at) ∙ length-drop at l in
+      mid_back l at (length l - at) ys n ∙ put-def l at ys
+      ∙ rw (drop_of_length-le l {i = at + length ys} (omega (arith, n)), append-nil)
+      (ap (λ (z : List A). take at l ++ z) (e ∙ ap (λ (z : List A). put z i xs) (tail_all l at)) ∙ sym (put-tail l at i xs h))

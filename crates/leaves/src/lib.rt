@@ -12,59 +12,60 @@ ghost use Rattle.definition.specs.Cut.{leaves_of};
 ghost use Rattle.queue.specs.Rows.{waiting_width, domain_own, with_own};
 ghost use Rattle.rows.specs.Rows.{Inside, GoodRows};
 ghost use Rattle.leaves.specs.Room.{touched_wholes, touched_floats};
+ghost use Rattle.tree_lists.specs.Lent.{SameLeafLists, SameRoom};
+
+use points::Points;
+use tree_lists::{LeafLists, Room, Start};
 
 // Puts the root domain into the queue: all rows as its first stretch, at depth 0, and its box.
-fn put_root(
-    points: &[f64],
-    dimensions: usize,
-    rows: &[usize],
-    floats: &mut [f64],
-    wholes: &mut [usize],
-)
-    requires dimensions_bound { (dimensions ≤ 3) × (0 < length rows.now) × All (Inside dimensions points.now) rows.now }
-    requires waiting_width_in_bounds { (2 * length rows.now + waiting_width ≤ length wholes.old) × (box_width_lem dimensions ≤ length floats.old) }
-    ensures floats { floats.new ≡ put floats.old 0 (extents dimensions points.now rows.now) }
-    ensures wholes { wholes.new ≡ put wholes.old (2 * length rows.now) (0 ∷ length rows.now ∷ 0 ∷ []) }
+fn put_root(points: Points<'_>, rows: &[usize], room: &mut Room<'_>)
+    requires dimensions_bound { (points.dimensions ≤ 3) × (0 < length rows.now) × All (Inside points.dimensions points.coordinates.now) rows.now }
+    requires waiting_width_in_bounds { (2 * length rows.now + waiting_width ≤ length room.old.wholes.now) × (box_width_lem points.dimensions ≤ length room.old.floats.now) }
+    ensures same { SameRoom room.old room.new }
+    ensures floats { room.new.floats.now ≡ put room.old.floats.now 0 (extents points.entry.dimensions points.entry.coordinates.now rows.now) }
+    ensures wholes { room.new.wholes.now ≡ put room.old.wholes.now (2 * length rows.now) (0 ∷ length rows.now ∷ 0 ∷ []) }
 {
     let n = rows.len();
-    queue::put_waiting(wholes, 2 * n, 0, n, 0);
+    queue::put_waiting(room.wholes, 2 * n, 0, n, 0);
     boxes::write_box(
-        extents::get_pointarray_extents(points, dimensions, rows),
-        floats,
+        extents::get_pointarray_extents(points, rows),
+        room.floats,
         0,
     );
 }
 
-// Cuts the rows into the leaves of a level, which stand in their place in the end, packed. The domain rows from the `first` on get start
-// and count of each, where the rows stand from `at` on in their list, and its depth; `boxes` gets their boxes from the `first` on. The
+// Cuts the rows into the leaves of a level, which stand in their place in the end, packed. The domain rows from the first on get start
+// and count of each, where the rows stand from `start.from` on in their list, and its depth; `boxes` gets their boxes from the first on. The
 // answer is their number. Of the room: `wholes` holds one number a row for the ordering, one a row for the packed leaves, and the queue,
-// three for each cut; `floats` the boxes of the queue. All past these is as found.
+// three for each cut; `floats` the boxes of the queue. All past these is as found. The lists come one by one: two of them are parts of the
+// caller's, and the borrow checker does not cover a part of a list in a struct (tried).
 fn cut_leaves(
-    points: &[f64],
-    dimensions: usize,
+    points: Points<'_>,
     leaf: usize,
     rows: &mut [usize],
-    at: usize,
+    start: Start,
     domains: &mut [usize],
-    first: usize,
     boxes: &mut [f64],
-    floats: &mut [f64],
-    wholes: &mut [usize],
+    room: &mut Room<'_>,
 ) -> usize
-    requires dimensions_nonzero { (0 < dimensions) × (dimensions ≤ 3) × (1 ≤ leaf) × (1 ≤ length rows.old) × GoodRows dimensions points.now rows.old }
-    requires rows_in_bounds { (8 * length rows.old ≤ length wholes.old) × (box_width_lem dimensions * (2 * length rows.old) ≤ length floats.old) }
-    requires rows_bound { (at + length rows.old < 2 ^ 64) × (row_numbers * (first + 2 * length rows.old) ≤ length domains.old) × (box_width_lem dimensions * (first + 2 * length rows.old) ≤ length boxes.old) }
-    ensures number { result ≡ length (leaves_of dimensions points.now leaf rows.old) }
-    ensures rows { rows.new ≡ joined (map (λ q. q.rows) (leaves_of dimensions points.now leaf rows.old)) }
-    ensures domains { domains.new ≡ with_own at (map domain_own (leaves_of dimensions points.now leaf rows.old)) first domains.old }
-    ensures boxes { boxes.new ≡ put boxes.old (box_width_lem dimensions * first) (joined (map (λ q. q.box) (leaves_of dimensions points.now leaf rows.old))) }
-    ensures floats { AsFoundFrom (touched_floats dimensions result) floats.old floats.new }
-    ensures wholes { AsFoundFrom (touched_wholes (length rows.old) result) wholes.old wholes.new }
+    requires dimensions_nonzero { (0 < points.dimensions) × (points.dimensions ≤ 3) × (1 ≤ leaf) × (1 ≤ length rows.old) × GoodRows points.dimensions points.coordinates.now rows.old }
+    requires rows_in_bounds { (8 * length rows.old ≤ length room.old.wholes.now) × (box_width_lem points.dimensions * (2 * length rows.old) ≤ length room.old.floats.now) }
+    requires rows_bound { (start.from + length rows.old < 2 ^ 64) × (row_numbers * (start.first + 2 * length rows.old) ≤ length domains.old) × (box_width_lem points.dimensions * (start.first + 2 * length rows.old) ≤ length boxes.old) }
+    ensures same { SameRoom room.old room.new }
+    ensures number { result ≡ length (leaves_of points.entry.dimensions points.entry.coordinates.now leaf rows.old) }
+    ensures rows { rows.new ≡ joined (map (λ q. q.rows) (leaves_of points.entry.dimensions points.entry.coordinates.now leaf rows.old)) }
+    ensures domains { domains.new ≡ with_own start.from (map domain_own (leaves_of points.entry.dimensions points.entry.coordinates.now leaf rows.old)) start.first domains.old }
+    ensures boxes { boxes.new ≡ put boxes.old (box_width_lem points.entry.dimensions * start.first) (joined (map (λ q. q.box) (leaves_of points.entry.dimensions points.entry.coordinates.now leaf rows.old))) }
+    ensures floats { AsFoundFrom (touched_floats points.entry.dimensions result) room.old.floats.now room.new.floats.now }
+    ensures wholes { AsFoundFrom (touched_wholes (length rows.old) result) room.old.wholes.now room.new.wholes.now }
 {
+    put_root(points, rows, room);
+    let floats: &mut [f64] = room.floats;
+    let wholes: &mut [usize] = room.wholes;
+    let Start { from, first, .. } = start;
     let n = rows.len();
     let base = 2 * n;
-    let stride = boxes::box_width(dimensions);
-    put_root(points, dimensions, rows, floats, wholes);
+    let stride = boxes::box_width(points.dimensions);
     let mut head = 0;
     let mut tail = 1;
     let mut done = 0;
@@ -76,13 +77,8 @@ fn cut_leaves(
         let count = wholes[place + 1];
         let below = wholes[place + 2] + 1;
         let end = start + count;
-        let whole = boxes::read_box(floats, stride * head, dimensions);
-        let plane = cut::cut_stretch(
-            points,
-            dimensions,
-            &mut rows[start..end],
-            &mut wholes[..count],
-        );
+        let whole = boxes::read_box(floats, stride * head, points.dimensions);
+        let plane = cut::cut_stretch(points, &mut rows[start..end], &mut wholes[..count]);
         head += 1;
         if leaf <= count / 2 {
             queue::put_halves(wholes, base + queue::WAITING * tail, start, count, below);
@@ -90,7 +86,7 @@ fn cut_leaves(
             tail += 2;
         } else {
             stretches::copy_rows(rows, start, count, wholes, n + done);
-            queue::put_leaves(domains, k, at + done, count, below);
+            queue::put_leaves(domains, k, from + done, count, below);
             boxes::write_halves(whole, plane.axis, plane.value, boxes, stride * k);
             done += count;
             k += 2;
@@ -100,45 +96,41 @@ fn cut_leaves(
     k - first
 }
 
-// The leaves of the active rows. Their rows go to `internals` from `at` on, packed; start, count and depth of each to the domain rows from
-// the `first` on, and their boxes to `boxes` from the `first` on. The answer is their number. Of the working room it touches the
+// The leaves of the active rows. Their rows go to the internals from `start.from` on, packed; start, count and depth of each to the domain
+// rows from the first on, and their boxes to `boxes`, behind `start.skip` floats, from the first on. The answer is their number. Of the working room it touches the
 // stated fronts and nothing more.
 pub fn leaves(
-    points: &[f64],
-    dimensions: usize,
+    points: Points<'_>,
     leaf: usize,
     active: &[usize],
-    internals: &mut [usize],
-    at: usize,
-    domains: &mut [usize],
-    first: usize,
-    boxes: &mut [f64],
-    floats: &mut [f64],
-    wholes: &mut [usize],
+    start: Start,
+    lists: &mut LeafLists<'_>,
+    room: &mut Room<'_>,
 ) -> usize
-    requires dimensions_nonzero { (0 < dimensions) × (dimensions ≤ 3) × (1 ≤ leaf) × (1 ≤ length active.now) × GoodRows dimensions points.now active.now }
-    requires active_in_bounds { (8 * length active.now ≤ length wholes.old) × (box_width_lem dimensions * (2 * length active.now) ≤ length floats.old) }
-    requires active_in_bounds_2 { (at + length active.now ≤ length internals.old) × (row_numbers * (first + 2 * length active.now) ≤ length domains.old) × (box_width_lem dimensions * (first + 2 * length active.now) ≤ length boxes.old) }
-    ensures number { result ≡ length (leaves_of dimensions points.now leaf active.now) }
-    ensures internals { internals.new ≡ put internals.old at (joined (map (λ q. q.rows) (leaves_of dimensions points.now leaf active.now))) }
-    ensures domains { domains.new ≡ with_own at (map domain_own (leaves_of dimensions points.now leaf active.now)) first domains.old }
-    ensures boxes { boxes.new ≡ put boxes.old (box_width_lem dimensions * first) (joined (map (λ q. q.box) (leaves_of dimensions points.now leaf active.now))) }
-    ensures floats { AsFoundFrom (touched_floats dimensions result) floats.old floats.new }
-    ensures wholes { AsFoundFrom (touched_wholes (length active.now) result) wholes.old wholes.new }
+    requires dimensions_nonzero { (0 < points.dimensions) × (points.dimensions ≤ 3) × (1 ≤ leaf) × (1 ≤ length active.now) × GoodRows points.dimensions points.coordinates.now active.now }
+    requires active_in_bounds { (8 * length active.now ≤ length room.old.wholes.now) × (box_width_lem points.dimensions * (2 * length active.now) ≤ length room.old.floats.now) }
+    requires active_in_bounds_2 { (start.from + length active.now ≤ length lists.old.internals.now) × (row_numbers * (start.first + 2 * length active.now) ≤ length lists.old.domains.now) × (start.skip + box_width_lem points.dimensions * (start.first + 2 * length active.now) ≤ length lists.old.boxes.now) }
+    ensures same { SameLeafLists lists.old lists.new × SameRoom room.old room.new }
+    ensures number { result ≡ length (leaves_of points.entry.dimensions points.entry.coordinates.now leaf active.now) }
+    ensures internals { lists.new.internals.now ≡ put lists.old.internals.now start.from (joined (map (λ q. q.rows) (leaves_of points.entry.dimensions points.entry.coordinates.now leaf active.now))) }
+    ensures domains { lists.new.domains.now ≡ with_own start.from (map domain_own (leaves_of points.entry.dimensions points.entry.coordinates.now leaf active.now)) start.first lists.old.domains.now }
+    ensures boxes { lists.new.boxes.now ≡ put lists.old.boxes.now (start.skip + box_width_lem points.entry.dimensions * start.first) (joined (map (λ q. q.box) (leaves_of points.entry.dimensions points.entry.coordinates.now leaf active.now))) }
+    ensures floats { AsFoundFrom (touched_floats points.entry.dimensions result) room.old.floats.now room.new.floats.now }
+    ensures wholes { AsFoundFrom (touched_wholes (length active.now) result) room.old.wholes.now room.new.wholes.now }
 {
-    let n = active.len();
-    let end = at + n;
-    stretches::copy_rows(active, 0, n, internals, at);
+    let end = start.from + active.len();
+    let internals: &mut [usize] = lists.internals;
+    let domains: &mut [usize] = lists.domains;
+    let boxes: &mut [f64] = lists.boxes;
+    let rows: &mut [usize] = &mut internals[start.from..end];
+    rows.copy_from_slice(active);
     cut_leaves(
         points,
-        dimensions,
         leaf,
-        &mut internals[at..end],
-        at,
+        rows,
+        start,
         domains,
-        first,
-        boxes,
-        floats,
-        wholes,
+        &mut boxes[start.skip..],
+        room,
     )
 }

@@ -7,14 +7,16 @@ ghost use Rattle.lists.specs.Lists.{count, keep, put};
 ghost use Rattle.rows.specs.Rows.{FiniteOn, GoodRows};
 ghost use Rattle.middle_row.specs.Middle.{MiddleRow, on_side, Tells, Round, Narrows};
 
+use points::Points;
+
 // How many of the rows come before row p.
-fn count_before(points: &[f64], d: usize, axis: usize, rows: &[usize], p: usize) -> usize
-    requires { FiniteOn d points.now axis rows.now × (p * d + axis < length points.now) }
-    ensures { result ≡ count (on_side d points.now axis p true) rows.now }
+fn count_before(points: Points<'_>, axis: usize, rows: &[usize], p: usize) -> usize
+    requires { FiniteOn points.dimensions points.coordinates.now axis rows.now × (p * points.dimensions + axis < length points.coordinates.now) }
+    ensures { result ≡ count (on_side points.entry.dimensions points.entry.coordinates.now axis p true) rows.now }
 {
     let mut n = 0;
     for &r in rows {
-        if argsort::comes_before(points, d, axis, r, p) {
+        if argsort::comes_before(points, axis, r, p) {
             n += 1;
         }
     }
@@ -48,28 +50,27 @@ struct Search {
 
 // One round of the search: the rows on the side of the row at the index `at`, or that row alone where it is the one looked for.
 fn narrow(
-    points: &[f64],
-    d: usize,
+    points: Points<'_>,
     axis: usize,
     rows: &mut [usize],
     m: usize,
     k: usize,
     at: usize,
 ) -> Search
-    requires { Round d points.now axis rows.old m k at }
-    ensures { Narrows d points.now axis rows.old m k rows.new result.count result.rank }
+    requires { Round points.dimensions points.coordinates.now axis rows.old m k at }
+    ensures { Narrows points.entry.dimensions points.entry.coordinates.now axis rows.old m k rows.new result.count result.rank }
 {
     let p = rows[at];
-    let c = count_before(points, d, axis, &rows[..m], p);
+    let c = count_before(points, axis, &rows[..m], p);
     if c == k {
         rows[0] = p;
         return Search { count: 1, rank: 0 };
     }
     if k < c {
-        let count = keep_front(rows, m, |r| argsort::comes_before(points, d, axis, r, p));
+        let count = keep_front(rows, m, |r| argsort::comes_before(points, axis, r, p));
         return Search { count, rank: k };
     }
-    let count = keep_front(rows, m, |r| argsort::comes_before(points, d, axis, p, r));
+    let count = keep_front(rows, m, |r| argsort::comes_before(points, axis, p, r));
     Search {
         count,
         rank: k - c - 1,
@@ -81,9 +82,9 @@ fn narrow(
 // right one where the coordinates ascend with the rows, and the later ones at rows here and there, so that no usual order of the
 // points is a bad one. The rounds look at no more than 8 rows for each row of the list. The rows that are left after them, or 32 of
 // them or fewer, are sorted.
-pub fn middle(points: &[f64], d: usize, axis: usize, rows: &mut [usize]) -> usize
-    requires { (axis < d) × (1 ≤ length rows.old) × GoodRows d points.now rows.old }
-    ensures { MiddleRow d points.now axis rows.old result }
+pub fn middle(points: Points<'_>, axis: usize, rows: &mut [usize]) -> usize
+    requires { (axis < points.dimensions) × (1 ≤ length rows.old) × GoodRows points.dimensions points.coordinates.now rows.old }
+    ensures { MiddleRow points.entry.dimensions points.entry.coordinates.now axis rows.old result }
 {
     let mut m = rows.len();
     let mut k = m / 2;
@@ -92,12 +93,12 @@ pub fn middle(points: &[f64], d: usize, axis: usize, rows: &mut [usize]) -> usiz
     // a search that may end early: no counted loop
     while 32 < m && m <= left {
         let at = (m / 2 + round * 2654435761) % m;
-        let s = narrow(points, d, axis, rows, m, k, at);
+        let s = narrow(points, axis, rows, m, k, at);
         left -= m;
         round += 1;
         m = s.count;
         k = s.rank;
     }
-    argsort::argsort(points, d, axis, &mut rows[..m]);
+    argsort::argsort(points, axis, &mut rows[..m]);
     rows[k]
 }

@@ -4,8 +4,10 @@
 ghost use Rattle.std.specs.Prelude.{◌≡◌, ℕ, ◌<◌, ◌≤◌, length, get_or};
 ghost use mathlib.Core.List.{Memᴰ};
 ghost use Rattle.lists.specs.Ascends.{Ascends};
-ghost use Rattle.packed.specs.Reading.{read_own};
+ghost use Rattle.packed.specs.View.{own_of};
 ghost use Rattle.overlap_owners.specs.Own.{Leaves, Written, Owned};
+
+use packed::LevelLeaves;
 
 // The position of a row in an ascending list that holds it, by bisection.
 pub fn position(active: &[usize], row: usize) -> usize
@@ -25,22 +27,12 @@ fn mark_leaf(active: &[usize], rows: &[usize], leaf: usize, wholes: &mut [usize]
     }
 }
 
-// The leaf of each active row, at the front of `wholes`. The leaves' own rows are the stretches of the internals that the
-// m domain rows from `first` on name.
-pub fn owners(
-    active: &[usize],
-    internals: &[usize],
-    domains: &[usize],
-    first: usize,
-    m: usize,
-    wholes: &mut [usize],
-)
-    requires { Leaves active.now internals.now domains.now first m × (length active.now ≤ length wholes.old) }
-    ensures { Owned active.now (read_own internals.now domains.now first m) wholes.new }
+// The leaf of each active row, at the front of `wholes`.
+pub fn owners(active: &[usize], leaves: LevelLeaves<'_>, wholes: &mut [usize])
+    requires { Leaves active.now leaves.internals.now leaves.domains.now leaves.first leaves.count × (length active.now ≤ length wholes.old) }
+    ensures { Owned active.now (own_of leaves.entry) wholes.new }
 {
-    for leaf in 0..m {
-        let row = packed::read_row(domains, first + leaf);
-        let end = row.internal_start + row.internal_count;
-        mark_leaf(active, &internals[row.internal_start..end], leaf, wholes);
+    for leaf in 0..leaves.count {
+        mark_leaf(active, leaves.own(leaf), leaf, wholes);
     }
 }

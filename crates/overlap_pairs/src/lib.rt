@@ -7,6 +7,8 @@ ghost use Rattle.definition.specs.Refusals.{most_neighbours};
 ghost use Rattle.rows.specs.Rows.{most_leaves, GoodRows};
 ghost use Rattle.overlap_pairs.specs.Pairs.{code, pairs_of, PairRoom, Taken, Owners, Collected};
 
+use points::Points;
+
 // How many positions there are at most.
 const POSITIONS: usize = rows::MOST_LEAVES;
 
@@ -50,41 +52,37 @@ fn send(near: &[usize], p: usize, wholes: &mut [usize], n: usize) -> usize
 
 // What the row at position p sends.
 fn send_row(
-    points: &[f64],
-    dimensions: usize,
+    points: Points<'_>,
     neighbours: usize,
     active: &[usize],
     p: usize,
     wholes: &mut [usize],
     n: usize,
 ) -> usize
-    requires { GoodRows dimensions points.now active.now × (neighbours ≤ most_neighbours) × (p < length active.now) × Owners (length active.now) wholes.old
+    requires { GoodRows points.dimensions points.coordinates.now active.now × (neighbours ≤ most_neighbours) × (p < length active.now) × Owners (length active.now) wholes.old
         × (length active.now ≤ n) × (n + 2 * neighbours ≤ length wholes.old) }
-    ensures { Taken dimensions points.now neighbours active.now p wholes.old wholes.new n result }
+    ensures { Taken points.entry.dimensions points.entry.coordinates.now neighbours active.now p wholes.old wholes.new n result }
 {
     let mut near = [0usize; NEAREST];
     let mut far = [0.0f64; NEAREST];
-    let count = nearest_scan::nearest(
-        points, dimensions, neighbours, active, active[p], &mut near, &mut far,
-    );
+    let count = nearest_scan::nearest(points, neighbours, active, active[p], &mut near, &mut far);
     send(&near[..count], p, wholes, n)
 }
 
 // What all active rows send, behind their owners: the answer is where it ends.
 pub fn collect(
-    points: &[f64],
-    dimensions: usize,
+    points: Points<'_>,
     neighbours: usize,
     active: &[usize],
     wholes: &mut [usize],
 ) -> usize
-    requires { GoodRows dimensions points.now active.now × (neighbours ≤ most_neighbours) × Owners (length active.now) wholes.old
+    requires { GoodRows points.dimensions points.coordinates.now active.now × (neighbours ≤ most_neighbours) × Owners (length active.now) wholes.old
         × (length active.now + length active.now * (2 * neighbours) ≤ length wholes.old) }
-    ensures { Collected dimensions points.now neighbours active.now wholes.old (length active.now) wholes.new result }
+    ensures { Collected points.entry.dimensions points.entry.coordinates.now neighbours active.now wholes.old (length active.now) wholes.new result }
 {
     let mut n = active.len();
     for p in 0..active.len() {
-        n = send_row(points, dimensions, neighbours, active, p, wholes, n);
+        n = send_row(points, neighbours, active, p, wholes, n);
     }
     n
 }

@@ -12,6 +12,8 @@ ghost use Rattle.overlaps.specs.Codes.{codes_from, coded_rows, Distinct, Reached
 ghost use Rattle.overlaps.specs.Borrowed.{borrowed_lists, with_borrowed, Stage};
 
 use overlap_pairs::{code, position_of};
+use packed::LevelLeaves;
+use points::Points;
 
 // Moves each number of a list in order, once, to the front. The answer is how many there are.
 fn drop_repeats(codes: &mut [usize]) -> usize
@@ -110,8 +112,7 @@ fn lend(
 // rows go to `borrowed` from `bat` on, leaf by leaf, and each leaf's start and count to the last two columns of its domain row. The
 // answer is how many borrowed rows there are. `wholes` holds the owners and, behind them, the numbers.
 pub fn overlaps(
-    points: &[f64],
-    dimensions: usize,
+    points: Points<'_>,
     neighbours: usize,
     active: &[usize],
     internals: &[usize],
@@ -122,17 +123,23 @@ pub fn overlaps(
     bat: usize,
     wholes: &mut [usize],
 ) -> usize
-    requires stage { Stage dimensions points.now neighbours active.now internals.now domains.old first m }
+    requires stage { Stage points.dimensions points.coordinates.now neighbours active.now internals.now domains.old first m }
     requires neighbours_in_bounds { (length active.now + 2 * length active.now * (neighbours + 1) ≤ length wholes.old)
         × (bat + 2 * length active.now * (neighbours + 1) ≤ length borrowed.old) }
-    ensures number { result ≡ length (joined (borrowed_lists dimensions points.now neighbours active.now (read_own internals.now domains.old first m))) }
-    ensures borrowed { borrowed.new ≡ put borrowed.old bat (joined (borrowed_lists dimensions points.now neighbours active.now (read_own internals.now domains.old first m))) }
-    ensures domains { domains.new ≡ with_borrowed bat (borrowed_lists dimensions points.now neighbours active.now (read_own internals.now domains.old first m)) first domains.old }
+    ensures number { result ≡ length (joined (borrowed_lists points.entry.dimensions points.entry.coordinates.now neighbours active.now (read_own internals.now domains.old first m))) }
+    ensures borrowed { borrowed.new ≡ put borrowed.old bat (joined (borrowed_lists points.entry.dimensions points.entry.coordinates.now neighbours active.now (read_own internals.now domains.old first m))) }
+    ensures domains { domains.new ≡ with_borrowed bat (borrowed_lists points.entry.dimensions points.entry.coordinates.now neighbours active.now (read_own internals.now domains.old first m)) first domains.old }
     ensures most { result ≤ 2 * length active.now * (neighbours + 1) }
 {
-    overlap_owners::owners(active, internals, domains, first, m, wholes);
+    let leaves = LevelLeaves {
+        internals,
+        domains,
+        first,
+        count: m,
+    };
+    overlap_owners::owners(active, leaves, wholes);
     let a = active.len();
-    let end = overlap_pairs::collect(points, dimensions, neighbours, active, wholes);
+    let end = overlap_pairs::collect(points, neighbours, active, wholes);
     lend(
         &mut wholes[a..end],
         active,

@@ -3,7 +3,7 @@
 
 ghost use Rattle.std.specs.Prelude.{◌≡◌, ◌+◌, ◌*◌, ◌^◌, ◌≤◌, ◌<◌, length};
 ghost use Rattle.definition.specs.Packed.{row_numbers, row_floats_lem};
-ghost use Rattle.packed.specs.Reading.{RowFits, read_leaf};
+ghost use Rattle.packed.specs.Reading.{RowFits, read_leaf, own_start, own_count, own_at};
 ghost use Rattle.packed.specs.Rows.{plain_row, IsRow, put_row_lem, put_own_lem, put_borrowed_lem};
 ghost use Rattle.packed.specs.View.{packed_of, leaf_of};
 
@@ -75,6 +75,37 @@ impl<'a> Packed<'a> {
             cover: self.boxes[end],
             depth: row.depth,
         }
+    }
+}
+
+// The leaves of one level, as they stand in the lent lists: the leaves' own rows, and the domain rows, of which those of the level are the
+// `count` from number `first` on. They are passed by value, as `leaves: LevelLeaves<'_>`: a contract reads their own rows, leaf by leaf, by
+// `own_of leaves` in a `requires`, and `own_of leaves.entry` in an `ensures`.
+#[derive(Clone, Copy)]
+pub struct LevelLeaves<'a> {
+    pub internals: &'a [usize],
+    pub domains: &'a [usize],
+    pub first: usize,
+    pub count: usize,
+}
+
+impl<'a> LevelLeaves<'a> {
+    // The domain row of the leaf number l of the level.
+    pub fn row(self, l: usize) -> DomainRow
+        requires { row_numbers * (self.first + l + 1) ≤ length self.domains.now }
+        ensures { IsRow result self.entry.domains.now (self.entry.first + l) }
+    {
+        read_row(self.domains, self.first + l)
+    }
+
+    // The own rows of the leaf number l of the level.
+    pub fn own(self, l: usize) -> &'a [usize]
+        requires { (row_numbers * (self.first + l + 1) ≤ length self.domains.now)
+            × (own_start self.domains.now (self.first + l) + own_count self.domains.now (self.first + l) ≤ length self.internals.now) }
+        ensures { result.now ≡ own_at self.entry.internals.now self.entry.domains.now (self.entry.first + l) }
+    {
+        let row = self.row(l);
+        &self.internals[row.internal_start..row.internal_start + row.internal_count]
     }
 }
 

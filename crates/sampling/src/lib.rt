@@ -7,10 +7,13 @@ ghost use Rattle.definition.specs.Packed.{sample_stated};
 ghost use Rattle.definition.specs.Refusals.{wrong_dimension_lem, most_points, sample_short, sample_verdict};
 ghost use Rattle.sampling.specs.Answers.{sample_lent, sample_report_lem};
 ghost use Rattle.sampling.specs.Outcome.{RowsSampled};
+ghost use Rattle.tree_lists.specs.Lent.{SameRoom};
 
 use distances::LocalIdx;
+use points::Points;
 use refusal::Refusal;
 use rows::MOST_POINTS;
+use tree_lists::Room;
 
 // The count of rows written, and their cover.
 #[derive(Clone, Copy)]
@@ -53,25 +56,24 @@ fn lists_short(rows: usize, wanted: usize, lent: Lent) -> bool
 // The refusal of a sampling, if there is one.
 #[tactic(auto, using(std::proofs::lemmas::Bool::Decides::nat_tests), unfolding(definition::specs::Refusals::sample_verdict, definition::specs::Refusals::verdict))]
 fn sampling_verdict(
-    points: &[f64],
-    dimensions: usize,
+    points: Points<'_>,
     wanted: usize,
     seed: usize,
     lent: Lent,
 ) -> Result<(), Refusal>
-    ensures { verdict_of result ≡ sample_verdict dimensions points.now wanted seed (sample_lent lent.output lent.floats lent.wholes) }
+    ensures { verdict_of result ≡ sample_verdict points.entry.dimensions points.entry.coordinates.now wanted seed (sample_lent lent.output lent.floats lent.wholes) }
 {
-    if wrong_dimension(dimensions) {
+    if wrong_dimension(points.dimensions) {
         return Err(Refusal::WrongDimension);
     }
-    let count = points.len();
+    let count = points.coordinates.len();
     if count == 0 {
         return Err(Refusal::NoPoints);
     }
-    if count % dimensions != 0 {
+    if count % points.dimensions != 0 {
         return Err(Refusal::MissingCoordinate);
     }
-    let rows = count / dimensions;
+    let rows = count / points.dimensions;
     if MOST_POINTS < rows {
         return Err(Refusal::ManyPoints);
     }
@@ -81,7 +83,7 @@ fn sampling_verdict(
     if lists_short(rows, wanted, lent) {
         return Err(Refusal::ShortList);
     }
-    match finite::first_not_finite(points) {
+    match finite::first_not_finite(points.coordinates) {
         Some(position) => Err(Refusal::NotFinite(position)),
         None => Ok(()),
     }
@@ -91,34 +93,34 @@ fn sampling_verdict(
 // is how far the worst left-out row is from its nearest chosen one. The working room, 2 floats and 1 whole number per row, is
 // left free but for its length. A refusal writes to no list.
 pub fn farthest_point_sampling(
-    points: &[f64],
-    dimensions: usize,
+    points: Points<'_>,
     wanted: usize,
     seed: usize,
     out: &mut [usize],
-    floats: &mut [f64],
-    wholes: &mut [usize],
+    room: &mut Room<'_>,
 ) -> Result<Sampled, Refusal>
-    ensures { RowsSampled dimensions points.now wanted seed out.old out.new
-        floats.old floats.new wholes.old wholes.new (sample_report_lem result) }
+    ensures sampled { RowsSampled points.entry.dimensions points.entry.coordinates.now wanted seed out.old out.new
+        room.old.floats.now room.new.floats.now room.old.wholes.now room.new.wholes.now (sample_report_lem result) }
+    ensures same { SameRoom room.old room.new }
 {
     let lent = Lent {
         output: out.len(),
-        floats: floats.len(),
-        wholes: wholes.len(),
+        floats: room.floats.len(),
+        wholes: room.wholes.len(),
     };
-    sampling_verdict(points, dimensions, wanted, seed, lent)?;
-    let rows = points.len() / dimensions;
+    sampling_verdict(points, wanted, seed, lent)?;
+    let rows = points.coordinates.len() / points.dimensions;
+    let wholes: &mut [usize] = room.wholes;
     stretches::number_rows(wholes, rows);
+    let all: &mut [usize] = &mut wholes[..rows];
     let cover = sampling_rounds::sample_rows(
         points,
-        dimensions,
-        &wholes[..rows],
+        all,
         wanted,
         LocalIdx(seed),
         out,
         0,
-        floats,
+        room.floats,
     );
     Ok(Sampled {
         rows: wanted,

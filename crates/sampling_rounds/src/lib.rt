@@ -11,6 +11,7 @@ ghost use Rattle.rows.specs.Rows.{GoodRows};
 ghost use Rattle.sampling_rounds.specs.Rounds.{lesser, lessened, KeptSquare, Peaked, Held, Earliest, Chosen, Worst};
 
 use distances::{GlobalIdx, LocalIdx};
+use points::Points;
 
 // The greatest square of a round, its first place, and a bound of the squares at the places before it.
 #[derive(Clone, Copy)]
@@ -29,25 +30,19 @@ fn lesser_of(x: f64, y: f64) -> f64
 }
 
 // Takes the squared distances to the row at `last` into the least ones, and gives the greatest of these.
-fn lessen(
-    points: &[f64],
-    dimensions: usize,
-    rows: &[usize],
-    last: LocalIdx,
-    floats: &mut [f64],
-) -> Peak
-    requires rows { GoodRows dimensions points.now rows.now }
+fn lessen(points: Points<'_>, rows: &[usize], last: LocalIdx, floats: &mut [f64]) -> Peak
+    requires rows { GoodRows points.dimensions points.coordinates.now rows.now }
     requires room { (last.0 < length rows.now) × (length rows.now ≤ length floats.old) }
     requires kept { (i : ℕ) → i < length rows.now → KeptSquare (get_or floats.old i nan) }
-    ensures values { (i : ℕ) → i < length rows.now → get_or floats.new i nan ≡ lessened dimensions points.now rows.now last.0 floats.old i }
-    ensures peak { Peaked (lessened dimensions points.now rows.now last.0 floats.old) (length rows.now) result.place result.most result.second }
+    ensures values { (i : ℕ) → i < length rows.now → get_or floats.new i nan ≡ lessened points.entry.dimensions points.entry.coordinates.now rows.now last.0 floats.old i }
+    ensures peak { Peaked (lessened points.entry.dimensions points.entry.coordinates.now rows.now last.0 floats.old) (length rows.now) result.place result.most result.second }
 {
     let row = GlobalIdx(rows[last.0]);
     let mut place = 0;
     let mut most = -1.0;
     let mut second = -1.0;
     for (i, &other) in rows.iter().enumerate() {
-        let square = distances::distance_sq(points, dimensions, row, GlobalIdx(other));
+        let square = distances::distance_sq(points, row, GlobalIdx(other));
         let value = lesser_of(square, floats[i]);
         floats[i] = value;
         if most < value {
@@ -111,20 +106,14 @@ fn first_farthest(floats: &[f64], peak: Peak) -> usize
 }
 
 // One round: brings the least squares up to date and chooses the farthest row.
-fn next_place(
-    points: &[f64],
-    dimensions: usize,
-    rows: &[usize],
-    last: LocalIdx,
-    floats: &mut [f64],
-) -> LocalIdx
-    requires rows { GoodRows dimensions points.now rows.now }
+fn next_place(points: Points<'_>, rows: &[usize], last: LocalIdx, floats: &mut [f64]) -> LocalIdx
+    requires rows { GoodRows points.dimensions points.coordinates.now rows.now }
     requires room { (last.0 < length rows.now) × (length rows.now ≤ length floats.old) }
     requires kept { (i : ℕ) → i < length rows.now → KeptSquare (get_or floats.old i nan) }
     requires open { (i : ℕ) × ((i < length rows.now) × (good (get_or floats.old i nan) ≡ true)) }
-    ensures { Chosen (lessened dimensions points.now rows.now last.0 floats.old) (length rows.now) result.0 floats.new }
+    ensures { Chosen (lessened points.entry.dimensions points.entry.coordinates.now rows.now last.0 floats.old) (length rows.now) result.0 floats.new }
 {
-    let peak = lessen(points, dimensions, rows, last, floats);
+    let peak = lessen(points, rows, last, floats);
     let place = first_farthest(floats, peak);
     floats[place] = -1.0;
     LocalIdx(place)
@@ -132,28 +121,21 @@ fn next_place(
 
 // The greatest least distance to a chosen row, over the rows that are not chosen: the root of the greatest least square,
 // once the last chosen row is taken in too.
-fn worst_distance(
-    points: &[f64],
-    dimensions: usize,
-    rows: &[usize],
-    last: LocalIdx,
-    floats: &mut [f64],
-) -> f64
-    requires rows { GoodRows dimensions points.now rows.now }
+fn worst_distance(points: Points<'_>, rows: &[usize], last: LocalIdx, floats: &mut [f64]) -> f64
+    requires rows { GoodRows points.dimensions points.coordinates.now rows.now }
     requires room { (last.0 < length rows.now) × (length rows.now ≤ length floats.old) }
     requires kept { (i : ℕ) → i < length rows.now → KeptSquare (get_or floats.old i nan) }
     requires open { (i : ℕ) × ((i < length rows.now) × (good (get_or floats.old i nan) ≡ true)) }
-    ensures { Worst (lessened dimensions points.now rows.now last.0 floats.old) (length rows.now) result }
+    ensures { Worst (lessened points.entry.dimensions points.entry.coordinates.now rows.now last.0 floats.old) (length rows.now) result }
 {
-    let square = lessen(points, dimensions, rows, last, floats).most;
+    let square = lessen(points, rows, last, floats).most;
     root::root(square)
 }
 
 // Writes `wanted` of the rows to `out` from `at` on: the row at the place `seed`, and then repeatedly the first unchosen
 // row whose least distance to the chosen is greatest. Gives their cover: how far the worst left-out row is.
 pub fn sample_rows(
-    points: &[f64],
-    dimensions: usize,
+    points: Points<'_>,
     rows: &[usize],
     wanted: usize,
     seed: LocalIdx,
@@ -161,22 +143,22 @@ pub fn sample_rows(
     at: usize,
     floats: &mut [f64],
 ) -> f64
-    requires rows { GoodRows dimensions points.now rows.now }
+    requires rows { GoodRows points.dimensions points.coordinates.now rows.now }
     requires wanted { (0 < wanted) × (wanted ≤ length rows.now) × (seed.0 < length rows.now) }
     requires room { (at + wanted ≤ length out.old) × (length rows.now ≤ length floats.old) }
-    ensures sampled { out.new ≡ put out.old at (sample dimensions points.now rows.now wanted (get_or rows.now seed.0 0)) }
-    ensures cover { result ≡ cover_of dimensions points.now rows.now (sample dimensions points.now rows.now wanted (get_or rows.now seed.0 0)) }
+    ensures sampled { out.new ≡ put out.old at (sample points.entry.dimensions points.entry.coordinates.now rows.now wanted (get_or rows.now seed.0 0)) }
+    ensures cover { result ≡ cover_of points.entry.dimensions points.entry.coordinates.now rows.now (sample points.entry.dimensions points.entry.coordinates.now rows.now wanted (get_or rows.now seed.0 0)) }
 {
     floats[..rows.len()].fill(f64::INFINITY);
     out[at] = rows[seed.0];
     floats[seed.0] = -1.0;
     let mut last = seed;
     for k in 1..wanted {
-        last = next_place(points, dimensions, rows, last, floats);
+        last = next_place(points, rows, last, floats);
         out[at + k] = rows[last.0];
     }
     if wanted == rows.len() {
         return 0.0;
     }
-    worst_distance(points, dimensions, rows, last, floats)
+    worst_distance(points, rows, last, floats)
 }

@@ -11,12 +11,12 @@ ghost use Rattle.cut_nodes.specs.Written.{domain_of, Written, Space, SameLists};
 
 use boxes::Extents;
 use cut_nodes::{Lists, Next};
+use points::Points;
 
-// What a cut reads: the points and their axes, the leaf threshold, and how many whole numbers stand before the table of the leaves.
+// What a cut reads: the points, the leaf threshold, and how many whole numbers stand before the table of the leaves.
 #[derive(Clone, Copy)]
 pub struct Level<'a> {
-    pub points: &'a [f64],
-    pub dimensions: usize,
+    pub points: Points<'a>,
     pub leaf: usize,
     pub base: usize,
 }
@@ -31,23 +31,18 @@ pub fn split(
     lists: &mut Lists<'_>,
     from: Next,
 ) -> Next
-    requires dimensions_nonzero { (0 < level.dimensions) × (level.dimensions ≤ 3) × (1 ≤ level.leaf) × (1 ≤ length rows.old) × GoodRows level.dimensions level.points.now rows.old }
-    requires dimensions_value { (whole.dimensions ≡ level.dimensions) × (length (floats_of whole) ≡ box_width_lem level.dimensions) × (depth + length rows.old < 2 ^ 64) × Space level.dimensions level.base (length rows.old) from.place from.leaves lists.old.wholes.now lists.old.floats.now lists.old.cuts.now lists.old.planes.now }
+    requires dimensions_nonzero { (0 < level.points.dimensions) × (level.points.dimensions ≤ 3) × (1 ≤ level.leaf) × (1 ≤ length rows.old) × GoodRows level.points.dimensions level.points.coordinates.now rows.old }
+    requires dimensions_value { (whole.dimensions ≡ level.points.dimensions) × (length (floats_of whole) ≡ box_width_lem level.points.dimensions) × (depth + length rows.old < 2 ^ 64) × Space level.points.dimensions level.base (length rows.old) from.place from.leaves lists.old.wholes.now lists.old.floats.now lists.old.cuts.now lists.old.planes.now }
     ensures same { SameLists lists.old lists.new }
-    ensures rows { rows.new ≡ rows_under (cuts_at level.entry.dimensions level.entry.points.now level.entry.leaf (domain_of rows.old whole depth)) }
-    ensures written { Written level.entry.dimensions level.entry.base (cuts_at level.entry.dimensions level.entry.points.now level.entry.leaf (domain_of rows.old whole depth)) from.place from.leaves result.place result.leaves
+    ensures rows { rows.new ≡ rows_under (cuts_at level.entry.points.dimensions level.entry.points.coordinates.now level.entry.leaf (domain_of rows.old whole depth)) }
+    ensures written { Written level.entry.points.dimensions level.entry.base (cuts_at level.entry.points.dimensions level.entry.points.coordinates.now level.entry.leaf (domain_of rows.old whole depth)) from.place from.leaves result.place result.leaves
         lists.old.wholes.now lists.new.wholes.now lists.old.floats.now lists.new.floats.now lists.old.cuts.now lists.new.cuts.now lists.old.planes.now lists.new.planes.now }
 {
-    let Level {
-        points,
-        dimensions,
-        leaf,
-        base,
-    } = level;
+    let Level { points, leaf, base } = level;
     let count = rows.len();
     let half = count / 2;
     let Next { place, leaves } = from;
-    let at = cut_nodes::cut_node(points, dimensions, rows, lists, place);
+    let at = cut_nodes::cut_node(points, rows, lists, place);
     let left = whole.with_upper(at.axis, at.value);
     let right = whole.with_lower(at.axis, at.value);
     let below = depth + 1;

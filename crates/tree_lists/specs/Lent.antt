@@ -3,6 +3,7 @@ use Rattle.std.specs.Prelude.{◌≡◌, length}
 use Rattle.definition.specs.Outcome as outcome
 use Rattle.definition.specs.DepthFirst.{RecordLists}
 use Rattle.tree_lists.specs.declared.TreeLists.{TreeLists}
+use Rattle.tree_lists.specs.declared.LeafLists.{LeafLists}
 use Rattle.tree_lists.specs.declared.Room.{Room}
 use Rattle.tree_lists.specs.declared.Records.{Records}
 
@@ -33,6 +34,15 @@ pub record SameLists (l m : TreeLists) : Type 0 where
   pub boxes_len : length m.boxes.now ≡ length l.boxes.now
   pub borrowed : m.borrowed.ghost_name ≡ l.borrowed.ghost_name
   pub borrowed_len : length m.borrowed.now ≡ length l.borrowed.now
+
+-- both hold the same three lists, each as long as it was
+pub record SameLeafLists (l m : LeafLists) : Type 0 where
+  pub internals : m.internals.ghost_name ≡ l.internals.ghost_name
+  pub internals_len : length m.internals.now ≡ length l.internals.now
+  pub domains : m.domains.ghost_name ≡ l.domains.ghost_name
+  pub domains_len : length m.domains.now ≡ length l.domains.now
+  pub boxes : m.boxes.ghost_name ≡ l.boxes.ghost_name
+  pub boxes_len : length m.boxes.now ≡ length l.boxes.now
 
 -- both hold the same room, as long as it was
 pub record SameRoom (r s : Room) : Type 0 where

@@ -1,4 +1,5 @@
-// The lists that a caller lends to a build, as one value each: the five lists of its tree, its working room, and the two lists of its records.
+// The lists that a caller lends to a build, as one value each: the five lists of its tree, its working room, and the two lists of its records;
+// and where the cut of a level writes to them.
 // They are lent on by `&mut`, and a function that takes one promises that it still holds the caller's lists (`SameLists` and the like).
 #![tactic(auto)]
 
@@ -10,6 +11,24 @@ pub struct TreeLists<'a> {
     pub domains: &'a mut [usize],
     pub boxes: &'a mut [f64],
     pub borrowed: &'a mut [usize],
+}
+
+// What the cut of a level writes of a tree: the rows of its leaves, their domain rows and their boxes.
+#[derive(Drop)]
+pub struct LeafLists<'a> {
+    pub internals: &'a mut [usize],
+    pub domains: &'a mut [usize],
+    pub boxes: &'a mut [f64],
+}
+
+// Where the cut of a level writes: the rows of its leaves go to the internals from `from` on, their domain rows and boxes from the `first`
+// on, and the nodes of its record from `node` on. The boxes stand packed, behind `skip` floats that belong to no box.
+#[derive(Clone, Copy)]
+pub struct Start {
+    pub from: usize,
+    pub first: usize,
+    pub skip: usize,
+    pub node: usize,
 }
 
 // The working room of a build.

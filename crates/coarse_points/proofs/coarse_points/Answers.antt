@@ -2,6 +2,7 @@
 use mathlib.Core.Path.{sym, ◌∙◌}
 use Prim.Native.Nat.{◌+◌, ◌≤◌}
 use native.Mathlib.Omega.{arith}
+use borrow.Author.Rules.{rules}
 use lib.ListN.{length}
 use Rattle.lists.specs.Lists.{part}
 use Rattle.lists.proofs.Put.{length_part}
@@ -43,6 +44,7 @@ returns c = let a = c.args in
     let h : a.size ≤ length (part a.level_points.now a.from a.a) = omega (arith, n, p.room.0) in
     let z = sent-size _ _ _ _ _ _ _ p.rows a.size h _ (omega (arith, p.room.2)) q in
     let u = up-size _ _ _ _ _ _ _ p.rows a.size h _ (omega (arith, p.room.2)) q in record {
+      same = search rules;
       number = (omega (arith, k.0, z, u), omega (arith, k.0, z));
       list = written-up _ _ _ _ _ _ _ p.rows a.size h _ (omega (arith, p.room.2)) q a.level_points.now (a.from + a.a) _ _ _ p.room.1 k.1 (omega (arith, k.0))
           c.sort_stretch.ensures;

@@ -5,5 +5,6 @@ use Rattle.coarse_points.proofs.Stages.{quotas-front}
 use Rattle.coarse_points.proofs.leaf_quotas.Goals as goal
 
 pub returns : goal.returns
-returns c = quotas-front (counts_at c.args.domains.now c.args.first c.args.m) _ _ c.args.m c.args.size (omega arith) c.copy_sizes.ensures
+returns c = let v = c.args.leaves in
+    quotas-front (counts_at v.domains.now v.first v.count) _ _ v.count c.args.size (omega arith) c.copy_sizes.ensures
     (omega (arith, c.requires.2, c.requires.4)) c.share_in_place.ensures

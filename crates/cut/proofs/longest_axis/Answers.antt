@@ -17,7 +17,7 @@ loop-axis-init c = (best-below-first _, c.extent_on-e.ensures)
 pub loop-axis-preserved : goal.loop-axis-preserved
 loop-axis-preserved c = let s = c in
     let a = s.args in
-    let better : ℕ → ℕ → Bool = λ y z. lt (extent a.dimensions a.points.now a.rows.now z) (extent a.dimensions a.points.now a.rows.now y) in
+    let better : ℕ → ℕ → Bool = λ y z. lt (extent a.points.dimensions a.points.coordinates.now a.rows.now z) (extent a.points.dimensions a.points.coordinates.now a.rows.now y) in
     let i = s.loop-axis.invariant in
     let v = c.extent_on-v.ensures in
     elim c.if-e-v.branch [
@@ -27,4 +27,4 @@ loop-axis-preserved c = let s = c in
 
 pub returns : goal.returns
 unfolding longest_axis_lem
-returns c = let e : c.loop-axis.axis ≡ c.args.dimensions = omega arith in rw e at c.loop-axis.invariant.0
+returns c = let e : c.loop-axis.axis ≡ c.args.points.dimensions = omega arith in rw e at c.loop-axis.invariant.0

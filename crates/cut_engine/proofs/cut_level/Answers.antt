@@ -25,7 +25,7 @@ pub overflow_mul-result : goal.overflow_mul-result
 overflow_mul-result c = let p = c.requires in
     let P = c.args in
     let w = c.leaves-leaves-in-DepthFirst.ensures in
-    let few = nodes-few P.dimensions P.points.now P.leaf P.active.now p.dimensions_nonzero.0 p.dimensions_nonzero.2 p.dimensions_nonzero.3 p.dimensions_nonzero.4 w.number in
+    let few = nodes-few P.dimensions P.points.coordinates.now P.leaf P.active.now p.dimensions_nonzero.0 p.dimensions_nonzero.2 p.dimensions_nonzero.3 p.dimensions_nonzero.4 w.number in
     record { fits = omega (arith, few, p.dimensions_nonzero.4.few) }
 
 pub returns-in-Queue : goal.returns-in-Queue
@@ -36,8 +36,8 @@ returns-in-Queue c = let P = c.args in
       internals = w.internals;
       domains = w.domains;
       boxes = w.boxes;
-      cuts = by-queue P.dimensions P.points.now P.leaf P.active.now whole_of _ P.cuts.now P.place e;
-      planes = by-queue P.dimensions P.points.now P.leaf P.active.now float_of _ P.planes.now P.place e;
+      cuts = by-queue P.dimensions P.points.coordinates.now P.leaf P.active.now whole_of _ P.cuts.now P.place e;
+      planes = by-queue P.dimensions P.points.coordinates.now P.leaf P.active.now float_of _ P.planes.now P.place e;
     }
 
 pub returns-in-DepthFirst : goal.returns-in-DepthFirst
@@ -45,7 +45,7 @@ returns-in-DepthFirst c = let p = c.requires in
     let P = c.args in
     let w = c.leaves-leaves-in-DepthFirst.ensures in
     let e = c.in-DepthFirst.is in
-    let few = nodes-few P.dimensions P.points.now P.leaf P.active.now p.dimensions_nonzero.0 p.dimensions_nonzero.2 p.dimensions_nonzero.3 p.dimensions_nonzero.4 w.number in record {
+    let few = nodes-few P.dimensions P.points.coordinates.now P.leaf P.active.now p.dimensions_nonzero.0 p.dimensions_nonzero.2 p.dimensions_nonzero.3 p.dimensions_nonzero.4 w.number in record {
       counts = (w.number, rw e (omega (arith, w.nodes)), rw e (omega (arith, few)));
       internals = w.internals;
       domains = w.domains;

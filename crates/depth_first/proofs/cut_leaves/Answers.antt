@@ -21,7 +21,7 @@ get_pointarray_extents-whole-requires c = let a = c in
     let g = p.dimensions_nonzero in
     let R = a.args.rows.now in
     let d = a.args.level.dimensions in
-    let cs = a.args.level.points.now in
+    let cs = a.args.level.points.coordinates.now in
     let leaf = a.args.level.leaf in
     (g.1, g.3, good-inside R g.4)
 
@@ -31,7 +31,7 @@ split-end-requires c = let a = c in
     let g = p.dimensions_nonzero in
     let R = a.args.rows.now in
     let d = a.args.level.dimensions in
-    let cs = a.args.level.points.now in
+    let cs = a.args.level.points.coordinates.now in
     let leaf = a.args.level.leaf in
     let u = c.get_pointarray_extents-whole in
     let room = level.root-space d cs g.0 leaf g.2 R g.4 g.3 a.args.place p.rows_in_bounds.0 p.rows_in_bounds.1 p.rows_in_bounds_2.0 p.rows_in_bounds_2.1 in
@@ -46,7 +46,7 @@ number_leaves-requires c = let a = c in
     let g = p.dimensions_nonzero in
     let R = a.args.rows.now in
     let d = a.args.level.dimensions in
-    let cs = a.args.level.points.now in
+    let cs = a.args.level.points.coordinates.now in
     let leaf = a.args.level.leaf in
     let u = c.get_pointarray_extents-whole in
     let room = level.root-space d cs g.0 leaf g.2 R g.4 g.3 a.args.place p.rows_in_bounds.0 p.rows_in_bounds.1 p.rows_in_bounds_2.0 p.rows_in_bounds_2.1 in
@@ -62,7 +62,7 @@ returns c = let a = c in
     let g = p.dimensions_nonzero in
     let R = a.args.rows.now in
     let d = a.args.level.dimensions in
-    let cs = a.args.level.points.now in
+    let cs = a.args.level.points.coordinates.now in
     let leaf = a.args.level.leaf in
     let u = c.get_pointarray_extents-whole in
     let room = level.root-space d cs g.0 leaf g.2 R g.4 g.3 a.args.place p.rows_in_bounds.0 p.rows_in_bounds.1 p.rows_in_bounds_2.0 p.rows_in_bounds_2.1 in

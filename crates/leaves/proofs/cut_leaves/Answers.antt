@@ -10,6 +10,7 @@ use Rattle.queue.proofs.View.{packed-length}
 use Rattle.boxes.specs.Boxes.{floats_of}
 use Rattle.leaves.proofs.Turns.{kept_next, run-first, run_end, found_all, front, known}
 use Rattle.leaves.proofs.Turns.{lent-good, lent-some, spare-length, lent-room, rows-kept, room-kept, wait, wait-less, next-leaves, next-leaves-less, width-most, axis-fit}
+use borrow.Author.Rules.{rules}
 use Rattle.leaves.proofs.cut_leaves.Goals as goal
 
 pub put_root-requires : goal.put_root-requires
@@ -17,24 +18,24 @@ put_root-requires c = let a = c in
     let p = a.requires in
     record {
       dimensions_bound = (p.dimensions_nonzero.1, p.dimensions_nonzero.3, good-inside _ p.dimensions_nonzero.4);
-      waiting_width_in_bounds = (omega (arith, p.dimensions_nonzero.3, p.rows_in_bounds.0), omega (arith, width-most a.args.dimensions (length a.args.rows.now) p.dimensions_nonzero.3, p.rows_in_bounds.1));
+      waiting_width_in_bounds = (omega (arith, p.dimensions_nonzero.3, p.rows_in_bounds.0), omega (arith, width-most a.args.points.dimensions (length a.args.rows.now) p.dimensions_nonzero.3, p.rows_in_bounds.1));
     }
 
 pub loop-head-init : goal.loop-head-init
 loop-head-init c = let r = c in
     let a = c in
     let p = a.requires in (
-      run-first _ _ p.dimensions_nonzero.0 p.dimensions_nonzero.1 _ p.dimensions_nonzero.2 _ p.dimensions_nonzero.3 p.dimensions_nonzero.4 a.args.wholes.now _ a.args.floats.now _ p.rows_in_bounds.0 p.rows_in_bounds.1
+      run-first _ _ p.dimensions_nonzero.0 p.dimensions_nonzero.1 _ p.dimensions_nonzero.2 _ p.dimensions_nonzero.3 p.dimensions_nonzero.4 a.args.room.now.wholes.now _ a.args.room.now.floats.now _ p.rows_in_bounds.0 p.rows_in_bounds.1
           r.put_root.ensures.wholes r.put_root.ensures.floats _ _ _ _ p.rows_bound.1 p.rows_bound.2,
       record {
         same_w = refl;
         same-O = refl;
         same-floats = refl;
         same-B = refl;
-        cap-w = omega (arith, r.put_root.auto.wholes, a.well_formed.1.1.1.1.1.1.1.1.1.0.0);
-        cap-O = omega (arith, a.well_formed.1.1.1.1.1.0.0);
-        cap-floats = omega (arith, r.put_root.auto.floats, a.well_formed.1.1.1.1.1.1.1.1.0.0);
-        cap-B = omega (arith, a.well_formed.1.1.1.1.1.1.1.0.0);
+        cap-w = search rules;
+        cap-O = search rules;
+        cap-floats = search rules;
+        cap-B = search rules;
       },
       c.box_width-stride.ensures,
     )
@@ -72,7 +73,7 @@ offset_bounds-rows-start c = let t = c in
     let i = t.loop-head.invariant in
     let x = front i.0 t.loop-head-test.true in
     let u = known x in
-    omega (arith, u.inside, u.same, c.well_formed.1.1.1.0.0)
+    search rules
 
 pub slice_bounds-cut_stretch-end : goal.slice_bounds-cut_stretch-end
 slice_bounds-cut_stretch-end c = let t = c in
@@ -193,8 +194,8 @@ copy_rows-requires c = let cut = c in
     let r = rows-kept x cut.cut_stretch-plane.new.rows cut.cut_stretch-plane.auto.rows in
     (omega (arith, r, u.inside, u.same), omega (arith, m, u.rows_fit, u.fit-w))
 
-pub overflow_add-at : goal.overflow_add-at
-overflow_add-at c = let t = c in
+pub overflow_add-from : goal.overflow_add-from
+overflow_add-from c = let t = c in
     let i = t.loop-head.invariant in
     let x = front i.0 t.loop-head-test.true in
     let u = known x in
@@ -284,12 +285,13 @@ returns c = let a = c in
     let l = c.loop-head in
     let r = l.invariant.0 in
     let en = run_end r c.loop-head-test.false in
-    let e : l.k - a.args.first - 1 ≡ l.tail = omega (arith, en.4) in
+    let e : l.k - a.args.start.first - 1 ≡ l.tail = omega (arith, en.4) in
     let found =
-    found_all _ _ p.dimensions_nonzero.0 p.dimensions_nonzero.1 _ p.dimensions_nonzero.2 _ p.dimensions_nonzero.3 p.dimensions_nonzero.4 a.args.wholes.now _ a.args.floats.now _ p.rows_in_bounds.0 p.rows_in_bounds.1
+    found_all _ _ p.dimensions_nonzero.0 p.dimensions_nonzero.1 _ p.dimensions_nonzero.2 _ p.dimensions_nonzero.3 p.dimensions_nonzero.4 a.args.room.now.wholes.now _ a.args.room.now.floats.now _ p.rows_in_bounds.0 p.rows_in_bounds.1
     root.wholes root.floats _ _ l.tail r.begun r.found-w r.found-floats in
     let back = c.copy_rows-2 in record {
       number = omega (arith, en.0);
+      same = search rules;
       rows = back.ensures ∙ put_whole l.rows _ (omega (arith, r.same, packed-length (length a.args.rows.now) l.wholes r.fit-w)) ∙ en.1;
       domains = en.2;
       boxes = en.3;

@@ -7,8 +7,8 @@ use Rattle.leaves.proofs.Turns.{Run, KeptLengths}
 use Rattle.leaves.proofs.cut_leaves.Given as goal
 
 abbrev pub invariant-loop-head : goal.invariant-loop-head
-invariant-loop-head l = Run l.dimensions l.points l.leaf l.initial.rows l.initial.domains l.initial.boxes l.initial.wholes l.initial.floats l.at l.first l.rows l.wholes l.domains l.floats l.boxes l.head l.tail l.done l.k
-    × KeptLengths l.initial.wholes l.initial.domains l.initial.floats l.initial.boxes l.wholes l.domains l.floats l.boxes × (l.stride ≡ box_width_lem l.dimensions)
+invariant-loop-head l = Run l.points.dimensions l.points.coordinates.now l.leaf l.initial.rows l.initial.domains l.initial.boxes l.initial.wholes l.initial.floats l.from l.first l.rows l.wholes l.domains l.floats l.boxes l.head l.tail l.done l.k
+    × KeptLengths l.initial.wholes l.initial.domains l.initial.floats l.initial.boxes l.wholes l.domains l.floats l.boxes × (l.stride ≡ box_width_lem l.points.dimensions)
 
 abbrev pub decreases-loop-head : goal.decreases-loop-head
 decreases-loop-head l = cuts_left (room_in (length l.initial.rows) l.wholes) l.head l.tail

@@ -1,34 +1,38 @@
 -- `leaves::leaves` meets its contract. Assumes nothing.
 use mathlib.Core.Path.{ap, ◌∙◌}
 use native.Mathlib.Omega.{arith}
-use lib.ListN.{length}
+use borrow.Author.Rules.{rules}
+use lib.ListN.{length, length-drop}
 use Rattle.lists.specs.Lists.{put}
-use Rattle.leaves.proofs.Place.{place-lent, place-back}
+use Rattle.lists.proofs.Put.{part-back}
+use Rattle.leaves.proofs.Place.{tail_all, tail-back}
 use Rattle.leaves.proofs.leaves.Goals as goal
 
 pub cut_leaves-requires : goal.cut_leaves-requires
-cut_leaves-requires c = let a = c in
-    let p = a.requires in
-    let lent = place-lent a.args.internals.now a.args.active.now _ a.args.at p.active_in_bounds_2.0 c.copy_rows.ensures in
+cut_leaves-requires c = let p = c.requires in
+    let a = c.args in
+    let copied = c.copy_from_slice.ensures.after in
     record {
-      dimensions_nonzero = rw lent p.dimensions_nonzero;
-      rows_in_bounds = rw lent p.active_in_bounds;
-      rows_bound = rw lent (omega (arith, p.active_in_bounds_2.0, a.well_formed.1.1.1.1.0.0), p.active_in_bounds_2.1, p.active_in_bounds_2.2);
+      dimensions_nonzero = rw copied p.dimensions_nonzero;
+      rows_in_bounds = rw copied p.active_in_bounds;
+      rows_bound =
+          rw (copied, tail_all a.lists.now.boxes.now a.start.skip, length-drop a.start.skip a.lists.now.boxes.now)
+          (omega (arith, p.active_in_bounds_2.0), p.active_in_bounds_2.1, omega (arith, p.active_in_bounds_2.2));
     }
 
 pub returns : goal.returns
-returns c = let a = c in
-    let p = a.requires in
-    let copied = c.copy_rows.ensures in
+returns c = let p = c.requires in
+    let a = c.args in
+    let copied = c.copy_from_slice.ensures.after in
     let cut = c.cut_leaves in
-    let lent = place-lent a.args.internals.now a.args.active.now _ a.args.at p.active_in_bounds_2.0 copied in
-    let f = rw lent at cut.ensures in
-    let back = place-back a.args.internals.now a.args.active.now _ a.args.at p.active_in_bounds_2.0 copied cut.new.rows (cut.auto.rows ∙ ap length lent) in
+    let f = rw copied at cut.ensures in
+    let back = part-back a.lists.now.internals.now a.start.from (length a.active.now) cut.new.rows (cut.auto.rows ∙ ap length copied) in
     record {
+      same = search rules;
       number = f.number;
-      internals = back ∙ ap (put a.args.internals.now a.args.at) f.rows;
+      internals = back ∙ ap (put a.lists.now.internals.now a.start.from) f.rows;
       domains = f.domains;
-      boxes = f.boxes;
+      boxes = tail-back a.lists.now.boxes.now a.start.skip _ _ _ (omega (arith, p.active_in_bounds_2.2)) cut.auto.boxes f.boxes;
       floats = f.floats;
       wholes = f.wholes;
     }

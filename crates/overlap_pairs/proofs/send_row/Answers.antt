@@ -24,7 +24,7 @@ send-requires c = let s = c in
     let N = f.new.near in
     let g : length N ≡ most_neighbours = omega arith in
     let k : length (take f.result N) ≡ f.result = length-take-le f.result N (omega (arith, f.ensures.0)) in
-    (length a.active.now, row_room a.dimensions a.points.now a.neighbours a.active.now (get_or a.active.now a.p 0) a.p a.wholes.now a.n (take f.result N) (take f.result f.new.far) s.requires.3 s.requires.4 s.requires.5 s.requires.2 (omega (arith, f.ensures.0)) f.ensures.1)
+    (length a.active.now, row_room a.points.dimensions a.points.coordinates.now a.neighbours a.active.now (get_or a.active.now a.p 0) a.p a.wholes.now a.n (take f.result N) (take f.result f.new.far) s.requires.3 s.requires.4 s.requires.5 s.requires.2 (omega (arith, f.ensures.0)) f.ensures.1)
 
 pub returns : goal.returns
 returns c = let s = c in

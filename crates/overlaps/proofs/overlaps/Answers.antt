@@ -18,7 +18,7 @@ collect-end-requires c = let s = c in
     let e : length W ≡ length a.wholes.now = omega arith in (
       s.requires.stage.rows,
       s.requires.stage.near,
-      stage-owners a.dimensions a.points.now a.neighbours a.active.now a.internals.now a.domains.now a.first a.m s.requires.stage W f.ensures (omega (arith, s.requires.neighbours_in_bounds.0)),
+      stage-owners a.points.dimensions a.points.coordinates.now a.neighbours a.active.now a.internals.now a.domains.now a.first a.m s.requires.stage W f.ensures (omega (arith, s.requires.neighbours_in_bounds.0)),
       omega (
         arith,
         e,
@@ -45,11 +45,11 @@ lend-requires c = let s = c in
       s.requires.stage.leaves.rows,
       omega (
         arith,
-        stage-length a.dimensions a.points.now a.neighbours
+        stage-length a.points.dimensions a.points.coordinates.now a.neighbours
             a.active.now a.internals.now a.domains.now a.first a.m s.requires.stage W f.ensures h U g.result g.ensures r,
         s.requires.neighbours_in_bounds.1,
       ),
-      stage-inside a.dimensions a.points.now a.neighbours a.active.now a.internals.now a.domains.now a.first a.m s.requires.stage
+      stage-inside a.points.dimensions a.points.coordinates.now a.neighbours a.active.now a.internals.now a.domains.now a.first a.m s.requires.stage
           W f.ensures h U g.result g.ensures r,
     )
 
@@ -66,17 +66,17 @@ returns c = let s = c in
     let k : length U ≡ length W = omega arith in
     let h : length a.active.now ≤ length W = omega (arith, s.requires.neighbours_in_bounds.0) in
     let r : length a.active.now + 2 * length a.active.now * (a.neighbours + 1) ≤ length U = omega (arith, e, k, s.requires.neighbours_in_bounds.0) in
-    let ls = positions_of a.dimensions a.points.now a.neighbours a.active.now (read_own a.internals.now a.domains.now a.first
+    let ls = positions_of a.points.dimensions a.points.coordinates.now a.neighbours a.active.now (read_own a.internals.now a.domains.now a.first
     a.m) in
     let l = c.lend in
-    let H = stage-encoded a.dimensions a.points.now a.neighbours a.active.now a.internals.now a.domains.now a.first a.m s.requires.stage W f.ensures h U g.result g.ensures r in record {
-      number = stage-number a.dimensions a.points.now a.neighbours a.active.now a.internals.now a.domains.now a.first a.m s.requires.stage W f.ensures h U g.result g.ensures r l.result (l.ensures.number ls H);
-      borrowed = stage-borrowed a.dimensions a.points.now a.neighbours a.active.now a.internals.now a.domains.now a.first a.m s.requires.stage W f.ensures h U g.result g.ensures r a.borrowed.now l.new.borrowed a.bat (l.ensures.rows ls H);
-      domains = stage-domains a.dimensions a.points.now a.neighbours a.active.now a.internals.now a.domains.now a.first a.m s.requires.stage W f.ensures h U g.result g.ensures r l.new.domains
+    let H = stage-encoded a.points.dimensions a.points.coordinates.now a.neighbours a.active.now a.internals.now a.domains.now a.first a.m s.requires.stage W f.ensures h U g.result g.ensures r in record {
+      number = stage-number a.points.dimensions a.points.coordinates.now a.neighbours a.active.now a.internals.now a.domains.now a.first a.m s.requires.stage W f.ensures h U g.result g.ensures r l.result (l.ensures.number ls H);
+      borrowed = stage-borrowed a.points.dimensions a.points.coordinates.now a.neighbours a.active.now a.internals.now a.domains.now a.first a.m s.requires.stage W f.ensures h U g.result g.ensures r a.borrowed.now l.new.borrowed a.bat (l.ensures.rows ls H);
+      domains = stage-domains a.points.dimensions a.points.coordinates.now a.neighbours a.active.now a.internals.now a.domains.now a.first a.m s.requires.stage W f.ensures h U g.result g.ensures r l.new.domains
           a.bat (l.ensures.columns ls H);
       most = omega (
         arith,
         l.ensures.most,
-        stage-length a.dimensions a.points.now a.neighbours a.active.now a.internals.now a.domains.now a.first a.m s.requires.stage W f.ensures h U g.result g.ensures r,
+        stage-length a.points.dimensions a.points.coordinates.now a.neighbours a.active.now a.internals.now a.domains.now a.first a.m s.requires.stage W f.ensures h U g.result g.ensures r,
       );
     }

@@ -7,8 +7,8 @@ use Rattle.sampling.proofs.sampling_verdict.Goals as goal
 
 pub returns-in-Some : goal.returns-in-Some
 unfolding sample_verdict verdict
-returns-in-Some c = let e = c.in-Some.ensures in grind (arith, nat_tests, e.0, bad-found c.args.points.now _ e.0 e.1)
+returns-in-Some c = let e = c.in-Some.ensures in grind (arith, nat_tests, e.0, bad-found c.args.points.coordinates.now _ e.0 e.1)
 
 pub returns-in-None : goal.returns-in-None
 unfolding sample_verdict verdict
-returns-in-None c = grind (arith, nat_tests, bad-nowhere c.args.points.now c.in-None.ensures)
+returns-in-None c = grind (arith, nat_tests, bad-nowhere c.args.points.coordinates.now c.in-None.ensures)

@@ -19,7 +19,7 @@ loop-i-preserved c = let a = c.args in
     let l = c.loop-i in
     let h = c.loop-i-test.true in
     let p = l.invariant.0 in
-    let v = lessened a.dimensions a.points.now a.rows.now a.last.0 a.floats.now in
+    let v = lessened a.points.dimensions a.points.coordinates.now a.rows.now a.last.0 a.floats.now in
     let k = lessened-kept _ _ _ _ a.floats.now c.requires.rows c.requires.room.0 c.requires.kept in
     let e : c.lesser_of-value.result ≡ v l.i =
     lessened-at _ _ _ _ _ l.i _ _ _ c.distance_sq-square.ensures (p.left l.i (omega arith)) c.lesser_of-value.ensures in
@@ -40,7 +40,7 @@ loop-i-preserved c = let a = c.args in
 pub returns-clause-peak : goal.returns-clause-peak
 returns-clause-peak c = let a = c.args in
     let l = c.loop-i in
-    let v = lessened a.dimensions a.points.now a.rows.now a.last.0 a.floats.now in
+    let v = lessened a.points.dimensions a.points.coordinates.now a.rows.now a.last.0 a.floats.now in
     let e : l.i ≡ length a.rows.now = omega arith in
     seen_all v _ _ _ _ (subst (λ (n : ℕ). Seen v n l.place l.most l.second) e l.invariant.1) (omega (arith, c.requires.room))
     (lessened-kept _ _ _ _ a.floats.now c.requires.rows c.requires.room.0 c.requires.kept)

@@ -3,5 +3,5 @@ use Rattle.sampling_rounds.proofs.Passes.{PassedTo, Seen}
 use Rattle.sampling_rounds.proofs.lessen.Given as goal
 
 abbrev pub invariant-loop-i : goal.invariant-loop-i
-invariant-loop-i l = PassedTo (lessened l.dimensions l.points l.rows l.fn.last.0 l.initial.floats) l.initial.floats l.floats l.i
-    × Seen (lessened l.dimensions l.points l.rows l.fn.last.0 l.initial.floats) l.i l.place l.most l.second
+invariant-loop-i l = PassedTo (lessened l.points.dimensions l.points.coordinates.now l.rows l.fn.last.0 l.initial.floats) l.initial.floats l.floats l.i
+    × Seen (lessened l.points.dimensions l.points.coordinates.now l.rows l.fn.last.0 l.initial.floats) l.i l.place l.most l.second

@@ -8,7 +8,7 @@ use Rattle.sampling_rounds.proofs.next_place.Goals as goal
 
 pub first_farthest-place-requires-clause-most_value : goal.first_farthest-place-requires-clause-most_value
 first_farthest-place-requires-clause-most_value c = let a = c.args in
-    let v = lessened a.dimensions a.points.now a.rows.now a.last.0 a.floats.now in
+    let v = lessened a.points.dimensions a.points.coordinates.now a.rows.now a.last.0 a.floats.now in
     let left = c.requires.«open» in
     let room = c.requires.room in
     let peak = c.lessen-peak.ensures.peak in
@@ -23,7 +23,7 @@ first_farthest-place-requires-clause-by_index c = let le = c.lessen-peak.ensures
 pub returns : goal.returns
 returns c = let le = c.lessen-peak in
     let a = c.args in
-    let v = lessened a.dimensions a.points.now a.rows.now a.last.0 a.floats.now in
+    let v = lessened a.points.dimensions a.points.coordinates.now a.rows.now a.last.0 a.floats.now in
     let left = c.requires.«open» in
     let room = c.requires.room in
     let kept = lessened-kept _ _ _ _ a.floats.now c.requires.rows room.0 c.requires.kept in

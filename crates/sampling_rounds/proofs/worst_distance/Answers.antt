@@ -7,7 +7,7 @@ use Rattle.sampling_rounds.proofs.worst_distance.Goals as goal
 pub returns : goal.returns
 returns c = let le = c.lessen-square in
     let a = c.args in
-    let v = lessened a.dimensions a.points.now a.rows.now a.last.0 a.floats.now in
+    let v = lessened a.points.dimensions a.points.coordinates.now a.rows.now a.last.0 a.floats.now in
     let left = c.requires.«open» in
     let room = c.requires.room in
     let kept = lessened-kept _ _ _ _ a.floats.now c.requires.rows room.0 c.requires.kept in

@@ -6,4 +6,4 @@ use Rattle.definition.specs.Sampling.{centroid}
 use Rattle.sampling_seed.proofs.get_centroid.Given as goal
 
 abbrev pub invariant-loop-axis : goal.invariant-loop-axis
-invariant-loop-axis l = (length l.center ≡ 3) × ((a : ℕ) → a < l.axis → get_or l.center a nan ≡ centroid l.dimensions l.points l.rows a)
+invariant-loop-axis l = (length l.center ≡ 3) × ((a : ℕ) → a < l.axis → get_or l.center a nan ≡ centroid l.points.dimensions l.points.coordinates.now l.rows a)

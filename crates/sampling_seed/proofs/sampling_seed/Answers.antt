@@ -25,8 +25,8 @@ distance_sq_at-low-requires c = (
 pub loop-i-init : goal.loop-i-init
 loop-i-init c = let a = c.args in
     let m = c.get_centroid-center in
-    let v = from_center a.dimensions a.points.now a.rows.now in
-    let g = center-good a.dimensions a.points.now a.rows.now c.requires.0 c.requires.2 in
+    let v = from_center a.points.dimensions a.points.coordinates.now a.rows.now in
+    let g = center-good a.points.dimensions a.points.coordinates.now a.rows.now c.requires.0 c.requires.2 in
     nearest-start v _ _ (g 0 c.requires.2) (center-square _ _ _ m.result 0 _ m.ensures c.distance_sq_at-low.ensures) c.root-near.ensures
 
 pub overflow_mul-row : goal.overflow_mul-row
@@ -45,8 +45,8 @@ distance_sq_at-square-requires c = (
 pub loop-i-preserved : goal.loop-i-preserved
 loop-i-preserved c = let a = c.args in
     let m = c.get_centroid-center in
-    let v = from_center a.dimensions a.points.now a.rows.now in
-    let g = center-good a.dimensions a.points.now a.rows.now c.requires.0 c.requires.2 in
+    let v = from_center a.points.dimensions a.points.coordinates.now a.rows.now in
+    let g = center-good a.points.dimensions a.points.coordinates.now a.rows.now c.requires.0 c.requires.2 in
     let l = c.loop-i in
     let h = c.loop-i-test.true in
     let q = c.distance_sq_at-square in

@@ -11,14 +11,14 @@ with_upper-left-requires t c =
     let a = c.args in
     let g = c.requires.dimensions_nonzero in
     let h = c.requires.dimensions_value in
-    (omega (arith, c.cut_node-at.ensures.plane.0, h.0, axis-below a.level.dimensions a.level.points.now a.rows.now g.0), omega (arith, g.1, h.0))
+    (omega (arith, c.cut_node-at.ensures.plane.0, h.0, axis-below a.level.points.dimensions a.level.points.coordinates.now a.rows.now g.0), omega (arith, g.1, h.0))
 
 pub with_lower-right-requires : goal.with_lower-right-requires
 with_lower-right-requires t c =
     let a = c.args in
     let g = c.requires.dimensions_nonzero in
     let h = c.requires.dimensions_value in
-    (omega (arith, c.cut_node-at.ensures.plane.0, h.0, axis-below a.level.dimensions a.level.points.now a.rows.now g.0), omega (arith, g.1, h.0))
+    (omega (arith, c.cut_node-at.ensures.plane.0, h.0, axis-below a.level.points.dimensions a.level.points.coordinates.now a.rows.now g.0), omega (arith, g.1, h.0))
 
 pub returns-then-half-leaf-clause-rows : goal.returns-then-half-leaf-clause-rows
 returns-then-half-leaf-clause-rows t c =
@@ -44,7 +44,7 @@ returns-then-half-leaf-clause-written t c =
     k.new.rows k.new.lists.wholes.now k.new.lists.cuts.now k.new.lists.planes.now e.plane e.rows e.wholes e.cuts e.planes e.same.0.wholes_len u.ensures v.ensures in
     let q = domain_of a.rows.now a.whole a.depth in
     leaves-written x c.if-half-leaf.true
-    ((rw e.same.1 at c.put_leaves.ensures.written) (left_of a.level.dimensions a.level.points.now q).rows (right_of a.level.dimensions a.level.points.now q).rows (left-long x) (right-long x))
+    ((rw e.same.1 at c.put_leaves.ensures.written) (left_of a.level.points.dimensions a.level.points.coordinates.now q).rows (right_of a.level.points.dimensions a.level.points.coordinates.now q).rows (left-long x) (right-long x))
 
 pub split-middle-requires : goal.split-middle-requires
 split-middle-requires t c =
