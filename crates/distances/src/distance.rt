@@ -3,6 +3,8 @@ ghost use Rattle.std.specs.Prelude.{◌≡◌, ◌+◌, ◌≤◌, length};
 ghost use Rattle.definition.specs.Points.{point_at, distance_sq_lem, rows_sq, rows_apart};
 ghost use Rattle.rows.specs.Rows.{Inside};
 
+use points::Points;
+
 // A place inside a leaf.
 #[derive(Clone, Copy)]
 pub struct LocalIdx(pub usize);
@@ -25,23 +27,23 @@ pub fn distance_sq_at(p: &[f64], a: usize, q: &[f64], b: usize, dimensions: usiz
 }
 
 // The squared distance of two rows.
-pub fn distance_sq(points: &[f64], dimensions: usize, i: GlobalIdx, j: GlobalIdx) -> f64
-    requires { Inside dimensions points.now i.0 × Inside dimensions points.now j.0 }
-    ensures { result ≡ rows_sq dimensions points.now i.0 j.0 }
+pub fn distance_sq(points: Points<'_>, i: GlobalIdx, j: GlobalIdx) -> f64
+    requires { Inside points.dimensions points.coordinates.now i.0 × Inside points.dimensions points.coordinates.now j.0 }
+    ensures { result ≡ rows_sq points.entry.dimensions points.entry.coordinates.now i.0 j.0 }
 {
     distance_sq_at(
-        points,
-        i.0 * dimensions,
-        points,
-        j.0 * dimensions,
-        dimensions,
+        points.coordinates,
+        i.0 * points.dimensions,
+        points.coordinates,
+        j.0 * points.dimensions,
+        points.dimensions,
     )
 }
 
 // The distance of two rows.
-pub fn get_distance(points: &[f64], dimensions: usize, i: GlobalIdx, j: GlobalIdx) -> f64
-    requires { Inside dimensions points.now i.0 × Inside dimensions points.now j.0 }
-    ensures { result ≡ rows_apart dimensions points.now i.0 j.0 }
+pub fn get_distance(points: Points<'_>, i: GlobalIdx, j: GlobalIdx) -> f64
+    requires { Inside points.dimensions points.coordinates.now i.0 × Inside points.dimensions points.coordinates.now j.0 }
+    ensures { result ≡ rows_apart points.entry.dimensions points.entry.coordinates.now i.0 j.0 }
 {
-    root::root(distance_sq(points, dimensions, i, j))
+    root::root(distance_sq(points, i, j))
 }

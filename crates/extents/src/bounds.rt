@@ -7,30 +7,25 @@ ghost use Rattle.boxes.specs.Boxes.{floats_of};
 ghost use Rattle.extents.specs.Bests.{Decides, best_of};
 
 use boxes::Extents;
+use points::Points;
 
 // The coordinate of a row on one axis.
-fn coordinate_of(points: &[f64], dimensions: usize, axis: usize, row: usize) -> f64
-    requires { (axis < dimensions) × Inside dimensions points.now row }
-    ensures { result ≡ coordinate dimensions points.now row axis }
+fn coordinate_of(points: Points<'_>, axis: usize, row: usize) -> f64
+    requires { (axis < points.dimensions) × Inside points.dimensions points.coordinates.now row }
+    ensures { result ≡ coordinate points.entry.dimensions points.entry.coordinates.now row axis }
 {
-    points[row * dimensions + axis]
+    points.coordinate(row, axis)
 }
 
 // The first coordinate of the rows on one axis that no other is better than.
-fn bound<F: Fn(f64, f64) -> bool>(
-    points: &[f64],
-    dimensions: usize,
-    axis: usize,
-    rows: &[usize],
-    better: F,
-) -> f64
-    requires rows { (axis < dimensions) × (0 < length rows.now) × All (Inside dimensions points.now) rows.now }
+fn bound<F: Fn(f64, f64) -> bool>(points: Points<'_>, axis: usize, rows: &[usize], better: F) -> f64
+    requires rows { (axis < points.dimensions) × (0 < length rows.now) × All (Inside points.dimensions points.coordinates.now) rows.now }
     requires callable { F.IsAlwaysCallable better }
-    ensures { (b : Float → Float → Bool) → Decides F.Fn better b → result ≡ best_of b (column dimensions points.now rows.now axis) }
+    ensures { (b : Float → Float → Bool) → Decides F.Fn better b → result ≡ best_of b (column points.entry.dimensions points.entry.coordinates.now rows.now axis) }
 {
-    let mut best = coordinate_of(points, dimensions, axis, rows[0]);
+    let mut best = coordinate_of(points, axis, rows[0]);
     for &row in &rows[1..] {
-        let v = coordinate_of(points, dimensions, axis, row);
+        let v = coordinate_of(points, axis, row);
         if better(v, best) {
             best = v;
         }
@@ -39,35 +34,35 @@ fn bound<F: Fn(f64, f64) -> bool>(
 }
 
 // The least coordinate of the rows on one axis.
-pub fn lower_bound(points: &[f64], dimensions: usize, axis: usize, rows: &[usize]) -> f64
-    requires { (axis < dimensions) × (0 < length rows.now) × All (Inside dimensions points.now) rows.now }
-    ensures { result ≡ lower_bound_lem dimensions points.now rows.now axis }
+pub fn lower_bound(points: Points<'_>, axis: usize, rows: &[usize]) -> f64
+    requires { (axis < points.dimensions) × (0 < length rows.now) × All (Inside points.dimensions points.coordinates.now) rows.now }
+    ensures { result ≡ lower_bound_lem points.entry.dimensions points.entry.coordinates.now rows.now axis }
 {
-    bound(points, dimensions, axis, rows, |v, w| v < w)
+    bound(points, axis, rows, |v, w| v < w)
 }
 
 // The greatest coordinate of the rows on one axis.
-pub fn upper_bound(points: &[f64], dimensions: usize, axis: usize, rows: &[usize]) -> f64
-    requires { (axis < dimensions) × (0 < length rows.now) × All (Inside dimensions points.now) rows.now }
-    ensures { result ≡ upper_bound_lem dimensions points.now rows.now axis }
+pub fn upper_bound(points: Points<'_>, axis: usize, rows: &[usize]) -> f64
+    requires { (axis < points.dimensions) × (0 < length rows.now) × All (Inside points.dimensions points.coordinates.now) rows.now }
+    ensures { result ≡ upper_bound_lem points.entry.dimensions points.entry.coordinates.now rows.now axis }
 {
-    bound(points, dimensions, axis, rows, |v, w| w < v)
+    bound(points, axis, rows, |v, w| w < v)
 }
 
 // The box of the rows: their least and greatest coordinate on each axis.
-pub fn get_pointarray_extents(points: &[f64], dimensions: usize, rows: &[usize]) -> Extents
-    requires { (dimensions ≤ 3) × (0 < length rows.now) × All (Inside dimensions points.now) rows.now }
-    ensures { (result.dimensions ≡ dimensions) × (floats_of result ≡ extents dimensions points.now rows.now) }
+pub fn get_pointarray_extents(points: Points<'_>, rows: &[usize]) -> Extents
+    requires { (points.dimensions ≤ 3) × (0 < length rows.now) × All (Inside points.dimensions points.coordinates.now) rows.now }
+    ensures { (result.dimensions ≡ points.entry.dimensions) × (floats_of result ≡ extents points.entry.dimensions points.entry.coordinates.now rows.now) }
 {
     let mut lower = [0.0; 3];
     let mut upper = [0.0; 3];
-    for axis in 0..dimensions {
-        lower[axis] = lower_bound(points, dimensions, axis, rows);
-        upper[axis] = upper_bound(points, dimensions, axis, rows);
+    for axis in 0..points.dimensions {
+        lower[axis] = lower_bound(points, axis, rows);
+        upper[axis] = upper_bound(points, axis, rows);
     }
     Extents {
         lower,
         upper,
-        dimensions,
+        dimensions: points.dimensions,
     }
 }

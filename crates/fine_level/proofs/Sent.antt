@@ -145,53 +145,17 @@ module _ (d : ℕ) (cs : List Float) (leaf neighbours size : ℕ) (active : List
       wider : (k : ℕ) → k ≤ k + 1
       wider k = omega arith
 
--- ---- the boxes as the engine leaves them: it was lent the box list from entry `first` on, and packed them behind `first` boxes there
-module _ {A : Type 0} where
-  tail_all : (l : List A) (at : ℕ) → take (length l - at) (drop at l) ≡ drop at l
-  tail_all l at = take_all (length l - at) (drop at l) (simp length-drop (omega arith))
-
-  tail-back : (l : List A) (at i : ℕ) (xs : List A) → at ≤ length l → at + i + length xs ≤ length l
-      → put_mid at (length l - at) l (put (take (length l - at) (drop at l)) i xs) ≡ put l (at + i) xs
-  tail-back l at i xs h g =
-      let ys = put (drop at l) i xs in
-      let n : length ys ≡ length l - at = length-put (drop at l) i xs (simp length-drop (omega arith)) ∙ length-drop at l in
-      ap (λ (z : List A). put_mid at (length l - at) l (put z i xs)) (tail_all l at)
-      ∙ mid_back l at (length l - at) ys n
-      ∙ put-def l at ys
-      ∙ rw (drop_of_length-le l {i = at + length ys} (omega (arith, n)), append-nil) (sym (put-tail l at i xs h))
-
-module _ (d : ℕ) (cs : List Float) (leaf neighbours : ℕ) (active : List ℕ) (g : Given d cs leaf neighbours active)
-    (B : List Float) (first : ℕ) (fits : row_floats_lem d * (first + 2 * length active) ≤ length B) where
-  abbrev cut_boxes : List (List Float)
-  cut_boxes = map (λ q. q.box) (leaves_of d cs leaf active)
-
+-- ---- the boxes as the engine leaves them: packed behind as many boxes as there are rows before, and a float for the cover of each of those
+module _ (d : ℕ) (cs : List Float) (leaf neighbours : ℕ) (active : List ℕ) (B : List Float) (first : ℕ) where
   -- a row's floats are a box's and one more
   row_is : (k : ℕ) → row_floats_lem d * k ≡ box_width_lem d * k + k
   row_is k = add-mul (box_width_lem d) 1 k ∙ ap (λ (z : ℕ). box_width_lem d * k + z) (one-mul k)
 
-  many-boxes : box_width_lem d * (first + length (leaves_of d cs leaf active)) ≤ box_width_lem d * (first + 2 * length active)
-  many-boxes = mul-le-mul_left (box_width_lem d) (omega (arith, number-most d cs leaf neighbours active g))
+  pub lent_fits : row_floats_lem d * (first + 2 * length active) ≤ length B → first + box_width_lem d * (first + 2 * length active) ≤ length B
+  lent_fits fits = omega (arith, fits, row_is (first + 2 * length active))
 
-  pub lent_fits : box_width_lem d * (first + 2 * length active) ≤ length (take (length B - first) (drop first B))
-  lent_fits =
-      rw (tail_all B first) (simp length-drop (omega (arith, fits, row_is (first + 2 * length active))))
-
-  boxes_fit : first + box_width_lem d * first + length (joined cut_boxes) ≤ length B
-  boxes_fit =
-      omega (
-        arith,
-        fits,
-        row_is (first + 2 * length active),
-        many-boxes,
-        mul-add (box_width_lem d) first (length (leaves_of d cs leaf active)),
-        boxes-length d cut_boxes (all_map (λ (b : List Float). length b ≡ box_width_lem d) (λ q. q.box) (leaves_of d cs leaf active) (leaves-boxes d cs leaf active)),
-        ap (λ (k : ℕ). box_width_lem d * k) (length-map (leaves_of d cs leaf active) (λ (q : Domain). q.box)),
-      )
-
-  pub boxes-packed : (ys : List Float) → ys ≡ put (take (length B - first) (drop first B)) (box_width_lem d * first) (joined (map (λ q. q.box) (leaves_of d cs leaf active)))
-      → put_mid first (length B - first) B ys ≡ put B (row_floats_lem d * first) (joined (map (λ f. f.box) (divided_at d cs leaf neighbours active)))
-  boxes-packed ys e =
+  pub boxes-packed : put B (first + box_width_lem d * first) (joined (map (λ q. q.box) (leaves_of d cs leaf active)))
+      ≡ put B (row_floats_lem d * first) (joined (map (λ f. f.box) (divided_at d cs leaf neighbours active)))
+  boxes-packed =
       let at : first + box_width_lem d * first ≡ row_floats_lem d * first = omega (arith, row_is first) in
-      ap (put_mid first (length B - first) B) e
-      ∙ tail-back B first (box_width_lem d * first) (joined cut_boxes) (omega (arith, boxes_fit)) boxes_fit
-      ∙ ap₂ (λ (k : ℕ) (x : List (List Float)). put B k (joined x)) at (sym (map-map (λ (f : Leaf). f.box) (λ q. fine_leaf d cs neighbours active q []) (leaves_of d cs leaf active)))
+      ap₂ (λ (k : ℕ) (x : List (List Float)). put B k (joined x)) at (sym (map-map (λ (f : Leaf). f.box) (λ q. fine_leaf d cs neighbours active q []) (leaves_of d cs leaf active)))

@@ -14,8 +14,9 @@ ghost use Rattle.fine_level.specs.Fine.{next_at, Room as LevelRoom};
 ghost use Rattle.fine_level.specs.Planned.{divided_by, leaves_by, nodes_by, active_at, GivenBy, FitsAt, RecordFits};
 
 use cut_engine::Engine;
+use packed::LevelLeaves;
 use points::Points;
-use tree_lists::{Records, Room, TreeLists};
+use tree_lists::{LeafLists, Records, Room, Start, TreeLists};
 
 // What every level of a build shares: the points, how they are cut, the leaf threshold and the neighbour count.
 #[derive(Clone, Copy)]
@@ -75,10 +76,6 @@ fn divide(
         leaf,
         neighbours,
     } = plan;
-    let Points {
-        coordinates,
-        dimensions,
-    } = points;
     let Place {
         from,
         a,
@@ -88,32 +85,33 @@ fn divide(
     } = place;
     let end = from + a;
     let level_points: &mut [usize] = lists.level_points;
-    let internals: &mut [usize] = lists.internals;
-    let domains: &mut [usize] = lists.domains;
-    let boxes: &mut [f64] = lists.boxes;
-    let wholes: &mut [usize] = room.wholes;
     let active: &mut [usize] = &mut level_points[from..end];
+    let start = Start {
+        from,
+        first,
+        skip: first,
+        node,
+    };
+    let mut leaf_lists = LeafLists {
+        internals: &mut *lists.internals,
+        domains: &mut *lists.domains,
+        boxes: &mut *lists.boxes,
+    };
     let cut = cut_engine::cut_level(
         engine,
-        coordinates,
-        dimensions,
+        points,
         leaf,
         active,
-        internals,
-        from,
-        domains,
-        first,
-        &mut boxes[first..],
-        room.floats,
-        wholes,
-        records.cuts,
-        records.planes,
-        node,
+        start,
+        &mut leaf_lists,
+        room,
+        records,
     );
     let leaves = cut.leaves;
+    let internals: &mut [usize] = lists.internals;
+    let domains: &mut [usize] = lists.domains;
     let borrowed = overlaps::overlaps(
-        coordinates,
-        dimensions,
+        points,
         neighbours,
         active,
         internals,
@@ -122,7 +120,7 @@ fn divide(
         leaves,
         lists.borrowed,
         bat,
-        wholes,
+        room.wholes,
     );
     Parts {
         leaves,
@@ -151,24 +149,15 @@ fn send_up(
 {
     let Place { from, a, first, .. } = place;
     let level_points: &mut [usize] = lists.level_points;
-    let internals: &mut [usize] = lists.internals;
-    let domains: &mut [usize] = lists.domains;
-    let floats: &mut [f64] = room.floats;
-    let next = coarse_points::coarse_points(
-        points.coordinates,
-        points.dimensions,
-        size,
-        level_points,
-        from,
-        a,
-        internals,
-        domains,
+    let leaves = LevelLeaves {
+        internals: &*lists.internals,
+        domains: &*lists.domains,
         first,
-        m,
-        floats,
-        room.wholes,
-    );
+        count: m,
+    };
+    let next = coarse_points::coarse_points(points, size, level_points, from, a, leaves, room);
     let stop = a + m;
+    let floats: &mut [f64] = room.floats;
     let covers: &mut [f64] = &mut floats[a..stop];
     covers::put_covers(lists.boxes, points.dimensions, first, covers);
     next

@@ -22,7 +22,7 @@ cut_level-cut-requires c = let p = c.requires in
     rw (part-lent P.lists.now.level_points.now P.place.from P.place.a) (record {
       dimensions_nonzero = (g.axes, g.axes_few, g.leaf_some, g.rows_some, g.good);
       active_in_bounds = (omega (arith, n, p.room.wholes), omega (arith, n, boxes-room P.plan.points.dimensions (length active) g.axes_few, p.room.floats));
-      active_in_bounds_2 = (omega (arith, n, p.fits_at.internals), omega (arith, n, p.fits_at.domains), lent_fits _ _ _ _ _ g P.lists.now.boxes.now P.place.first fits);
+      active_in_bounds_2 = (omega (arith, n, p.fits_at.internals), omega (arith, n, p.fits_at.domains), lent_fits P.plan.points.dimensions P.plan.points.coordinates.now P.plan.leaf P.plan.neighbours active P.lists.now.boxes.now P.place.first fits);
       active_in_bounds_3 = rw n p.record_fits;
     })
 
@@ -65,7 +65,7 @@ returns c = let p = c.requires in
       level_points = ap (λ (z : List ℕ). take P.place.from P.lists.now.level_points.now ++ z) (take-append-drop _ (drop P.place.from P.lists.now.level_points.now)) ∙ take-append-drop P.place.from P.lists.now.level_points.now;
       internals = internals ∙ ap (λ (z : List (List ℕ)). put P.lists.now.internals.now P.place.from (joined z)) (sym (level-own _ _ _ P.plan.neighbours _));
       domains = rows;
-      boxes = boxes-packed _ _ _ _ _ g P.lists.now.boxes.now P.place.first (rw (← n) at p.fits_at.boxes) _ (rw lent at l.boxes);
+      boxes = rw lent at l.boxes ∙ boxes-packed P.plan.points.dimensions P.plan.points.coordinates.now P.plan.leaf P.plan.neighbours active P.lists.now.boxes.now P.place.first;
       borrowed = rw (lent, read, ← borrowed) at o.borrowed;
       cuts = rw lent at l.cuts;
       planes = rw lent at l.planes;

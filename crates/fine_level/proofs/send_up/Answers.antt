@@ -10,7 +10,7 @@ use Rattle.fine_level.proofs.send_up.Goals as goal
 pub put_covers-requires : goal.put_covers-requires
 put_covers-requires c = let P = c.args in
     let p = c.requires in
-    let F = c.coarse_points-next.new.floats in
+    let F = c.coarse_points-next.new.room.floats.now in
     let n : length (take (P.place.a + P.m - P.place.a) (drop P.place.a F)) ≡ P.m = ap length (part-lent F P.place.a P.m) ∙ length_part F P.place.a P.m (omega (arith, p.size_le_a.3)) in
     (p.sends_up.axes, rw n p.size_le_a.4)
 
@@ -23,5 +23,5 @@ returns c = let P = c.args in
       kept = search rules;
       number = up.number;
       list = up.list;
-      boxes = (rw (part-lent c.coarse_points-next.new.floats P.place.a P.m, up.covers) at moved);
+      boxes = (rw (part-lent c.coarse_points-next.new.room.floats.now P.place.a P.m, up.covers) at moved);
     }

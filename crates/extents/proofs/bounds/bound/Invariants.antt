@@ -12,4 +12,4 @@ abbrev pub along : ℕ → List Float → ℕ → ℕ → Float
 along d cs a i = coordinate d cs i a
 
 abbrev pub invariant-loop-row : goal.invariant-loop-row
-invariant-loop-row g l = (b : Float → Float → Bool) → Decides g.F.Fn l.better b → l.best ≡ best_in b (along l.dimensions l.points l.axis) l.rows (l.row-index + 1)
+invariant-loop-row g l = (b : Float → Float → Bool) → Decides g.F.Fn l.better b → l.best ≡ best_in b (along l.points.dimensions l.points.coordinates.now l.axis) l.rows (l.row-index + 1)
