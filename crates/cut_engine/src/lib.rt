@@ -9,9 +9,11 @@ ghost use Rattle.definition.specs.Cut.{leaves_of};
 ghost use Rattle.definition.specs.Record.{whole_of, float_of};
 ghost use Rattle.queue.specs.Rows.{domain_own, with_own};
 ghost use Rattle.rows.specs.Rows.{GoodRows};
+ghost use Rattle.tree_lists.specs.Lent.{SameLeafLists, SameRoom, SameRecords};
 ghost use Rattle.cut_engine.specs.Engines.{record_by, nodes_for};
 
 use points::Points;
+use tree_lists::{LeafLists, Records, Room, Start};
 
 // How a level is cut: domains wait in a queue, or the left half is cut completely before the right. An enum, as document 02 names it for
 // this place, and matched in one function only.
@@ -28,51 +30,40 @@ pub struct Cut {
     pub nodes: usize,
 }
 
-// The leaves of the active rows, by this engine. Their rows go to `internals` from `at` on, packed; start, count and depth of each
-// to the domain rows from the `first` on, and their boxes to `boxes` from the `first` on. The record goes to `cuts` and `planes` from
-// `place` on; the queue writes none.
+// The leaves of the active rows, by this engine. Their rows go to the internals from `start.from` on, packed; start, count and depth of each
+// to the domain rows from the first on, and their boxes to `boxes`, behind `start.skip` floats, from the first on. The record goes to `cuts`
+// and `planes` from `start.node` on; the queue writes none.
 pub fn cut_level(
     engine: Engine,
     points: Points<'_>,
     leaf: usize,
     active: &[usize],
-    internals: &mut [usize],
-    at: usize,
-    domains: &mut [usize],
-    first: usize,
-    boxes: &mut [f64],
-    floats: &mut [f64],
-    wholes: &mut [usize],
-    cuts: &mut [usize],
-    planes: &mut [f64],
-    place: usize,
+    start: Start,
+    lists: &mut LeafLists<'_>,
+    room: &mut Room<'_>,
+    records: &mut Records<'_>,
 ) -> Cut
     requires dimensions_nonzero { (0 < points.dimensions) × (points.dimensions ≤ 3) × (1 ≤ leaf) × (1 ≤ length active.now) × GoodRows points.dimensions points.coordinates.now active.now }
-    requires active_in_bounds { (8 * length active.now ≤ length wholes.old) × (box_width_lem points.dimensions * (2 * length active.now) ≤ length floats.old) }
-    requires active_in_bounds_2 { (at + length active.now ≤ length internals.old) × (row_numbers * (first + 2 * length active.now) ≤ length domains.old) × (box_width_lem points.dimensions * (first + 2 * length active.now) ≤ length boxes.old) }
-    requires active_in_bounds_3 { (place + nodes_for engine (length active.now) ≤ length cuts.old) × (place + nodes_for engine (length active.now) ≤ length planes.old) }
+    requires active_in_bounds { (8 * length active.now ≤ length room.old.wholes.now) × (box_width_lem points.dimensions * (2 * length active.now) ≤ length room.old.floats.now) }
+    requires active_in_bounds_2 { (start.from + length active.now ≤ length lists.old.internals.now) × (row_numbers * (start.first + 2 * length active.now) ≤ length lists.old.domains.now) × (start.skip + box_width_lem points.dimensions * (start.first + 2 * length active.now) ≤ length lists.old.boxes.now) }
+    requires active_in_bounds_3 { (start.node + nodes_for engine (length active.now) ≤ length records.old.cuts.now) × (start.node + nodes_for engine (length active.now) ≤ length records.old.planes.now) }
+    ensures same { SameLeafLists lists.old lists.new × SameRoom room.old room.new × SameRecords records.old records.new }
     ensures counts { (result.leaves ≡ length (leaves_of points.entry.dimensions points.entry.coordinates.now leaf active.now))
         × (result.nodes ≡ length (record_by engine points.entry.dimensions points.entry.coordinates.now leaf active.now))
         × (result.nodes ≤ nodes_for engine (length active.now)) }
-    ensures internals { internals.new ≡ put internals.old at (joined (map (λ q. q.rows) (leaves_of points.entry.dimensions points.entry.coordinates.now leaf active.now))) }
-    ensures domains { domains.new ≡ with_own at (map domain_own (leaves_of points.entry.dimensions points.entry.coordinates.now leaf active.now)) first domains.old }
-    ensures boxes { boxes.new ≡ put boxes.old (box_width_lem points.entry.dimensions * first) (joined (map (λ q. q.box) (leaves_of points.entry.dimensions points.entry.coordinates.now leaf active.now))) }
-    ensures cuts { cuts.new ≡ put cuts.old place (map whole_of (record_by engine points.entry.dimensions points.entry.coordinates.now leaf active.now)) }
-    ensures planes { planes.new ≡ put planes.old place (map float_of (record_by engine points.entry.dimensions points.entry.coordinates.now leaf active.now)) }
+    ensures internals { lists.new.internals.now ≡ put lists.old.internals.now start.from (joined (map (λ q. q.rows) (leaves_of points.entry.dimensions points.entry.coordinates.now leaf active.now))) }
+    ensures domains { lists.new.domains.now ≡ with_own start.from (map domain_own (leaves_of points.entry.dimensions points.entry.coordinates.now leaf active.now)) start.first lists.old.domains.now }
+    ensures boxes { lists.new.boxes.now ≡ put lists.old.boxes.now (start.skip + box_width_lem points.entry.dimensions * start.first) (joined (map (λ q. q.box) (leaves_of points.entry.dimensions points.entry.coordinates.now leaf active.now))) }
+    ensures cuts { records.new.cuts.now ≡ put records.old.cuts.now start.node (map whole_of (record_by engine points.entry.dimensions points.entry.coordinates.now leaf active.now)) }
+    ensures planes { records.new.planes.now ≡ put records.old.planes.now start.node (map float_of (record_by engine points.entry.dimensions points.entry.coordinates.now leaf active.now)) }
 {
     match engine {
         Engine::Queue => {
-            let leaves = leaves::leaves(
-                points, leaf, active, internals, at, domains, first, boxes, floats,
-                wholes,
-            );
+            let leaves = leaves::leaves(points, leaf, active, start, lists, room);
             Cut { leaves, nodes: 0 }
         }
         Engine::DepthFirst => {
-            let leaves = depth_first::leaves(
-                points, leaf, active, internals, at, domains, first, boxes, floats,
-                wholes, cuts, planes, place,
-            );
+            let leaves = depth_first::leaves(points, leaf, active, start, lists, room, records);
             Cut {
                 leaves,
                 nodes: 2 * leaves - 1,

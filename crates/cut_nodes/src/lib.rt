@@ -12,10 +12,10 @@ ghost use Rattle.boxes.specs.Boxes.{floats_of};
 ghost use Rattle.record_laws.specs.Table.{entry_width};
 ghost use Rattle.cut_nodes.specs.Written.{domain_of, Written, WrittenTwo, SameLists};
 
-use points::Points;
 use boxes::Extents;
 use cut::Plane;
 use node::Node;
+use points::Points;
 
 // Where the next node goes, and how many leaves there are so far.
 #[derive(Clone, Copy)]

@@ -13,11 +13,13 @@ ghost use Rattle.slots.specs.Slots.{value_slot, sizes_slot, version_number};
 ghost use Rattle.table_checks.specs.Tables.{table_of};
 ghost use Rattle.slots.specs.Told.{Told, QuotasTold, SampleTold, BuildTold, DepthFirstTold, StoreTold, LoadTold, AddTold, RetireTold, SlotsTold};
 
+use points::Points;
 use quotas::Seated;
 use refusal::Refusal;
 use sampling::Sampled;
 use slots::Report;
 use table::Head;
+use tree_lists::Room;
 
 // The version as one number: major * 10000 + minor * 100 + patch.
 #[unsafe(no_mangle)]
@@ -103,9 +105,12 @@ pub extern "C" fn ddm_sample(
     if res.len() < 2 {
         return Refusal::ShortList.number();
     }
-    let answer = sampling::farthest_point_sampling(
-        points, dimensions, wanted, seed, out, floats, wholes,
-    );
+    let points = Points {
+        coordinates: points,
+        dimensions,
+    };
+    let mut room = Room { floats, wholes };
+    let answer = sampling::farthest_point_sampling(points, wanted, seed, out, &mut room);
     let told = Report::of(
         answer,
         Sampled {

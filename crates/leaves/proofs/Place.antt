@@ -1,5 +1,4 @@
 -- The boxes of a list are lent from some place on, and come back with a stretch written. Assumes nothing.
--- Holds: tail_all, tail-back
 use mathlib.Core.Path.{◌≡◌, sym, ap, ◌∙◌}
 use Prim.Native.Nat.{ℕ, ◌+◌, ◌-◌, ◌≤◌}
 use native.Mathlib.Omega.{arith}

@@ -2,6 +2,7 @@
 use native.Mathlib.Omega.{arith}
 use Rattle.definition.specs.Record.{whole_of, float_of}
 use Rattle.cut_engine.proofs.Written.{nodes-few, by-queue}
+use borrow.Author.Rules.{rules}
 use Rattle.cut_engine.proofs.cut_level.Goals as goal
 
 pub leaves-leaves-requires : goal.leaves-leaves-requires
@@ -25,19 +26,20 @@ pub overflow_mul-result : goal.overflow_mul-result
 overflow_mul-result c = let p = c.requires in
     let P = c.args in
     let w = c.leaves-leaves-in-DepthFirst.ensures in
-    let few = nodes-few P.dimensions P.points.coordinates.now P.leaf P.active.now p.dimensions_nonzero.0 p.dimensions_nonzero.2 p.dimensions_nonzero.3 p.dimensions_nonzero.4 w.number in
+    let few = nodes-few P.points.dimensions P.points.coordinates.now P.leaf P.active.now p.dimensions_nonzero.0 p.dimensions_nonzero.2 p.dimensions_nonzero.3 p.dimensions_nonzero.4 w.number in
     record { fits = omega (arith, few, p.dimensions_nonzero.4.few) }
 
 pub returns-in-Queue : goal.returns-in-Queue
 returns-in-Queue c = let P = c.args in
     let w = c.leaves-leaves.ensures in
     let e = c.in-Queue.is in record {
+      same = search rules;
       counts = (w.number, rw e, omega arith);
       internals = w.internals;
       domains = w.domains;
       boxes = w.boxes;
-      cuts = by-queue P.dimensions P.points.coordinates.now P.leaf P.active.now whole_of _ P.cuts.now P.place e;
-      planes = by-queue P.dimensions P.points.coordinates.now P.leaf P.active.now float_of _ P.planes.now P.place e;
+      cuts = by-queue P.points.dimensions P.points.coordinates.now P.leaf P.active.now whole_of _ P.records.now.cuts.now P.start.node e;
+      planes = by-queue P.points.dimensions P.points.coordinates.now P.leaf P.active.now float_of _ P.records.now.planes.now P.start.node e;
     }
 
 pub returns-in-DepthFirst : goal.returns-in-DepthFirst
@@ -45,7 +47,8 @@ returns-in-DepthFirst c = let p = c.requires in
     let P = c.args in
     let w = c.leaves-leaves-in-DepthFirst.ensures in
     let e = c.in-DepthFirst.is in
-    let few = nodes-few P.dimensions P.points.coordinates.now P.leaf P.active.now p.dimensions_nonzero.0 p.dimensions_nonzero.2 p.dimensions_nonzero.3 p.dimensions_nonzero.4 w.number in record {
+    let few = nodes-few P.points.dimensions P.points.coordinates.now P.leaf P.active.now p.dimensions_nonzero.0 p.dimensions_nonzero.2 p.dimensions_nonzero.3 p.dimensions_nonzero.4 w.number in record {
+      same = search rules;
       counts = (w.number, rw e (omega (arith, w.nodes)), rw e (omega (arith, few)));
       internals = w.internals;
       domains = w.domains;

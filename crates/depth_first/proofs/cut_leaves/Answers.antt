@@ -20,7 +20,7 @@ get_pointarray_extents-whole-requires c = let a = c in
     let p = a.requires in
     let g = p.dimensions_nonzero in
     let R = a.args.rows.now in
-    let d = a.args.level.dimensions in
+    let d = a.args.level.points.dimensions in
     let cs = a.args.level.points.coordinates.now in
     let leaf = a.args.level.leaf in
     (g.1, g.3, good-inside R g.4)
@@ -30,11 +30,11 @@ split-end-requires c = let a = c in
     let p = a.requires in
     let g = p.dimensions_nonzero in
     let R = a.args.rows.now in
-    let d = a.args.level.dimensions in
+    let d = a.args.level.points.dimensions in
     let cs = a.args.level.points.coordinates.now in
     let leaf = a.args.level.leaf in
     let u = c.get_pointarray_extents-whole in
-    let room = level.root-space d cs g.0 leaf g.2 R g.4 g.3 a.args.place p.rows_in_bounds.0 p.rows_in_bounds.1 p.rows_in_bounds_2.0 p.rows_in_bounds_2.1 in
+    let room = level.root-space d cs g.0 leaf g.2 R g.4 g.3 a.args.start.node p.rows_in_bounds.0 p.rows_in_bounds.1 p.rows_in_bounds_2.0 p.rows_in_bounds_2.1 in
     record {
       dimensions_nonzero = g;
       dimensions_value = (u.ensures.0, level.root-wide d cs g.0 leaf g.2 R g.4 g.3 u.result u.ensures.1, omega (arith, g.4.few), rw p.base room);
@@ -45,27 +45,27 @@ number_leaves-requires c = let a = c in
     let p = a.requires in
     let g = p.dimensions_nonzero in
     let R = a.args.rows.now in
-    let d = a.args.level.dimensions in
+    let d = a.args.level.points.dimensions in
     let cs = a.args.level.points.coordinates.now in
     let leaf = a.args.level.leaf in
     let u = c.get_pointarray_extents-whole in
-    let room = level.root-space d cs g.0 leaf g.2 R g.4 g.3 a.args.place p.rows_in_bounds.0 p.rows_in_bounds.1 p.rows_in_bounds_2.0 p.rows_in_bounds_2.1 in
+    let room = level.root-space d cs g.0 leaf g.2 R g.4 g.3 a.args.start.node p.rows_in_bounds.0 p.rows_in_bounds.1 p.rows_in_bounds_2.0 p.rows_in_bounds_2.1 in
     let x = c.split-end in
     let is = level.root_is d cs g.0 leaf g.2 R g.4 g.3 u.result u.ensures.1 in
     let w = written_of refl is (rw p.base at x.ensures.written) in
     let eR = x.ensures.rows ∙ ap rows_under is in
-    level.level-tabled d cs g.0 leaf g.2 R g.4 g.3 x.new.rows x.new.lists.wholes.now x.new.lists.floats.now x.new.lists.cuts.now x.new.lists.planes.now eR w x.auto.rows x.ensures.same.wholes_len x.ensures.same.floats_len x.ensures.same.cuts_len room g.1 a.args.at a.args.first a.args.domains.now a.args.boxes.now p.rows_bound.0 p.rows_bound.1 p.rows_bound.2
+    level.level-tabled d cs g.0 leaf g.2 R g.4 g.3 x.new.rows x.new.lists.wholes.now x.new.lists.floats.now x.new.lists.cuts.now x.new.lists.planes.now eR w x.auto.rows x.ensures.same.wholes_len x.ensures.same.floats_len x.ensures.same.cuts_len room g.1 a.args.start.from a.args.start.first a.args.domains.now a.args.boxes.now p.rows_bound.0 p.rows_bound.1 p.rows_bound.2
 
 pub returns : goal.returns
 returns c = let a = c in
     let p = a.requires in
     let g = p.dimensions_nonzero in
     let R = a.args.rows.now in
-    let d = a.args.level.dimensions in
+    let d = a.args.level.points.dimensions in
     let cs = a.args.level.points.coordinates.now in
     let leaf = a.args.level.leaf in
     let u = c.get_pointarray_extents-whole in
-    let room = level.root-space d cs g.0 leaf g.2 R g.4 g.3 a.args.place p.rows_in_bounds.0 p.rows_in_bounds.1 p.rows_in_bounds_2.0 p.rows_in_bounds_2.1 in
+    let room = level.root-space d cs g.0 leaf g.2 R g.4 g.3 a.args.start.node p.rows_in_bounds.0 p.rows_in_bounds.1 p.rows_in_bounds_2.0 p.rows_in_bounds_2.1 in
     let x = c.split-end in
     let is = level.root_is d cs g.0 leaf g.2 R g.4 g.3 u.result u.ensures.1 in
     let w = written_of refl is (rw p.base at x.ensures.written) in
@@ -73,13 +73,16 @@ returns c = let a = c in
     let e = c.number_leaves.ensures in
     let rows = level.level-rows d cs g.0 leaf g.2 R g.4 g.3 x.new.rows x.new.lists.wholes.now x.new.lists.floats.now x.new.lists.cuts.now x.new.lists.planes.now eR w x.auto.rows x.ensures.same.wholes_len x.ensures.same.floats_len x.ensures.same.cuts_len room in
     let own = level.level-own d cs g.0 leaf g.2 R g.4 g.3 x.new.rows x.new.lists.wholes.now x.new.lists.floats.now x.new.lists.cuts.now x.new.lists.planes.now eR w x.auto.rows x.ensures.same.wholes_len x.ensures.same.floats_len x.ensures.same.cuts_len room in
-    let m = level.level-many d cs g.0 leaf g.2 R g.4 g.3 x.new.rows x.new.lists.wholes.now x.new.lists.floats.now x.new.lists.cuts.now x.new.lists.planes.now eR w x.auto.rows x.ensures.same.wholes_len x.ensures.same.floats_len x.ensures.same.cuts_len room in record {
+    let m = level.level-many d cs g.0 leaf g.2 R g.4 g.3 x.new.rows x.new.lists.wholes.now x.new.lists.floats.now x.new.lists.cuts.now x.new.lists.planes.now eR w x.auto.rows x.ensures.same.wholes_len x.ensures.same.floats_len x.ensures.same.cuts_len room in
+    let domains = e.domains ∙ ap (λ (z : List Own). with_own a.args.start.from z a.args.start.first a.args.domains.now) own in
+    let boxes = e.boxes ∙ ap (λ (z : List (List Float)). put a.args.boxes.now (box_width_lem d * a.args.start.first) (joined z)) (level.level-boxes d cs g.0 leaf g.2 R g.4 g.3 x.new.rows x.new.lists.wholes.now x.new.lists.floats.now x.new.lists.cuts.now x.new.lists.planes.now eR w x.auto.rows x.ensures.same.wholes_len x.ensures.same.floats_len x.ensures.same.cuts_len room) in
+    let cuts = e.cuts ∙ level.level-cuts-are d cs g.0 leaf g.2 R g.4 g.3 x.new.rows x.new.lists.wholes.now x.new.lists.floats.now x.new.lists.cuts.now x.new.lists.planes.now eR w x.auto.rows x.ensures.same.wholes_len x.ensures.same.floats_len x.ensures.same.cuts_len room in record {
       same = search rules;
       number = m;
       nodes = omega (arith, m, record-long d cs g.0 leaf g.2 R g.4 g.3);
       rows = e.rows ∙ ap joined rows;
-      domains = e.domains ∙ ap (λ (z : List Own). with_own a.args.at z a.args.first a.args.domains.now) own;
-      boxes = e.boxes ∙ ap (λ (z : List (List Float)). put a.args.boxes.now (box_width_lem d * a.args.first) (joined z)) (level.level-boxes d cs g.0 leaf g.2 R g.4 g.3 x.new.rows x.new.lists.wholes.now x.new.lists.floats.now x.new.lists.cuts.now x.new.lists.planes.now eR w x.auto.rows x.ensures.same.wholes_len x.ensures.same.floats_len x.ensures.same.cuts_len room);
-      cuts = e.cuts ∙ level.level-cuts-are d cs g.0 leaf g.2 R g.4 g.3 x.new.rows x.new.lists.wholes.now x.new.lists.floats.now x.new.lists.cuts.now x.new.lists.planes.now eR w x.auto.rows x.ensures.same.wholes_len x.ensures.same.floats_len x.ensures.same.cuts_len room;
+      domains = search (rules, domains);
+      boxes = search (rules, boxes);
+      cuts = search (rules, cuts);
       planes = level.level-planes d cs g.0 leaf g.2 R g.4 g.3 x.new.rows x.new.lists.wholes.now x.new.lists.floats.now x.new.lists.cuts.now x.new.lists.planes.now eR w x.auto.rows x.ensures.same.wholes_len x.ensures.same.floats_len x.ensures.same.cuts_len room;
     }
