@@ -3,19 +3,18 @@
 -- Holds: sent-own, sent-borrowed, sent-number, sent-stretches, floats-are, lent_fits, boxes-packed
 use mathlib.Core.Path.{◌≡◌, refl, sym, ap, ap₂, ◌∙◌}
 use mathlib.Core.List.{List, [], ◌∷◌, ◌++◌, map, map-map, zip_with, append-nil}
-use Prim.Native.Nat.{ℕ, ◌+◌, ◌-◌, ◌*◌, ◌≤◌, ◌<◌}
+use Prim.Native.Nat.{ℕ, ◌+◌, ◌*◌, ◌≤◌, ◌<◌}
 use native.Mathlib.Omega.{arith}
 use native.Mathlib.Nat.{zero-add, mul-add, add-mul, one-mul, mul-le-mul_left, mul-le-mul_right}
-use lib.ListN.{length, get_or, take, drop, length-map, length-drop, drop_of_length-le}
-use lib.Seq.{take_all, take-length}
-use borrow.Rule.Slice.PartMut.{put_mid}
+use lib.ListN.{length, get_or, take, length-map}
+use lib.Seq.{take-length}
 use lib.Ieee.{Float, nan}
 use Rattle.lists.specs.Lists.{total, put, part, joined, from}
 use Rattle.lists.specs.Ascends.{All}
 use Rattle.lists.proofs.All.{all_map, all-at}
 use Rattle.lists.proofs.Map.{zip-map, zip_length, zip_first}
 use Rattle.lists.proofs.From.{zip-from-at}
-use Rattle.lists.proofs.Put.{length-put, put-def, put-longer, put-tail, part-put-in, mid_back}
+use Rattle.lists.proofs.Put.{length-put, put-longer, part-put-in}
 use Rattle.lists.proofs.Joined.{joined_at, even-lengths, length-joined}
 use Rattle.definition.specs.Cut.{Domain, leaves_of}
 use Rattle.definition.specs.Points.{box_width_lem}
@@ -29,8 +28,8 @@ use Rattle.definition_laws.proofs.Shape.{leaves-boxes}
 use Rattle.coarse_points.specs.Sent.{sent_covers}
 use Rattle.covers.specs.Covered.{covered_box, covered}
 use Rattle.covers.proofs.Moved.{covered-length}
-use Rattle.fine_level.specs.Fine.{divided_at, leaves_at_lem, Given}
-use Rattle.fine_level.proofs.Stages.{level_rows, number-most}
+use Rattle.fine_level.specs.Fine.{divided_at, leaves_at_lem}
+use Rattle.fine_level.proofs.Stages.{level_rows}
 
 -- ---- boxes that stand packed, each with its cover behind it
 module _ (d : ℕ) (bs : List (List Float)) (even : All (λ (b : List Float). length b ≡ box_width_lem d) bs) where

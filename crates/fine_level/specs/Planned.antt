@@ -1,12 +1,17 @@
 -- The words of Fine by a plan and a place. Definitions only.
 use Rattle.std.specs.Prelude.{ℕ, ◌+◌, ◌≤◌, List, length, Float}
 use Rattle.lists.specs.Lists.{part}
+use Rattle.definition.specs.Cut.{Domain, leaves_of}
 use Rattle.definition.specs.Tree.{Leaf}
 use Rattle.definition.specs.Record.{Node}
 use Rattle.cut_engine.specs.Engines.{record_by, nodes_for}
 use Rattle.fine_level.specs.declared.Plan.{Plan}
 use Rattle.fine_level.specs.declared.Place.{Place}
 use Rattle.fine_level.specs.Fine.{divided_at, leaves_at_lem, Given, Fits}
+
+-- the leaves that the active rows are cut into
+abbrev pub cut_by : Plan → List ℕ → List Domain
+cut_by p active = leaves_of p.points.dimensions p.points.coordinates.now p.leaf active
 
 -- the leaves of the fine level over the active rows: before any row is sent up, and where `size` of them are
 abbrev pub divided_by : Plan → List ℕ → List Leaf

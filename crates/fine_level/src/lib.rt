@@ -11,9 +11,10 @@ ghost use Rattle.coarse_points.specs.Sent.{sent_rows, sent_covers, SendsUp};
 ghost use Rattle.covers.specs.Covered.{covered};
 ghost use Rattle.tree_lists.specs.Lent.{SameLists, SameRoom, SameRecords};
 ghost use Rattle.fine_level.specs.Fine.{next_at, Room as LevelRoom};
-ghost use Rattle.fine_level.specs.Planned.{divided_by, leaves_by, nodes_by, active_at, GivenBy, FitsAt, RecordFits};
+ghost use Rattle.queue.specs.Rows.{domain_own, with_own};
+ghost use Rattle.fine_level.specs.Planned.{cut_by, divided_by, leaves_by, nodes_by, active_at, GivenBy, FitsAt, RecordFits};
 
-use cut_engine::Engine;
+use cut_engine::{Cut, Engine};
 use packed::LevelLeaves;
 use points::Points;
 use tree_lists::{LeafLists, Records, Room, Start, TreeLists};
@@ -46,8 +47,62 @@ pub struct Parts {
     pub nodes: usize,
 }
 
-// The leaves of the active rows, with the record, and what they borrow. Their boxes are packed where the floats of the first domain row
-// start: the engine puts them behind as many boxes as there are rows before, and `first` floats are passed over for the covers of those.
+// The leaves of the active rows, with the record. Their boxes are packed where the floats of the first domain row start: the engine puts
+// them behind as many boxes as there are rows before, and `first` floats are passed over for the covers of those.
+fn cut_rows(
+    plan: Plan<'_>,
+    place: Place,
+    lists: &mut TreeLists<'_>,
+    room: &mut Room<'_>,
+    records: &mut Records<'_>,
+) -> Cut
+    requires given_by { (place.from + place.a ≤ length lists.old.level_points.now) × GivenBy plan (active_at place lists.old.level_points.now) }
+    requires fits_at { FitsAt plan place place.a lists.old.internals.now lists.old.domains.now lists.old.boxes.now lists.old.borrowed.now }
+    requires room { LevelRoom plan.neighbours place.a room.old.floats.now room.old.wholes.now }
+    requires record_fits { RecordFits plan place place.a records.old.cuts.now records.old.planes.now }
+    ensures same { SameLists lists.old lists.new × SameRoom room.old room.new × SameRecords records.old records.new }
+    ensures kept { (lists.new.level_points.now ≡ lists.old.level_points.now) × (lists.new.borrowed.now ≡ lists.old.borrowed.now) }
+    ensures counts { (result.leaves ≡ length (cut_by plan.entry (active_at place lists.old.level_points.now)))
+        × (result.nodes ≡ length (nodes_by plan.entry (active_at place lists.old.level_points.now))) × (result.nodes ≤ nodes_for plan.entry.engine place.a) }
+    ensures internals { lists.new.internals.now ≡ put lists.old.internals.now place.from (joined (map (λ q. q.rows) (cut_by plan.entry (active_at place lists.old.level_points.now)))) }
+    ensures domains { lists.new.domains.now ≡ with_own place.from (map domain_own (cut_by plan.entry (active_at place lists.old.level_points.now))) place.first lists.old.domains.now }
+    ensures boxes { lists.new.boxes.now ≡ put lists.old.boxes.now (row_floats_lem plan.entry.points.dimensions * place.first) (joined (map (λ f. f.box) (divided_by plan.entry (active_at place lists.old.level_points.now)))) }
+    ensures cuts { records.new.cuts.now ≡ put records.old.cuts.now place.node (map whole_of (nodes_by plan.entry (active_at place lists.old.level_points.now))) }
+    ensures planes { records.new.planes.now ≡ put records.old.planes.now place.node (map float_of (nodes_by plan.entry (active_at place lists.old.level_points.now))) }
+{
+    let Place {
+        from,
+        first,
+        node,
+        ..
+    } = place;
+    let end = from + place.a;
+    let level_points: &mut [usize] = lists.level_points;
+    let active: &mut [usize] = &mut level_points[from..end];
+    let start = Start {
+        from,
+        first,
+        skip: first,
+        node,
+    };
+    let mut leaf_lists = LeafLists {
+        internals: &mut *lists.internals,
+        domains: &mut *lists.domains,
+        boxes: &mut *lists.boxes,
+    };
+    cut_engine::cut_level(
+        plan.engine,
+        plan.points,
+        plan.leaf,
+        active,
+        start,
+        &mut leaf_lists,
+        room,
+        records,
+    )
+}
+
+// The leaves of the active rows, with the record, and what they borrow.
 fn divide(
     plan: Plan<'_>,
     place: Place,
@@ -70,49 +125,22 @@ fn divide(
     ensures cuts { records.new.cuts.now ≡ put records.old.cuts.now place.node (map whole_of (nodes_by plan.entry (active_at place lists.old.level_points.now))) }
     ensures planes { records.new.planes.now ≡ put records.old.planes.now place.node (map float_of (nodes_by plan.entry (active_at place lists.old.level_points.now))) }
 {
-    let Plan {
-        points,
-        engine,
-        leaf,
-        neighbours,
-    } = plan;
+    let cut = cut_rows(plan, place, lists, room, records);
+    let leaves = cut.leaves;
     let Place {
         from,
-        a,
         first,
         bat,
-        node,
+        ..
     } = place;
-    let end = from + a;
+    let end = from + place.a;
     let level_points: &mut [usize] = lists.level_points;
     let active: &mut [usize] = &mut level_points[from..end];
-    let start = Start {
-        from,
-        first,
-        skip: first,
-        node,
-    };
-    let mut leaf_lists = LeafLists {
-        internals: &mut *lists.internals,
-        domains: &mut *lists.domains,
-        boxes: &mut *lists.boxes,
-    };
-    let cut = cut_engine::cut_level(
-        engine,
-        points,
-        leaf,
-        active,
-        start,
-        &mut leaf_lists,
-        room,
-        records,
-    );
-    let leaves = cut.leaves;
     let internals: &mut [usize] = lists.internals;
     let domains: &mut [usize] = lists.domains;
     let borrowed = overlaps::overlaps(
-        points,
-        neighbours,
+        plan.points,
+        plan.neighbours,
         active,
         internals,
         domains,
@@ -149,9 +177,11 @@ fn send_up(
 {
     let Place { from, a, first, .. } = place;
     let level_points: &mut [usize] = lists.level_points;
+    let internals: &mut [usize] = lists.internals;
+    let domains: &mut [usize] = lists.domains;
     let leaves = LevelLeaves {
-        internals: &*lists.internals,
-        domains: &*lists.domains,
+        internals,
+        domains,
         first,
         count: m,
     };
