@@ -17,7 +17,7 @@ ghost use Rattle.tree_lists.specs.Lent.{SameLists, SameRoom, SameRecords};
 
 use fine_level::{Place, Plan, Written};
 use tree_answer::DDMTree;
-use tree_lists::{Records, Room, TreeLists};
+use tree_lists::{LeafLists, Records, Room, TreeLists};
 
 // The most fine levels.
 const MOST_FINE: usize = 3;
@@ -66,19 +66,21 @@ fn last_level(dimensions: usize, place: Place, lists: &mut TreeLists<'_>)
     ensures domains { lists.new.domains.now ≡ put lists.old.domains.now (row_numbers * place.first) (place.from ∷ place.a ∷ place.bat ∷ 0 ∷ 0 ∷ []) }
     ensures boxes { lists.new.boxes.now ≡ put lists.old.boxes.now (row_floats_lem dimensions * place.first) (replicate (row_floats_lem dimensions) plus_zero) }
 {
+    let end = place.from + place.a;
     let level_points: &mut [usize] = lists.level_points;
-    let internals: &mut [usize] = lists.internals;
-    let domains: &mut [usize] = lists.domains;
+    let active: &mut [usize] = &mut level_points[place.from..end];
+    let mut leaf_lists = LeafLists {
+        internals: &mut *lists.internals,
+        domains: &mut *lists.domains,
+        boxes: &mut *lists.boxes,
+    };
     coarse_level::coarse_level(
         dimensions,
-        level_points,
+        active,
         place.from,
-        place.a,
-        internals,
-        domains,
         place.first,
         place.bat,
-        lists.boxes,
+        &mut leaf_lists,
     );
 }
 
