@@ -25,7 +25,8 @@ pub struct Next {
 }
 
 // What the cut writes to: the boxes of the leaves; the ordering's room, and behind it their table; and both lists of the record.
-// It is lent on by `&mut`, and a function that takes it promises that it still holds the caller's lists.
+// It is lent on by `&mut`, and a function that takes it promises that it still holds the caller's lists. One value, and not `Room` and
+// `Records` of tree_lists: the recursion of split then lends one thing on, where it would lend two.
 #[derive(Drop)]
 pub struct Lists<'a> {
     pub floats: &'a mut [f64],

@@ -15,6 +15,7 @@ ghost use Rattle.leaves.specs.Room.{touched_wholes, touched_floats};
 ghost use Rattle.tree_lists.specs.Lent.{SameLeafLists, SameRoom};
 
 use points::Points;
+use queue::Stretch;
 use tree_lists::{LeafLists, Room, Start};
 
 // Puts the root domain into the queue: all rows as its first stretch, at depth 0, and its box.
@@ -26,7 +27,12 @@ fn put_root(points: Points<'_>, rows: &[usize], room: &mut Room<'_>)
     ensures wholes { room.new.wholes.now ≡ put room.old.wholes.now (2 * length rows.now) (0 ∷ length rows.now ∷ 0 ∷ []) }
 {
     let n = rows.len();
-    queue::put_waiting(room.wholes, 2 * n, 0, n, 0);
+    let whole = Stretch {
+        start: 0,
+        count: n,
+        depth: 0,
+    };
+    queue::put_waiting(room.wholes, 2 * n, whole);
     boxes::write_box(
         extents::get_pointarray_extents(points, rows),
         room.floats,
@@ -75,18 +81,24 @@ fn cut_leaves(
         let place = base + queue::WAITING * head;
         let start = wholes[place];
         let count = wholes[place + 1];
-        let below = wholes[place + 2] + 1;
+        let depth = wholes[place + 2] + 1;
         let end = start + count;
         let whole = boxes::read_box(floats, stride * head, points.dimensions);
         let plane = cut::cut_stretch(points, &mut rows[start..end], &mut wholes[..count]);
+        let stretch = Stretch {
+            start,
+            count,
+            depth,
+        };
         head += 1;
         if leaf <= count / 2 {
-            queue::put_halves(wholes, base + queue::WAITING * tail, start, count, below);
+            queue::put_halves(wholes, base + queue::WAITING * tail, stretch);
             boxes::write_halves(whole, plane.axis, plane.value, floats, stride * tail);
             tail += 2;
         } else {
             stretches::copy_rows(rows, start, count, wholes, n + done);
-            queue::put_leaves(domains, k, from + done, count, below);
+            let start = from + done;
+            queue::put_leaves(domains, k, Stretch { start, ..stretch });
             boxes::write_halves(whole, plane.axis, plane.value, boxes, stride * k);
             done += count;
             k += 2;

@@ -1,6 +1,6 @@
 -- A round of the search for the middle row, the rounds and their end. Assumes nothing.
--- Holds: round-front, round-finite, round-inside, round-found, round-low, round-high, search-first, search-more, end-asks,
---   end-front, end-inside, end-middle
+-- Holds: round-finite, round-inside, round-found, round-low, round-high, search-first, search-more, end-asks, end-front,
+--   end-inside, end-middle
 use mathlib.Core.Path.{◌≡◌, refl, sym, ap, ◌∙◌, subst}
 use mathlib.Core.Logic.{⊎_elim}
 use mathlib.Core.Bool.{Bool, true, false}
@@ -9,7 +9,7 @@ use mathlib.Core.List.{List, [], ◌∷◌, ◌++◌, Memᴰ}
 use Prim.Native.Nat.{ℕ, ◌+◌, ◌-◌, ◌*◌, ◌/◌, ◌≤◌, ◌<◌}
 use native.Mathlib.Omega.{arith}
 use lib.ListN.{length, get_or, set, take, drop, length-set, length-append, get_or-append}
-use lib.Seq.{get_or-take, length-take-le, take-length}
+use lib.Seq.{length-take-le, take-length, take-append-le}
 use lib.Ieee.{Float}
 use Rattle.lists.specs.Lists.{keep, put}
 use Rattle.lists.specs.Ascends.{All, Ascends}
@@ -28,87 +28,81 @@ use Rattle.rows.proofs.Good.{good-mem, good-keep, good-once, good-finite, good-p
 use Rattle.middle_row.proofs.Ranks.{ahead_of, ranked-low, ranked-high, sides, ranked-sorted, ranked-middle}
 
 module _ {d : ℕ} {cs : List Float} {axis : ℕ} where
-  -- ---- a round: p is one of the first m rows, and c of them come before it
-  module _ {l : List ℕ} {m k at : ℕ} (r : Round d cs axis l m k at) where
-    abbrev rows : List ℕ
-    rows = take m l
-
+  -- ---- a round: p is one of the rows, and c of them come before it
+  module _ {l : List ℕ} {k at : ℕ} (r : Round d cs axis l k at) where
     abbrev p : ℕ
     p = get_or l at 0
 
-    pub round-front : length rows ≡ m
-    round-front = length-take-le m l r.fits
+    once : Once l
+    once = good-once l r.good
 
-    once : Once rows
-    once = good-once rows r.good
+    p-mem : Memᴰ p l
+    p-mem = mem-at l at 0 r.there
 
-    p-mem : Memᴰ p rows
-    p-mem = rw (← get_or-take m l at 0 r.there) (mem-at rows at 0 (omega (arith, round-front, r.there)))
-
-    pub round-finite : FiniteOn d cs axis rows
-    round-finite = good-finite rows r.good axis r.axis_in
+    pub round-finite : FiniteOn d cs axis l
+    round-finite = good-finite l r.good axis r.axis_in
 
     pub round-inside : p * d + axis < length cs
-    round-inside = good-place rows r.good axis r.axis_in p p-mem
+    round-inside = good-place l r.good axis r.axis_in p p-mem
 
     -- what is kept fits
-    short : (q : ℕ → Bool) → length (keep q rows) ≤ length l
-    short q = omega (arith, length_both q rows, round-front, r.fits)
+    short : (q : ℕ → Bool) → length (keep q l) ≤ length l
+    short q = omega (arith, length_both q l)
 
-    kept-fits : (q : ℕ → Bool) (after : List ℕ) (n : ℕ) → n ≡ length (keep q rows) → after ≡ put l 0 (keep q rows) → n ≤ length after
-    kept-fits q after n u v = omega (arith, ap length v, length-put l 0 (keep q rows) (omega (arith, short q)), short q)
+    kept-fits : (q : ℕ → Bool) (after : List ℕ) (n : ℕ) → n ≡ length (keep q l) → after ≡ put l 0 (keep q l) → n ≤ length after
+    kept-fits q after n u v = omega (arith, ap length v, length-put l 0 (keep q l) (omega (arith, short q)), short q)
 
     kept-front :
-        (q : ℕ → Bool) (after : List ℕ) (n : ℕ) → n ≡ length (keep q rows) → after ≡ put l 0 (keep q rows) → take n after ≡ keep q rows
-    kept-front q after n u v = ap (take n) v ∙ front-put l (keep q rows) n u
+        (q : ℕ → Bool) (after : List ℕ) (n : ℕ) → n ≡ length (keep q l) → after ≡ put l 0 (keep q l) → take n after ≡ keep q l
+    kept-front q after n u v = ap (take n) v ∙ front-put l (keep q l) n u
 
-    module _ (c : ℕ) (e : c ≡ ahead_of d cs axis rows p) where
+    module _ (c : ℕ) (e : c ≡ ahead_of d cs axis l p) where
       -- p is the row itself
-      pub round-found : c ≡ k → Narrows d cs axis l m k (set l 0 p) 1 0
+      pub round-found : c ≡ k → Narrows d cs axis l k (set l 0 p) 1 0
       unfolding Ascends All
       round-found q = record {
-        fits = omega (arith, length-set l 0 p, r.fits, r.there);
+        fits = omega (arith, length-set l 0 p, r.there);
         below = omega arith;
         good =
             rw one
-            (record { ascends = (tt, tt); each = (good-mem rows r.good p p-mem, tt); few = omega arith });
+            (record { ascends = (tt, tt); each = (good-mem l r.good p p-mem, tt); few = omega arith });
         leads = λ x z.
             let y : x ≡ p = Memᴰ.eq_of_singleton (subst (λ (s : List ℕ). Memᴰ x s) one z.inside) in
             rw y (record { inside = p-mem; ahead = sym e ∙ q });
       }
         where
           one : take 1 (set l 0 p) ≡ p ∷ []
-          one = ap (take 1) (set-put l 0 p (omega (arith, r.fits, r.there))) ∙ front-put l (p ∷ []) 1 refl
+          one = ap (take 1) (set-put l 0 p (omega (arith, r.there))) ∙ front-put l (p ∷ []) 1 refl
 
       -- the row is among those before p
-      pub round-low : k < c → (after : List ℕ) (n : ℕ) → n ≡ length (keep (on_side d cs axis p true) rows)
-          → after ≡ put l 0 (keep (on_side d cs axis p true) rows) → Narrows d cs axis l m k after n k
+      pub round-low : k < c → (after : List ℕ) (n : ℕ) → n ≡ length (keep (on_side d cs axis p true) l)
+          → after ≡ put l 0 (keep (on_side d cs axis p true) l) → Narrows d cs axis l k after n k
       round-low h after n u v =
           let low : ℕ → Bool = on_side d cs axis p true in
           let f = kept-front low after n u v in
           record {
             fits = kept-fits low after n u v;
-            below = omega (arith, length-keep low rows);
-            good = rw f (good-keep rows r.good low);
-            leads = λ x z. ranked-low d cs axis rows p x k (rw f at z);
+            below = omega (arith, length-keep low l);
+            good = rw f (good-keep l r.good low);
+            leads = λ x z. ranked-low d cs axis l p x k (rw f at z);
           }
 
       -- the row is among those after p
-      pub round-high : (c ≡ k → ⊥) → c ≤ k → (after : List ℕ) (n : ℕ) → n ≡ length (keep (on_side d cs axis p false) rows)
-          → after ≡ put l 0 (keep (on_side d cs axis p false) rows) → Narrows d cs axis l m k after n (k - c - 1)
+      pub round-high : (c ≡ k → ⊥) → c ≤ k → (after : List ℕ) (n : ℕ) → n ≡ length (keep (on_side d cs axis p false) l)
+          → after ≡ put l 0 (keep (on_side d cs axis p false) l) → Narrows d cs axis l k after n (k - c - 1)
       round-high ne h after n u v =
           let high : ℕ → Bool = on_side d cs axis p false in
           let f = kept-front high after n u v in
-          let s = sides d cs axis rows round-finite once p p-mem in
+          let s = sides d cs axis l round-finite once p p-mem in
           let less : c < k = past ne in
-          let back : ahead_of d cs axis rows p + 1 + (k - c - 1) ≡ k = omega arith in
+          let back : ahead_of d cs axis l p + 1 + (k - c - 1) ≡ k = omega arith in
           record {
             fits = kept-fits high after n u v;
-            below = omega (arith, round-front, r.below);
-            good = rw f (good-keep rows r.good high);
+            below = omega (arith, r.below);
+            good = rw f (good-keep l r.good high);
             leads = λ x z.
-                subst (λ (y : ℕ). Ranked d cs axis rows x y) back
-                (ranked-high d cs axis rows round-finite once p p-mem x (k - c - 1) (rw f at z));
+                subst (λ (y : ℕ). Ranked d cs axis l x y) back
+                (ranked-high d cs axis l round-finite once p p-mem x (k - c - 1) (rw f at z));
           }
         where
           past : (c ≡ k → ⊥) → c < k
@@ -116,16 +110,24 @@ module _ {d : ℕ} {cs : List Float} {axis : ℕ} where
 
   -- ---- the rounds
   pub search-first :
-      (l : List ℕ) → 1 ≤ length l → GoodRows d cs l → Narrows d cs axis l (length l) (length l / 2) l (length l) (length l / 2)
-  search-first l h g = record { fits = omega arith; below = omega arith; good = rw (take-length l) g; leads = λ q r. r }
+      (l : List ℕ) → 1 ≤ length l → GoodRows d cs l → Narrows d cs axis l (length l / 2) l (length l) (length l / 2)
+  search-first l h g = record { fits = omega arith; below = omega arith; good = rw (take-length l) g; leads = λ q r. rw (take-length l) at r }
 
-  pub search-more : {l : List ℕ} {m k : ℕ} {l₁ : List ℕ} {n j : ℕ} {l₂ : List ℕ} {o i : ℕ}
-      → Narrows d cs axis l m k l₁ n j → Narrows d cs axis l₁ n j l₂ o i → Narrows d cs axis l m k l₂ o i
-  search-more a b = record { fits = b.fits; below = b.below; good = b.good; leads = λ q r. a.leads q (b.leads q r) }
+  -- a round over the first n rows, which come back in front of the others
+  pub search-more : {l : List ℕ} {k : ℕ} {l₁ : List ℕ} {n j : ℕ} {l₂ : List ℕ} {o i : ℕ}
+      → Narrows d cs axis l k l₁ n j → Narrows d cs axis (take n l₁) j l₂ o i → Narrows d cs axis l k (l₂ ++ drop n l₁) o i
+  search-more {l₁} {n} {l₂} {o} a b =
+      let front : take o (l₂ ++ drop n l₁) ≡ take o l₂ = take-append-le o l₂ (drop n l₁) b.fits in
+      record {
+        fits = omega (arith, length-append l₂ (drop n l₁), b.fits);
+        below = b.below;
+        good = rw front b.good;
+        leads = λ q r. a.leads q (b.leads q (rw front at r));
+      }
 
   -- ---- their end: the rows that are left are sorted
   module _ {l l₁ : List ℕ} {n j : ℕ} (A : axis < d) (some : 1 ≤ length l) (g : GoodRows d cs l)
-      (N : Narrows d cs axis l (length l) (length l / 2) l₁ n j) where
+      (N : Narrows d cs axis l (length l / 2) l₁ n j) where
     pub end-asks : FiniteOn d cs axis (take n l₁) × All (λ i. i < row_limit) (take n l₁) × (length (take n l₁) ≤ row_limit)
     end-asks = let k = N.good in (good-finite (take n l₁) k axis A, good-small (take n l₁) k, omega (arith, k.few))
 
@@ -145,4 +147,4 @@ module _ {d : ℕ} {cs : List Float} {axis : ℕ} where
           ranked-sorted d cs axis s (take n l₁) sorted same (good-once (take n l₁) N.good) j (omega (arith, end-front, N.below)) in
           let q = N.leads (get_or s j 0) r in
           rw (get_or-append s (drop n l₁) 0 j j-in)
-          (ranked-middle d cs axis l (good-finite l g axis A) (good-once l g) some (get_or s j 0) (rw (take-length l) at q))
+          (ranked-middle d cs axis l (good-finite l g axis A) (good-once l g) some (get_or s j 0) q)

@@ -1,13 +1,13 @@
 -- The turns of the loops that count and that keep the rows on one side, for any test. Assumes nothing.
 -- Holds: CountedTo, counted-first, counted-in, counted-out, counted-end, Moving, moving-first, moving-here, moving_row,
---   moving_in, moving_out, KeptFront, kept-first, kept_in, kept_out
+--   moving_in, moving_out, KeptFront, kept-first, kept-number, kept-rows, kept_in, kept_out
 use mathlib.Core.Path.{◌≡◌, refl, sym, ap, ◌∙◌}
 use Prim.Native.Nat.{ℕ, ◌+◌, ◌≤◌, ◌<◌}
 use native.Mathlib.Omega.{arith}
 use mathlib.Core.Bool.{Bool, true, false}
 use mathlib.Core.List.{List}
 use lib.ListN.{length, get_or, set, take, length-append, length-set}
-use lib.Seq.{get_or-take, get_or-set_other, length-take-le, take_all}
+use lib.Seq.{get_or-set_other, take_all}
 use Rattle.lists.specs.Lists.{count, put, keep}
 use Rattle.lists.specs.Ascends.{All}
 use Rattle.lists.proofs.All.{all-at}
@@ -47,8 +47,8 @@ module _ {l m : List ℕ} {k i : ℕ} (s : Moving l m k i) where
   pub moving-here : get_or m i 0 ≡ get_or l i 0
   moving-here = s.ahead i (omega arith)
 
-  pub moving_row : (P : ℕ → Type 0) (n : ℕ) → n ≤ length l → i < n → All P (take n l) → P (get_or m i 0)
-  moving_row P n g h f = rw (moving-here, ← get_or-take n l i 0 h) (all-at P (take n l) i 0 f (rw (length-take-le n l g) h))
+  pub moving_row : (P : ℕ → Type 0) → i < length l → All P l → P (get_or m i 0)
+  moving_row P h f = rw moving-here (all-at P l i 0 f h)
 
   pub moving_in : Moving l (set m k (get_or m i 0)) (k + 1) (i + 1)
   moving_in = record {
@@ -68,6 +68,13 @@ pub record KeptFront (p : ℕ → Bool) (l m : List ℕ) (k i : ℕ) : Type 0 wh
 pub kept-first : (p : ℕ → Bool) (l : List ℕ) → KeptFront p l l 0 0
 unfolding keep
 kept-first p l = record { passed = refl; now = sym (put-nil l 0) }
+
+module _ {p : ℕ → Bool} {l m : List ℕ} {k i : ℕ} (s : KeptFront p l m k i) (h : length l ≤ i) where
+  pub kept-number : k ≡ length (keep p l)
+  kept-number = s.passed ∙ ap (λ (z : List ℕ). length (keep p z)) (take_all i l h)
+
+  pub kept-rows : m ≡ put l 0 (keep p l)
+  kept-rows = s.now ∙ ap (λ (z : List ℕ). put l 0 (keep p z)) (take_all i l h)
 
 module _ {p : ℕ → Bool} {l m : List ℕ} {k i : ℕ} (v : Moving l m k i) (s : KeptFront p l m k i) (h : i < length l) where
   pub kept_in : p (get_or m i 0) ≡ true → KeptFront p l (set m k (get_or m i 0)) (k + 1) (i + 1)

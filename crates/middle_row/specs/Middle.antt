@@ -32,17 +32,16 @@ on_side d cs axis p low i = cond low (before (key_on d cs axis i) (key_on d cs a
 abbrev pub Tells : {F : Type 0} → Shared F (ℕ × Unit {0}) Bool → F → (ℕ → Bool) → Type 0
 Tells g f t = (i : ℕ) (r : Bool) → g.post f (i, tt) r → r ≡ t i
 
--- what a round of the search asks: the row with k others before it is looked for among the first m rows, by the row at the index `at`
-pub record Round (d : ℕ) (cs : List Float) (axis : ℕ) (rows : List ℕ) (m k at : ℕ) : Type 0 where
+-- what a round of the search asks: the row with k others before it is looked for among the rows, by the row at the index `at`
+pub record Round (d : ℕ) (cs : List Float) (axis : ℕ) (rows : List ℕ) (k at : ℕ) : Type 0 where
   pub axis_in : axis < d
-  pub fits : m ≤ length rows
-  pub below : k < m
-  pub there : at < m
-  pub good : GoodRows d cs (take m rows)
+  pub below : k < length rows
+  pub there : at < length rows
+  pub good : GoodRows d cs rows
 
--- The row with j others before it among the first n of `after` is the row with k others before it among the first m of `rows`.
-pub record Narrows (d : ℕ) (cs : List Float) (axis : ℕ) (rows : List ℕ) (m k : ℕ) (after : List ℕ) (n j : ℕ) : Type 0 where
+-- The row with j others before it among the first n of `after` is the row with k others before it among `rows`.
+pub record Narrows (d : ℕ) (cs : List Float) (axis : ℕ) (rows : List ℕ) (k : ℕ) (after : List ℕ) (n j : ℕ) : Type 0 where
   pub fits : n ≤ length after
   pub below : j < n
   pub good : GoodRows d cs (take n after)
-  pub leads : (q : ℕ) → Ranked d cs axis (take n after) q j → Ranked d cs axis (take m rows) q k
+  pub leads : (q : ℕ) → Ranked d cs axis (take n after) q j → Ranked d cs axis rows q k

@@ -1,7 +1,7 @@
 // The middle row of a list of rows, found without sorting them all.
 #![tactic(auto)]
 
-ghost use Rattle.std.specs.Prelude.{◌≡◌, ℕ, Bool, true, ◌+◌, ◌*◌, ◌≤◌, ◌<◌, length, take};
+ghost use Rattle.std.specs.Prelude.{◌≡◌, ℕ, Bool, true, ◌+◌, ◌*◌, ◌≤◌, ◌<◌, length};
 ghost use Rattle.lists.specs.Ascends.{All};
 ghost use Rattle.lists.specs.Lists.{count, keep, put};
 ghost use Rattle.rows.specs.Rows.{FiniteOn, GoodRows};
@@ -23,15 +23,14 @@ fn count_before(points: Points<'_>, axis: usize, rows: &[usize], p: usize) -> us
     n
 }
 
-// Moves those of the first m rows that pass a test to the front, in their order. The answer is how many they are.
-fn keep_front<F: Fn(usize) -> bool>(rows: &mut [usize], m: usize, passes: F) -> usize
-    requires fits { m ≤ length rows.old }
-    requires callable { All (λ i. F.pre passes i) (take m rows.old) }
-    ensures number { (t : ℕ → Bool) → Tells F.Fn passes t → result ≡ length (keep t (take m rows.old)) }
-    ensures rows { (t : ℕ → Bool) → Tells F.Fn passes t → rows.new ≡ put rows.old 0 (keep t (take m rows.old)) }
+// Moves the rows that pass a test to the front, in their order. The answer is how many they are.
+fn keep_front<F: Fn(usize) -> bool>(rows: &mut [usize], passes: F) -> usize
+    requires { All (λ i. F.pre passes i) rows.old }
+    ensures number { (t : ℕ → Bool) → Tells F.Fn passes t → result ≡ length (keep t rows.old) }
+    ensures rows { (t : ℕ → Bool) → Tells F.Fn passes t → rows.new ≡ put rows.old 0 (keep t rows.old) }
 {
     let mut n = 0;
-    for t in 0..m {
+    for t in 0..rows.len() {
         let r = rows[t];
         if passes(r) {
             rows[n] = r;
@@ -48,29 +47,23 @@ struct Search {
     rank: usize,
 }
 
-// One round of the search: the rows on the side of the row at the index `at`, or that row alone where it is the one looked for.
-fn narrow(
-    points: Points<'_>,
-    axis: usize,
-    rows: &mut [usize],
-    m: usize,
-    k: usize,
-    at: usize,
-) -> Search
-    requires { Round points.dimensions points.coordinates.now axis rows.old m k at }
-    ensures { Narrows points.entry.dimensions points.entry.coordinates.now axis rows.old m k rows.new result.count result.rank }
+// One round of the search for the row with k others before it: the rows on the side of the row at the index `at`, or that row alone where
+// it is the one looked for.
+fn narrow(points: Points<'_>, axis: usize, rows: &mut [usize], k: usize, at: usize) -> Search
+    requires { Round points.dimensions points.coordinates.now axis rows.old k at }
+    ensures { Narrows points.entry.dimensions points.entry.coordinates.now axis rows.old k rows.new result.count result.rank }
 {
     let p = rows[at];
-    let c = count_before(points, axis, &rows[..m], p);
+    let c = count_before(points, axis, rows, p);
     if c == k {
         rows[0] = p;
         return Search { count: 1, rank: 0 };
     }
     if k < c {
-        let count = keep_front(rows, m, |r| argsort::comes_before(points, axis, r, p));
+        let count = keep_front(rows, |r| argsort::comes_before(points, axis, r, p));
         return Search { count, rank: k };
     }
-    let count = keep_front(rows, m, |r| argsort::comes_before(points, axis, p, r));
+    let count = keep_front(rows, |r| argsort::comes_before(points, axis, p, r));
     Search {
         count,
         rank: k - c - 1,
@@ -86,19 +79,20 @@ pub fn middle(points: Points<'_>, axis: usize, rows: &mut [usize]) -> usize
     requires { (axis < points.dimensions) × (1 ≤ length rows.old) × GoodRows points.dimensions points.coordinates.now rows.old }
     ensures { MiddleRow points.entry.dimensions points.entry.coordinates.now axis rows.old result }
 {
-    let mut m = rows.len();
-    let mut k = m / 2;
-    let mut left = 8 * m;
+    let count = rows.len();
+    let mut s = Search {
+        count,
+        rank: count / 2,
+    };
+    let mut left = 8 * count;
     let mut round = 0;
     // a search that may end early: no counted loop
-    while 32 < m && m <= left {
-        let at = (m / 2 + round * 2654435761) % m;
-        let s = narrow(points, axis, rows, m, k, at);
-        left -= m;
+    while 32 < s.count && s.count <= left {
+        let at = (s.count / 2 + round * 2654435761) % s.count;
+        left -= s.count;
         round += 1;
-        m = s.count;
-        k = s.rank;
+        s = narrow(points, axis, &mut rows[..s.count], s.rank, at);
     }
-    argsort::argsort(points, axis, &mut rows[..m]);
-    rows[k]
+    argsort::argsort(points, axis, &mut rows[..s.count]);
+    rows[s.rank]
 }

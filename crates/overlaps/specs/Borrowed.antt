@@ -1,10 +1,11 @@
--- What each leaf of a level borrows, and the columns of the domain rows that say where. Definitions only.
-use Rattle.std.specs.Prelude.{ℕ, ◌+◌, ◌≤◌, List, [], ◌∷◌, map, length, Float}
+-- What each leaf of a level borrows, the columns of the domain rows that say where, and that the same lists come back. Definitions only.
+use Rattle.std.specs.Prelude.{ℕ, ◌+◌, ◌≤◌, ◌≡◌, List, [], ◌∷◌, map, length, Float}
 use Rattle.definition.specs.Overlaps.{borrowed_by}
 use Rattle.definition.specs.Refusals.{most_neighbours}
 use Rattle.rows.specs.Rows.{most_leaves, GoodRows}
 use Rattle.packed.specs.Rows.{put_borrowed_lem}
 use Rattle.overlap_owners.specs.Own.{Leaves}
+use Rattle.overlaps.specs.declared.Borrowing.{Borrowing}
 
 -- what the leaves with these own rows borrow
 unfoldable pub borrowed_lists : ℕ → List Float → ℕ → List ℕ → List (List ℕ) → List (List ℕ)
@@ -22,3 +23,10 @@ pub record Stage (d : ℕ) (cs : List Float) (neighbours : ℕ) (active I D : Li
   pub near : neighbours ≤ most_neighbours
   pub few : length active ≤ most_leaves
   pub leaf_few : m ≤ most_leaves
+
+-- both hold the same lists, each as long as it was
+pub record SameBorrowing (l m : Borrowing) : Type 0 where
+  pub domains : m.domains.ghost_name ≡ l.domains.ghost_name
+  pub domains_len : length m.domains.now ≡ length l.domains.now
+  pub borrowed : m.borrowed.ghost_name ≡ l.borrowed.ghost_name
+  pub borrowed_len : length m.borrowed.now ≡ length l.borrowed.now

@@ -9,11 +9,37 @@ ghost use Rattle.sort.specs.Heap.{Sorted};
 ghost use Rattle.definition.specs.Packed.{row_numbers};
 ghost use Rattle.packed.specs.Reading.{read_own};
 ghost use Rattle.overlaps.specs.Codes.{codes_from, coded_rows, Distinct, Reached, Positions, Encoded};
-ghost use Rattle.overlaps.specs.Borrowed.{borrowed_lists, with_borrowed, Stage};
+ghost use Rattle.overlaps.specs.Borrowed.{borrowed_lists, with_borrowed, Stage, SameBorrowing};
 
 use overlap_pairs::{code, position_of};
 use packed::LevelLeaves;
 use points::Points;
+
+// The leaves of a level that borrow: their own rows and their domain rows, which are the `count` from number `first` on, and the list that takes
+// the borrowed rows, from `at` on. The domain rows are written too, so that they are lent by `&mut`.
+#[derive(Drop)]
+pub struct Borrowing<'a> {
+    pub internals: &'a [usize],
+    pub domains: &'a mut [usize],
+    pub first: usize,
+    pub count: usize,
+    pub borrowed: &'a mut [usize],
+    pub at: usize,
+}
+
+impl<'a> Borrowing<'a> {
+    // The leaves, only read.
+    fn level(&self) -> LevelLeaves<'_>
+        ensures { (result.internals.now ≡ self.now.internals.now) × (result.domains.now ≡ self.now.domains.now) × (result.first ≡ self.now.first) × (result.count ≡ self.now.count) }
+    {
+        LevelLeaves {
+            internals: self.internals,
+            domains: self.domains,
+            first: self.first,
+            count: self.count,
+        }
+    }
+}
 
 // Moves each number of a list in order, once, to the front. The answer is how many there are.
 fn drop_repeats(codes: &mut [usize]) -> usize
@@ -80,73 +106,55 @@ fn order_once(codes: &mut [usize]) -> usize
     drop_repeats(codes)
 }
 
-// Writes what the leaves borrow, by the numbers in any order and with repeats: the rows to `borrowed` from `bat` on, and start and
+// Writes what the leaves borrow, by the numbers in any order and with repeats: the rows to the list that takes them, and start and
 // count to the domain rows. The answer is how many rows there are.
-fn lend(
-    codes: &mut [usize],
-    active: &[usize],
-    domains: &mut [usize],
-    first: usize,
-    m: usize,
-    borrowed: &mut [usize],
-    bat: usize,
-) -> usize
-    requires { (length active.now ≤ most_leaves) × (m ≤ most_leaves) × (row_numbers * (first + m) ≤ length domains.old)
-        × (bat + length codes.old ≤ length borrowed.old)
+fn lend(codes: &mut [usize], active: &[usize], leaves: &mut Borrowing<'_>) -> usize
+    requires { (length active.now ≤ most_leaves) × (leaves.old.count ≤ most_leaves) × (row_numbers * (leaves.old.first + leaves.old.count) ≤ length leaves.old.domains.now)
+        × (leaves.old.at + length codes.old ≤ length leaves.old.borrowed.now)
         × ((z : ℕ) → Memᴰ z codes.old → z % most_leaves < length active.now) }
-    ensures number { (ls : List (List ℕ)) → Encoded m (length active.now) codes.old ls → result ≡ length (joined ls) }
-    ensures rows { (ls : List (List ℕ)) → Encoded m (length active.now) codes.old ls
-        → borrowed.new ≡ put borrowed.old bat (joined (map (map (λ q. get_or active.now q 0)) ls)) }
-    ensures columns { (ls : List (List ℕ)) → Encoded m (length active.now) codes.old ls
-        → domains.new ≡ with_borrowed bat ls first domains.old }
+    ensures same { SameBorrowing leaves.old leaves.new }
+    ensures number { (ls : List (List ℕ)) → Encoded leaves.old.count (length active.now) codes.old ls → result ≡ length (joined ls) }
+    ensures rows { (ls : List (List ℕ)) → Encoded leaves.old.count (length active.now) codes.old ls
+        → leaves.new.borrowed.now ≡ put leaves.old.borrowed.now leaves.old.at (joined (map (map (λ q. get_or active.now q 0)) ls)) }
+    ensures columns { (ls : List (List ℕ)) → Encoded leaves.old.count (length active.now) codes.old ls
+        → leaves.new.domains.now ≡ with_borrowed leaves.old.at ls leaves.old.first leaves.old.domains.now }
     ensures most { result ≤ length codes.old }
 {
     let count = order_once(codes);
-    write_rows(&codes[..count], active, borrowed, bat);
-    write_columns(&codes[..count], domains, first, m, bat);
+    write_rows(&codes[..count], active, leaves.borrowed, leaves.at);
+    write_columns(
+        &codes[..count],
+        leaves.domains,
+        leaves.first,
+        leaves.count,
+        leaves.at,
+    );
     count
 }
 
-// The overlap stage of a level. The own rows of the leaves are the stretches of the internals that the m domain rows from `first`
-// on name. For each active row and each row that it takes with another owner, each owner's leaf borrows the other row. The borrowed
-// rows go to `borrowed` from `bat` on, leaf by leaf, and each leaf's start and count to the last two columns of its domain row. The
-// answer is how many borrowed rows there are. `wholes` holds the owners and, behind them, the numbers.
+// The overlap stage of a level. For each active row and each row that it takes with another owner, each owner's leaf borrows the other
+// row. The borrowed rows are written leaf by leaf, and each leaf's start and count to the last two columns of its domain row. The answer
+// is how many borrowed rows there are. `wholes` holds the owners and, behind them, the numbers.
 pub fn overlaps(
     points: Points<'_>,
     neighbours: usize,
     active: &[usize],
-    internals: &[usize],
-    domains: &mut [usize],
-    first: usize,
-    m: usize,
-    borrowed: &mut [usize],
-    bat: usize,
+    leaves: &mut Borrowing<'_>,
     wholes: &mut [usize],
 ) -> usize
-    requires stage { Stage points.dimensions points.coordinates.now neighbours active.now internals.now domains.old first m }
+    requires stage { Stage points.dimensions points.coordinates.now neighbours active.now leaves.old.internals.now leaves.old.domains.now leaves.old.first leaves.old.count }
     requires neighbours_in_bounds { (length active.now + 2 * length active.now * (neighbours + 1) ≤ length wholes.old)
-        × (bat + 2 * length active.now * (neighbours + 1) ≤ length borrowed.old) }
-    ensures number { result ≡ length (joined (borrowed_lists points.entry.dimensions points.entry.coordinates.now neighbours active.now (read_own internals.now domains.old first m))) }
-    ensures borrowed { borrowed.new ≡ put borrowed.old bat (joined (borrowed_lists points.entry.dimensions points.entry.coordinates.now neighbours active.now (read_own internals.now domains.old first m))) }
-    ensures domains { domains.new ≡ with_borrowed bat (borrowed_lists points.entry.dimensions points.entry.coordinates.now neighbours active.now (read_own internals.now domains.old first m)) first domains.old }
+        × (leaves.old.at + 2 * length active.now * (neighbours + 1) ≤ length leaves.old.borrowed.now) }
+    ensures same { SameBorrowing leaves.old leaves.new }
+    ensures number { result ≡ length (joined (borrowed_lists points.entry.dimensions points.entry.coordinates.now neighbours active.now (read_own leaves.old.internals.now leaves.old.domains.now leaves.old.first leaves.old.count))) }
+    ensures borrowed { leaves.new.borrowed.now
+        ≡ put leaves.old.borrowed.now leaves.old.at (joined (borrowed_lists points.entry.dimensions points.entry.coordinates.now neighbours active.now (read_own leaves.old.internals.now leaves.old.domains.now leaves.old.first leaves.old.count))) }
+    ensures domains { leaves.new.domains.now
+        ≡ with_borrowed leaves.old.at (borrowed_lists points.entry.dimensions points.entry.coordinates.now neighbours active.now (read_own leaves.old.internals.now leaves.old.domains.now leaves.old.first leaves.old.count)) leaves.old.first leaves.old.domains.now }
     ensures most { result ≤ 2 * length active.now * (neighbours + 1) }
 {
-    let leaves = LevelLeaves {
-        internals,
-        domains,
-        first,
-        count: m,
-    };
-    overlap_owners::owners(active, leaves, wholes);
+    overlap_owners::owners(active, leaves.level(), wholes);
     let a = active.len();
     let end = overlap_pairs::collect(points, neighbours, active, wholes);
-    lend(
-        &mut wholes[a..end],
-        active,
-        domains,
-        first,
-        m,
-        borrowed,
-        bat,
-    )
+    lend(&mut wholes[a..end], active, leaves)
 }

@@ -9,30 +9,52 @@ ghost use Rattle.queue.specs.Rows.{two_halves, two_own};
 // How many whole numbers the queue has of a domain that waits: start and count of its stretch, and its depth.
 pub const WAITING: usize = 3;
 
+// The stretch of rows that a domain has: its start and its count, and the domain's depth.
+#[derive(Clone, Copy)]
+pub struct Stretch {
+    pub start: usize,
+    pub count: usize,
+    pub depth: usize,
+}
+
 // Writes a domain that waits to a list, from `at` on.
-pub fn put_waiting(wholes: &mut [usize], at: usize, start: usize, count: usize, depth: usize)
+pub fn put_waiting(wholes: &mut [usize], at: usize, stretch: Stretch)
     requires { at + 3 ≤ length wholes.old }
-    ensures { wholes.new ≡ put wholes.old at (start ∷ count ∷ depth ∷ []) }
+    ensures { wholes.new ≡ put wholes.old at (stretch.start ∷ stretch.count ∷ stretch.depth ∷ []) }
 {
-    stretches::put_pair(wholes, at, start, count);
-    wholes[at + 2] = depth;
+    stretches::put_pair(wholes, at, stretch.start, stretch.count);
+    wholes[at + 2] = stretch.depth;
 }
 
-// Writes the two halves, at this depth, of a stretch to a list, from `at` on: left before right.
-pub fn put_halves(wholes: &mut [usize], at: usize, start: usize, count: usize, depth: usize)
-    requires { (at + 6 ≤ length wholes.old) × (start + count < 2 ^ 64) }
-    ensures { wholes.new ≡ put wholes.old at (two_halves start count depth) }
+// Writes the two halves of a stretch, at its depth, to a list, from `at` on: left before right.
+pub fn put_halves(wholes: &mut [usize], at: usize, stretch: Stretch)
+    requires { (at + 6 ≤ length wholes.old) × (stretch.start + stretch.count < 2 ^ 64) }
+    ensures { wholes.new ≡ put wholes.old at (two_halves stretch.start stretch.count stretch.depth) }
 {
-    let half = count / 2;
-    put_waiting(wholes, at, start, half, depth);
-    put_waiting(wholes, at + WAITING, start + half, count - half, depth);
+    let half = stretch.count / 2;
+    let left = Stretch {
+        count: half,
+        ..stretch
+    };
+    let right = Stretch {
+        start: stretch.start + half,
+        count: stretch.count - half,
+        ..stretch
+    };
+    put_waiting(wholes, at, left);
+    put_waiting(wholes, at + WAITING, right);
 }
 
-// Writes the domain rows of two leaves, at this depth, from the k-th on: the halves of the `count` rows from `start` on.
-pub fn put_leaves(domains: &mut [usize], k: usize, start: usize, count: usize, depth: usize)
-    requires { (row_numbers * (k + 2) ≤ length domains.old) × (start + count < 2 ^ 64) }
-    ensures { domains.new ≡ two_own domains.old k start count depth }
+// Writes the domain rows of two leaves, at this depth, from the k-th on: the halves of a stretch.
+pub fn put_leaves(domains: &mut [usize], k: usize, stretch: Stretch)
+    requires { (row_numbers * (k + 2) ≤ length domains.old) × (stretch.start + stretch.count < 2 ^ 64) }
+    ensures { domains.new ≡ two_own domains.old k stretch.start stretch.count stretch.depth }
 {
+    let Stretch {
+        start,
+        count,
+        depth,
+    } = stretch;
     let half = count / 2;
     packed::put_own(domains, k, start, half, depth);
     packed::put_own(domains, k + 1, start + half, count - half, depth);

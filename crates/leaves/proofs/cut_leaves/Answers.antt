@@ -40,8 +40,8 @@ loop-head-init c = let r = c in
       c.box_width-stride.ensures,
     )
 
-pub overflow_add-below-in-loop-head : goal.overflow_add-below-in-loop-head
-overflow_add-below-in-loop-head c = let t = c in
+pub overflow_add-depth-in-loop-head : goal.overflow_add-depth-in-loop-head
+overflow_add-depth-in-loop-head c = let t = c in
     let i = t.loop-head.invariant in
     let x = front i.0 t.loop-head-test.true in
     let u = known x in
@@ -194,8 +194,8 @@ copy_rows-requires c = let cut = c in
     let r = rows-kept x cut.cut_stretch-plane.new.rows cut.cut_stretch-plane.auto.rows in
     (omega (arith, r, u.inside, u.same), omega (arith, m, u.rows_fit, u.fit-w))
 
-pub overflow_add-from : goal.overflow_add-from
-overflow_add-from c = let t = c in
+pub overflow_add-start : goal.overflow_add-start
+overflow_add-start c = let t = c in
     let i = t.loop-head.invariant in
     let x = front i.0 t.loop-head-test.true in
     let u = known x in

@@ -5,10 +5,10 @@ use Rattle.middle_row.specs.Middle.{Narrows}
 use Rattle.definition.specs.Refusals.{most_points}
 use Rattle.middle_row.proofs.middle.Given as goal
 
-abbrev pub invariant-loop-m : goal.invariant-loop-m
-invariant-loop-m l = Narrows l.points.dimensions l.points.coordinates.now l.axis l.initial.rows (length l.initial.rows) (length l.initial.rows / 2) l.rows l.m l.k × (length l.rows ≡ length l.initial.rows)
+abbrev pub invariant-loop-s : goal.invariant-loop-s
+invariant-loop-s l = Narrows l.points.dimensions l.points.coordinates.now l.axis l.initial.rows (length l.initial.rows / 2) l.rows l.s.count l.s.rank × (length l.rows ≡ length l.initial.rows)
     × (32 * l.round + l.left ≤ 8 * length l.initial.rows)
     × (length l.initial.rows ≤ most_points)
 
-abbrev pub decreases-loop-m : goal.decreases-loop-m
-decreases-loop-m l = l.left
+abbrev pub decreases-loop-s : goal.decreases-loop-s
+decreases-loop-s l = l.left

@@ -2,16 +2,12 @@
 use borrow.Author.Rules.{rules}
 use Rattle.lists.proofs.All.{all-imp}
 use Rattle.argsort.proofs.Orders.{row_inside}
-use mathlib.Core.Path.{sym}
 use mathlib.Core.Bool.{Bool, true, false}
 use Prim.Native.Nat.{ℕ}
 use lib.ListN.{get_or}
 use Rattle.middle_row.specs.Middle.{on_side}
-use Rattle.middle_row.proofs.Rounds.{round-front, round-finite, round-inside, round-found, round-low, round-high}
+use Rattle.middle_row.proofs.Rounds.{round-finite, round-inside, round-found, round-low, round-high}
 use Rattle.middle_row.proofs.narrow.Goals as goal
-
-pub slice_bounds-count_before-end-2 : goal.slice_bounds-count_before-end-2
-slice_bounds-count_before-end-2 c = sym (round-front c.requires)
 
 pub count_before-c-requires : goal.count_before-c-requires
 count_before-c-requires c = let r = c.requires in (round-finite r, round-inside r)
@@ -20,7 +16,7 @@ pub returns-then-c-k : goal.returns-then-c-k
 returns-then-c-k c = round-found c.requires _ c.count_before-c.ensures c.if-c-k.true
 
 pub keep_front-count-requires : goal.keep_front-count-requires
-keep_front-count-requires c = let r = c.requires in record { fits = r.fits; callable = all-imp _ _ _ (λ i f. let a = row_inside c.args.points.dimensions c.args.points.coordinates.now c.args.axis i f in let b = round-inside r in search rules) (round-finite r) }
+keep_front-count-requires c = let r = c.requires in all-imp _ _ _ (λ i f. let a = row_inside c.args.points.dimensions c.args.points.coordinates.now c.args.axis i f in let b = round-inside r in search rules) (round-finite r)
 
 pub returns-then-k-c : goal.returns-then-k-c
 returns-then-k-c c = let n = c.count_before-c.ensures in
@@ -31,7 +27,7 @@ returns-then-k-c c = let n = c.count_before-c.ensures in
     c.if-k-c.true _ _ (k.number low (λ i r q. search rules)) (k.rows low (λ i r q. search rules))
 
 pub keep_front-count-requires-2 : goal.keep_front-count-requires-2
-keep_front-count-requires-2 c = let r = c.requires in record { fits = r.fits; callable = all-imp _ _ _ (λ i f. let a = row_inside c.args.points.dimensions c.args.points.coordinates.now c.args.axis i f in let b = round-inside r in search rules) (round-finite r) }
+keep_front-count-requires-2 c = let r = c.requires in all-imp _ _ _ (λ i f. let a = row_inside c.args.points.dimensions c.args.points.coordinates.now c.args.axis i f in let b = round-inside r in search rules) (round-finite r)
 
 pub returns : goal.returns
 returns c = let n = c.count_before-c.ensures in
