@@ -28,7 +28,7 @@ pub use table::{Head, add, close, retire};
 pub use table_build::build_slots;
 pub use table_edits::{Edited, added, retired};
 pub use tree_answer::DDMTree;
-pub use tree_lists::{Records, Room, TreeLists};
+pub use tree_lists::{Records, Room, TreeLists, TreeRead};
 
 // The build over all points. A refused call writes to no list. An accepted one writes its tree to the fronts of the five lists, and
 // leaves what stands past it as it was; of the working room it keeps only the length.
