@@ -24,7 +24,7 @@ pub use refusal::Refusal;
 pub use root::square_root;
 pub use sampling::{Sampled, farthest_point_sampling};
 pub use store::store_tree;
-pub use table::{Head, add, close, retire};
+pub use table::{Head, Table, Wells, add, close, retire};
 pub use table_build::build_slots;
 pub use table_edits::{Edited, added, retired};
 pub use tree_answer::DDMTree;
