@@ -39,13 +39,17 @@ module _ (d : ℕ) (t : Table) (rename : List ℕ) where
     pub live-few : t.head.live ≤ t.head.slots
     pub parted : t.head.live * d + (t.head.slots - t.head.live) * d ≡ t.head.slots * d
 
-  pub close-refused : (r : Refusal) → refused r ≡ verdict tests → Closed d t t rename rename (record { number = r.number; place = r.place; value = 0 })
+  pub close-refused : (r : Refusal) → refused r ≡ close_verdict d t (length rename) → Closed d t t rename rename (record { number = r.number; place = r.place; value = 0 })
   unfolding close_verdict close_answer close_table close_rename number_of place_of value_of list_after
   close-refused r v = record { answers = rw (← v); table = rw (← v); renamed = rw (← v) }
 
-  module _ (passed : accepted ≡ verdict tests) where
+  module _ (passed : accepted ≡ close_verdict d t (length rename)) where
+    tested : verdict tests ≡ accepted
+    unfolding close_verdict
+    tested = sym passed
+
     able : Editable d t
-    able = closable d t lacking (sym passed)
+    able = closable d t lacking tested
 
     pub close-room : CloseRoom
     close-room =
@@ -54,7 +58,7 @@ module _ (d : ℕ) (t : Table) (rename : List ℕ) where
         record {
           in-flags = omega (arith, able.sound.within);
           in-coordinates = omega (arith, mul-le-mul_right d able.sound.within, able.room);
-          in-rename = ltb-false (length rename) t.head.slots (none-lacks d t lacking (sym passed));
+          in-rename = ltb-false (length rename) t.head.slots (none-lacks d t lacking tested);
           live-few = few;
           parted = sym (add-mul t.head.live (t.head.slots - t.head.live) d) ∙ ap (λ (n : ℕ). n * d) whole;
         }

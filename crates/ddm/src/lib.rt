@@ -24,11 +24,11 @@ pub use refusal::Refusal;
 pub use root::square_root;
 pub use sampling::{Sampled, farthest_point_sampling};
 pub use store::store_tree;
-pub use table::{Head, add, close, retire};
+pub use table::{Head, Table, Wells, add, close, retire};
 pub use table_build::build_slots;
 pub use table_edits::{Edited, added, retired};
 pub use tree_answer::DDMTree;
-pub use tree_lists::{Records, Room, TreeLists};
+pub use tree_lists::{Records, Room, TreeLists, TreeRead};
 
 // The build over all points. A refused call writes to no list. An accepted one writes its tree to the fronts of the five lists, and
 // leaves what stands past it as it was; of the working room it keeps only the length.
@@ -51,8 +51,7 @@ pub fn build(
     };
     Ok(grow::grow(
         Engine::Queue,
-        points.coordinates,
-        points.dimensions,
+        points,
         params,
         lists,
         room,

@@ -18,8 +18,8 @@ use quotas::Seated;
 use refusal::Refusal;
 use sampling::Sampled;
 use slots::Report;
-use table::Head;
-use tree_lists::Room;
+use table::{Head, Table, Wells};
+use tree_lists::{Room, TreeLists};
 
 // The version as one number: major * 10000 + minor * 100 + patch.
 #[unsafe(no_mangle)]
@@ -356,7 +356,12 @@ pub extern "C" fn ddm_add(
         slots: head[0],
         live: head[1],
     };
-    let answer = table::add(&mut counters, flags, coordinates, dimensions, point);
+    let mut wells = Wells {
+        flags,
+        coordinates,
+        dimensions,
+    };
+    let answer = table::add(&mut counters, &mut wells, point);
     head[0] = counters.slots;
     head[1] = counters.live;
     let told = Report::of(answer, 0);
@@ -379,7 +384,11 @@ pub extern "C" fn ddm_retire(
         slots: head[0],
         live: head[1],
     };
-    let answer = table::retire(&mut counters, flags, coordinates, dimensions, slot);
+    let points = Points {
+        coordinates,
+        dimensions,
+    };
+    let answer = table::retire(&mut counters, flags, points, slot);
     head[0] = counters.slots;
     head[1] = counters.live;
     Report::of(answer, ()).number
@@ -417,20 +426,22 @@ pub extern "C" fn ddm_build_slots(
         return Refusal::ShortList.number();
     }
     let params = slots::params_of(leaf, neighbours, factor, policy, threshold);
-    let head = Head { slots, live };
-    let tree = table_build::build_slots(
-        head,
+    let table = Table {
+        head: Head { slots, live },
         flags,
-        coordinates,
-        dimensions,
-        params,
+        points: Points {
+            coordinates,
+            dimensions,
+        },
+    };
+    let mut lists = TreeLists {
         level_points,
         internals,
         domains,
         boxes,
         borrowed,
-        floats,
-        wholes,
-    );
+    };
+    let mut room = Room { floats, wholes };
+    let tree = table_build::build_slots(table, params, &mut lists, &mut room);
     slots::put_tree(res, tree)
 }

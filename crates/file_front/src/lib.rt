@@ -17,6 +17,7 @@ ghost use Rattle.settings_record.specs.Reading.{settings_are};
 ghost use Rattle.file_front.specs.Fronts.{points_at, head_taken};
 ghost use Rattle.file_front.specs.Reading.{FrontRead};
 
+use points::Points;
 use settings_record::Settings;
 
 // The head's bytes: the settings record's, and the point count's.
@@ -111,26 +112,22 @@ fn floats_are(xs: &[f64], start: usize, count: usize, bytes: &[u8], at: usize) -
 
 // Whether the present points are those of a file whose head and points stand whole and whose settings are the present ones: as many,
 // and bit for bit.
-pub fn same_points(points: &[f64], dimensions: usize, bytes: &[u8]) -> bool
-    requires { (front_whole bytes.now ≡ true) × ((settings_in bytes.now).dimension ≡ dimensions) × (1 ≤ dimensions) × (dimensions ≤ 3)
-        × (point_count dimensions points.now ≤ most_points) }
-    ensures { (s : tree.Settings) → s.dimension ≡ dimensions → same_settings_lem s bytes.now ≡ true
-        → result ≡ same_points_lem s points.now bytes.now }
+pub fn same_points(points: Points<'_>, bytes: &[u8]) -> bool
+    requires { (front_whole bytes.now ≡ true) × ((settings_in bytes.now).dimension ≡ points.dimensions) × (1 ≤ points.dimensions) × (points.dimensions ≤ 3)
+        × (point_count points.dimensions points.coordinates.now ≤ most_points) }
+    ensures { (s : tree.Settings) → s.dimension ≡ points.entry.dimensions → same_settings_lem s bytes.now ≡ true
+        → result ≡ same_points_lem s points.entry.coordinates.now bytes.now }
 {
     let n = bytes_in::number_at(bytes, settings_record::SIZE);
-    if points.len() / dimensions != n {
+    if points.coordinates.len() / points.dimensions != n {
         return false;
     }
-    let size = point_size(dimensions);
+    let size = point_size(points.dimensions);
     let mut at = HEAD;
     for i in 0..n {
-        if !floats_are(
-            points,
-            i * dimensions,
-            dimensions,
-            bytes,
-            at + bytes_in::MARK,
-        ) {
+        let start = i * points.dimensions;
+        let found = at + bytes_in::MARK;
+        if !floats_are(points.coordinates, start, points.dimensions, bytes, found) {
             return false;
         }
         at += size;

@@ -5,13 +5,15 @@ ghost use Rattle.std.specs.Prelude.{◌≡◌, ◌≤◌, length};
 ghost use Rattle.lists.specs.Lists.{put, keep, from};
 ghost use Rattle.definition.specs.Table.{flagged};
 
+use table_checks::Table;
+
 // Writes the live slots below the slot count, ascending, to the front of the list.
-pub fn list_live(flags: &[u8], slots: usize, rows: &mut [usize])
-    requires { (slots ≤ length flags.now) × (length (keep (flagged flags.now) (from 0 slots)) ≤ length rows.old) }
-    ensures { rows.new ≡ put rows.old 0 (keep (flagged flags.now) (from 0 slots)) }
+pub fn list_live(table: Table<'_>, rows: &mut [usize])
+    requires { (table.head.slots ≤ length table.flags.now) × (length (keep (flagged table.flags.now) (from 0 table.head.slots)) ≤ length rows.old) }
+    ensures { rows.new ≡ put rows.old 0 (keep (flagged table.entry.flags.now) (from 0 table.entry.head.slots)) }
 {
     let mut n = 0;
-    for (i, &flag) in flags[..slots].iter().enumerate() {
+    for (i, &flag) in table.flags[..table.head.slots].iter().enumerate() {
         if flag != 0 {
             rows[n] = i;
             n += 1;

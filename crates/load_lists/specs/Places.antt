@@ -5,9 +5,10 @@ use Rattle.definition.specs.Number.{plus_zero}
 use Rattle.definition.specs.Points.{box_width_lem}
 use Rattle.definition.specs.Tree.{Leaf, Level}
 use Rattle.definition.specs.Packed.{row_numbers, row_floats_lem, most_levels, stretches, packed_level_points, packed_internals, packed_domains, packed_boxes, packed_borrowed}
-use Rattle.packed.specs.Reading.{Packed, own_in_lem, borrowed_in, boxes_in}
+use Rattle.packed.specs.Reading.{Packed, packed, own_in_lem, borrowed_in, boxes_in}
 use Rattle.formats.specs.Bytes.{floats_at}
 use Rattle.stored.specs.Stored.{leaf_in, leaves_at_lem, level_in, levels_at}
+use Rattle.tree_lists.specs.declared.TreeLists.{TreeLists}
 use Rattle.load_lists.specs.declared.Cursor.{Cursor}
 
 -- ---- what stands in a file from the cursor on
@@ -31,6 +32,10 @@ abbrev pub floats_read : ℕ → Bool → ℕ → List ℕ → List Float
 floats_read d coarse at bs = cond coarse (replicate (box_width_lem d) plus_zero ++ floats_at 1 at bs) (floats_at (row_floats_lem d) at bs)
 
 -- ---- domains in the lists, from the cursor c on
+
+-- the four lists that hold them, on d axes
+abbrev pub packed_in : TreeLists → ℕ → Packed
+packed_in l d = packed l.internals.now l.domains.now l.boxes.now l.borrowed.now d
 
 -- the lists have room for them
 pub record Room (fs : List Leaf) (c : Cursor) (p : Packed) : Type 0 where

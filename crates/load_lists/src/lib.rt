@@ -5,16 +5,17 @@
 ghost use Rattle.std.specs.Prelude.{◌≡◌, true, [], ◌∷◌, ◌+◌, ◌*◌, ◌≤◌, length, drop};
 ghost use Rattle.lists.specs.Lists.{put};
 ghost use Rattle.definition.specs.Packed.{row_floats_lem, most_levels, counts_of, packed_level_points, packed_internals, packed_domains, packed_boxes, packed_borrowed};
-ghost use Rattle.packed.specs.Reading.{packed};
 ghost use Rattle.formats.specs.Bytes.{float_size, whole};
 ghost use Rattle.stored.specs.File.{domain_mark};
 ghost use Rattle.stored.specs.Stored.{leaf_size, after_leaves, after_level};
 ghost use Rattle.tree_tests.specs.Whole.{leaves_whole, level_whole, levels_whole};
 ghost use Rattle.tree_answer.specs.Answers.{counts_given};
 ghost use Rattle.file_reader.specs.Fetch.{record_floats_lem};
-ghost use Rattle.load_lists.specs.Places.{floats_read, ahead, domain_at_lem, domains_at, level_at_lem, Room, Written, tree_from, CanHold};
+ghost use Rattle.tree_lists.specs.Lent.{SameLists};
+ghost use Rattle.load_lists.specs.Places.{packed_in, floats_read, ahead, domain_at_lem, domains_at, level_at_lem, Room, Written, tree_from, CanHold};
 
 use tree_answer::DDMTree;
+use tree_lists::TreeLists;
 
 // Where a level's row count and its domain count stand, and where its rows begin.
 const ROWS: usize = bytes_in::MARK;
@@ -68,27 +69,25 @@ fn put_domain(
     dimensions: usize,
     coarse: bool,
     c: Cursor,
-    internals: &mut [usize],
-    domains: &mut [usize],
-    boxes: &mut [f64],
-    borrowed: &mut [usize],
+    lists: &mut TreeLists<'_>,
 ) -> Cursor
     requires dimensions_bound { (dimensions ≤ 3) × (whole domain_mark (leaf_size dimensions coarse (ahead c bytes.now)) (ahead c bytes.now) ≡ true) }
-    requires room { Room (domain_at_lem dimensions coarse c bytes.now ∷ []) c (packed internals.old domains.old boxes.old borrowed.old dimensions) }
+    requires room { Room (domain_at_lem dimensions coarse c bytes.now ∷ []) c (packed_in lists.old dimensions) }
+    ensures same { SameLists lists.old lists.new }
+    ensures kept { lists.new.level_points.now ≡ lists.old.level_points.now }
     ensures next { (result.at ≡ c.at + leaf_size dimensions coarse (ahead c bytes.now)) × (result.points ≡ c.points) }
     ensures written { Written (domain_at_lem dimensions coarse c bytes.now ∷ []) c result
-        (packed internals.old domains.old boxes.old borrowed.old dimensions)
-        (packed internals.new domains.new boxes.new borrowed.new dimensions) }
+        (packed_in lists.old dimensions) (packed_in lists.new dimensions) }
 {
     let floats = file_reader::record_floats(dimensions, coarse);
     let found = file_reader::fetch_domain(bytes, c.at, bytes_in::FLOAT * floats).unwrap();
     let depth = bytes_in::number_at(bytes, found.depth_at);
-    bytes_in::read_numbers(bytes, found.own_at, found.own, internals, c.own);
+    bytes_in::read_numbers(bytes, found.own_at, found.own, lists.internals, c.own);
     bytes_in::read_numbers(
         bytes,
         found.borrowed_at,
         found.borrowed,
-        borrowed,
+        lists.borrowed,
         c.borrowed,
     );
     let row = packed::DomainRow {
@@ -98,9 +97,16 @@ fn put_domain(
         borrowed_count: found.borrowed,
         depth,
     };
-    packed::put_row(domains, c.row, row);
+    packed::put_row(lists.domains, c.row, row);
     let box_at = packed::floats_before(dimensions, c.row);
-    put_row_floats(bytes, found.bounds_at, dimensions, coarse, boxes, box_at);
+    put_row_floats(
+        bytes,
+        found.bounds_at,
+        dimensions,
+        coarse,
+        lists.boxes,
+        box_at,
+    );
     Cursor {
         at: found.next,
         points: c.points,
@@ -119,23 +125,19 @@ fn put_domains(
     coarse: bool,
     m: usize,
     c: Cursor,
-    internals: &mut [usize],
-    domains: &mut [usize],
-    boxes: &mut [f64],
-    borrowed: &mut [usize],
+    lists: &mut TreeLists<'_>,
 ) -> Cursor
     requires dimensions_bound { (dimensions ≤ 3) × (leaves_whole dimensions coarse m (ahead c bytes.now) ≡ true) }
-    requires room { Room (domains_at dimensions coarse m c bytes.now) c (packed internals.old domains.old boxes.old borrowed.old dimensions) }
+    requires room { Room (domains_at dimensions coarse m c bytes.now) c (packed_in lists.old dimensions) }
+    ensures same { SameLists lists.old lists.new }
+    ensures kept { lists.new.level_points.now ≡ lists.old.level_points.now }
     ensures next { (ahead result bytes.now ≡ after_leaves dimensions coarse m (ahead c bytes.now)) × (result.points ≡ c.points) }
     ensures written { Written (domains_at dimensions coarse m c bytes.now) c result
-        (packed internals.old domains.old boxes.old borrowed.old dimensions)
-        (packed internals.new domains.new boxes.new borrowed.new dimensions) }
+        (packed_in lists.old dimensions) (packed_in lists.new dimensions) }
 {
     let mut next = c;
     for _ in 0..m {
-        next = put_domain(
-            bytes, dimensions, coarse, next, internals, domains, boxes, borrowed,
-        );
+        next = put_domain(bytes, dimensions, coarse, next, lists);
     }
     next
 }
@@ -143,66 +145,39 @@ fn put_domains(
 // ---- levels
 
 // Writes the level at the cursor: its rows, and its domains. Answers with the cursor after it.
-fn put_level(
-    bytes: &[u8],
-    dimensions: usize,
-    c: Cursor,
-    level_points: &mut [usize],
-    internals: &mut [usize],
-    domains: &mut [usize],
-    boxes: &mut [f64],
-    borrowed: &mut [usize],
-) -> Cursor
+fn put_level(bytes: &[u8], dimensions: usize, c: Cursor, lists: &mut TreeLists<'_>) -> Cursor
     requires dimensions_bound { (dimensions ≤ 3) × (level_whole dimensions (ahead c bytes.now) ≡ true) }
-    requires bytes_in_bounds { (c.points + length (level_at_lem dimensions c bytes.now).points ≤ length level_points.old)
-        × Room (level_at_lem dimensions c bytes.now).leaves c (packed internals.old domains.old boxes.old borrowed.old dimensions) }
+    requires bytes_in_bounds { (c.points + length (level_at_lem dimensions c bytes.now).points ≤ length lists.old.level_points.now)
+        × Room (level_at_lem dimensions c bytes.now).leaves c (packed_in lists.old dimensions) }
+    ensures same { SameLists lists.old lists.new }
     ensures next { (ahead result bytes.now ≡ after_level dimensions (ahead c bytes.now)) × (result.points ≡ c.points + length (level_at_lem dimensions c bytes.now).points) }
-    ensures level_points { level_points.new ≡ put level_points.old c.points (level_at_lem dimensions c bytes.now).points }
+    ensures level_points { lists.new.level_points.now ≡ put lists.old.level_points.now c.points (level_at_lem dimensions c bytes.now).points }
     ensures written { Written (level_at_lem dimensions c bytes.now).leaves c result
-        (packed internals.old domains.old boxes.old borrowed.old dimensions)
-        (packed internals.new domains.new boxes.new borrowed.new dimensions) }
+        (packed_in lists.old dimensions) (packed_in lists.new dimensions) }
 {
     let rows = bytes_in::number_at(bytes, c.at + ROWS);
     let count = bytes_in::number_at(bytes, c.at + DOMAINS);
     let listed = c.at + LISTED;
-    bytes_in::read_numbers(bytes, listed, rows, level_points, c.points);
+    bytes_in::read_numbers(bytes, listed, rows, lists.level_points, c.points);
     let inside = Cursor {
         at: listed + bytes_in::NUMBER * rows,
         points: c.points + rows,
         ..c
     };
-    put_domains(
-        bytes,
-        dimensions,
-        count == 1,
-        count,
-        inside,
-        internals,
-        domains,
-        boxes,
-        borrowed,
-    )
+    put_domains(bytes, dimensions, count == 1, count, inside, lists)
 }
 
 // Writes the tree whose levels begin at `at` to the fronts of the lists, and answers with its counts.
-pub fn put_levels(
-    bytes: &[u8],
-    at: usize,
-    dimensions: usize,
-    level_points: &mut [usize],
-    internals: &mut [usize],
-    domains: &mut [usize],
-    boxes: &mut [f64],
-    borrowed: &mut [usize],
-) -> DDMTree
+pub fn put_levels(bytes: &[u8], at: usize, dimensions: usize, lists: &mut TreeLists<'_>) -> DDMTree
     requires dimensions_bound { (dimensions ≤ 3) × (levels_whole dimensions most_levels (drop at bytes.now) ≡ true) }
-    requires can_hold { CanHold (tree_from dimensions at bytes.now) level_points.old (packed internals.old domains.old boxes.old borrowed.old dimensions) }
+    requires can_hold { CanHold (tree_from dimensions at bytes.now) lists.old.level_points.now (packed_in lists.old dimensions) }
+    ensures same { SameLists lists.old lists.new }
     ensures counts { counts_given result ≡ counts_of (tree_from dimensions at bytes.now) }
-    ensures level_points { level_points.new ≡ put level_points.old 0 (packed_level_points (tree_from dimensions at bytes.now)) }
-    ensures internals { internals.new ≡ put internals.old 0 (packed_internals (tree_from dimensions at bytes.now)) }
-    ensures domains { domains.new ≡ put domains.old 0 (packed_domains (tree_from dimensions at bytes.now)) }
-    ensures boxes { boxes.new ≡ put boxes.old 0 (packed_boxes (tree_from dimensions at bytes.now)) }
-    ensures borrowed { borrowed.new ≡ put borrowed.old 0 (packed_borrowed (tree_from dimensions at bytes.now)) }
+    ensures level_points { lists.new.level_points.now ≡ put lists.old.level_points.now 0 (packed_level_points (tree_from dimensions at bytes.now)) }
+    ensures internals { lists.new.internals.now ≡ put lists.old.internals.now 0 (packed_internals (tree_from dimensions at bytes.now)) }
+    ensures domains { lists.new.domains.now ≡ put lists.old.domains.now 0 (packed_domains (tree_from dimensions at bytes.now)) }
+    ensures boxes { lists.new.boxes.now ≡ put lists.old.boxes.now 0 (packed_boxes (tree_from dimensions at bytes.now)) }
+    ensures borrowed { lists.new.borrowed.now ≡ put lists.old.borrowed.now 0 (packed_borrowed (tree_from dimensions at bytes.now)) }
 {
     let mut next = Cursor {
         at,
@@ -216,16 +191,7 @@ pub fn put_levels(
     let mut counts = [0; MOST_LEVELS];
     for level in 0..MOST_LEVELS {
         let c = next;
-        next = put_level(
-            bytes,
-            dimensions,
-            c,
-            level_points,
-            internals,
-            domains,
-            boxes,
-            borrowed,
-        );
+        next = put_level(bytes, dimensions, c, lists);
         let count = next.row - c.row;
         levels = level + 1;
         rows[level] = next.points - c.points;

@@ -4,7 +4,8 @@
 ghost use Rattle.std.specs.Prelude.{◌≡◌};
 ghost use Rattle.definition.specs.Refusals.{accepted, verdict};
 ghost use Rattle.config.specs.Params.{settings_of_lem};
-ghost use Rattle.tree_answer.specs.Answers.{counts_given, lists_of};
+ghost use Rattle.tree_answer.specs.Answers.{counts_given};
+ghost use Rattle.tree_lists.specs.Lent.{lists_read};
 ghost use Rattle.stored.specs.Outcome.{own_tests};
 ghost use Rattle.tree_tests.specs.Size.{file_size_lem};
 ghost use Rattle.store.specs.Limits.{Limited};
@@ -12,9 +13,10 @@ ghost use Rattle.store.specs.Outcome.{store_report, Stored};
 
 use config::DDMParams;
 use packed::Packed;
+use points::Points;
 use refusal::Refusal;
 use tree_answer::DDMTree;
-use tree_checks::TreeSizes;
+use tree_lists::TreeRead;
 
 // The head's bytes: the settings record's, and the point count's.
 const HEAD: usize = settings_record::SIZE + bytes_in::NUMBER;
@@ -50,25 +52,35 @@ fn file_size(
 // The tree of a call that the build's own tests let pass: 20 where the lists and counts are not those of a sound tree, 11 where the file list
 // has no room for its file, and the file otherwise. How many bytes were written.
 fn store_sound(
-    points: &[f64],
+    points: Points<'_>,
     params: DDMParams,
     counts: DDMTree,
-    level_points: &[usize],
-    tree: Packed<'_>,
+    tree: TreeRead<'_>,
     file: &mut [u8],
 ) -> Result<usize, Refusal>
-    requires { verdict (own_tests (settings_of_lem tree.dimensions params) points.now (lists_of level_points.now tree.internals.now tree.domains.now tree.boxes.now tree.borrowed.now)) ≡ accepted }
-    ensures { Stored (settings_of_lem tree.entry.dimensions params) points.now (counts_given counts)
-        (lists_of level_points.now tree.entry.internals.now tree.entry.domains.now tree.entry.boxes.now tree.entry.borrowed.now)
-        file.old file.new (store_report result) }
+    requires { verdict (own_tests (settings_of_lem points.dimensions params) points.coordinates.now (lists_read tree)) ≡ accepted }
+    ensures { Stored (settings_of_lem points.entry.dimensions params) points.entry.coordinates.now (counts_given counts)
+        (lists_read tree.entry) file.old file.new (store_report result) }
 {
-    let n = points.len() / tree.dimensions;
+    let Points {
+        coordinates,
+        dimensions,
+    } = points;
+    let level_points = tree.level_points;
+    let lists = Packed {
+        internals: tree.internals,
+        domains: tree.domains,
+        boxes: tree.boxes,
+        borrowed: tree.borrowed,
+        dimensions,
+    };
+    let n = coordinates.len() / dimensions;
     let neighbours = params.overlap_knn as usize;
-    let Some(passed) = list_levels::check_lists(level_points, tree, n, neighbours, counts) else {
+    let Some(passed) = list_levels::check_lists(level_points, lists, n, neighbours, counts) else {
         return Err(Refusal::NoSoundTree);
     };
     let size = file_size(
-        tree.dimensions,
+        dimensions,
         n,
         counts.levels,
         passed.rows,
@@ -78,41 +90,21 @@ fn store_sound(
     if file.len() < size {
         return Err(Refusal::ShortList);
     }
-    Ok(store_bytes::put_file(points, params, counts, level_points, tree, file))
+    Ok(store_bytes::put_file(coordinates, params, counts, level_points, lists, file))
 }
 
 // Writes the file of the tree that stands in the lists with these counts, over these points and settings. The bytes go to the front of the
 // file list, and the answer tells how many they are; what stands past them stays as it was. A refused call writes nothing.
 pub fn store_tree(
-    points: &[f64],
-    dimensions: usize,
+    points: Points<'_>,
     params: DDMParams,
     counts: DDMTree,
-    level_points: &[usize],
-    internals: &[usize],
-    domains: &[usize],
-    boxes: &[f64],
-    borrowed: &[usize],
+    tree: TreeRead<'_>,
     file: &mut [u8],
 ) -> Result<usize, Refusal>
-    ensures { Stored (settings_of_lem dimensions params) points.now (counts_given counts)
-        (lists_of level_points.now internals.now domains.now boxes.now borrowed.now)
-        file.old file.new (store_report result) }
+    ensures { Stored (settings_of_lem points.entry.dimensions params) points.entry.coordinates.now (counts_given counts)
+        (lists_read tree.entry) file.old file.new (store_report result) }
 {
-    let lent = TreeSizes {
-        level_points: level_points.len(),
-        internals: internals.len(),
-        domains: domains.len(),
-        boxes: boxes.len(),
-        borrowed: borrowed.len(),
-    };
-    tree_checks::check_tree(points, dimensions, params, lent)?;
-    let tree = Packed {
-        internals,
-        domains,
-        boxes,
-        borrowed,
-        dimensions,
-    };
-    store_sound(points, params, counts, level_points, tree, file)
+    tree_checks::check_tree(points, params, tree)?;
+    store_sound(points, params, counts, tree, file)
 }

@@ -4,21 +4,22 @@ use Rattle.definition.specs.Outcome.{Answer}
 use Rattle.definition.specs.Table.{Head, Table, add_answer_lem, add_table, retire_answer_lem, retire_table}
 use Rattle.refusal.specs.declared.Refusal.{Refusal}
 use Rattle.refusal.specs.Refusals.{answer_of}
-use Rattle.table_checks.specs.Tables.{head_of}
+use Rattle.table_checks.specs.declared.Head.{Head as Counters}
+use Rattle.table_checks.specs.Tables.{head_in}
 use Rattle.table_edits.specs.declared.Edited.{Edited}
 
 -- number and place of a refusal, and the slot
 abbrev pub edit_answer : Result Edited Refusal → Answer ℕ
 edit_answer = answer_of (λ e. e.slot) 0
 
--- the head's counters after an edit: those of its answer, and after a refused one the given ones
-abbrev pub head_after : ℕ → ℕ → Result Edited Refusal → Head
-head_after slots live (Ok e) = head_of e.slots e.live
-head_after slots live (Err r) = head_of slots live
+-- the head after an edit: that of its answer, and after a refused one the given one
+abbrev pub head_after : Counters → Result Edited Refusal → Head
+head_after h (Ok e) = head_in e.head
+head_after h (Err r) = head_in h
 
 -- the table after it
-abbrev pub table_after : ℕ → ℕ → List ℕ → List Float → Result Edited Refusal → Table
-table_after slots live flags coordinates r = record { head = head_after slots live r; flags = flags; coordinates = coordinates }
+abbrev pub table_after : Counters → List ℕ → List Float → Result Edited Refusal → Table
+table_after h flags coordinates r = record { head = head_after h r; flags = flags; coordinates = coordinates }
 
 -- The complete outcome of a call: its answer, and the table after it, head, flags and coordinates.
 pub record Added (d : ℕ) (t t' : Table) (point : List Float) (answer : Answer ℕ) : Type 0 where

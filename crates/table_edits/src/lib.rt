@@ -1,42 +1,38 @@
-// Adding a well to a table and retiring one, on plain numbers and lists.
+// Adding a well to a table and retiring one: what is written, and the head after it, which the caller keeps.
 #![tactic(auto)]
 
 ghost use Rattle.std.specs.Prelude.{◌≡◌, not, [], ◌∷◌, eqb, length, IfOk};
 ghost use Rattle.definition.specs.Refusals.{on, verdict, not_finite_lem};
 ghost use Rattle.definition.specs.Table.{next_slot, table_tests};
 ghost use Rattle.refusal.specs.Refusals.{verdict_of};
-ghost use Rattle.table_checks.specs.Tables.{head_of, table_of};
+ghost use Rattle.table_checks.specs.Tables.{head_in, table_of, table_in, wells_in, SameWells};
 ghost use Rattle.table_edits.specs.Edits.{edit_answer, table_after, Added, Retired};
 
+use points::Points;
 use refusal::Refusal;
+use table_checks::{Head, Table, Wells};
 
-// What an accepted edit answers: the slot that it names (0 for a retirement, which names none), and the head's counters after it.
+// What an accepted edit answers: the slot that it names (0 for a retirement, which names none), and the head after it.
 #[derive(Clone, Copy)]
 pub struct Edited {
     pub slot: usize,
-    pub slots: usize,
-    pub live: usize,
+    pub head: Head,
 }
 
 // What every edit tries first: 1, 11 and 27. Where none of them is met, the slot that an add takes.
 #[tactic(auto, unfolding(definition::specs::Refusals::verdict))]
-pub fn table_fault(
-    slots: usize,
-    live: usize,
-    flags: &[u8],
-    coordinates: &[f64],
-    dimensions: usize,
-) -> Result<usize, Refusal>
-    ensures verdict { verdict_of result ≡ verdict (table_tests dimensions (table_of slots live flags.now coordinates.now)) }
-    ensures next { IfOk result (λ next. next ≡ next_slot (head_of slots live) flags.now) }
+pub fn table_fault(table: Table<'_>) -> Result<usize, Refusal>
+    ensures verdict { verdict_of result ≡ verdict (table_tests table.entry.points.dimensions (table_in table.entry)) }
+    ensures next { IfOk result (λ next. next ≡ next_slot (head_in table.entry.head) table.entry.flags.now) }
 {
+    let dimensions = table.points.dimensions;
     if dimensions < 1 || 3 < dimensions {
         return Err(Refusal::WrongDimension);
     }
-    if coordinates.len() < table_checks::capacity(flags.len()) * dimensions {
+    if table.is_short() {
         return Err(Refusal::ShortList);
     }
-    table_checks::sound(flags, slots, live).ok_or(Refusal::UnsoundTable)
+    table.sound().ok_or(Refusal::UnsoundTable)
 }
 
 // What is tried of a point: 7 and 10.
@@ -54,50 +50,55 @@ fn point_fault(point: &[f64], dimensions: usize) -> Result<(), Refusal>
 }
 
 // Adds a point to the table: 1, 11, 27, 7, 10 and 21 are tried before anything is written.
-pub fn added(
-    slots: usize,
-    live: usize,
-    flags: &mut [u8],
-    coordinates: &mut [f64],
-    dimensions: usize,
-    point: &[f64],
-) -> Result<Edited, Refusal>
-    ensures { Added dimensions (table_of slots live flags.old coordinates.old) (table_after slots live flags.new coordinates.new result) point.now (edit_answer result) }
+pub fn added(head: Head, wells: &mut Wells<'_>, point: &[f64]) -> Result<Edited, Refusal>
+    ensures same { SameWells wells.old wells.new }
+    ensures outcome { Added wells.old.dimensions (wells_in head wells.old) (table_after head wells.new.flags.now wells.new.coordinates.now result) point.now (edit_answer result) }
 {
-    let slot = table_fault(slots, live, flags, coordinates, dimensions)?;
+    let Head { slots, live } = head;
+    let dimensions = wells.dimensions;
+    let table = wells.table(head);
+    let slot = table_fault(table)?;
     point_fault(point, dimensions)?;
-    let room = table_checks::capacity(flags.len());
+    let room = table.capacity();
     if slot == slots && slots == room {
         return Err(Refusal::FullTable);
     }
-    flags[slot] = 1;
-    stretches::copy_rows(point, 0, dimensions, coordinates, slot * dimensions);
+    wells.flags[slot] = 1;
+    stretches::copy_rows(point, 0, dimensions, wells.coordinates, slot * dimensions);
     Ok(Edited {
         slot,
-        slots: slots.max(slot + 1),
-        live: live + 1,
+        head: Head {
+            slots: slots.max(slot + 1),
+            live: live + 1,
+        },
     })
 }
 
-// Retires a slot of the table: 1, 11, 27 and 22 are tried before anything is written.
+// Retires a slot of the table: 1, 11, 27 and 22 are tried before anything is written. It takes no `Wells`: the coordinates are only read, and
+// a caller may have them by `&` alone.
 pub fn retired(
-    slots: usize,
-    live: usize,
+    head: Head,
     flags: &mut [u8],
-    coordinates: &[f64],
-    dimensions: usize,
+    points: Points<'_>,
     slot: usize,
 ) -> Result<Edited, Refusal>
-    ensures { Retired dimensions (table_of slots live flags.old coordinates.now) (table_after slots live flags.new coordinates.now result) slot (edit_answer result) }
+    ensures { Retired points.entry.dimensions (table_of head.slots head.live flags.old points.entry.coordinates.now) (table_after head flags.new points.entry.coordinates.now result) slot (edit_answer result) }
 {
-    table_fault(slots, live, flags, coordinates, dimensions)?;
+    let Head { slots, live } = head;
+    table_fault(Table {
+        head,
+        flags,
+        points,
+    })?;
     if slots <= slot || flags[slot] == 0 {
         return Err(Refusal::NoLiveSlot);
     }
     flags[slot] = 0;
     Ok(Edited {
         slot: 0,
-        slots,
-        live: live - 1,
+        head: Head {
+            slots,
+            live: live - 1,
+        },
     })
 }

@@ -3,50 +3,29 @@
 
 ghost use Rattle.std.specs.Prelude.{◌≡◌};
 ghost use Rattle.definition.specs.Refusals.{verdict};
-ghost use Rattle.definition.specs.Outcome.{TreeLists};
 ghost use Rattle.stored.specs.Outcome.{own_tests};
 ghost use Rattle.config.specs.Params.{settings_of_lem};
 ghost use Rattle.refusal.specs.Refusals.{verdict_of};
-ghost use Rattle.tree_checks.specs.Lent.{Lent};
+ghost use Rattle.tree_lists.specs.Lent.{lists_read};
 
 use build_sizes::BuildSizes;
 use config::DDMParams;
+use points::Points;
 use refusal::Refusal;
+use tree_lists::TreeRead;
 
-// The lengths of the five lists.
-#[derive(Clone, Copy)]
-pub struct TreeSizes {
-    pub level_points: usize,
-    pub internals: usize,
-    pub domains: usize,
-    pub boxes: usize,
-    pub borrowed: usize,
-}
-
-// The tests of a build over these points, with lists of these lengths. No working room is lent, so none of it is too short.
-pub fn check_tree(
-    points: &[f64],
-    dimensions: usize,
-    params: DDMParams,
-    lent: TreeSizes,
-) -> Result<(), Refusal>
-    ensures { (l : TreeLists) → Lent lent l → verdict_of result ≡ verdict (own_tests (settings_of_lem dimensions params) points.now l) }
+// The tests of a build over these points, with these lists. No working room is lent, so none of it is too short.
+pub fn check_tree(points: Points<'_>, params: DDMParams, lists: TreeRead<'_>) -> Result<(), Refusal>
+    ensures { verdict_of result ≡ verdict (own_tests (settings_of_lem points.entry.dimensions params) points.entry.coordinates.now (lists_read lists.entry)) }
 {
-    let TreeSizes {
-        level_points,
-        internals,
-        domains,
-        boxes,
-        borrowed,
-    } = lent;
-    let sizes = BuildSizes {
-        level_points,
-        internals,
-        domains,
-        boxes,
-        borrowed,
+    let lent = BuildSizes {
+        level_points: lists.level_points.len(),
+        internals: lists.internals.len(),
+        domains: lists.domains.len(),
+        boxes: lists.boxes.len(),
+        borrowed: lists.borrowed.len(),
         floats: usize::MAX,
         wholes: usize::MAX,
     };
-    build_checks::check_build(points, dimensions, params, sizes)
+    build_checks::check_build(points, params, lent)
 }

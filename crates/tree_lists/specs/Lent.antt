@@ -4,12 +4,24 @@ use Rattle.definition.specs.Outcome as outcome
 use Rattle.definition.specs.DepthFirst.{RecordLists}
 use Rattle.tree_lists.specs.declared.TreeLists.{TreeLists}
 use Rattle.tree_lists.specs.declared.LeafLists.{LeafLists}
+use Rattle.tree_lists.specs.declared.TreeRead.{TreeRead}
 use Rattle.tree_lists.specs.declared.Room.{Room}
 use Rattle.tree_lists.specs.declared.Records.{Records}
 
 -- the lists of a tree
 abbrev pub lists_in : TreeLists → outcome.TreeLists
 lists_in l =
+    record {
+      level_points = l.level_points.now;
+      internals = l.internals.now;
+      domains = l.domains.now;
+      boxes = l.boxes.now;
+      borrowed = l.borrowed.now;
+    }
+
+-- the lists of a tree that is only read
+abbrev pub lists_read : TreeRead → outcome.TreeLists
+lists_read l =
     record {
       level_points = l.level_points.now;
       internals = l.internals.now;

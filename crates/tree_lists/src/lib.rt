@@ -1,7 +1,10 @@
 // The lists that a caller lends to a build, as one value each: the five lists of its tree, its working room, and the two lists of its records;
-// and where the cut of a level writes to them.
+// the five lists of a tree that is only read; and where the cut of a level writes to them.
 // They are lent on by `&mut`, and a function that takes one promises that it still holds the caller's lists (`SameLists` and the like).
 #![tactic(auto)]
+
+ghost use Rattle.std.specs.Prelude.{◌≡◌};
+ghost use Rattle.tree_lists.specs.Lent.{lists_in, lists_read};
 
 // The five lists of a tree.
 #[derive(Drop)]
@@ -29,6 +32,31 @@ pub struct Start {
     pub first: usize,
     pub skip: usize,
     pub node: usize,
+}
+
+// The five lists of a tree, where they are only read. They are passed by value, as `tree: TreeRead<'_>`.
+#[derive(Clone, Copy)]
+pub struct TreeRead<'a> {
+    pub level_points: &'a [usize],
+    pub internals: &'a [usize],
+    pub domains: &'a [usize],
+    pub boxes: &'a [f64],
+    pub borrowed: &'a [usize],
+}
+
+impl<'a> TreeLists<'a> {
+    // The lists, to be read.
+    pub fn read(&self) -> TreeRead<'_>
+        ensures { lists_read result ≡ lists_in self.now }
+    {
+        TreeRead {
+            level_points: self.level_points,
+            internals: self.internals,
+            domains: self.domains,
+            boxes: self.boxes,
+            borrowed: self.borrowed,
+        }
+    }
 }
 
 // The working room of a build.

@@ -8,35 +8,42 @@ use Rattle.closing.proofs.move_down.Goals as goal
 
 pub loop-i-init : goal.loop-i-init
 loop-i-init c = let P = c.args in
-    (refl, refl, refl, starts P.dimensions P.slots P.flags.now P.coordinates.now P.rename.now)
+    let w = P.wells.now in
+    (search rules, refl, starts w.dimensions P.slots w.flags.now w.coordinates.now P.rename.now)
 
 pub move_slot-to-requires : goal.move_slot-to-requires
 move_slot-to-requires c = let s = c in
     let P = s.args in
+    let w = P.wells.now in
     let l = c.loop-i in
-    let below = c.loop-i-test.true in (
-      low P.dimensions P.slots P.flags.now P.coordinates.now P.rename.now l.flags l.coordinates l.rename l.i l.to l.invariant.3,
-      omega (arith, below, s.requires, l.invariant.0),
-      slot-room P.dimensions l.i P.slots (length l.coordinates) below (omega (arith, s.requires, l.invariant.1)),
-      omega (arith, below, s.requires, l.invariant.2),
+    let same = l.invariant.0 in
+    let below = c.loop-i-test.true in
+    let left = low w.dimensions P.slots w.flags.now w.coordinates.now P.rename.now l.wells.flags.now l.wells.coordinates.now l.rename l.i l.to l.invariant.2 in
+    let d = same.dimensions in (
+      left,
+      omega (arith, below, s.requires, same.flags_len),
+      rw d (slot-room w.dimensions l.i P.slots (length l.wells.coordinates.now) below (omega (arith, s.requires, same.coordinates_len))),
+      omega (arith, below, s.requires, l.invariant.1),
     )
 
 pub loop-i-preserved : goal.loop-i-preserved
 loop-i-preserved c = let s = c in
     let P = s.args in
+    let w = P.wells.now in
     let l = c.loop-i in
+    let same = l.invariant.0 in
     let below = c.loop-i-test.true in
-    let r = c.move_slot-to in (
+    let r = rw same.dimensions at c.move_slot-to.ensures in (
       search rules,
       search rules,
-      search rules,
-      turn P.dimensions P.slots P.flags.now P.coordinates.now P.rename.now l.flags l.coordinates l.rename l.i l.to l.invariant.3
-          (omega (arith, below, s.requires)) (slot-room P.dimensions l.i P.slots (length P.coordinates.now) below s.requires.1) (omega (arith, below, s.requires))
-          _ _ _ r.result r.ensures.next r.ensures.flags r.ensures.coordinates r.ensures.rename,
+      turn w.dimensions P.slots w.flags.now w.coordinates.now P.rename.now l.wells.flags.now l.wells.coordinates.now l.rename l.i l.to l.invariant.2
+          (omega (arith, below, s.requires)) (slot-room w.dimensions l.i P.slots (length w.coordinates.now) below s.requires.1) (omega (arith, below, s.requires))
+          _ _ _ c.move_slot-to.result r.next r.flags r.coordinates r.rename,
     )
 
 pub returns : goal.returns
 returns c = let P = c.args in
+    let w = P.wells.now in
     let l = c.loop-i in
-    let e = ends P.dimensions P.slots P.flags.now P.coordinates.now P.rename.now l.flags l.coordinates l.rename l.i l.to l.invariant.3 (omega arith) in
-    record { flags = e.0; coordinates = e.1.0; rename = e.1.1 }
+    let e = ends w.dimensions P.slots w.flags.now w.coordinates.now P.rename.now l.wells.flags.now l.wells.coordinates.now l.rename l.i l.to l.invariant.2 (omega arith) in
+    record { same = search rules; flags = e.0; coordinates = e.1.0; rename = e.1.1 }

@@ -16,7 +16,7 @@ use Rattle.ddm.proofs.build.Goals as goal
 
 pub grow-requires : goal.grow-requires
 grow-requires c = record {
-  wholes_value = sym c.in_ok-check_build.ensures;
+  wholes_value = sym (rw c.lent-lent.ensures at c.in_ok-check_build.ensures);
   record_room = (omega arith, omega arith);
 }
 
@@ -29,7 +29,7 @@ returns-in_err-check_build-clause-built c = let P = c.args in
     let old = lists_in P.lists.now in
     let v = build_call s cs old floats wholes in
     let p = err_from_is_err_and c.from_residual.result c.from_residual.ensures.1 in
-    let e = sym c.in_err-check_build.ensures in
+    let e = sym (rw c.lent-lent.ensures at c.in_err-check_build.ensures) in
     rw (p.1, p.2)
     (built s cs old floats wholes (answer-refused counts_given (counts_of (levels s cs)) zero_counts v _ e) (lists-refused v (levels s cs) old _ e)
     (room-refused v _ floats e) (room-refused v _ wholes e))
@@ -42,7 +42,7 @@ returns-clause-built c = let P = c.args in
     let wholes = P.room.now.wholes.now in
     let old = lists_in P.lists.now in
     let v = build_call s cs old floats wholes in
-    let e = sym c.in_ok-check_build.ensures in
+    let e = sym (rw c.lent-lent.ensures at c.in_ok-check_build.ensures) in
     let w = c.grow.ensures in
     let lists = whole-lists w.level_points w.internals w.domains w.boxes w.borrowed ∙ lists-accepted v (levels s cs) old e in
     built s cs old floats wholes (answer-accepted counts_given _ (counts_of (levels s cs)) zero_counts v e w.counts) lists

@@ -1,7 +1,7 @@
 -- `ddm_c::ddm_add` meets its contract. Assumes nothing.
 use mathlib.Core.Path.{refl, ◌∙◌}
 use native.Mathlib.Omega.{arith}
-use Rattle.table_checks.specs.Tables.{table_of}
+use Rattle.table_checks.specs.Tables.{wells_in}
 use Rattle.slots.specs.Slots.{told}
 use Rattle.slots.proofs.Told.{add-short, add-long}
 use Rattle.ddm_c.proofs.ddm_add.Goals as goal
@@ -12,6 +12,6 @@ returns-then-res-lt2 c = rw c.number.ensures (add-short _ _ _ _ _ _ c.if-res-lt2
 pub returns : goal.returns
 returns c = let P = c.args in
     let q = c.add-answer in
-    let w = q.ensures in
+    let w = q.ensures.outcome in
     add-long P.dimensions P.head.now P.flags.now P.coordinates.now P.point.now P.res.now _ _ _ (told c.of-told.result)
-    (table_of q.new.head.slots q.new.head.live q.new.flags q.new.coordinates) (omega arith) c.put_pair.ensures (c.of-told.ensures ∙ w.answers) w.table refl refl
+    (wells_in q.new.head q.new.wells) (omega arith) c.put_pair.ensures (c.of-told.ensures ∙ w.answers) w.table refl refl

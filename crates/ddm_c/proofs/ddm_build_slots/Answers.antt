@@ -13,8 +13,8 @@ pub returns : goal.returns
 returns c = let a = c.args in
     let p = c.params_of-params in
     let q = c.build_slots-tree in
-    let w = q.ensures in
+    let w = q.ensures.built in
     slots-long (table_of _ _ _ _) (lists_of _ _ _ _ _) _ _ _ (lists_of _ _ _ _ _) _ _ _ _ (tree_answer_lem q.result) (settings_of_lem _ p.result)
     (settings_from a.dimensions a.leaf a.neighbours a.factor a.policy a.threshold)
     (p.ensures _)
-    c.if-res-lt10.false c.put_tree.ensures.number c.put_tree.ensures.slot w.answers w.lists w.floats_free w.wholes_free
+    c.if-res-lt10.false c.put_tree.ensures.number c.put_tree.ensures.slot w.answers (back ∙ w.lists) w.floats_free w.wholes_free

@@ -10,14 +10,14 @@ pub number_at-n-requires : goal.number_at-n-requires
 number_at-n-requires c =
     omega (arith, head-inside c.args.bytes.now (front-parts c.args.bytes.now c.requires.0).0)
 
-pub returns-then-points-dimensions : goal.returns-then-points-dimensions
-returns-then-points-dimensions c =
+pub returns-then-points-n : goal.returns-then-points-n
+returns-then-points-n c =
     let a = c.args in
-    other-count a.dimensions a.points.now a.bytes.now c.requires.0 (λ i. omega (arith, c.type_inv.bytes i)) (omega (arith, c.requires.4)) (λ e. c.if-points-dimensions.true (e ∙ sym c.number_at-n.ensures.0))
+    other-count a.points.dimensions a.points.coordinates.now a.bytes.now c.requires.0 (λ i. omega (arith, c.type_inv.bytes i)) (omega (arith, c.requires.4)) (λ e. c.if-points-n.true (e ∙ sym c.number_at-n.ensures.0))
 
 pub loop-i-init : goal.loop-i-init
 loop-i-init c =
-    comparing-start c.requires.0 c.requires.1 (λ i. omega (arith, c.type_inv.bytes i)) (omega (arith, c.requires.4)) c.if-points-dimensions.false c.number_at-n.ensures.0
+    comparing-start c.requires.0 c.requires.1 (λ i. omega (arith, c.type_inv.bytes i)) (omega (arith, c.requires.4)) c.if-points-n.false c.number_at-n.ensures.0
 
 pub floats_are-requires : goal.floats_are-requires
 floats_are-requires c =

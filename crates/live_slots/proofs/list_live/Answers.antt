@@ -9,40 +9,40 @@ use Rattle.live_slots.proofs.list_live.Goals as goal
 use Rattle.live_slots.proofs.list_live.Goals.{then-flag-ne0, else-flag-ne0}
 
 pub loop-i-init : goal.loop-i-init
-loop-i-init c = let P = c.args in (omega arith, refl, starts P.flags.now P.rows.now)
+loop-i-init c = let P = c.args in (omega arith, refl, starts P.table.flags.now P.rows.now)
 
 pub offset_bounds-rows-n : goal.offset_bounds-rows-n
 offset_bounds-rows-n c = let P = c.args in
     let l = c.loop-i in
-    let all : length (take P.slots P.flags.now) ≡ P.slots = length-take-le P.slots P.flags.now c.requires.0 in
-    let inside : l.i < P.slots = omega arith in
-    let read : get_or (take P.slots P.flags.now) l.i 0 ≡ get_or P.flags.now l.i 0 = get_or-take P.slots P.flags.now l.i 0 inside in
-    let h = turn-fits P.flags.now P.rows.now l.rows P.slots l.i l.n c.requires.1 inside l.invariant.2 (λ z. c.if-flag-ne0.true (read ∙ z)) in
+    let all : length (take P.table.head.slots P.table.flags.now) ≡ P.table.head.slots = length-take-le P.table.head.slots P.table.flags.now c.requires.0 in
+    let inside : l.i < P.table.head.slots = omega arith in
+    let read : get_or (take P.table.head.slots P.table.flags.now) l.i 0 ≡ get_or P.table.flags.now l.i 0 = get_or-take P.table.head.slots P.table.flags.now l.i 0 inside in
+    let h = turn-fits P.table.flags.now P.rows.now l.rows P.table.head.slots l.i l.n c.requires.1 inside l.invariant.2 (λ z. c.if-flag-ne0.true (read ∙ z)) in
     omega arith
 
 pub bounds-rows-n : goal.bounds-rows-n
 bounds-rows-n c = let P = c.args in
     let l = c.loop-i in
-    let all : length (take P.slots P.flags.now) ≡ P.slots = length-take-le P.slots P.flags.now c.requires.0 in
-    let inside : l.i < P.slots = omega arith in
-    let read : get_or (take P.slots P.flags.now) l.i 0 ≡ get_or P.flags.now l.i 0 = get_or-take P.slots P.flags.now l.i 0 inside in
-    let h = turn-fits P.flags.now P.rows.now l.rows P.slots l.i l.n c.requires.1 inside l.invariant.2 (λ z. c.if-flag-ne0.true (read ∙ z)) in
+    let all : length (take P.table.head.slots P.table.flags.now) ≡ P.table.head.slots = length-take-le P.table.head.slots P.table.flags.now c.requires.0 in
+    let inside : l.i < P.table.head.slots = omega arith in
+    let read : get_or (take P.table.head.slots P.table.flags.now) l.i 0 ≡ get_or P.table.flags.now l.i 0 = get_or-take P.table.head.slots P.table.flags.now l.i 0 inside in
+    let h = turn-fits P.table.flags.now P.rows.now l.rows P.table.head.slots l.i l.n c.requires.1 inside l.invariant.2 (λ z. c.if-flag-ne0.true (read ∙ z)) in
     h
 
 pub loop-i-preserved : goal.loop-i-preserved
 loop-i-preserved c = let P = c.args in
     let l = c.loop-i in
-    let all : length (take P.slots P.flags.now) ≡ P.slots = length-take-le P.slots P.flags.now c.requires.0 in
-    let inside : l.i < P.slots = omega arith in
-    let read : get_or (take P.slots P.flags.now) l.i 0 ≡ get_or P.flags.now l.i 0 = get_or-take P.slots P.flags.now l.i 0 inside in
+    let all : length (take P.table.head.slots P.table.flags.now) ≡ P.table.head.slots = length-take-le P.table.head.slots P.table.flags.now c.requires.0 in
+    let inside : l.i < P.table.head.slots = omega arith in
+    let read : get_or (take P.table.head.slots P.table.flags.now) l.i 0 ≡ get_or P.table.flags.now l.i 0 = get_or-take P.table.head.slots P.table.flags.now l.i 0 inside in
     let fits = c.requires.1 in
     elim c.if-flag-ne0.branch [
-      | then-flag-ne0 w ↦ (omega (arith, w.n-is), ap length w.rows-is ∙ length-set l.rows l.n l.i ∙ l.invariant.1, rw (w.rows-is, w.n-is) (turn-live P.flags.now P.rows.now l.rows P.slots l.i l.n fits inside l.invariant.2 (λ z. w.if-flag-ne0.true (read ∙ z))))
-      | else-flag-ne0 w ↦ (omega (arith, w.n-is), ap length w.rows-is ∙ l.invariant.1, rw (w.rows-is, w.n-is) (turn-retired P.flags.now P.rows.now l.rows P.slots l.i l.n fits inside l.invariant.2 (sym read ∙ w.if-flag-ne0.false)))
+      | then-flag-ne0 w ↦ (omega (arith, w.n-is), ap length w.rows-is ∙ length-set l.rows l.n l.i ∙ l.invariant.1, rw (w.rows-is, w.n-is) (turn-live P.table.flags.now P.rows.now l.rows P.table.head.slots l.i l.n fits inside l.invariant.2 (λ z. w.if-flag-ne0.true (read ∙ z))))
+      | else-flag-ne0 w ↦ (omega (arith, w.n-is), ap length w.rows-is ∙ l.invariant.1, rw (w.rows-is, w.n-is) (turn-retired P.table.flags.now P.rows.now l.rows P.table.head.slots l.i l.n fits inside l.invariant.2 (sym read ∙ w.if-flag-ne0.false)))
     ]
 
 pub returns : goal.returns
 returns c = let P = c.args in
     let l = c.loop-i in
-    let all : length (take P.slots P.flags.now) ≡ P.slots = length-take-le P.slots P.flags.now c.requires.0 in
-    ends P.flags.now P.rows.now l.rows P.slots l.i l.n (omega arith) l.invariant.2
+    let all : length (take P.table.head.slots P.table.flags.now) ≡ P.table.head.slots = length-take-le P.table.head.slots P.table.flags.now c.requires.0 in
+    ends P.table.flags.now P.rows.now l.rows P.table.head.slots l.i l.n (omega arith) l.invariant.2

@@ -5,4 +5,4 @@ use Rattle.live_slots.proofs.Listed.{Listing}
 use Rattle.live_slots.proofs.list_live.Given as goal
 
 abbrev pub invariant-loop-i : goal.invariant-loop-i
-invariant-loop-i l = (l.n ≤ l.i) × (length l.rows ≡ length l.initial.rows) × Listing l.flags l.initial.rows l.rows l.i l.n
+invariant-loop-i l = (l.n ≤ l.i) × (length l.rows ≡ length l.initial.rows) × Listing l.table.flags.now l.initial.rows l.rows l.i l.n

@@ -6,55 +6,55 @@ use Rattle.definition.specs.Packed.{Counts}
 use Rattle.stored.specs.Stored.{well_formed}
 use Rattle.stored.specs.Outcome.{same_settings_lem, same_points_lem}
 use Rattle.config.specs.Params.{settings_of_lem}
-use Rattle.tree_answer.specs.Answers.{lists_of}
+use Rattle.tree_lists.specs.Lent.{lists_in}
 use Rattle.load.proofs.SameFile.{front-stands, settings-inside, taken-with, its-dimension, levels-here, can-hold-it}
 use Rattle.load.proofs.Outcomes.{loaded-refused, refused-20, refused-18, refused-19, loaded-accepted}
 use Rattle.load.proofs.load_file.Goals as goal
 
-pub returns-in_default : goal.returns-in_default
-returns-in_default c = let start = c in
-    let s = settings_of_lem start.args.dimensions start.args.params in
-    let cs = start.args.points.now in
+pub returns-in_default-clause-loaded : goal.returns-in_default-clause-loaded
+returns-in_default-clause-loaded c = let start = c in
+    let s = settings_of_lem start.args.points.dimensions start.args.params in
+    let cs = start.args.points.coordinates.now in
     let bs = start.args.bytes.now in
-    let old = lists_of start.args.level_points.now start.args.internals.now start.args.domains.now start.args.boxes.now start.args.borrowed.now in
+    let old = lists_in start.args.lists.now in
     loaded-refused s cs bs old _ (refused-20 s cs bs old start.requires (sym c.in_default.ensures.good)) refl
 
 pub same_settings-requires : goal.same_settings-requires
 same_settings-requires c = let start = c in
-    let s = settings_of_lem start.args.dimensions start.args.params in
-    let cs = start.args.points.now in
+    let s = settings_of_lem start.args.points.dimensions start.args.params in
+    let cs = start.args.points.coordinates.now in
     let bs = start.args.bytes.now in
-    let old = lists_of start.args.level_points.now start.args.internals.now start.args.domains.now start.args.boxes.now start.args.borrowed.now in
+    let old = lists_in start.args.lists.now in
     let well : well_formed bs ≡ true = sym c.in-Some.ensures.good in
     (settings-inside bs well, omega (arith, (taken-with s cs old start.requires).axes_few))
 
-pub returns-then-not-same_settings : goal.returns-then-not-same_settings
-returns-then-not-same_settings c = let start = c in
-    let s = settings_of_lem start.args.dimensions start.args.params in
-    let cs = start.args.points.now in
+pub returns-then-not-same_settings-clause-loaded : goal.returns-then-not-same_settings-clause-loaded
+returns-then-not-same_settings-clause-loaded c = let start = c in
+    let s = settings_of_lem start.args.points.dimensions start.args.params in
+    let cs = start.args.points.coordinates.now in
     let bs = start.args.bytes.now in
-    let old = lists_of start.args.level_points.now start.args.internals.now start.args.domains.now start.args.boxes.now start.args.borrowed.now in
+    let old = lists_in start.args.lists.now in
     let well : well_formed bs ≡ true = sym c.in-Some.ensures.good in
     let out : same_settings_lem s bs ≡ false = sym c.same_settings.ensures ∙ c.if-not-same_settings.true in
     loaded-refused s cs bs old _ (refused-18 s cs bs old start.requires well out) refl
 
 pub same_points-requires : goal.same_points-requires
 same_points-requires c = let start = c in
-    let s = settings_of_lem start.args.dimensions start.args.params in
-    let cs = start.args.points.now in
+    let s = settings_of_lem start.args.points.dimensions start.args.params in
+    let cs = start.args.points.coordinates.now in
     let bs = start.args.bytes.now in
-    let old = lists_of start.args.level_points.now start.args.internals.now start.args.domains.now start.args.boxes.now start.args.borrowed.now in
+    let old = lists_in start.args.lists.now in
     let well : well_formed bs ≡ true = sym c.in-Some.ensures.good in
     let settings : same_settings_lem s bs ≡ true = sym c.same_settings.ensures ∙ c.if-not-same_settings.false in
     let has = taken-with s cs old start.requires in
     (front-stands bs well, its-dimension s cs old start.requires bs well settings, has.axes, has.axes_few, has.rows_few)
 
-pub returns-then-not-same_points : goal.returns-then-not-same_points
-returns-then-not-same_points c = let start = c in
-    let s = settings_of_lem start.args.dimensions start.args.params in
-    let cs = start.args.points.now in
+pub returns-then-not-same_points-clause-loaded : goal.returns-then-not-same_points-clause-loaded
+returns-then-not-same_points-clause-loaded c = let start = c in
+    let s = settings_of_lem start.args.points.dimensions start.args.params in
+    let cs = start.args.points.coordinates.now in
     let bs = start.args.bytes.now in
-    let old = lists_of start.args.level_points.now start.args.internals.now start.args.domains.now start.args.boxes.now start.args.borrowed.now in
+    let old = lists_in start.args.lists.now in
     let well : well_formed bs ≡ true = sym c.in-Some.ensures.good in
     let settings : same_settings_lem s bs ≡ true = sym c.same_settings.ensures ∙ c.if-not-same_settings.false in
     let out : same_points_lem s cs bs ≡ false = sym (c.same_points.ensures s refl settings) ∙ c.if-not-same_points.true in
@@ -62,10 +62,10 @@ returns-then-not-same_points c = let start = c in
 
 pub put_levels-requires : goal.put_levels-requires
 put_levels-requires c = let start = c in
-    let s = settings_of_lem start.args.dimensions start.args.params in
-    let cs = start.args.points.now in
+    let s = settings_of_lem start.args.points.dimensions start.args.params in
+    let cs = start.args.points.coordinates.now in
     let bs = start.args.bytes.now in
-    let old = lists_of start.args.level_points.now start.args.internals.now start.args.domains.now start.args.boxes.now start.args.borrowed.now in
+    let old = lists_in start.args.lists.now in
     let well : well_formed bs ≡ true = sym c.in-Some.ensures.good in
     let settings : same_settings_lem s bs ≡ true = sym c.same_settings.ensures ∙ c.if-not-same_settings.false in
     let points : same_points_lem s cs bs ≡ true = sym (c.same_points.ensures s refl settings) ∙ c.if-not-same_points.false in
@@ -75,12 +75,12 @@ put_levels-requires c = let start = c in
       can_hold = can-hold-it s cs old start.requires bs well settings points c.in-Some.place place;
     }
 
-pub returns : goal.returns
-returns c = let start = c in
-    let s = settings_of_lem start.args.dimensions start.args.params in
-    let cs = start.args.points.now in
+pub returns-clause-loaded : goal.returns-clause-loaded
+returns-clause-loaded c = let start = c in
+    let s = settings_of_lem start.args.points.dimensions start.args.params in
+    let cs = start.args.points.coordinates.now in
     let bs = start.args.bytes.now in
-    let old = lists_of start.args.level_points.now start.args.internals.now start.args.domains.now start.args.boxes.now start.args.borrowed.now in
+    let old = lists_in start.args.lists.now in
     let well : well_formed bs ≡ true = sym c.in-Some.ensures.good in
     let settings : same_settings_lem s bs ≡ true = sym c.same_settings.ensures ∙ c.if-not-same_settings.false in
     let points : same_points_lem s cs bs ≡ true = sym (c.same_points.ensures s refl settings) ∙ c.if-not-same_points.false in

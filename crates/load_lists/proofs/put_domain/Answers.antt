@@ -25,5 +25,5 @@ returns-clause-next c = let a = c.args in
 pub returns-clause-written : goal.returns-clause-written
 returns-clause-written c = let a = c.args in
     let h = found a.dimensions a.coarse a.bytes.now a.c _ _ c.record_floats-floats.ensures (rw c.unwrap-found.ensures at c.fetch_domain.ensures) in
-    domain-written h a.internals.now a.domains.now a.boxes.now a.borrowed.now _ _ _ _ _ _ c.number_at-depth.ensures.0 c.floats_before-box_at.ensures
+    domain-written h a.lists.now.internals.now a.lists.now.domains.now a.lists.now.boxes.now a.lists.now.borrowed.now _ _ _ _ _ _ c.number_at-depth.ensures.0 c.floats_before-box_at.ensures
     c.read_numbers.ensures c.read_numbers-2.ensures c.put_row.ensures c.put_row_floats.ensures

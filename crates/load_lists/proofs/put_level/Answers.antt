@@ -1,6 +1,7 @@
 -- `load_lists::put_level` meets its contract. Assumes nothing.
 use mathlib.Core.Path.{ap, ◌∙◌}
 use native.Mathlib.Omega.{arith}
+use borrow.Author.Rules.{rules}
 use Rattle.lists.specs.Lists.{put}
 use Rattle.load_lists.proofs.Level.{level-within, rows-many, rows-read, rows-within, domains-stand, domains-after, domains-room, level-written}
 use Rattle.load_lists.proofs.put_level.Goals as goal
@@ -57,6 +58,7 @@ returns c = let s = c in
         w.next.0 ∙ domains-after a.dimensions a.bytes.now a.c s.requires.dimensions_bound.1 rows count,
         omega (arith, w.next.1, rows-many a.dimensions a.bytes.now a.c s.requires.dimensions_bound.1 rows count),
       );
-      level_points = c.read_numbers.ensures ∙ ap (put a.level_points.now a.c.points) (rows-read a.dimensions a.bytes.now a.c s.requires.dimensions_bound.1 rows count);
+      same = search rules;
+      level_points = w.kept ∙ c.read_numbers.ensures ∙ ap (put a.lists.now.level_points.now a.c.points) (rows-read a.dimensions a.bytes.now a.c s.requires.dimensions_bound.1 rows count);
       written = level-written a.dimensions a.bytes.now a.c s.requires.dimensions_bound.1 rows count w.written;
     }

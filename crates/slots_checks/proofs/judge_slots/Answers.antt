@@ -14,32 +14,32 @@ use Rattle.slots_checks.proofs.judge_slots.Goals as goal
 use Rattle.slots_checks.proofs.judge_slots.Goals.{then-flag-ne0+in_default, else-flag-ne0}
 
 pub loop-i-init : goal.loop-i-init
-loop-i-init c = let P = c.args in none_first P.dimensions P.coordinates.now (flagged P.flags.now)
+loop-i-init c = let P = c.args in none_first P.table.points.dimensions P.table.points.coordinates.now (flagged P.table.flags.now)
 
 pub returns-in-Some : goal.returns-in-Some
 returns-in-Some c = let P = c.args in
     let i = c.loop-i.i in
-    let d = P.dimensions in
-    let cs = P.coordinates.now in
-    let all : length (take P.slots P.flags.now) ≡ P.slots = length-take-le P.slots P.flags.now c.requires.0 in
-    let below : i < P.slots = omega arith in
-    let live = flag-live P.flags.now i (λ z. c.if-flag-ne0.true (get_or-take P.slots P.flags.now i 0 below ∙ z)) in
-    let inside = slot-inside i P.slots d below in
+    let d = P.table.points.dimensions in
+    let cs = P.table.points.coordinates.now in
+    let all : length (take P.table.head.slots P.table.flags.now) ≡ P.table.head.slots = length-take-le P.table.head.slots P.table.flags.now c.requires.0 in
+    let below : i < P.table.head.slots = omega arith in
+    let live = flag-live P.table.flags.now i (λ z. c.if-flag-ne0.true (get_or-take P.table.head.slots P.table.flags.now i 0 below ∙ z)) in
+    let inside = slot-inside i P.table.head.slots d below in
     let at = rw (part-lent cs (i * d) d) at c.in-Some.ensures in
     ap (λ (k : ℕ). refused (record { number = 10; place = i * d + k })) at.0
-    ∙ judged-here d cs (flagged P.flags.now) i P.slots below live (omega (arith, inside)) c.loop-i.invariant (omega (arith, at.0, at.1, length_part cs (i * d) d (omega (arith, inside))))
+    ∙ judged-here d cs (flagged P.table.flags.now) i P.table.head.slots below live (omega (arith, inside)) c.loop-i.invariant (omega (arith, at.0, at.1, length_part cs (i * d) d (omega (arith, inside))))
 
 pub loop-i-preserved : goal.loop-i-preserved
 loop-i-preserved c = let P = c.args in
     let i = c.loop-i.i in
     let none = c.loop-i.invariant in
-    let d = P.dimensions in
-    let cs = P.coordinates.now in
-    let flags = P.flags.now in
-    let all : length (take P.slots flags) ≡ P.slots = length-take-le P.slots flags c.requires.0 in
-    let below : i < P.slots = omega arith in
-    let read : get_or (take P.slots flags) i 0 ≡ get_or flags i 0 = get_or-take P.slots flags i 0 below in
-    let inside = slot-inside i P.slots d below in
+    let d = P.table.points.dimensions in
+    let cs = P.table.points.coordinates.now in
+    let flags = P.table.flags.now in
+    let all : length (take P.table.head.slots flags) ≡ P.table.head.slots = length-take-le P.table.head.slots flags c.requires.0 in
+    let below : i < P.table.head.slots = omega arith in
+    let read : get_or (take P.table.head.slots flags) i 0 ≡ get_or flags i 0 = get_or-take P.table.head.slots flags i 0 below in
+    let inside = slot-inside i P.table.head.slots d below in
     elim c.if-flag-ne0.branch [
       | then-flag-ne0+in_default w ↦ let e = rw (part-lent cs (i * d) d) at w.in_default.ensures in
           none_more d cs (flagged flags) i (flag-live flags i (λ z. w.if-flag-ne0.true (read ∙ z))) (omega (arith, inside)) (omega (arith, e, length_part cs (i * d) d (omega (arith, inside)))) none
@@ -48,5 +48,5 @@ loop-i-preserved c = let P = c.args in
 
 pub returns : goal.returns
 returns c = let P = c.args in
-    let all : length (take P.slots P.flags.now) ≡ P.slots = length-take-le P.slots P.flags.now c.requires.0 in
-    judged-none P.dimensions P.coordinates.now (flagged P.flags.now) c.loop-i.i P.slots (omega arith) (omega arith) c.loop-i.invariant
+    let all : length (take P.table.head.slots P.table.flags.now) ≡ P.table.head.slots = length-take-le P.table.head.slots P.table.flags.now c.requires.0 in
+    judged-none P.table.points.dimensions P.table.points.coordinates.now (flagged P.table.flags.now) c.loop-i.i P.table.head.slots (omega arith) (omega arith) c.loop-i.invariant

@@ -3,4 +3,4 @@ use Rattle.slots_checks.proofs.Judged.{None}
 use Rattle.slots_checks.proofs.judge_slots.Given as goal
 
 abbrev pub invariant-loop-i : goal.invariant-loop-i
-invariant-loop-i l = None l.dimensions l.coordinates (flagged l.flags) l.i
+invariant-loop-i l = None l.table.points.dimensions l.table.points.coordinates.now (flagged l.table.flags.now) l.i

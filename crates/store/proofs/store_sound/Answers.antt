@@ -2,7 +2,8 @@
 use mathlib.Core.Path.{refl}
 use native.Mathlib.Omega.{arith}
 use Rattle.config.specs.Params.{settings_of_lem}
-use Rattle.tree_answer.specs.Answers.{counts_given, lists_of}
+use Rattle.tree_answer.specs.Answers.{counts_given}
+use Rattle.tree_lists.specs.Lent.{lists_read}
 use Rattle.store.proofs.Held.{held-stands}
 use Rattle.store.proofs.Sized.{own-passed, tree-bad, tree-good, tree-packs, tree-sound, tree-room, tree-limited, tree-size}
 use Rattle.store.proofs.Outcomes.{tree-refused, file-refused, file-written}
@@ -11,43 +12,43 @@ use Rattle.store.proofs.store_sound.Goals as goal
 pub nonzero_div-n : goal.nonzero_div-n
 nonzero_div-n c = let start = c in
     let a = start.args in
-    let s = settings_of_lem a.tree.dimensions a.params in
-    let cs = a.points.now in
-    let l = lists_of a.level_points.now a.tree.internals.now a.tree.domains.now a.tree.boxes.now a.tree.borrowed.now in
+    let s = settings_of_lem a.points.dimensions a.params in
+    let cs = a.points.coordinates.now in
+    let l = lists_read a.tree in
     omega (arith, (own-passed s cs l start.requires).axes)
 
 pub check_lists-requires : goal.check_lists-requires
 check_lists-requires c = let start = c in
     let a = start.args in
-    let s = settings_of_lem a.tree.dimensions a.params in
-    let cs = a.points.now in
-    let l = lists_of a.level_points.now a.tree.internals.now a.tree.domains.now a.tree.boxes.now a.tree.borrowed.now in
+    let s = settings_of_lem a.points.dimensions a.params in
+    let cs = a.points.coordinates.now in
+    let l = lists_read a.tree in
     let p = own-passed s cs l start.requires in
     (p.axes_few, p.rows_few, p.neighbours_few, p.none-short)
 
 pub returns-in_default : goal.returns-in_default
 returns-in_default c = let start = c in
     let a = start.args in
-    let s = settings_of_lem a.tree.dimensions a.params in
-    let cs = a.points.now in
-    let l = lists_of a.level_points.now a.tree.internals.now a.tree.domains.now a.tree.boxes.now a.tree.borrowed.now in
+    let s = settings_of_lem a.points.dimensions a.params in
+    let cs = a.points.coordinates.now in
+    let l = lists_read a.tree in
     tree-refused s cs (counts_given a.counts) l a.file.now start.requires (tree-bad s _ (counts_given a.counts) l (c.in_default.ensures s refl refl)) _ refl
 
 pub file_size-size-requires : goal.file_size-size-requires
 file_size-size-requires c = let start = c in
     let a = start.args in
-    let s = settings_of_lem a.tree.dimensions a.params in
-    let cs = a.points.now in
-    let l = lists_of a.level_points.now a.tree.internals.now a.tree.domains.now a.tree.boxes.now a.tree.borrowed.now in
+    let s = settings_of_lem a.points.dimensions a.params in
+    let cs = a.points.coordinates.now in
+    let l = lists_read a.tree in
     let tested = c.in-Some.ensures s refl refl in
     tree-limited s cs (counts_given a.counts) l start.requires _ tested
 
 pub returns-then-file-size : goal.returns-then-file-size
 returns-then-file-size c = let start = c in
     let a = start.args in
-    let s = settings_of_lem a.tree.dimensions a.params in
-    let cs = a.points.now in
-    let l = lists_of a.level_points.now a.tree.internals.now a.tree.domains.now a.tree.boxes.now a.tree.borrowed.now in
+    let s = settings_of_lem a.points.dimensions a.params in
+    let cs = a.points.coordinates.now in
+    let l = lists_read a.tree in
     let tested = c.in-Some.ensures s refl refl in
     let g = tree-good s cs (counts_given a.counts) l start.requires _ tested in
     let size = tree-size s cs (counts_given a.counts) l start.requires _ tested _ c.file_size-size.ensures in
@@ -56,9 +57,9 @@ returns-then-file-size c = let start = c in
 pub put_file-requires : goal.put_file-requires
 put_file-requires c = let start = c in
     let a = start.args in
-    let s = settings_of_lem a.tree.dimensions a.params in
-    let cs = a.points.now in
-    let l = lists_of a.level_points.now a.tree.internals.now a.tree.domains.now a.tree.boxes.now a.tree.borrowed.now in
+    let s = settings_of_lem a.points.dimensions a.params in
+    let cs = a.points.coordinates.now in
+    let l = lists_read a.tree in
     let tested = c.in-Some.ensures s refl refl in
     let p = own-passed s cs l start.requires in
     let packing = tree-packs s cs (counts_given a.counts) l start.requires _ tested in
@@ -74,9 +75,9 @@ put_file-requires c = let start = c in
 pub returns : goal.returns
 returns c = let start = c in
     let a = start.args in
-    let s = settings_of_lem a.tree.dimensions a.params in
-    let cs = a.points.now in
-    let l = lists_of a.level_points.now a.tree.internals.now a.tree.domains.now a.tree.boxes.now a.tree.borrowed.now in
+    let s = settings_of_lem a.points.dimensions a.params in
+    let cs = a.points.coordinates.now in
+    let l = lists_read a.tree in
     let tested = c.in-Some.ensures s refl refl in
     let g = tree-good s cs (counts_given a.counts) l start.requires _ tested in
     let size = tree-size s cs (counts_given a.counts) l start.requires _ tested _ c.file_size-size.ensures in

@@ -18,5 +18,5 @@ unfolding retire_answer_lem
 returns c = let a = c.args in
     let done = c.in_ok-edited.ensures in
     let none : c.in_ok-edited.edited.slot ≡ 0 =
-    ap (λ (x : Answer ℕ). x.value) done.answers ∙ reports-none (retire_verdict a.dimensions (table_of a.head.now.slots a.head.now.live a.flags.now a.coordinates.now) a.slot) in
-    record { answers = rw none at done.answers; table = rw (c.take.ensures.0, c.take.ensures.1) done.table }
+    ap (λ (x : Answer ℕ). x.value) done.answers ∙ reports-none (retire_verdict a.points.dimensions (table_of a.head.now.slots a.head.now.live a.flags.now a.points.coordinates.now) a.slot) in
+    record { answers = rw none at done.answers; table = done.table }

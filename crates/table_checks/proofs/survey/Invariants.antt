@@ -1,5 +1,0 @@
-use Rattle.table_checks.proofs.Pass.{Passed}
-use Rattle.table_checks.proofs.survey.Given as goal
-
-abbrev pub invariant-loop-i : goal.invariant-loop-i
-invariant-loop-i l = Passed l.flags l.slots l.live l.next l.i
