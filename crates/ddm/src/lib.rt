@@ -49,12 +49,5 @@ pub fn build(
         cuts: &mut [],
         planes: &mut [],
     };
-    Ok(grow::grow(
-        Engine::Queue,
-        points,
-        params,
-        lists,
-        room,
-        &mut records,
-    ))
+    Ok(grow::grow(Engine::Queue, points, params, lists, room, &mut records))
 }

@@ -34,12 +34,5 @@ pub fn build_depth_first(
     let lent = BuildSizes::lent(lists, room);
     let record_lent = RecordSizes::lent(records);
     record_checks::check_depth_first(points, params, lent, record_lent)?;
-    Ok(grow::grow(
-        Engine::DepthFirst,
-        points,
-        params,
-        lists,
-        room,
-        records,
-    ))
+    Ok(grow::grow(Engine::DepthFirst, points, params, lists, room, records))
 }

@@ -15,6 +15,7 @@ ghost use Rattle.queue.specs.Rows.{domain_own, with_own};
 ghost use Rattle.fine_level.specs.Planned.{cut_by, divided_by, leaves_by, nodes_by, active_at, GivenBy, FitsAt, RecordFits};
 
 use cut_engine::{Cut, Engine};
+use overlaps::Borrowing;
 use packed::LevelLeaves;
 use points::Points;
 use tree_lists::{LeafLists, Records, Room, Start, TreeLists};
@@ -137,17 +138,19 @@ fn divide(
     let level_points: &mut [usize] = lists.level_points;
     let active: &mut [usize] = &mut level_points[from..end];
     let internals: &mut [usize] = lists.internals;
-    let domains: &mut [usize] = lists.domains;
+    let mut borrowing = Borrowing {
+        internals,
+        domains: &mut *lists.domains,
+        first,
+        count: leaves,
+        borrowed: &mut *lists.borrowed,
+        at: bat,
+    };
     let borrowed = overlaps::overlaps(
         plan.points,
         plan.neighbours,
         active,
-        internals,
-        domains,
-        first,
-        leaves,
-        lists.borrowed,
-        bat,
+        &mut borrowing,
         room.wholes,
     );
     Parts {

@@ -47,15 +47,17 @@ returns c = let p = c.requires in
     let read = rw (← counts.0) at (leaves-read _ _ _ _ _ g _ _ _ _ fits_internals fits_domains _ _ internals domains) in
     let borrowed = level-borrowed P.plan.points.dimensions P.plan.points.coordinates.now P.plan.leaf P.plan.neighbours active in
     let rows = overlaps-rows _ _ _ _ _ g _ _ _ _ fits_internals fits_domains _ _ internals domains P.place.bat _ (rw (lent, l.kept.0, read) at o.domains) in
+    let domains_back : _ ≡ c.overlaps-borrowed.new.leaves.domains.now = search rules in
+    let borrowed_back : _ ≡ c.overlaps-borrowed.new.leaves.borrowed.now = search rules in
     record {
       same = search rules;
       counts = (counts.0 ∙ sym (level-number _ _ _ P.plan.neighbours _), rw (lent, l.kept.0, read, ← borrowed) at o.number, counts.1, counts.2);
       level_points = ap (λ (z : List ℕ). take P.place.from c.cut_rows-cut.new.lists.level_points.now ++ z) (take-append-drop _ (drop P.place.from c.cut_rows-cut.new.lists.level_points.now))
           ∙ take-append-drop P.place.from c.cut_rows-cut.new.lists.level_points.now ∙ l.kept.0;
       internals = internals ∙ ap (λ (z : List (List ℕ)). put P.lists.now.internals.now P.place.from (joined z)) (sym (level-own _ _ _ P.plan.neighbours _));
-      domains = rows;
+      domains = domains_back ∙ rows;
       boxes = l.boxes;
-      borrowed = rw (lent, l.kept.0, l.kept.1, read, ← borrowed) at o.borrowed;
+      borrowed = borrowed_back ∙ rw (lent, l.kept.0, l.kept.1, read, ← borrowed) at o.borrowed;
       cuts = l.cuts;
       planes = l.planes;
     }
