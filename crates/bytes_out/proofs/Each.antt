@@ -1,5 +1,4 @@
 -- What is appended of a list's elements, one after the other. Assumes nothing.
--- Holds: each_none, each_all, each_room
 use mathlib.Core.Path.{◌≡◌, refl}
 use Prim.Native.Nat.{ℕ, ◌+◌, ◌≤◌, ◌<◌}
 use mathlib.Core.List.{List, [], ◌++◌, map, map-append}

@@ -62,18 +62,18 @@ fn write_job(settings: Settings, points: &[f64], out: &mut Writer<'_>)
 }
 
 // The printout of a stream that is lent room for every printout.
-fn write_printout(input: &[u8], out: &mut Writer<'_>)
-    requires { out.old.at + most_bytes ≤ length out.old.bytes.now }
-    ensures { Appends out.old out.new (printed input.now) }
+fn write_printout(input: &[u8], output: &mut Writer<'_>)
+    requires { output.old.at + most_bytes ≤ length output.old.bytes.now }
+    ensures { Appends output.old output.new (printed input.now) }
 {
     let mut points = [0.0; job_room::COORDINATES];
     let read = stream_reader::read_job(input, &mut points);
     match read {
         Ok(job) => {
             let k = job.points * job.settings.dimensions;
-            write_job(job.settings, &points[..k], out);
+            write_job(job.settings, &points[..k], output);
         }
-        Err(refusal) => print_texts::write_refusal(refusal, out),
+        Err(refusal) => print_texts::write_refusal(refusal, output),
     }
 }
 
@@ -86,10 +86,10 @@ pub fn printout(input: &[u8], output: &mut [u8]) -> Result<usize, Refusal>
     if output.len() < job_room::TEXT {
         return Err(Refusal::ShortList);
     }
-    let mut out = Writer {
+    let mut writer = Writer {
         bytes: output,
         at: 0,
     };
-    write_printout(input, &mut out);
-    Ok(out.at)
+    write_printout(input, &mut writer);
+    Ok(writer.at)
 }

@@ -76,18 +76,18 @@ fn write_job(settings: Settings, points: &[f64], file: &[u8], out: &mut Writer<'
 }
 
 // The text for a stream and a file that is lent room for every text.
-fn write_reloaded(stream: &[u8], file: &[u8], out: &mut Writer<'_>)
-    requires { out.old.at + most_bytes ≤ length out.old.bytes.now }
-    ensures { Appends out.old out.new (reloaded stream.now file.now) }
+fn write_reloaded(stream: &[u8], file: &[u8], output: &mut Writer<'_>)
+    requires { output.old.at + most_bytes ≤ length output.old.bytes.now }
+    ensures { Appends output.old output.new (reloaded stream.now file.now) }
 {
     let mut points = [0.0; job_room::COORDINATES];
     let read = stream_reader::read_job(stream, &mut points);
     match read {
         Ok(job) => {
             let k = job.points * job.settings.dimensions;
-            write_job(job.settings, &points[..k], file, out);
+            write_job(job.settings, &points[..k], file, output);
         }
-        Err(refusal) => print_texts::write_refusal(refusal, out),
+        Err(refusal) => print_texts::write_refusal(refusal, output),
     }
 }
 
@@ -100,10 +100,10 @@ pub fn reload(stream: &[u8], file: &[u8], output: &mut [u8]) -> Result<usize, Re
     if output.len() < job_room::TEXT {
         return Err(Refusal::ShortList);
     }
-    let mut out = Writer {
+    let mut writer = Writer {
         bytes: output,
         at: 0,
     };
-    write_reloaded(stream, file, &mut out);
-    Ok(out.at)
+    write_reloaded(stream, file, &mut writer);
+    Ok(writer.at)
 }

@@ -17,7 +17,7 @@ pub returns : goal.returns
 returns c = let a = c.args in
     let long = c.if-output-lt-TEXT.false in
     let w = c.write_printout.ensures in
-    let back : _ ≡ c.write_printout.new.out.bytes.now = search rules in
+    let back : _ ≡ c.write_printout.new.output.bytes.now = search rules in
     record {
       answer = answer-long (printed a.input.now) a.output.now long refl refl w;
       output = back ∙ output-long (printed a.input.now) a.output.now long refl refl w;

@@ -20,7 +20,7 @@ returns c = let a = c.args in
     let text = reloaded a.stream.now a.file.now in
     let long = c.if-output-lt-TEXT.false in
     let w = c.write_reloaded.ensures in
-    let back : _ ≡ c.write_reloaded.new.out.bytes.now = search rules in
+    let back : _ ≡ c.write_reloaded.new.output.bytes.now = search rules in
     record {
       answer = answer-long text a.output.now long refl refl w;
       output = back ∙ output-long text a.output.now long refl refl w;
