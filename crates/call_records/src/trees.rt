@@ -3,7 +3,7 @@ use crate::fields::Fields;
 use crate::fronts::NINE;
 use refusal::Refusal;
 use tree_answer::DDMTree;
-use tree_lists::TreeLists;
+use tree_lists::{TreeLists, TreeRead};
 
 // Room for the five lists of a tree in the stored calls.
 #[derive(Drop)]
@@ -86,7 +86,7 @@ impl<'a> Fields<'a> {
     }
 
     // Whether the five lists stand next, and the record ends there.
-    pub fn lists_agree(&mut self, lists: &TreeLists<'_>) -> Option<bool> {
+    pub fn lists_agree(&mut self, lists: TreeRead<'_>) -> Option<bool> {
         Some(
             self.agrees(lists.level_points)?
                 && self.agrees(lists.internals)?

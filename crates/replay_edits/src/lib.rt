@@ -2,45 +2,37 @@
 #![tactic(auto)]
 
 use call_records::Fields;
+use points::Points;
 use refusal::Refusal;
-use table::Head;
+use table::{Head, Table, Wells};
 
 // The most coordinates of a point.
 const POINT: usize = 5;
 
-// Whether the answer of an edit stands next, with the head and the lists after it, and the record ends there. An edit that names no slot
-// has 0 there.
+// Whether the answer of an edit stands next, with the table after it, and the record ends there. An edit that names no slot has 0 there.
 fn outcome_agrees(
     fields: &mut Fields<'_>,
     answer: Result<usize, Refusal>,
-    head: Head,
-    flags: &[u8],
-    coordinates: &[f64],
+    table: Table<'_>,
 ) -> Option<bool> {
     Some(
         fields.refusal_agrees(answer.err())?
             && fields.number()? == answer.unwrap_or(0)
-            && fields.count()? == head.slots
-            && fields.count()? == head.live
-            && fields.agrees(coordinates)?
-            && fields.agrees(flags)?
+            && fields.count()? == table.head.slots
+            && fields.count()? == table.head.live
+            && fields.agrees(table.points.coordinates)?
+            && fields.agrees(table.flags)?
             && fields.ended(),
     )
 }
 
 // Whether the add that stands next has the outcome behind it. `None` says that the record is cut, or that a list has more entries than
 // there is room for.
-pub fn add_agrees(
-    fields: &mut Fields<'_>,
-    mut head: Head,
-    flags: &mut [u8],
-    coordinates: &mut [f64],
-    dimensions: usize,
-) -> Option<bool> {
+pub fn add_agrees(fields: &mut Fields<'_>, mut head: Head, wells: &mut Wells<'_>) -> Option<bool> {
     let mut room = [9.0; POINT];
     let point = fields.list(&mut room)?;
-    let answer = table::add(&mut head, flags, coordinates, dimensions, point);
-    outcome_agrees(fields, answer, head, flags, coordinates)
+    let answer = table::add(&mut head, wells, point);
+    outcome_agrees(fields, answer, wells.table(head))
 }
 
 // The same of a retirement.
@@ -48,10 +40,14 @@ pub fn retire_agrees(
     fields: &mut Fields<'_>,
     mut head: Head,
     flags: &mut [u8],
-    coordinates: &[f64],
-    dimensions: usize,
+    points: Points<'_>,
 ) -> Option<bool> {
     let slot = fields.count()?;
-    let answer = table::retire(&mut head, flags, coordinates, dimensions, slot);
-    outcome_agrees(fields, answer.map(|_| 0), head, flags, coordinates)
+    let answer = table::retire(&mut head, flags, points, slot);
+    let table = Table {
+        head,
+        flags,
+        points,
+    };
+    outcome_agrees(fields, answer.map(|_| 0), table)
 }

@@ -2,9 +2,9 @@
 #![tactic(auto)]
 
 use call_records::{Fields, Lists};
+use points::Points;
 use refusal::Refusal;
 use tree_answer::DDMTree;
-use tree_lists::TreeLists;
 
 // The most entries of a file list in the stored calls.
 const FILE: usize = 2000;
@@ -47,29 +47,15 @@ fn outcome_agrees(
 pub fn agrees(fields: &mut Fields<'_>) -> Option<bool> {
     let settings = fields.settings()?;
     let mut room = [9.0; call_records::POINTS];
-    let points = fields.list(&mut room)?;
+    let points = Points {
+        coordinates: fields.list(&mut room)?,
+        dimensions: settings.dimensions,
+    };
     let counts = counts(fields)?;
     let mut room = Lists::nines();
-    let TreeLists {
-        level_points,
-        internals,
-        domains,
-        boxes,
-        borrowed,
-    } = room.lend_filled(fields)?;
+    let lists = room.lend_filled(fields)?;
     let mut room = [9u8; FILE];
     let file = fields.lend(&mut room)?;
-    let answer = store::store_tree(
-        points,
-        settings.dimensions,
-        settings.params,
-        counts,
-        level_points,
-        internals,
-        domains,
-        boxes,
-        borrowed,
-        file,
-    );
+    let answer = store::store_tree(points, settings.params, counts, lists.read(), file);
     outcome_agrees(fields, answer, file)
 }

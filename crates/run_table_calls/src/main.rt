@@ -4,8 +4,9 @@
 #![tactic(auto)]
 
 use call_records::Fields;
+use points::Points;
 use std::io;
-use table::Head;
+use table::{Head, Table, Wells};
 
 // The room for a record.
 const ROOM: usize = 65536;
@@ -54,11 +55,35 @@ fn outcome_agrees(record: &[u8]) -> Option<bool> {
         slots: fields.count()?,
         live: fields.count()?,
     };
-    let d = settings.dimensions;
+    let dimensions = settings.dimensions;
     match kind {
-        Ok(Kind::Add) => replay_edits::add_agrees(&mut fields, head, flags, coordinates, d),
-        Ok(Kind::Retire) => replay_edits::retire_agrees(&mut fields, head, flags, coordinates, d),
-        Ok(Kind::Build) => replay_builds::agrees(&mut fields, settings, head, flags, coordinates),
+        Ok(Kind::Add) => {
+            let mut wells = Wells {
+                flags,
+                coordinates,
+                dimensions,
+            };
+            replay_edits::add_agrees(&mut fields, head, &mut wells)
+        }
+        Ok(Kind::Retire) => {
+            let points = Points {
+                coordinates,
+                dimensions,
+            };
+            replay_edits::retire_agrees(&mut fields, head, flags, points)
+        }
+        Ok(Kind::Build) => {
+            let points = Points {
+                coordinates,
+                dimensions,
+            };
+            let table = Table {
+                head,
+                flags,
+                points,
+            };
+            replay_builds::agrees(&mut fields, table, settings.params)
+        }
         Err(UnknownKind) => None,
     }
 }
