@@ -1,41 +1,25 @@
 // What stands for an entry of a list in a record.
-ghost use Rattle.std.specs.Prelude.{ℕ, ◌≤◌};
-ghost use Rattle.call_records.specs.Sizes.{one-small, eight-small};
-
-use crate::fields;
+use crate::fields::Fields;
 
 // An entry of a list: a number, a float or a byte.
 pub trait Entry: Copy {
-    ghost SIZE: { ℕ };
-
-    // How many bytes stand for it.
-    const SIZE: usize;
-
     // The bits of 9, which a list holds past its front.
     const NINE: u64;
 
-    // The bits that stand at `at`.
-    fn bits_at(record: &[u8], at: usize) -> u64;
+    // The bits of the entry that stands next.
+    fn next_bits(fields: &mut Fields<'_>) -> Option<u64>;
 
     // The entry with these bits, and the bits of an entry.
     fn from_bits(bits: u64) -> Self;
 
     fn to_bits(self) -> u64;
-
-    ghost size_small: { SIZE ≤ 8 };
 }
 
 impl Entry for usize {
-    ghost SIZE = { 8 };
-
-    ghost size_small = { eight-small };
-
-    const SIZE: usize = 8;
-
     const NINE: u64 = 9;
 
-    fn bits_at(record: &[u8], at: usize) -> u64 {
-        fields::bits(record, at)
+    fn next_bits(fields: &mut Fields<'_>) -> Option<u64> {
+        fields.bits()
     }
 
     fn from_bits(bits: u64) -> usize {
@@ -48,16 +32,10 @@ impl Entry for usize {
 }
 
 impl Entry for f64 {
-    ghost SIZE = { 8 };
-
-    ghost size_small = { eight-small };
-
-    const SIZE: usize = 8;
-
     const NINE: u64 = 0x4022_0000_0000_0000;
 
-    fn bits_at(record: &[u8], at: usize) -> u64 {
-        fields::bits(record, at)
+    fn next_bits(fields: &mut Fields<'_>) -> Option<u64> {
+        fields.bits()
     }
 
     fn from_bits(bits: u64) -> f64 {
@@ -70,16 +48,10 @@ impl Entry for f64 {
 }
 
 impl Entry for u8 {
-    ghost SIZE = { 1 };
-
-    ghost size_small = { one-small };
-
-    const SIZE: usize = 1;
-
     const NINE: u64 = 9;
 
-    fn bits_at(record: &[u8], at: usize) -> u64 {
-        fields::byte(record, at) as u64
+    fn next_bits(fields: &mut Fields<'_>) -> Option<u64> {
+        Some(fields.byte()? as u64)
     }
 
     fn from_bits(bits: u64) -> u8 {

@@ -1,5 +1,5 @@
 -- What is kept of the bytes read is what is kept of the stream. Assumes nothing.
--- Holds: front-replies, line-room, line-fits, line-tells, told
+-- Holds: front-replies, line-room, line-tells, told
 use mathlib.Core.Path.{◌≡◌, refl, ap, subst, ◌∙◌}
 use Prim.Native.Nat.{ℕ, ◌≤◌}
 use native.Mathlib.Omega.{arith}
@@ -15,7 +15,8 @@ use Rattle.stored.specs.Programs.{Kept, file, nothing, kept}
 use Rattle.stream_laws.specs.Sizes.{decisive}
 use Rattle.stream_laws.proofs.Long.{refusal-long}
 use Rattle.reload_laws.proofs.FrontDecides.{front_kept}
-use Rattle.bytes_out.specs.Wrote.{Wrote, RoomFor}
+use Rattle.bytes_out.specs.declared.writer.Writer.{Writer}
+use Rattle.bytes_out.specs.Writing.{Takes, Appends}
 use Rattle.refusal.specs.declared.Refusal.{Refusal}
 use Rattle.refusal.specs.Refusals.{as_refusal}
 use Rattle.keep.specs.Keeping.{Found}
@@ -41,24 +42,22 @@ module _ (refused : Refusal) (line : List ℕ) where
   abbrev text : List ℕ
   text = refusal_text (as_refusal refused)
 
-  pub line-room : 53 ≤ length line → RoomFor line 0 (refusal_text (as_refusal refused))
-  line-room h = record { fits = omega (arith, h, refusal-long (as_refusal refused)) }
+  module _ {w : Writer} (start : w.at ≡ 0) (lent : w.bytes.now ≡ line) where
+    pub line-room : 53 ≤ length line → Takes w (refusal_text (as_refusal refused))
+    line-room h = record { fits = omega (arith, h, start, ap length lent, refusal-long (as_refusal refused)) }
 
-  module _ (r : ℕ) (after : List ℕ) (w : Wrote line 0 (refusal_text (as_refusal refused)) r after) where
-    line-counted : r ≡ length text
-    line-counted = w.place ∙ zero-add (length text)
+    module _ {v : Writer} (a : Appends w v (refusal_text (as_refusal refused))) where
+      line-counted : v.at ≡ length text
+      line-counted = a.place ∙ rw start (zero-add (length text))
 
-    line-is : after ≡ text ++ drop (length text) line
-    line-is = w.same ∙ put-zero line text
+      line-is : v.bytes.now ≡ text ++ drop (length text) line
+      line-is = rw (a.same, start, lent) (put-zero line text)
 
-    pub line-fits : r ≤ length after
-    line-fits = omega (arith, line-counted, ap length line-is, length-append text (drop (length text) line))
-
-    -- it tells the refusal, whichever stream the input is
-    pub line-tells : (front : Front) (input : List ℕ) → KeptFor front input (nothing (as_refusal refused)) → RefusalFor front input (take r after)
-    line-tells front input h stream m =
-        let same : take r after ≡ text = rw (line-counted, line-is) (take_at text (drop (length text) line) (length text) refl) in
-        subst (Tells (take r after)) (h stream m) same
+      -- it tells the refusal, whichever stream the input is
+      pub line-tells : (front : Front) (input : List ℕ) → KeptFor front input (nothing (as_refusal refused)) → RefusalFor front input (take v.at v.bytes.now)
+      line-tells front input h stream m =
+          let same : take v.at v.bytes.now ≡ text = rw (line-counted, line-is) (take_at text (drop (length text) line) (length text) refl) in
+          subst (Tells (take v.at v.bytes.now)) (h stream m) same
 
 -- ---- where it is written
 pub told : {A E : Type 0} (r : Result A E) (front : Front) (input text : List ℕ) (old new : Option (List ℕ)) → RefusalFor front input text

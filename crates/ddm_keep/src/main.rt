@@ -12,6 +12,7 @@ ghost use Rattle.keep.specs.Keeping.{Found};
 ghost use Rattle.program_input.specs.Input.{Stopped};
 ghost use Rattle.ddm_keep.specs.Output.{KeptFor, FileFor, RefusalFor, RefusalAdded, KeptIn, Replies};
 
+use bytes_out::Writer;
 use program_input::Front;
 use refusal::Refusal;
 use std::io;
@@ -68,7 +69,12 @@ fn write_refusal<W: Write>(
     ensures { OnOk result (RefusalAdded front input.now (W.contents errors.old) (W.contents errors.new)) }
 {
     let mut line = [0u8; LINE];
-    let count = print_texts::write_refusal(refusal, &mut line, 0);
+    let mut out = Writer {
+        bytes: &mut line,
+        at: 0,
+    };
+    print_texts::write_refusal(refusal, &mut out);
+    let count = out.at;
     write_text(errors, input, front, &line[..count])
 }
 

@@ -1,5 +1,5 @@
 -- Lists of the lengths that the largest job asks for are long enough for every job. Assumes nothing.
--- Holds: as-stated, largest-enough, build-as-stated, lent_lists, lent_floats, lent_wholes, lent-largest
+-- Holds: as-stated, largest-enough, build-as-stated, lent-largest, lent-sizes
 use mathlib.Core.Path.{◌≡◌}
 use mathlib.Core.Bool.{false}
 use Prim.Native.Nat.{ℕ, ◌+◌, ◌*◌, ◌≤◌}
@@ -18,6 +18,7 @@ use Rattle.definition_laws.proofs.Accepted.{LentEnough}
 use Rattle.formats.specs.Stream.{stream_points, stream_neighbours}
 use Rattle.stream_laws.specs.Sizes.{JobLimits}
 use Rattle.stream_laws.proofs.Stream.{job-points}
+use Rattle.job_room.specs.Room.{lent_lists, lent_floats, lent_wholes}
 
 -- ---- lists that are long enough
 none-short : (lent stated : BuildSizes) → LentEnough lent stated → build_short lent stated ≡ false
@@ -80,22 +81,6 @@ build-as-stated s cs limits =
     rw (none-short largest stated (largest-enough s cs limits), none-short stated stated (as-stated stated))
 
 -- ---- the lists and the working room of that length, as they are lent
-abbrev pub lent_lists : TreeLists
-lent_lists =
-    record {
-      level_points = replicate (4 * stream_points) 0;
-      internals = replicate (4 * stream_points) 0;
-      domains = replicate (row_numbers * most_rows stream_points) 0;
-      boxes = replicate (row_floats_lem 3 * most_rows stream_points) plus_zero;
-      borrowed = replicate (6 * stream_points * (stream_neighbours + 1)) 0;
-    }
-
-abbrev pub lent_floats : List Float
-lent_floats = replicate (32 * stream_points) plus_zero
-
-abbrev pub lent_wholes : List ℕ
-lent_wholes = replicate (32 * stream_points + 8 * stream_points * (stream_neighbours + 1)) 0
-
 pub lent-largest : lent_sizes lent_lists lent_floats lent_wholes ≡ build_stated 3 stream_points stream_neighbours
 unfolding build_stated
 lent-largest =
@@ -107,3 +92,8 @@ lent-largest =
       length-replicate (32 * stream_points) plus_zero,
       length-replicate {A = ℕ} (32 * stream_points + 8 * stream_points * (stream_neighbours + 1)) 0,
     )
+
+-- and so are lists and room that hold the same
+pub lent-sizes : (lists : TreeLists) (floats : List Float) (wholes : List ℕ) → lists ≡ lent_lists → floats ≡ lent_floats → wholes ≡ lent_wholes
+    → lent_sizes lists floats wholes ≡ build_stated 3 stream_points stream_neighbours
+lent-sizes lists floats wholes e f g = rw (e, f, g) lent-largest

@@ -3,7 +3,7 @@
 --   found
 use mathlib.Core.Path.{◌≡◌, refl, ap, ◌∙◌}
 use mathlib.Core.Logic.{⊎_elim}
-use Prim.Native.Nat.{ℕ, ◌≤◌, ◌<◌}
+use Prim.Native.Nat.{ℕ, ◌+◌, ◌≤◌, ◌<◌}
 use native.Mathlib.Nat.{zero-add}
 use native.Mathlib.Omega.{arith}
 use mathlib.Core.List.{List, ◌++◌}
@@ -18,18 +18,19 @@ use Rattle.definition.specs.Outcome.{Answer, number_of, place_of, value_of, writ
 use Rattle.formats.specs.Printout.{refusal_text}
 use Rattle.stream_laws.specs.Sizes.{most_bytes}
 use Rattle.stream_laws.proofs.Long.{refusal-long}
-use Rattle.bytes_out.specs.Wrote.{Wrote, RoomFor}
+use Rattle.bytes_out.specs.declared.writer.Writer.{Writer}
+use Rattle.bytes_out.specs.Writing.{Takes, Appends}
 use Rattle.refusal.specs.declared.Refusal.{Refusal}
 use Rattle.refusal.specs.declared.Refusal.TheVariants.{WrongDimension, ZeroLeafThreshold, SmallFactor, ZeroThreshold, ManyNeighbours, NoPoints, MissingCoordinate, ManyPoints, WrongReductions, NotFinite, ShortList, StretchPastList, WrongChoice, NotAboveThreshold, NoRoot, BrokenRecord, LargeJob, OtherSettings, OtherPoints, NoSoundTree, FullTable, NoLiveSlot, UnsoundTable}
 use Rattle.refusal.specs.Refusals.{refusal_number, as_refusal}
 use Rattle.job_room.specs.Printing.{print_call, print_answer_lem, print_output, printed_answer}
 
 -- ---- room for a text
-pub text-room : (text out : List ℕ) → length text ≤ most_bytes → most_bytes ≤ length out → RoomFor out 0 text
-text-room text out h g = record { fits = omega arith }
+pub text-room : (text : List ℕ) {w : Writer} → length text ≤ most_bytes → w.at + most_bytes ≤ length w.bytes.now → Takes w text
+text-room text h g = record { fits = omega arith }
 
-pub refusal-room : (r : Refusal) (out : List ℕ) → most_bytes ≤ length out → RoomFor out 0 (refusal_text (as_refusal r))
-refusal-room r out h = record { fits = omega (arith, refusal-long (as_refusal r)) }
+pub refusal-room : (r : Refusal) {w : Writer} → w.at + most_bytes ≤ length w.bytes.now → Takes w (refusal_text (as_refusal r))
+refusal-room r h = record { fits = omega (arith, refusal-long (as_refusal r)) }
 
 -- no refusal has the number 0
 pub refusal-numbered : (r : Refusal) → 1 ≤ refusal_number r
@@ -77,14 +78,14 @@ module _ (text output : List ℕ) where
   output-short h = rw (call-short h)
 
   -- of one that is long enough, to which the text was written
-  module _ (h : most_bytes ≤ length output) (r : ℕ) (after : List ℕ) (w : Wrote output 0 text r after) where
-    pub answer-long : record { number = 0; place = 0; value = r } ≡ print_answer_lem text output
+  module _ (h : most_bytes ≤ length output) {w v : Writer} (start : w.at ≡ 0) (lent : w.bytes.now ≡ output) (a : Appends w v text) where
+    pub answer-long : record { number = 0; place = 0; value = v.at } ≡ print_answer_lem text output
     unfolding print_answer_lem number_of place_of value_of
-    answer-long = rw (call_long h, w.place, zero-add (length text))
+    answer-long = rw (call_long h, a.place, start, zero-add (length text))
 
-    pub output-long : after ≡ print_output text output
+    pub output-long : v.bytes.now ≡ print_output text output
     unfolding print_output list_after written
-    output-long = w.same ∙ put-zero output text ∙ rw (call_long h)
+    output-long = rw (a.same, start, lent, put-zero output text, call_long h)
 
   -- ---- what a caller finds
   module _ (r : Answer ℕ) (e : r ≡ print_answer_lem text output) where

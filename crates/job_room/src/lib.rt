@@ -1,5 +1,15 @@
-// The room that suffices for every job: how long the lists of its tree are.
+// The room that suffices for every job: its stream, the lists of its tree, the working room of its build, and its printout.
 #![tactic(auto)]
+
+ghost use Rattle.std.specs.Prelude.{◌≡◌};
+ghost use Rattle.tree_lists.specs.Lent.{lists_in};
+ghost use Rattle.job_room.specs.Room.{lent_lists, lent_floats, lent_wholes, lists_held};
+
+use tree_lists::{Room, TreeLists};
+
+// The bytes of a stream: its first 878 decide what is printed, kept and loaded (`front-printed` of stream_laws, `front_kept` and
+// `front-reloaded` of reload_laws), so a longer one is read no further.
+pub const STREAM: usize = 1024;
 
 // The largest job: so many points on three axes, each of which takes so many rows, and its domain rows.
 const POINTS: usize = stream_reader::MOST_POINTS;
@@ -12,18 +22,90 @@ const ROWS: usize = 6 * POINTS + 1;
 pub const COORDINATES: usize = 3 * POINTS;
 
 // The lengths of the lists of its tree. The level points and the internals have as many entries.
-pub const LEVEL_POINTS: usize = 4 * POINTS;
+const LEVEL_POINTS: usize = 4 * POINTS;
 
-pub const DOMAINS: usize = packed::ROW_NUMBERS * ROWS;
+const DOMAINS: usize = packed::ROW_NUMBERS * ROWS;
 
-pub const BOXES: usize = packed::MOST_ROW_FLOATS * ROWS;
+const BOXES: usize = packed::MOST_ROW_FLOATS * ROWS;
 
-pub const BORROWED: usize = 6 * POINTS * TAKEN;
+const BORROWED: usize = 6 * POINTS * TAKEN;
 
 // The working room of its build.
-pub const FLOATS: usize = 32 * POINTS;
+const FLOATS: usize = 32 * POINTS;
 
-pub const WHOLES: usize = 32 * POINTS + 8 * POINTS * TAKEN;
+const WHOLES: usize = 32 * POINTS + 8 * POINTS * TAKEN;
 
-// The bytes of its printout: none is longer (`printout-long` of stream_laws).
+// The bytes of its printout: none is longer (`printout-long` of stream_laws, `reloaded-long` of reload_laws).
 pub const TEXT: usize = 139264;
+
+// The lists of its tree.
+#[derive(Drop)]
+pub struct JobLists {
+    level_points: [usize; LEVEL_POINTS],
+    internals: [usize; LEVEL_POINTS],
+    domains: [usize; DOMAINS],
+    boxes: [f64; BOXES],
+    borrowed: [usize; BORROWED],
+}
+
+impl JobLists {
+    pub fn zeros() -> JobLists
+        ensures { lists_held result ≡ lent_lists }
+    {
+        JobLists {
+            level_points: [0; LEVEL_POINTS],
+            internals: [0; LEVEL_POINTS],
+            domains: [0; DOMAINS],
+            boxes: [0.0; BOXES],
+            borrowed: [0; BORROWED],
+        }
+    }
+
+    // Lends them as one value.
+    pub fn lend(&mut self) -> TreeLists<'_>
+        ensures { lists_in result ≡ lists_held self.old }
+    {
+        let JobLists {
+            level_points,
+            internals,
+            domains,
+            boxes,
+            borrowed,
+        } = self;
+        TreeLists {
+            level_points,
+            internals,
+            domains,
+            boxes,
+            borrowed,
+        }
+    }
+}
+
+// The working room of its build.
+#[derive(Drop)]
+pub struct JobRoom {
+    floats: [f64; FLOATS],
+    wholes: [usize; WHOLES],
+}
+
+impl JobRoom {
+    pub fn zeros() -> JobRoom
+        ensures floats { result.floats ≡ lent_floats }
+        ensures wholes { result.wholes ≡ lent_wholes }
+    {
+        JobRoom {
+            floats: [0.0; FLOATS],
+            wholes: [0; WHOLES],
+        }
+    }
+
+    // Lends it as one value.
+    pub fn lend(&mut self) -> Room<'_>
+        ensures floats { result.floats.now ≡ self.old.floats }
+        ensures wholes { result.wholes.now ≡ self.old.wholes }
+    {
+        let JobRoom { floats, wholes } = self;
+        Room { floats, wholes }
+    }
+}

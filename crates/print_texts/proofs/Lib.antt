@@ -1,4 +1,3 @@
--- Laws on texts that are written one after the other, and on the texts themselves.
+-- Laws on digits, and on the texts.
 pub mod Digits
-pub mod Each
-pub mod Writing
+pub mod Texts

@@ -1,5 +1,5 @@
 -- A text that grows: with the first k + 1 parts it is the text with the first k, and one part more. Assumes nothing.
--- Holds: grown-room, grown, fine_text, fine-none, fine-grows
+-- Holds: grown_room, grown, fine_text, fine-none, fine-grows
 use mathlib.Core.Path.{◌≡◌, refl, sym, ap, ◌∙◌}
 use mathlib.Core.Bool.{true}
 use Prim.Native.Nat.{ℕ, zero, suc, ◌+◌, ◌-◌, ◌≤◌, ◌<◌}
@@ -13,8 +13,9 @@ use Rattle.definition.specs.Tree.{Leaf}
 use Rattle.formats.specs.Printout.{domain_line, floats_text, fine_lines}
 use Rattle.lists.proofs.From.{from_suc, length_from}
 use Rattle.lists.proofs.Map.{map_snoc}
-use Rattle.bytes_out.specs.Wrote.{Wrote, RoomFor}
-use Rattle.bytes_out.proofs.Wrote.{spelt, room-spelt, room_next, wrote_then}
+use Rattle.bytes_out.specs.declared.writer.Writer.{Writer}
+use Rattle.bytes_out.specs.Writing.{Takes, Appends}
+use Rattle.bytes_out.proofs.Writing.{spelt_as, ◌▸◌}
 use Rattle.packed.specs.Reading.{Packed, read_leaf, read_leaves}
 use Rattle.print_tree.specs.Unpack.{leaf_line, box_part}
 
@@ -26,20 +27,14 @@ module _ (g x : ℕ → List ℕ) (grows : (k : ℕ) → g (k + 1) ≡ g k ++ x 
       ap (λ (i : ℕ). length (g i)) (add-suc k d ∙ sym (add-one (k + d))) ∙ ap length (grows (k + d)) ∙ length-append (g (k + d)) (x (k + d)) in
       omega (arith, at_least k d, e)
 
-  room_at : {l : List ℕ} {at : ℕ} (m k : ℕ) → k ≤ m → RoomFor l at (g m) → RoomFor l at (g k)
-  room_at {l} {at} m k h r =
-      let e : k + (m - k) ≡ m = omega arith in
-      record { fits = omega (arith, r.fits, at_least k (m - k), ap (λ (i : ℕ). length (g i)) e) }
+  -- where there is room for the first m, there is room for the next of them
+  pub grown_room : {w v : Writer} (m k : ℕ) → k < m → Takes w (g m) → Appends w v (g k) → Takes v (x k)
+  grown_room {w} {v} m k h all a =
+      let e : k + 1 + (m - (k + 1)) ≡ m = omega arith in
+      record { fits = omega (arith, all.fits, a.place, a.long, at_least (k + 1) (m - (k + 1)), ap (λ (i : ℕ). length (g i)) e, ap length (grows k), length-append (g k) (x k)) }
 
-  module _ {l : List ℕ} {at : ℕ} (m k : ℕ) (h : k < m) (all : RoomFor l at (g m)) {r : ℕ} {o : List ℕ} (w : Wrote l at (g k) r o) where
-    both : RoomFor l at (g k ++ x k)
-    both = room-spelt (grows k) (room_at m (k + 1) (omega arith) all)
-
-    pub grown-room : RoomFor o r (x k)
-    grown-room = room_next (x k) w both
-
-    pub grown : {q : ℕ} {n : List ℕ} → Wrote o r (x k) q n → Wrote l at (g (k + 1)) q n
-    grown v = spelt (sym (grows k)) (wrote_then w both v)
+  pub grown : {w v u : Writer} (k : ℕ) → Appends w v (g k) → Appends v u (x k) → Appends w u (g (k + 1))
+  grown k a b = spelt_as (sym (grows k)) (a ▸ b)
 
 -- ---- the lines of fine domains
 fine-one : (i : ℕ) (fs : List Leaf) (f : Leaf) → fine_lines i (fs ++ f ∷ []) ≡ fine_lines i fs ++ domain_line (i + length fs) f (floats_text f.box)

@@ -1,2 +1,2 @@
 -- The texts of a list's numbers.
-pub mod Numbers
+pub mod NumberTexts

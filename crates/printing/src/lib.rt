@@ -1,69 +1,31 @@
-// Texts, numbers and lists on a writer, for the programs that run stored edges. Where the bytes that the writer holds are known, each
-// function says which bytes it adds.
+// The numbers of a list in print, for the programs that run stored edges.
 #![tactic(auto)]
 
-ghost use Rattle.std.specs.Prelude.{◌≡◌, ◌++◌, min, length, take, IfOk, OnOk, codes};
-ghost use Rattle.std.specs.Io.KnownBytes.{Appends};
-ghost use Rattle.printing.specs.Texts.{number_text, numbers_text};
+ghost use Rattle.std.specs.Prelude.{◌≡◌, min, length, take, Some};
+ghost use Rattle.printing.specs.Texts.{numbers_text};
 
-use std::io;
-use std::io::Write;
+use std::fmt;
 
-// Writes the text.
-pub fn print_text<W: Write>(out: &mut W, text: &[u8]) -> io::Result<()>
-    ensures { OnOk result (Appends (W.contents out.old) (W.contents out.new) text.now) }
-{
-    out.write_all(text)
-}
+// A list of numbers, which prints as a space and the number for each.
+#[derive(Clone, Copy)]
+pub struct Numbers<'a>(pub &'a [usize]);
 
-// Writes a space and the number.
-pub fn print_number<W: Write>(out: &mut W, n: usize) -> io::Result<()>
-    ensures { OnOk result (Appends (W.contents out.old) (W.contents out.new) (number_text n)) }
-{
-    write!(out, " {n}")
-}
-
-// Writes the text, a space and the number.
-pub fn print_named<W: Write>(out: &mut W, text: &[u8], n: usize) -> io::Result<()>
-    ensures { OnOk result (Appends (W.contents out.old) (W.contents out.new) (text.now ++ number_text n)) }
-{
-    out.write_all(text)?;
-    print_number(out, n)
-}
-
-// Writes a space and each of the first `most` numbers of the list. The answer is how many they are.
-fn print_first<W: Write>(out: &mut W, list: &[usize], most: usize) -> io::Result<usize>
-    ensures count { IfOk result (λ r. r ≡ min most (length list.now)) }
-    ensures bytes { OnOk result (Appends (W.contents out.old) (W.contents out.new) (numbers_text (take most list.now))) }
-{
-    let count = most.min(list.len());
-    for &n in &list[..count] {
-        print_number(out, n)?;
+impl<'a> Numbers<'a> {
+    // The first `most` numbers of a list.
+    pub fn front(list: &'a [usize], most: usize) -> Numbers<'a>
+        ensures { result.0.now ≡ take (min most (length list.now)) list.now }
+    {
+        Numbers(&list[..most.min(list.len())])
     }
-    Ok(count)
 }
 
-// Writes a space and each number of the list. The answer is how many they are.
-pub fn print_list<W: Write>(out: &mut W, list: &[usize]) -> io::Result<usize>
-    ensures count { IfOk result (λ r. r ≡ length list.now) }
-    ensures bytes { OnOk result (Appends (W.contents out.old) (W.contents out.new) (numbers_text list.now)) }
-{
-    print_first(out, list, list.len())
-}
+impl fmt::Display for Numbers<'_> {
+    ghost output = { λ ns. Some (numbers_text ns.0.now) };
 
-// Writes the name, the first `most` numbers of the list, and a line feed. The answer is how many numbers these are.
-pub fn print_front<W: Write>(
-    out: &mut W,
-    name: &[u8],
-    list: &[usize],
-    most: usize,
-) -> io::Result<usize>
-    ensures count { IfOk result (λ r. r ≡ min most (length list.now)) }
-    ensures bytes { OnOk result (Appends (W.contents out.old) (W.contents out.new)
-        (name.now ++ numbers_text (take most list.now) ++ codes "\n")) }
-{
-    out.write_all(name)?;
-    let count = print_first(out, list, most)?;
-    out.write_all(b"\n")?;
-    Ok(count)
+    fn fmt<W: fmt::Write>(&self, f: &mut fmt::Formatter<W>) -> fmt::Result {
+        for &n in self.0 {
+            write!(f, " {n}")?;
+        }
+        Ok(())
+    }
 }

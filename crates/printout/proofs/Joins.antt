@@ -2,7 +2,7 @@
 -- (`broken-printed`, `whole-printed`). Assumes nothing.
 -- Holds: job-refused, tree-ready, job-tree, room_for, broken-printed, whole-printed
 use mathlib.Core.Path.{◌≡◌, sym, ap, ◌∙◌}
-use Prim.Native.Nat.{ℕ, ◌-◌, ◌*◌, ◌≤◌, ◌<◌}
+use Prim.Native.Nat.{ℕ, ◌+◌, ◌-◌, ◌*◌, ◌≤◌, ◌<◌}
 use native.Mathlib.Omega.{arith}
 use mathlib.Core.List.{List}
 use lib.ListN.{length, take, drop}
@@ -19,7 +19,8 @@ use Rattle.definition_laws.proofs.Accepted.{build-zero}
 use Rattle.stream_laws.specs.Sizes.{JobLimits, most_bytes}
 use Rattle.stream_laws.proofs.Long.{job-long}
 use Rattle.stream_laws.proofs.Shape.{tree-shaped}
-use Rattle.bytes_out.specs.Wrote.{RoomFor}
+use Rattle.bytes_out.specs.declared.writer.Writer.{Writer}
+use Rattle.bytes_out.specs.Writing.{Takes}
 use Rattle.packed.specs.Reading.{Packed, packed, Stands, read_levels}
 use Rattle.packed.proofs.Counts.{no_level}
 use Rattle.packed.proofs.Unpacked.{Packs, levels-are, tree-back, tree-stands}
@@ -130,8 +131,8 @@ module _ (s : tree.Settings) (cs : List Float) (old : TreeLists) (floats : List 
             ∙ tree-back ls lists new.level_points r.value tree-packed))
 
 -- ---- room for the text
-pub room_for : (s : tree.Settings) (cs : List Float) (out : List ℕ) → JobLimits s cs → most_bytes ≤ length out → RoomFor out 0 (job_text (job s cs))
-room_for s cs out h g = text-room (job_text (job s cs)) out (job-long (job s cs) h) g
+pub room_for : (s : tree.Settings) (cs : List Float) {w : Writer} → JobLimits s cs → w.at + most_bytes ≤ length w.bytes.now → Takes w (job_text (job s cs))
+room_for s cs h g = text-room (job_text (job s cs)) (job-long (job s cs) h) g
 
 -- ---- by the reader's answer
 module _ (r : Result Job Refusal) (cs : List Float) (bs : List ℕ) (h : job_of r cs ≡ job_in bs) where

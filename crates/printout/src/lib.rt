@@ -1,22 +1,23 @@
 // What the program prints for a job stream, as a function on lists: bytes in, bytes out, and the count of them back.
 #![tactic(auto)]
 
-ghost use Rattle.std.specs.Prelude.{◌≡◌, ◌≤◌, length};
+ghost use Rattle.std.specs.Prelude.{◌≡◌, ◌+◌, ◌≤◌, length};
 ghost use Rattle.formats.specs.Stream.{job};
 ghost use Rattle.formats.specs.Printout.{job_text, printout as printed};
 ghost use Rattle.stream_laws.specs.Sizes.{JobLimits, most_bytes};
 ghost use Rattle.settings_record.specs.Reading.{settings_are};
-ghost use Rattle.bytes_out.specs.Wrote.{Wrote};
+ghost use Rattle.bytes_out.specs.Writing.{Appends};
 ghost use Rattle.job_room.specs.Printing.{print_answer_lem, print_output, printed_answer};
 
+use bytes_out::Writer;
 use packed::Packed;
 use refusal::Refusal;
 use settings_record::Settings;
 
 // The text of a job: of its tree, or of the build's refusal. The lists suffice for the largest job.
-fn write_job(settings: Settings, points: &[f64], out: &mut [u8]) -> usize
-    requires { JobLimits (settings_are settings) points.now × (most_bytes ≤ length out.old) }
-    ensures { Wrote out.old 0 (job_text (job (settings_are settings) points.now)) result out.new }
+fn write_job(settings: Settings, points: &[f64], out: &mut Writer<'_>)
+    requires { JobLimits (settings_are settings) points.now × (out.old.at + most_bytes ≤ length out.old.bytes.now) }
+    ensures { Appends out.old out.new (job_text (job (settings_are settings) points.now)) }
 {
     let mut level_points = [0usize; job_room::LEVEL_POINTS];
     let mut internals = [0usize; job_room::LEVEL_POINTS];
@@ -54,26 +55,25 @@ fn write_job(settings: Settings, points: &[f64], out: &mut [u8]) -> usize
                 &level_points,
                 lists,
                 out,
-                0,
-            )
+            );
         }
-        Err(refusal) => print_texts::write_refusal(refusal, out, 0),
+        Err(refusal) => print_texts::write_refusal(refusal, out),
     }
 }
 
 // The printout of a stream that is lent room for every printout.
-fn write_printout(input: &[u8], output: &mut [u8]) -> usize
-    requires { most_bytes ≤ length output.old }
-    ensures { Wrote output.old 0 (printed input.now) result output.new }
+fn write_printout(input: &[u8], output: &mut Writer<'_>)
+    requires { output.old.at + most_bytes ≤ length output.old.bytes.now }
+    ensures { Appends output.old output.new (printed input.now) }
 {
     let mut points = [0.0; job_room::COORDINATES];
     let read = stream_reader::read_job(input, &mut points);
     match read {
         Ok(job) => {
             let k = job.points * job.settings.dimensions;
-            write_job(job.settings, &points[..k], output)
+            write_job(job.settings, &points[..k], output);
         }
-        Err(refusal) => print_texts::write_refusal(refusal, output, 0),
+        Err(refusal) => print_texts::write_refusal(refusal, output),
     }
 }
 
@@ -86,5 +86,10 @@ pub fn printout(input: &[u8], output: &mut [u8]) -> Result<usize, Refusal>
     if output.len() < job_room::TEXT {
         return Err(Refusal::ShortList);
     }
-    Ok(write_printout(input, output))
+    let mut writer = Writer {
+        bytes: output,
+        at: 0,
+    };
+    write_printout(input, &mut writer);
+    Ok(writer.at)
 }

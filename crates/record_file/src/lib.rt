@@ -1,11 +1,22 @@
-// A file of stored calls, read record by record: a length of 4 bytes, and as many bytes.
+// A file of stored calls, read and replayed record by record: a length of 4 bytes, and as many bytes.
 #![tactic(auto)]
 
 ghost use Rattle.std.specs.Prelude.{◌≤◌, length, IfOk, IfSome};
 
 use program_input::Front;
 use std::io;
-use std::io::{ErrorKind, Read};
+use std::io::{ErrorKind, Read, Write};
+
+// More records than this are not replayed.
+const MOST: u64 = 100000;
+
+// How many calls were made, how many of them differ, and the first of those, counted from 1.
+#[derive(Clone, Copy)]
+pub struct Tally {
+    calls: u64,
+    differ: u64,
+    first: Option<u64>,
+}
 
 // Why a record could not be read: the file or the room ends before it does.
 fn cut() -> io::Error {
@@ -22,12 +33,57 @@ pub fn read_next<R: Read>(reader: &mut R, room: &mut [u8]) -> io::Result<Option<
         Front::Ended(0) => return Ok(None),
         Front::Ended(_) => return Err(cut()),
     }
-    let size = call_records::number(&front, 0);
+    let size = u32::from_le_bytes(front) as usize;
     if room.len() < size {
         return Err(cut());
     }
     match program_input::read_input(reader, &mut room[..size])? {
         Front::Open(_) => Ok(Some(size)),
         Front::Ended(_) => Err(cut()),
+    }
+}
+
+// All records of the file: whether the call of each has the record's outcome. One that cannot be read whole counts as one that differs, and
+// is the last.
+pub fn replay<R: Read, F: Fn(&[u8]) -> bool>(file: &mut R, room: &mut [u8], agrees: F) -> Tally
+    requires { F.IsAlwaysCallable agrees }
+{
+    let mut tally = Tally {
+        calls: 0,
+        differ: 0,
+        first: None,
+    };
+    for calls in 0..MOST {
+        let next = read_next(file, room);
+        let same = match next {
+            Ok(None) => break,
+            Ok(Some(size)) => agrees(&room[..size]),
+            Err(_) => false,
+        };
+        tally.calls = calls + 1;
+        if !same {
+            tally.differ += 1;
+            tally.first = tally.first.or(Some(calls + 1));
+        }
+        if next.is_err() {
+            break;
+        }
+    }
+    tally
+}
+
+impl Tally {
+    // Writes the number of calls, and how many of them differ.
+    pub fn print<W: Write>(self, to: &mut W) -> io::Result<()> {
+        let Tally {
+            calls,
+            differ,
+            first,
+        } = self;
+        write!(to, "{calls} calls, {differ} differ")?;
+        if let Some(first) = first {
+            write!(to, ", the first is call {first}")?;
+        }
+        to.write_all(b"\n")
     }
 }

@@ -1,7 +1,7 @@
 -- From the file's length and the reader's answer to what is printed. Assumes nothing.
 -- Holds: too_long, not-too-long, loaded-room, broken-reloaded, whole-reloaded
 use mathlib.Core.Path.{◌≡◌, ap}
-use Prim.Native.Nat.{ℕ, ◌*◌, ◌≤◌, ◌<◌}
+use Prim.Native.Nat.{ℕ, ◌+◌, ◌*◌, ◌≤◌, ◌<◌}
 use mathlib.Core.List.{List}
 use lib.ListN.{length, take}
 use lib.Ieee.{Float}
@@ -13,7 +13,8 @@ use Rattle.formats.specs.Printout.{refusal_text}
 use Rattle.stored.specs.Programs.{most_file, reloaded_for, reloaded}
 use Rattle.stream_laws.specs.Sizes.{JobLimits, most_bytes}
 use Rattle.reload_laws.proofs.ReloadedLong.{reloaded-for-long}
-use Rattle.bytes_out.specs.Wrote.{RoomFor}
+use Rattle.bytes_out.specs.declared.writer.Writer.{Writer}
+use Rattle.bytes_out.specs.Writing.{Takes}
 use Rattle.std.specs.Prelude.{Result, Ok, Err}
 use Rattle.refusal.specs.declared.Refusal.{Refusal}
 use Rattle.refusal.specs.declared.Refusal.TheVariants.{LargeJob}
@@ -35,8 +36,8 @@ module _ (s : tree.Settings) (cs : List Float) (bs : List ℕ) where
   unfolding reloaded_for loaded_text
   not-too-long h = rw (le-ltb most_file (length bs) h)
 
-  pub loaded-room : (out : List ℕ) → JobLimits s cs → most_bytes ≤ length out → length bs ≤ most_file → RoomFor out 0 (loaded_text s cs bs)
-  loaded-room out limits long h = rw (not-too-long h) (text-room (reloaded_for (job s cs) bs) out (reloaded-for-long (job s cs) bs limits) long)
+  pub loaded-room : {w : Writer} → JobLimits s cs → w.at + most_bytes ≤ length w.bytes.now → length bs ≤ most_file → Takes w (loaded_text s cs bs)
+  loaded-room limits long h = rw (not-too-long h) (text-room (reloaded_for (job s cs) bs) (reloaded-for-long (job s cs) bs limits) long)
 
 -- ---- by the reader's answer
 module _ (r : Result Job Refusal) (cs : List Float) (stream bs : List ℕ) (h : job_of r cs ≡ job_in stream) where

@@ -2,15 +2,16 @@
 // is printed, or a refusal.
 #![tactic(auto)]
 
-ghost use Rattle.std.specs.Prelude.{◌≡◌, ◌≤◌, length};
+ghost use Rattle.std.specs.Prelude.{◌≡◌, ◌+◌, ◌≤◌, length};
 ghost use Rattle.formats.specs.Stream.{job};
 ghost use Rattle.stored.specs.Programs.{reloaded_for, reloaded};
 ghost use Rattle.stream_laws.specs.Sizes.{JobLimits, most_bytes};
 ghost use Rattle.settings_record.specs.Reading.{settings_are};
-ghost use Rattle.bytes_out.specs.Wrote.{Wrote, RoomFor};
+ghost use Rattle.bytes_out.specs.Writing.{Takes, Appends};
 ghost use Rattle.job_room.specs.Printing.{print_answer_lem, print_output, printed_answer};
 ghost use Rattle.reload.specs.Loading.{loaded_text};
 
+use bytes_out::Writer;
 use packed::Packed;
 use refusal::Refusal;
 use settings_record::Settings;
@@ -19,9 +20,9 @@ use settings_record::Settings;
 pub const MOST_FILE: usize = 1048576;
 
 // The text of the tree that is loaded for a job, or of the loader's refusal. The lists suffice for the largest job.
-fn write_loaded(settings: Settings, points: &[f64], file: &[u8], out: &mut [u8]) -> usize
-    requires { JobLimits (settings_are settings) points.now × RoomFor out.old 0 (loaded_text (settings_are settings) points.now file.now) }
-    ensures { Wrote out.old 0 (loaded_text (settings_are settings) points.now file.now) result out.new }
+fn write_loaded(settings: Settings, points: &[f64], file: &[u8], out: &mut Writer<'_>)
+    requires { JobLimits (settings_are settings) points.now × Takes out.old (loaded_text (settings_are settings) points.now file.now) }
+    ensures { Appends out.old out.new (loaded_text (settings_are settings) points.now file.now) }
 {
     let mut level_points = [0usize; job_room::LEVEL_POINTS];
     let mut internals = [0usize; job_room::LEVEL_POINTS];
@@ -56,37 +57,37 @@ fn write_loaded(settings: Settings, points: &[f64], file: &[u8], out: &mut [u8])
                 &level_points,
                 lists,
                 out,
-                0,
-            )
+            );
         }
-        Err(refusal) => print_texts::write_refusal(refusal, out, 0),
+        Err(refusal) => print_texts::write_refusal(refusal, out),
     }
 }
 
 // The text for a job that was read: a large one's refusal where the file is too long.
-fn write_job(settings: Settings, points: &[f64], file: &[u8], out: &mut [u8]) -> usize
-    requires { JobLimits (settings_are settings) points.now × (most_bytes ≤ length out.old) }
-    ensures { Wrote out.old 0 (reloaded_for (job (settings_are settings) points.now) file.now) result out.new }
+fn write_job(settings: Settings, points: &[f64], file: &[u8], out: &mut Writer<'_>)
+    requires { JobLimits (settings_are settings) points.now × (out.old.at + most_bytes ≤ length out.old.bytes.now) }
+    ensures { Appends out.old out.new (reloaded_for (job (settings_are settings) points.now) file.now) }
 {
     if MOST_FILE < file.len() {
-        return print_texts::write_refusal(Refusal::LargeJob, out, 0);
+        print_texts::write_refusal(Refusal::LargeJob, out);
+        return;
     }
-    write_loaded(settings, points, file, out)
+    write_loaded(settings, points, file, out);
 }
 
 // The text for a stream and a file that is lent room for every text.
-fn write_reloaded(stream: &[u8], file: &[u8], output: &mut [u8]) -> usize
-    requires { most_bytes ≤ length output.old }
-    ensures { Wrote output.old 0 (reloaded stream.now file.now) result output.new }
+fn write_reloaded(stream: &[u8], file: &[u8], output: &mut Writer<'_>)
+    requires { output.old.at + most_bytes ≤ length output.old.bytes.now }
+    ensures { Appends output.old output.new (reloaded stream.now file.now) }
 {
     let mut points = [0.0; job_room::COORDINATES];
     let read = stream_reader::read_job(stream, &mut points);
     match read {
         Ok(job) => {
             let k = job.points * job.settings.dimensions;
-            write_job(job.settings, &points[..k], file, output)
+            write_job(job.settings, &points[..k], file, output);
         }
-        Err(refusal) => print_texts::write_refusal(refusal, output, 0),
+        Err(refusal) => print_texts::write_refusal(refusal, output),
     }
 }
 
@@ -99,5 +100,10 @@ pub fn reload(stream: &[u8], file: &[u8], output: &mut [u8]) -> Result<usize, Re
     if output.len() < job_room::TEXT {
         return Err(Refusal::ShortList);
     }
-    Ok(write_reloaded(stream, file, output))
+    let mut writer = Writer {
+        bytes: output,
+        at: 0,
+    };
+    write_reloaded(stream, file, &mut writer);
+    Ok(writer.at)
 }

@@ -1,13 +1,10 @@
 // Replays stored calls of the loader and the writer: reads the file that the first argument names, makes each call there, and says how
-// many of the calls differ from their stored outcomes, in their answers or in an entry of a list. tools/make_stored_calls.py makes the
-// file, and its head says the form of a record.
+// many of the calls differ from their stored outcomes, in their answers or in an entry of a list, and which differs first.
+// tools/make_stored_calls.py makes the file, and its head says the form of a record.
 #![tactic(auto)]
 
+use call_records::Fields;
 use std::io;
-use std::io::Read;
-
-// More records than this are not replayed.
-const MOST: u64 = 100000;
 
 // The room for a record.
 const ROOM: usize = 4096;
@@ -23,10 +20,10 @@ enum Kind {
 #[derive(Clone, Copy)]
 struct UnknownKind;
 
-impl TryFrom<usize> for Kind {
+impl TryFrom<u8> for Kind {
     type Error = UnknownKind;
 
-    fn try_from(code: usize) -> Result<Self, UnknownKind> {
+    fn try_from(code: u8) -> Result<Self, UnknownKind> {
         match code {
             1 => Ok(Kind::Load),
             2 => Ok(Kind::Store),
@@ -35,50 +32,23 @@ impl TryFrom<usize> for Kind {
     }
 }
 
-// How many calls were made, and how many of them differ.
-#[derive(Clone, Copy)]
-struct Tally {
-    calls: u64,
-    differ: u64,
+// Whether the call of a record has the record's outcome. `None` says that it is no whole record of a call.
+fn outcome_agrees(record: &[u8]) -> Option<bool> {
+    let mut fields = Fields::of(record);
+    match Kind::try_from(fields.byte()?) {
+        Ok(Kind::Load) => replay_loads::agrees(&mut fields),
+        Ok(Kind::Store) => replay_stores::agrees(&mut fields),
+        Err(UnknownKind) => None,
+    }
 }
 
-// Whether the call of a record has the record's outcome.
 fn agrees(record: &[u8]) -> bool {
-    match Kind::try_from(call_records::byte(record, 0)) {
-        Ok(Kind::Load) => replay_loads::agrees(record),
-        Ok(Kind::Store) => replay_stores::agrees(record),
-        Err(UnknownKind) => false,
-    }
-}
-
-// All records of the file. One that cannot be read whole counts as one that differs, and is the last.
-fn replay<R: Read>(file: &mut R, room: &mut [u8]) -> Tally {
-    let mut differ = 0;
-    for calls in 0..MOST {
-        match record_file::read_next(file, room) {
-            Ok(None) => return Tally { calls, differ },
-            Ok(Some(size)) => {
-                if !agrees(&room[..size]) {
-                    differ += 1;
-                }
-            }
-            Err(_) => {
-                return Tally {
-                    calls: calls + 1,
-                    differ: differ + 1,
-                };
-            }
-        }
-    }
-    Tally {
-        calls: MOST,
-        differ,
-    }
+    outcome_agrees(record) == Some(true)
 }
 
 fn main(rt: HostRuntime) -> io::Result<()> {
     let mut file = program_input::open_argument(&rt, 1)?;
     let mut room = [0u8; ROOM];
-    let Tally { calls, differ } = replay(&mut file, &mut room);
-    println!(rt; "{calls} calls, {differ} differ")
+    let tally = record_file::replay(&mut file, &mut room, agrees);
+    tally.print(&mut rt.stdout())
 }

@@ -1,4 +1,3 @@
--- Laws on the settings record: its policy, its bytes written, and compared.
+-- Laws on the settings record: its policy, and compared.
 pub mod Policies
-pub mod Stored
 pub mod Compared

@@ -2,15 +2,17 @@
 #![tactic(auto)]
 
 ghost use Rattle.std.specs.Prelude.{◌≡◌, ◌++◌, ◌+◌, ◌-◌, ◌≤◌, ◌<◌, length};
-ghost use Rattle.lists.specs.Lists.{part, put};
+ghost use Rattle.lists.specs.Lists.{part};
 ghost use Rattle.definition.specs.Levels.{policy_from};
-ghost use Rattle.formats.specs.Bytes.{bytes_of, number_at, number_bytes, number_size, mark_size};
+ghost use Rattle.formats.specs.Bytes.{bytes_of, number_at, number_bytes, number_size};
 ghost use Rattle.formats.specs.Stream.{settings_size, policy_field, policy_fits_lem, settings_in, policy_bytes, settings_bytes};
 ghost use Rattle.stored.specs.Sound.{same};
 ghost use Rattle.stored.specs.Outcome.{same_settings_lem};
+ghost use Rattle.bytes_out.specs.Writing.{Takes, Appends};
 ghost use Rattle.config.specs.Params.{threshold_policy, settings_of_lem};
 ghost use Rattle.settings_record.specs.Reading.{settings_are};
 
+use bytes_out::Writer;
 use config::{DDMParams, SizePolicy};
 
 // Where each field of the record begins, and where the record ends.
@@ -112,34 +114,26 @@ pub fn settings_of(input: &[u8]) -> Settings
 
 // ---- written, after the mark
 
-// Writes the policy and its threshold from `at` on.
-fn put_policy(policy: SizePolicy, out: &mut [u8], at: usize)
-    requires { at + (settings_size - policy_field.offset) ≤ length out.old }
-    ensures { out.new ≡ put out.old at (policy_bytes (threshold_policy policy)) }
+// Appends the policy and its threshold.
+fn put_policy(policy: SizePolicy, out: &mut Writer<'_>)
+    requires { Takes out.old (policy_bytes (threshold_policy policy)) }
+    ensures { Appends out.old out.new (policy_bytes (threshold_policy policy)) }
 {
     let fields = PolicyFields::from(policy);
-    bytes_out::put_byte(fields.kind, out, at);
-    bytes_out::put_short(fields.threshold as usize, out, at + (THRESHOLD - POLICY));
+    out.low_byte(fields.kind);
+    out.field(fields.threshold as usize);
 }
 
-// Writes the record's bytes after its mark from `at` on.
-pub fn put_settings(dimensions: usize, params: DDMParams, out: &mut [u8], at: usize)
-    requires { (at + (settings_size - mark_size) ≤ length out.old) × (dimensions < 256) }
-    ensures { out.new ≡ put out.old at (settings_bytes (settings_of_lem dimensions params)) }
+// Appends the record's bytes after its mark.
+pub fn put_settings(dimensions: usize, params: DDMParams, out: &mut Writer<'_>)
+    requires { Takes out.old (settings_bytes (settings_of_lem dimensions params)) }
+    ensures { Appends out.old out.new (settings_bytes (settings_of_lem dimensions params)) }
 {
-    bytes_out::put_byte(dimensions, out, at);
-    bytes_out::put_short(params.leaf_threshold as usize, out, at + (LEAF - DIMENSION));
-    bytes_out::put_short(
-        params.overlap_knn as usize,
-        out,
-        at + (NEIGHBOURS - DIMENSION),
-    );
-    bytes_out::put_short(
-        params.coarse_reduction_factor as usize,
-        out,
-        at + (FACTOR - DIMENSION),
-    );
-    put_policy(params.coarse_threshold, out, at + (POLICY - DIMENSION));
+    out.low_byte(dimensions);
+    out.field(params.leaf_threshold as usize);
+    out.field(params.overlap_knn as usize);
+    out.field(params.coarse_reduction_factor as usize);
+    put_policy(params.coarse_threshold, out);
 }
 
 // ---- compared

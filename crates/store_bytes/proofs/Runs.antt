@@ -1,22 +1,18 @@
 -- Runs of records, and the file, as the parts that the code writes one after the other. Assumes nothing.
--- Holds: domain_at_lem, domain-run, level-run, front-run, file-run, front-room
-use mathlib.Core.Path.{◌≡◌, sym, ap, ◌∙◌}
-use Prim.Native.Nat.{ℕ, ◌+◌, ◌-◌, ◌≤◌, ◌/◌}
+-- Holds: domain_at_lem, domain-run, level-run, file-run
+use mathlib.Core.Path.{◌≡◌, refl, sym, ap, ◌∙◌}
+use Prim.Native.Nat.{ℕ, ◌+◌, ◌-◌}
 use native.Mathlib.Nat.{add-zero}
-use native.Mathlib.Omega.{arith}
 use mathlib.Core.Bool.{Bool}
-use mathlib.Core.List.{List, [], ◌∷◌, map, map-map, append-nil}
-use lib.ListN.{length}
+use mathlib.Core.List.{List, ◌++◌, map, map-map}
 use lib.Ieee.{Float}
 use Rattle.lists.specs.Lists.{joined, from}
 use Rattle.lists.proofs.From.{length-map-from}
-use Rattle.lists.proofs.Joined.{joined-two}
 use Rattle.definition.specs.Tree.{Settings}
 use Rattle.definition.specs.Packed.{Counts}
 use Rattle.definition.specs.Outcome.{TreeLists}
 use Rattle.packed.specs.Reading.{Packed, read_leaf, read_leaves, packed, read_levels}
-use Rattle.bytes_out.specs.Wrote.{RoomFor}
-use Rattle.stored.specs.File.{level_bytes, head_bytes_lem, point_bytes, front_bytes_lem, tree_records, file_bytes}
+use Rattle.stored.specs.File.{level_bytes, front_bytes_lem, tree_records, file_bytes}
 use Rattle.stored.specs.Outcome.{tree_held}
 use Rattle.store_records.specs.Records.{counts_bytes, level_record, domain_record}
 use Rattle.store_bytes.specs.Runs.{domain_records, level_of, level_records}
@@ -35,25 +31,13 @@ module _ (coarse : Bool) (p : Packed) where
 
   -- a level's own record, then its domains
   pub level-run : (rows : List ℕ) (j m : ℕ)
-      → level_records coarse (level_of rows (read_leaves p j m)) ≡ joined (level_record rows m ∷ domain_records coarse (read_leaves p j m) ∷ [])
-  unfolding level_records level_record level_bytes counts_bytes read_leaves joined
-  level-run rows j m = rw (length-map-from (read_leaf p) j m, append-nil)
+      → level_records coarse (level_of rows (read_leaves p j m)) ≡ level_record rows m ++ domain_records coarse (read_leaves p j m)
+  unfolding level_records level_record level_bytes counts_bytes read_leaves
+  level-run rows j m = rw (length-map-from (read_leaf p) j m)
 
--- ---- the front and the file
-pub front-run : (s : Settings) (cs : List Float)
-    → let n = length cs / s.dimension in front_bytes_lem s cs ≡ joined (head_bytes_lem s n ∷ joined (map (point_bytes s.dimension cs) (from 0 n)) ∷ [])
-unfolding front_bytes_lem
-front-run s cs = joined-two _ _
-
+-- ---- the file
 pub file-run : (s : Settings) (cs : List Float) (c : Counts) (l : TreeLists)
     → file_bytes s cs (tree_held s.dimension c l)
-    ≡ joined
-    (front_bytes_lem s cs
-    ∷ joined (tree_records (read_levels (packed l.internals l.domains l.boxes l.borrowed s.dimension) l.level_points c.rows c.domains c.levels))
-    ∷ [])
+    ≡ front_bytes_lem s cs ++ joined (tree_records (read_levels (packed l.internals l.domains l.boxes l.borrowed s.dimension) l.level_points c.rows c.domains c.levels))
 unfolding file_bytes tree_held
-file-run s cs c l = joined-two _ _
-
--- room for bytes from the front on
-pub front-room : (out bytes : List ℕ) → length bytes ≤ length out → RoomFor out 0 bytes
-front-room out bytes h = record { fits = omega arith }
+file-run s cs c l = refl

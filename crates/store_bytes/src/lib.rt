@@ -1,63 +1,52 @@
-// The bytes of a stored tree, from the points, the counts and the packed lists: records one after the other, written to a lent list of
-// bytes. Each function answers with the offset after what it wrote.
-// A writer that holds the list and the offset is no plainer: each contract would also have to say that it still holds the caller's list.
+// The bytes of a stored tree, from the points, the counts and the packed lists: records one after the other, appended by a writer.
 #![tactic(auto)]
 
 ghost use Rattle.std.specs.Prelude.{◌≡◌, ℕ, ◌+◌, ◌*◌, ◌≤◌, ◌<◌, map, length};
 ghost use Rattle.lists.specs.Lists.{joined, from, put};
 ghost use Rattle.config.specs.Params.{settings_of_lem};
-ghost use Rattle.bytes_out.specs.Wrote.{Wrote, RoomFor};
+ghost use Rattle.bytes_out.specs.Writing.{Takes, Appends};
 ghost use Rattle.packed.specs.Reading.{RowFits, read_leaves, Stands};
 ghost use Rattle.packed.specs.View.{packed_of};
 ghost use Rattle.stored.specs.File.{point_bytes, front_bytes_lem, tree_records};
 ghost use Rattle.store_bytes.specs.Runs.{domain_records, level_of, level_records, levels_in, file_of};
 
+use bytes_out::Writer;
 use config::DDMParams;
 use packed::Packed;
+use points::Points;
 use tree_answer::DDMTree;
 
 // The first n points.
-fn put_points(points: &[f64], dimensions: usize, n: usize, out: &mut [u8], at: usize) -> usize
-    requires dimensions_in_bounds { n * dimensions ≤ length points.now }
-    requires room_for { RoomFor out.old at (joined (map (point_bytes dimensions points.now) (from 0 n))) }
-    ensures { Wrote out.old at (joined (map (point_bytes dimensions points.now) (from 0 n))) result out.new }
+fn put_points(points: Points<'_>, n: usize, out: &mut Writer<'_>)
+    requires dimensions_in_bounds { n * points.dimensions ≤ length points.coordinates.now }
+    requires room_for { Takes out.old (joined (map (point_bytes points.dimensions points.coordinates.now) (from 0 n))) }
+    ensures { Appends out.old out.new (joined (map (point_bytes points.entry.dimensions points.entry.coordinates.now) (from 0 n))) }
 {
-    let mut next = at;
     for i in 0..n {
-        next = store_records::put_point(points, dimensions, i, out, next);
+        store_records::put_point(points, i, out);
     }
-    next
 }
 
 // The head and the points.
-fn put_front(points: &[f64], dimensions: usize, params: DDMParams, out: &mut [u8]) -> usize
-    requires le_dimensions { (1 ≤ dimensions) × (dimensions ≤ 3) }
-    requires room_for { RoomFor out.old 0 (front_bytes_lem (settings_of_lem dimensions params) points.now) }
-    ensures { Wrote out.old 0 (front_bytes_lem (settings_of_lem dimensions params) points.now) result out.new }
+fn put_front(points: Points<'_>, params: DDMParams, out: &mut Writer<'_>)
+    requires le_dimensions { (1 ≤ points.dimensions) × (points.dimensions ≤ 3) }
+    requires room_for { Takes out.old (front_bytes_lem (settings_of_lem points.dimensions params) points.coordinates.now) }
+    ensures { Appends out.old out.new (front_bytes_lem (settings_of_lem points.entry.dimensions params) points.entry.coordinates.now) }
 {
-    let n = points.len() / dimensions;
-    let next = store_records::put_head(dimensions, params, n, out);
-    put_points(points, dimensions, n, out, next)
+    let n = points.coordinates.len() / points.dimensions;
+    store_records::put_head(points.dimensions, params, n, out);
+    put_points(points, n, out);
 }
 
-// The domains of m domain rows from the row number j on.
-fn put_domains(
-    tree: Packed<'_>,
-    j: usize,
-    m: usize,
-    coarse: bool,
-    out: &mut [u8],
-    at: usize,
-) -> usize
+// The domains of m domain rows from the row number j on. The flag, here and below, is the definition's own: `domain_records` takes it too.
+fn put_domains(tree: Packed<'_>, j: usize, m: usize, coarse: bool, out: &mut Writer<'_>)
     requires by_index { (i : ℕ) → i < m → RowFits (packed_of tree) (j + i) }
-    requires room_for { RoomFor out.old at (domain_records coarse (read_leaves (packed_of tree) j m)) }
-    ensures { Wrote out.old at (domain_records coarse (read_leaves (packed_of tree.entry) j m)) result out.new }
+    requires room_for { Takes out.old (domain_records coarse (read_leaves (packed_of tree) j m)) }
+    ensures { Appends out.old out.new (domain_records coarse (read_leaves (packed_of tree.entry) j m)) }
 {
-    let mut next = at;
     for i in 0..m {
-        next = store_records::put_domain(tree, j + i, coarse, out, next);
+        store_records::put_domain(tree, j + i, coarse, out);
     }
-    next
 }
 
 // A level with its domains: its rows, and the domains of m domain rows from the row number j on.
@@ -67,41 +56,32 @@ fn put_whole_level(
     j: usize,
     m: usize,
     coarse: bool,
-    out: &mut [u8],
-    at: usize,
-) -> usize
+    out: &mut Writer<'_>,
+)
     requires by_index { (i : ℕ) → i < m → RowFits (packed_of tree) (j + i) }
-    requires room_for { RoomFor out.old at (level_records coarse (level_of rows.now (read_leaves (packed_of tree) j m))) }
-    ensures { Wrote out.old at (level_records coarse (level_of rows.now (read_leaves (packed_of tree.entry) j m))) result out.new }
+    requires room_for { Takes out.old (level_records coarse (level_of rows.now (read_leaves (packed_of tree) j m))) }
+    ensures { Appends out.old out.new (level_records coarse (level_of rows.now (read_leaves (packed_of tree.entry) j m))) }
 {
-    let next = store_records::put_level(rows, m, out, at);
-    put_domains(tree, j, m, coarse, out, next)
+    store_records::put_level(rows, m, out);
+    put_domains(tree, j, m, coarse, out);
 }
 
 // The levels, by the row and domain counts per level; the last one is the coarse one.
-fn put_levels(
-    counts: DDMTree,
-    level_points: &[usize],
-    tree: Packed<'_>,
-    out: &mut [u8],
-    at: usize,
-) -> usize
+fn put_levels(counts: DDMTree, level_points: &[usize], tree: Packed<'_>, out: &mut Writer<'_>)
     requires stands { Stands (packed_of tree) level_points.now counts.rows counts.domains counts.levels }
-    requires room_for { RoomFor out.old at (joined (tree_records (levels_in counts level_points.now (packed_of tree)))) }
-    ensures { Wrote out.old at (joined (tree_records (levels_in counts level_points.now (packed_of tree.entry)))) result out.new }
+    requires room_for { Takes out.old (joined (tree_records (levels_in counts level_points.now (packed_of tree)))) }
+    ensures { Appends out.old out.new (joined (tree_records (levels_in counts level_points.now (packed_of tree.entry)))) }
 {
-    let mut next = at;
     let mut a = 0;
     let mut j = 0;
     for t in 0..counts.levels {
         let e = a + counts.rows[t];
         let m = counts.domains[t];
         let coarse = t + 1 == counts.levels;
-        next = put_whole_level(&level_points[a..e], tree, j, m, coarse, out, next);
+        put_whole_level(&level_points[a..e], tree, j, m, coarse, out);
         a = e;
         j += m;
     }
-    next
 }
 
 // The whole file of the tree that stands in the lists with these counts. The answer is the number of its bytes.
@@ -119,6 +99,12 @@ pub fn put_file(
     ensures answer { result ≡ length (file_of params points.now counts level_points.now (packed_of tree.entry)) }
     ensures file { out.new ≡ put out.old 0 (file_of params points.now counts level_points.now (packed_of tree.entry)) }
 {
-    let next = put_front(points, tree.dimensions, params, out);
-    put_levels(counts, level_points, tree, out, next)
+    let points = Points {
+        coordinates: points,
+        dimensions: tree.dimensions,
+    };
+    let mut writer = Writer { bytes: out, at: 0 };
+    put_front(points, params, &mut writer);
+    put_levels(counts, level_points, tree, &mut writer);
+    writer.at
 }

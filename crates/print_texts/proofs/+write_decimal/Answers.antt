@@ -1,27 +1,27 @@
 -- `print_texts::write_decimal` meets its contract. Assumes nothing.
 use Rattle.print_texts.proofs.Digits.{decimal-one, decimal_step}
-use Rattle.bytes_out.proofs.Wrote.{spelt, room-spelt, room-first, room_next, wrote_then}
+use Rattle.bytes_out.proofs.Writing.{spelt_as, takes_as, takes_first, takes_next, ◌▸◌}
 use mathlib.Core.Path.{sym}
 use native.Mathlib.Omega.{arith}
 use Rattle.print_texts.proofs.+write_decimal.Goals as goal
 
-pub write_byte-requires : goal.write_byte-requires
-write_byte-requires t c = room-spelt (decimal-one _ _ c.if-n-lt10.true c.digit_of-low.ensures) c.requires
+pub byte-requires : goal.byte-requires
+byte-requires t c = takes_as (decimal-one _ _ c.if-n-lt10.true c.digit_of-low.ensures) c.requires
 
 pub returns-then-n-lt10 : goal.returns-then-n-lt10
-returns-then-n-lt10 t c = spelt (sym (decimal-one _ _ c.if-n-lt10.true c.digit_of-low.ensures)) c.write_byte.ensures
+returns-then-n-lt10 t c = spelt_as (sym (decimal-one _ _ c.if-n-lt10.true c.digit_of-low.ensures)) c.byte.ensures
 
-pub write_decimal-next-requires : goal.write_decimal-next-requires
-write_decimal-next-requires t c =
+pub write_decimal-requires : goal.write_decimal-requires
+write_decimal-requires t c =
     let e = decimal_step _ _ c.if-n-lt10.false c.ranges.n.fits c.digit_of-low.ensures in
-    (omega arith, room-first _ _ (room-spelt e c.requires))
+    (omega arith, takes_first _ _ (takes_as e c.requires))
 
-pub write_byte-requires-2 : goal.write_byte-requires-2
-write_byte-requires-2 t c =
+pub byte-requires-2 : goal.byte-requires-2
+byte-requires-2 t c =
     let e = decimal_step _ _ c.if-n-lt10.false c.ranges.n.fits c.digit_of-low.ensures in
-    room_next _ c.write_decimal-next.ensures (room-spelt e c.requires)
+    takes_next c.write_decimal.ensures (takes_as e c.requires)
 
 pub returns : goal.returns
 returns t c =
     let e = decimal_step _ _ c.if-n-lt10.false c.ranges.n.fits c.digit_of-low.ensures in
-    spelt (sym e) (wrote_then c.write_decimal-next.ensures (room-spelt e c.requires) c.write_byte-2.ensures)
+    spelt_as (sym e) (c.write_decimal.ensures ▸ c.byte-2.ensures)

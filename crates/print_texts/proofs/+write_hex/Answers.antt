@@ -1,24 +1,24 @@
 -- `print_texts::write_hex` meets its contract. Assumes nothing.
 use Rattle.print_texts.proofs.Digits.{hex-none, hex-step}
-use Rattle.bytes_out.proofs.Wrote.{spelt, room-spelt, room-first, room_next, wrote_then, wrote_none}
+use Rattle.bytes_out.proofs.Writing.{spelt_as, takes_as, takes_first, takes_next, nothing_yet, ◌▸◌}
 use mathlib.Core.Path.{sym}
 use native.Mathlib.Omega.{arith}
 use Rattle.print_texts.proofs.+write_hex.Goals as goal
 
 pub returns-then-k-eq0 : goal.returns-then-k-eq0
-returns-then-k-eq0 t c = spelt (sym (hex-none _ _ c.if-k-eq0.true)) (wrote_none _ _)
+returns-then-k-eq0 t c = spelt_as (sym (hex-none _ _ c.if-k-eq0.true)) (nothing_yet _ (omega (arith, c.requires.fits)))
 
-pub write_hex-next-requires : goal.write_hex-next-requires
-write_hex-next-requires t c =
+pub write_hex-requires : goal.write_hex-requires
+write_hex-requires t c =
     let e = hex-step _ _ _ c.if-k-eq0.false c.digit_of-low.ensures in
-    (omega arith, room-first _ _ (room-spelt e c.requires))
+    (omega arith, takes_first _ _ (takes_as e c.requires))
 
-pub write_byte-requires : goal.write_byte-requires
-write_byte-requires t c =
+pub byte-requires : goal.byte-requires
+byte-requires t c =
     let e = hex-step _ _ _ c.if-k-eq0.false c.digit_of-low.ensures in
-    room_next _ c.write_hex-next.ensures (room-spelt e c.requires)
+    takes_next c.write_hex.ensures (takes_as e c.requires)
 
 pub returns : goal.returns
 returns t c =
     let e = hex-step _ _ _ c.if-k-eq0.false c.digit_of-low.ensures in
-    spelt (sym e) (wrote_then c.write_hex-next.ensures (room-spelt e c.requires) c.write_byte.ensures)
+    spelt_as (sym e) (c.write_hex.ensures ▸ c.byte.ensures)

@@ -1,27 +1,12 @@
 -- `print_texts::write_listed` meets its contract. Assumes nothing.
-use mathlib.Core.List.{[], ◌∷◌}
-use Rattle.formats.specs.Printout.{rows_text}
-use Rattle.lists.proofs.Joined.{joined-two}
-use Rattle.print_texts.proofs.Writing.{begin, text-room, text-added, finish}
+use Rattle.bytes_out.proofs.Writing.{takes_first, takes_next, ◌▸◌}
 use Rattle.print_texts.proofs.write_listed.Goals as goal
 
-pub write_text-next-requires : goal.write_text-next-requires
-write_text-next-requires c = let start = c in
-    let e = joined-two start.args.label.now (rows_text start.args.rows.now) in
-    let w0 = begin (start.args.label.now ∷ rows_text start.args.rows.now ∷ []) e start.requires in
-    text-room w0 tt
+pub text-requires : goal.text-requires
+text-requires c = takes_first _ _ c.requires
 
 pub write_rows-requires : goal.write_rows-requires
-write_rows-requires c = let start = c in
-    let e = joined-two start.args.label.now (rows_text start.args.rows.now) in
-    let w0 = begin (start.args.label.now ∷ rows_text start.args.rows.now ∷ []) e start.requires in
-    let w1 = text-added w0 tt c.write_text-next.ensures in
-    text-room w1 tt
+write_rows-requires c = takes_next c.text.ensures c.requires
 
 pub returns : goal.returns
-returns c = let start = c in
-    let e = joined-two start.args.label.now (rows_text start.args.rows.now) in
-    let w0 = begin (start.args.label.now ∷ rows_text start.args.rows.now ∷ []) e start.requires in
-    let w1 = text-added w0 tt c.write_text-next.ensures in
-    let w2 = text-added w1 tt c.write_rows.ensures in
-    finish (start.args.label.now ∷ rows_text start.args.rows.now ∷ []) e w2
+returns c = c.text.ensures ▸ c.write_rows.ensures

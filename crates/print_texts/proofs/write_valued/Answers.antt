@@ -1,30 +1,14 @@
 -- `print_texts::write_valued` meets its contract. Assumes nothing.
-use mathlib.Core.List.{[], ◌∷◌}
-use Rattle.print_texts.proofs.Each.{valued-text}
-use Rattle.print_texts.specs.Texts.{float_text}
-use Rattle.print_texts.proofs.Writing.{begin, text-room, text-added, finish}
+use Rattle.print_texts.proofs.Texts.{float-alone}
+use Rattle.bytes_out.proofs.Writing.{spelt_as, takes_as, takes_first, takes_next, ◌▸◌}
+use mathlib.Core.Path.{sym}
 use Rattle.print_texts.proofs.write_valued.Goals as goal
 
-pub write_text-next-requires : goal.write_text-next-requires
-write_text-next-requires c = let start = c in
-    let a = start.args in
-    let e = valued-text a.label.now a.x in
-    let w0 = begin (a.label.now ∷ float_text a.x ∷ []) e start.requires in
-    text-room w0 tt
+pub text-requires : goal.text-requires
+text-requires c = takes_first _ _ c.requires
 
 pub write-requires : goal.write-requires
-write-requires c = let start = c in
-    let a = start.args in
-    let e = valued-text a.label.now a.x in
-    let w0 = begin (a.label.now ∷ float_text a.x ∷ []) e start.requires in
-    let w1 = text-added w0 tt c.write_text-next.ensures in
-    text-room w1 tt
+write-requires c = takes_as (float-alone _) (takes_next c.text.ensures c.requires)
 
 pub returns : goal.returns
-returns c = let start = c in
-    let a = start.args in
-    let e = valued-text a.label.now a.x in
-    let w0 = begin (a.label.now ∷ float_text a.x ∷ []) e start.requires in
-    let w1 = text-added w0 tt c.write_text-next.ensures in
-    let w2 = text-added w1 tt c.write.ensures in
-    finish (a.label.now ∷ float_text a.x ∷ []) e w2
+returns c = c.text.ensures ▸ spelt_as (sym (float-alone _)) c.write.ensures

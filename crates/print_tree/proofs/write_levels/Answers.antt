@@ -1,10 +1,10 @@
 -- `print_tree::write_levels` meets its contract. Assumes nothing.
 use Rattle.print_tree.proofs.Levels.{front_text, fine_at, front-none, front-grows, total-none, fine-here, coarse-here, levels-whole}
 use Rattle.lists.proofs.Sums.{total-step}
-use Rattle.print_tree.proofs.Grow.{grown-room, grown}
+use Rattle.print_tree.proofs.Grow.{grown_room, grown}
 use Rattle.packed.specs.View.{packed_of}
 use Rattle.packed.proofs.Standing.{rows_inside, row_fits, domains-inside}
-use Rattle.bytes_out.proofs.Wrote.{spelt, room-spelt, room-first, room_next, wrote_then, wrote_none}
+use Rattle.bytes_out.proofs.Writing.{spelt_as, takes_as, takes_first, takes_next, nothing_yet, ◌▸◌}
 use Rattle.lists.specs.Lists.{total}
 use lib.ListN.{take, get_or}
 use native.Mathlib.Nat.{add-zero}
@@ -20,8 +20,8 @@ loop-t-init c = let start = c in
     let s = start.requires.stands in (
       total-none a.rows.now,
       total-none a.counts.now,
-      spelt (sym (front-none p a.level_points.now a.rows.now a.counts.now))
-          (wrote_none _ _),
+      spelt_as (sym (front-none p a.level_points.now a.rows.now a.counts.now))
+          (nothing_yet _ (omega (arith, c.requires.room_for.fits))),
     )
 
 pub overflow_add-e : goal.overflow_add-e
@@ -58,18 +58,18 @@ slice_bounds-write_fine-end c = let start = c in
     let v = c.loop-t in
     rows_inside p a.level_points.now a.rows.now a.counts.now v.t v.a v.j v.invariant.0 v.invariant.1 a.levels s (omega (arith, s.some, c.loop-t-test.true))
 
-pub write_fine-next-requires : goal.write_fine-next-requires
-write_fine-next-requires c = let start = c in
+pub write_fine-requires : goal.write_fine-requires
+write_fine-requires c = let start = c in
     let a = start.args in
     let p = packed_of a.tree in
     let s = start.requires.stands in
     let v = c.loop-t in
-    let r = room-first _ _ (room-spelt (levels-whole p a.level_points.now a.rows.now a.counts.now a.levels (a.levels - 1) s refl) start.requires.room_for) in
-    let g = grown-room (front_text p a.level_points.now a.rows.now a.counts.now) (fine_at p a.level_points.now a.rows.now a.counts.now)
+    let r = takes_first _ _ (takes_as (levels-whole p a.level_points.now a.rows.now a.counts.now a.levels (a.levels - 1) s refl) start.requires.room_for) in
+    let g = grown_room (front_text p a.level_points.now a.rows.now a.counts.now) (fine_at p a.level_points.now a.rows.now a.counts.now)
     (front-grows p a.level_points.now a.rows.now a.counts.now) (a.levels - 1) v.t (omega arith) r v.invariant.2 in record {
       by_index = row_fits p a.level_points.now a.rows.now a.counts.now v.t v.a v.j v.invariant.0 v.invariant.1 a.levels s
           (omega (arith, s.some, c.loop-t-test.true));
-      room_for = room-spelt
+      room_for = takes_as
           (fine-here p a.level_points.now a.rows.now a.counts.now v.t v.a v.j v.invariant.0 v.invariant.1) g;
     }
 
@@ -90,17 +90,15 @@ pub loop-t-preserved : goal.loop-t-preserved
 loop-t-preserved c = let start = c in
     let a = start.args in
     let p = packed_of a.tree in
-    let s = start.requires.stands in
     let v = c.loop-t in
-    let r = room-first _ _ (room-spelt (levels-whole p a.level_points.now a.rows.now a.counts.now a.levels (a.levels - 1) s refl) start.requires.room_for) in
     let g = grown (front_text p a.level_points.now a.rows.now a.counts.now) (fine_at p a.level_points.now a.rows.now a.counts.now)
-    (front-grows p a.level_points.now a.rows.now a.counts.now) (a.levels - 1) v.t (omega arith) r v.invariant.2 in (
+    (front-grows p a.level_points.now a.rows.now a.counts.now) v.t v.invariant.2 in (
       ap (λ (k : ℕ). k + get_or a.rows.now v.t 0) v.invariant.0 ∙ sym (total-step a.rows.now v.t),
       ap (λ (k : ℕ). k + get_or a.counts.now
           v.t 0) v.invariant.1 ∙ sym (total-step a.counts.now v.t),
-      g (spelt
+      g (spelt_as
           (sym (fine-here p a.level_points.now a.rows.now a.counts.now v.t v.a v.j v.invariant.0 v.invariant.1))
-          c.write_fine-next.ensures),
+          c.write_fine.ensures),
     )
 
 pub overflow_add-e-2 : goal.overflow_add-e-2
@@ -145,11 +143,11 @@ write_coarse-requires c = let start = c in
     let e : v.t ≡ a.levels - 1 = omega (arith, v.auto.t-end, c.loop-t-test.false) in
     let ea : v.a ≡ total (take (a.levels - 1) a.rows.now) = v.invariant.0 ∙ ap (λ (k : ℕ). total (take k a.rows.now)) e in
     let ej : v.j ≡ total (take (a.levels - 1) a.counts.now) = v.invariant.1 ∙ ap (λ (k : ℕ). total (take k a.counts.now)) e in
-    let w = spelt (ap (front_text p a.level_points.now a.rows.now a.counts.now) e) v.invariant.2 in
-    let r = room_next _ w (room-spelt (levels-whole p a.level_points.now a.rows.now a.counts.now a.levels (a.levels - 1) s refl) start.requires.room_for) in record {
+    let w = spelt_as (ap (front_text p a.level_points.now a.rows.now a.counts.now) e) v.invariant.2 in
+    let r = takes_next w (takes_as (levels-whole p a.level_points.now a.rows.now a.counts.now a.levels (a.levels - 1) s refl) start.requires.room_for) in record {
       row_fits = rw add-zero at (row_fits p a.level_points.now a.rows.now a.counts.now (a.levels - 1) v.a v.j ea ej a.levels s
           (omega (arith, s.some)) 0 (omega (arith, s.coarse)));
-      room_for = room-spelt (coarse-here p a.level_points.now a.rows.now a.counts.now (a.levels - 1)
+      room_for = takes_as (coarse-here p a.level_points.now a.rows.now a.counts.now (a.levels - 1)
           v.a v.j ea ej) r;
     }
 
@@ -162,8 +160,6 @@ returns c = let start = c in
     let e : v.t ≡ a.levels - 1 = omega (arith, v.auto.t-end, c.loop-t-test.false) in
     let ea : v.a ≡ total (take (a.levels - 1) a.rows.now) = v.invariant.0 ∙ ap (λ (k : ℕ). total (take k a.rows.now)) e in
     let ej : v.j ≡ total (take (a.levels - 1) a.counts.now) = v.invariant.1 ∙ ap (λ (k : ℕ). total (take k a.counts.now)) e in
-    let w = spelt (ap (front_text p a.level_points.now a.rows.now a.counts.now) e) v.invariant.2 in
-    let r = room-spelt (levels-whole p a.level_points.now a.rows.now a.counts.now a.levels (a.levels - 1) s refl) start.requires.room_for in
-    spelt (sym (levels-whole p a.level_points.now a.rows.now a.counts.now a.levels (a.levels - 1) s refl)) (wrote_then w r (spelt
-    (sym (coarse-here p a.level_points.now a.rows.now a.counts.now (a.levels - 1) v.a v.j ea ej))
-    c.write_coarse.ensures))
+    let w = spelt_as (ap (front_text p a.level_points.now a.rows.now a.counts.now) e) v.invariant.2 in
+    spelt_as (sym (levels-whole p a.level_points.now a.rows.now a.counts.now a.levels (a.levels - 1) s refl))
+    (w ▸ spelt_as (sym (coarse-here p a.level_points.now a.rows.now a.counts.now (a.levels - 1) v.a v.j ea ej)) c.write_coarse.ensures)

@@ -1,10 +1,10 @@
 use Rattle.print_tree.proofs.Levels.{front_text}
 use Rattle.packed.specs.View.{packed_of}
-use Rattle.bytes_out.specs.Wrote.{Wrote}
+use Rattle.bytes_out.specs.Writing.{Appends}
 use Rattle.lists.specs.Lists.{total}
 use lib.ListN.{take}
 use mathlib.Core.Path.{◌≡◌}
 use Rattle.print_tree.proofs.write_levels.Given as goal
 
 abbrev pub invariant-loop-t : goal.invariant-loop-t
-invariant-loop-t l = (l.a ≡ total (take l.t l.rows)) × (l.j ≡ total (take l.t l.counts)) × Wrote l.initial.out l.at (front_text (packed_of l.tree) l.level_points l.rows l.counts l.t) l.next l.out
+invariant-loop-t l = (l.a ≡ total (take l.t l.rows)) × (l.j ≡ total (take l.t l.counts)) × Appends l.initial.out l.out (front_text (packed_of l.tree) l.level_points l.rows l.counts l.t)

@@ -1,6 +1,8 @@
 -- `printout::printout` meets its contract. Assumes nothing.
 use Rattle.job_room.proofs.Printing.{answer-short, output-short, answer-long, output-long}
 use Rattle.formats.specs.Printout.{printout as printed}
+use mathlib.Core.Path.{◌≡◌, refl, ◌∙◌}
+use borrow.Author.Rules.{rules}
 use native.Mathlib.Omega.{arith}
 use Rattle.printout.proofs.printout.Goals as goal
 
@@ -15,7 +17,8 @@ pub returns : goal.returns
 returns c = let a = c.args in
     let long = c.if-output-lt-TEXT.false in
     let w = c.write_printout.ensures in
+    let back : _ ≡ c.write_printout.new.output.bytes.now = search rules in
     record {
-      answer = answer-long (printed a.input.now) a.output.now long _ _ w;
-      output = output-long (printed a.input.now) a.output.now long _ _ w;
+      answer = answer-long (printed a.input.now) a.output.now long refl refl w;
+      output = back ∙ output-long (printed a.input.now) a.output.now long refl refl w;
     }

@@ -1,6 +1,6 @@
 -- `printout::write_job` meets its contract. Assumes nothing.
 use mathlib.Core.Path.{sym}
-use Rattle.bytes_out.proofs.Wrote.{spelt, room-spelt}
+use Rattle.bytes_out.proofs.Writing.{spelt_as, takes_as}
 use Rattle.settings_record.specs.Reading.{settings_are}
 use Rattle.job_room.proofs.Lists.{lent_lists, lent-largest}
 use Rattle.job_room.proofs.Printing.{refusal-numbered}
@@ -13,14 +13,14 @@ write_refusal-requires c = let start = c in
     let s = settings_are start.args.settings in
     let cs = start.args.points.now in
     let w = c.in-Err.ensures in
-    room-spelt (job-refused s cs lent_lists _ _ start.requires.0 lent-largest _ w.answers (refusal-numbered _)) (room_for s cs start.args.out.now start.requires.0 start.requires.1)
+    takes_as (job-refused s cs lent_lists _ _ start.requires.0 lent-largest _ w.answers (refusal-numbered _)) (room_for s cs start.requires.0 start.requires.1)
 
 pub returns-in-Err : goal.returns-in-Err
 returns-in-Err c = let start = c in
     let s = settings_are start.args.settings in
     let cs = start.args.points.now in
     let w = c.in-Err.ensures in
-    spelt (sym (job-refused s cs lent_lists _ _ start.requires.0 lent-largest _ w.answers (refusal-numbered _))) c.write_refusal.ensures
+    spelt_as (sym (job-refused s cs lent_lists _ _ start.requires.0 lent-largest _ w.answers (refusal-numbered _))) c.write_refusal.ensures
 
 pub write_tree-requires : goal.write_tree-requires
 write_tree-requires c = let start = c in
@@ -29,8 +29,8 @@ write_tree-requires c = let start = c in
     let w = c.in-Ok.ensures in
     record {
       stands = tree-ready s cs lent_lists _ _ start.requires.0 lent-largest _ w.answers (omega arith) _ w.lists;
-      room_for = room-spelt
-          (job-tree s cs lent_lists _ _ start.requires.0 lent-largest _ w.answers (omega arith) _ w.lists) (room_for s cs start.args.out.now start.requires.0 start.requires.1);
+      room_for = takes_as
+          (job-tree s cs lent_lists _ _ start.requires.0 lent-largest _ w.answers (omega arith) _ w.lists) (room_for s cs start.requires.0 start.requires.1);
     }
 
 pub returns-in-Ok : goal.returns-in-Ok
@@ -38,4 +38,4 @@ returns-in-Ok c = let start = c in
     let s = settings_are start.args.settings in
     let cs = start.args.points.now in
     let w = c.in-Ok.ensures in
-    spelt (sym (job-tree s cs lent_lists _ _ start.requires.0 lent-largest _ w.answers (omega arith) _ w.lists)) c.write_tree.ensures
+    spelt_as (sym (job-tree s cs lent_lists _ _ start.requires.0 lent-largest _ w.answers (omega arith) _ w.lists)) c.write_tree.ensures

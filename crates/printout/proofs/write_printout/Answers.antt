@@ -2,14 +2,14 @@
 use mathlib.Core.Path.{sym}
 use native.Mathlib.Omega.{arith}
 use lib.Seq.{length-take-le}
-use Rattle.bytes_out.proofs.Wrote.{spelt}
+use Rattle.bytes_out.proofs.Writing.{spelt_as}
 use Rattle.job_room.proofs.JobRead.{limits-read, coordinates-read}
 use Rattle.job_room.proofs.Printing.{refusal-room}
 use Rattle.printout.proofs.Joins.{broken-printed, whole-printed}
 use Rattle.printout.proofs.write_printout.Goals as goal
 
 pub write_refusal-requires : goal.write_refusal-requires
-write_refusal-requires c = refusal-room _ _ c.requires
+write_refusal-requires c = refusal-room _ c.requires
 
 pub overflow_mul-k : goal.overflow_mul-k
 overflow_mul-k c = let start = c in
@@ -44,10 +44,10 @@ write_job-requires c = let start = c in
 pub returns-in-Err : goal.returns-in-Err
 returns-in-Err c = let start = c in
     let same = c.read_job-read.ensures.same in
-    spelt (broken-printed _ _ start.args.input.now same _ c.in-Err.is) c.write_refusal.ensures
+    spelt_as (broken-printed _ _ start.args.input.now same _ c.in-Err.is) c.write_refusal.ensures
 
 pub returns-in-Ok : goal.returns-in-Ok
 returns-in-Ok c = let start = c in
     let same = c.read_job-read.ensures.same in
-    spelt (whole-printed _ _ start.args.input.now same _ c.in-Ok.is)
+    spelt_as (whole-printed _ _ start.args.input.now same _ c.in-Ok.is)
     c.write_job.ensures

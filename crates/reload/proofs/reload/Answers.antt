@@ -1,4 +1,6 @@
 -- `reload::reload` meets its contract. Assumes nothing.
+use mathlib.Core.Path.{◌≡◌, refl, ◌∙◌}
+use borrow.Author.Rules.{rules}
 use native.Mathlib.Omega.{arith}
 use Rattle.stored.specs.Programs.{reloaded}
 use Rattle.job_room.proofs.Printing.{answer-short, output-short, answer-long, output-long}
@@ -18,7 +20,8 @@ returns c = let a = c.args in
     let text = reloaded a.stream.now a.file.now in
     let long = c.if-output-lt-TEXT.false in
     let w = c.write_reloaded.ensures in
+    let back : _ ≡ c.write_reloaded.new.output.bytes.now = search rules in
     record {
-      answer = answer-long text a.output.now long _ _ w;
-      output = output-long text a.output.now long _ _ w;
+      answer = answer-long text a.output.now long refl refl w;
+      output = back ∙ output-long text a.output.now long refl refl w;
     }

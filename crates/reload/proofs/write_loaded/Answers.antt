@@ -1,7 +1,7 @@
 -- `reload::write_loaded` meets its contract. Assumes nothing.
 use mathlib.Core.Path.{sym}
 use native.Mathlib.Omega.{arith}
-use Rattle.bytes_out.proofs.Wrote.{spelt, room-spelt}
+use Rattle.bytes_out.proofs.Writing.{spelt_as, takes_as}
 use Rattle.settings_record.specs.Reading.{settings_are}
 use Rattle.job_room.proofs.Printing.{refusal-numbered}
 use Rattle.reload.proofs.LoadedText.{load-refused, loaded-stands, load-tree-text}
@@ -13,7 +13,7 @@ write_refusal-requires c = let start = c in
     let cs = start.args.points.now in
     let bs = start.args.file.now in
     let w = c.in-Err.ensures in
-    room-spelt (load-refused s cs bs start.requires.0 _ _ w (refusal-numbered _)) start.requires.1
+    takes_as (load-refused s cs bs start.requires.0 _ _ w (refusal-numbered _)) start.requires.1
 
 pub returns-in-Err : goal.returns-in-Err
 returns-in-Err c = let start = c in
@@ -21,7 +21,7 @@ returns-in-Err c = let start = c in
     let cs = start.args.points.now in
     let bs = start.args.file.now in
     let w = c.in-Err.ensures in
-    spelt (sym (load-refused s cs bs start.requires.0 _ _ w (refusal-numbered _))) c.write_refusal.ensures
+    spelt_as (sym (load-refused s cs bs start.requires.0 _ _ w (refusal-numbered _))) c.write_refusal.ensures
 
 pub write_tree-requires : goal.write_tree-requires
 write_tree-requires c = let start = c in
@@ -31,7 +31,7 @@ write_tree-requires c = let start = c in
     let w = c.in-Ok.ensures in
     record {
       stands = loaded-stands s cs bs start.requires.0 _ _ w (omega arith);
-      room_for = room-spelt (load-tree-text s cs bs start.requires.0 _ _ w (omega arith)) start.requires.1;
+      room_for = takes_as (load-tree-text s cs bs start.requires.0 _ _ w (omega arith)) start.requires.1;
     }
 
 pub returns-in-Ok : goal.returns-in-Ok
@@ -40,4 +40,4 @@ returns-in-Ok c = let start = c in
     let cs = start.args.points.now in
     let bs = start.args.file.now in
     let w = c.in-Ok.ensures in
-    spelt (sym (load-tree-text s cs bs start.requires.0 _ _ w (omega arith))) c.write_tree.ensures
+    spelt_as (sym (load-tree-text s cs bs start.requires.0 _ _ w (omega arith))) c.write_tree.ensures

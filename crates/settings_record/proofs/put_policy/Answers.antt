@@ -1,8 +1,13 @@
 -- `settings_record::put_policy` meets its contract. Assumes nothing.
-use Rattle.settings_record.proofs.Stored.{policy-stored}
-use Rattle.config.specs.Params.{threshold_policy}
-use borrow.Author.Rules.{rules}
+use mathlib.Core.Path.{sym}
+use Rattle.bytes_out.proofs.Writing.{spelt_as, takes_as, takes_first, takes_next, ◌▸◌}
 use Rattle.settings_record.proofs.put_policy.Goals as goal
 
+pub low_byte-requires : goal.low_byte-requires
+low_byte-requires c = takes_first _ _ (takes_as c.from-fields.ensures.0 c.requires)
+
+pub field-requires : goal.field-requires
+field-requires c = takes_next c.low_byte.ensures (takes_as c.from-fields.ensures.0 c.requires)
+
 pub returns : goal.returns
-returns c = policy-stored c.args.out.now c.args.at (search rules) (threshold_policy c.args.policy) _ _ _ _ c.from-fields.ensures.0 c.put_byte.ensures c.put_short.ensures
+returns c = spelt_as (sym c.from-fields.ensures.0) (c.low_byte.ensures ▸ c.field.ensures)

@@ -1,5 +1,5 @@
 -- `store_bytes::put_domains` meets its contract. Assumes nothing.
-use Rattle.store_records.proofs.Remains.{begin, restated, room-now, part-written, done}
+use Rattle.bytes_out.proofs.Writing.{all_left, left_as, takes_part, part_done, nothing_left}
 use Rattle.store_bytes.proofs.Turns.{turn, no-turn}
 use Rattle.store_bytes.proofs.Runs.{domain_at_lem, domain-run}
 use Rattle.lists.specs.Lists.{joined, from}
@@ -16,19 +16,19 @@ loop-i-init c = let start = c in
     let a = start.args in
     let p = packed_of a.tree in
     let f = domain_at_lem a.coarse p in
-    (begin (map f (from (a.j + 0) (a.m - 0))) (domain-run a.coarse p a.j a.m) start.requires.room_for)
+    (all_left (map f (from (a.j + 0) (a.m - 0))) (domain-run a.coarse p a.j a.m) start.requires.room_for)
 
-pub put_domain-next-requires : goal.put_domain-next-requires
-put_domain-next-requires c = let start = c in
+pub put_domain-requires : goal.put_domain-requires
+put_domain-requires c = let start = c in
     let a = start.args in
     let p = packed_of a.tree in
     let f = domain_at_lem a.coarse p in
     let v = c.loop-i in
     let go = c.loop-i-test.true in
-    let w = restated _ (ap joined (turn f (a.j + v.i) (a.j + (v.i + 1)) v.i a.m (omega arith) go)) v.invariant in
+    let w = left_as _ (ap joined (turn f (a.j + v.i) (a.j + (v.i + 1)) v.i a.m (omega arith) go)) v.invariant in
     record {
       row_fits = start.requires.by_index v.i go;
-      room_for = room-now w;
+      room_for = takes_part w;
     }
 
 pub loop-i-preserved : goal.loop-i-preserved
@@ -37,8 +37,8 @@ loop-i-preserved c = let start = c in
     let p = packed_of a.tree in
     let f = domain_at_lem a.coarse p in
     let v = c.loop-i in
-    let w = restated _ (ap joined (turn f (a.j + v.i) (a.j + (v.i + 1)) v.i a.m (omega arith) c.loop-i-test.true)) v.invariant in
-    (part-written w c.put_domain-next.ensures)
+    let w = left_as _ (ap joined (turn f (a.j + v.i) (a.j + (v.i + 1)) v.i a.m (omega arith) c.loop-i-test.true)) v.invariant in
+    (part_done w c.put_domain.ensures)
 
 pub returns : goal.returns
 returns c = let start = c in
@@ -46,4 +46,4 @@ returns c = let start = c in
     let p = packed_of a.tree in
     let f = domain_at_lem a.coarse p in
     let v = c.loop-i in
-    done (restated [] (ap joined (no-turn f (a.j + v.i) v.i a.m (search rules))) v.invariant)
+    nothing_left (left_as [] (ap joined (no-turn f (a.j + v.i) v.i a.m (search rules))) v.invariant)

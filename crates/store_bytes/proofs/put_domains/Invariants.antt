@@ -1,4 +1,4 @@
-use Rattle.store_records.proofs.Remains.{Remains}
+use Rattle.bytes_out.proofs.Writing.{Left}
 use Rattle.store_bytes.proofs.Runs.{domain_at_lem}
 use Rattle.lists.specs.Lists.{from}
 use Rattle.packed.specs.Reading.{read_leaves}
@@ -10,4 +10,4 @@ use Rattle.store_bytes.proofs.put_domains.Given as goal
 
 abbrev pub invariant-loop-i : goal.invariant-loop-i
 invariant-loop-i l = let p = packed_of l.tree in
-    Remains l.initial.out l.at (domain_records l.coarse (read_leaves p l.j l.m)) l.out l.next (map (domain_at_lem l.coarse p) (from (l.j + l.i) (l.m - l.i)))
+    Left l.initial.out l.out (domain_records l.coarse (read_leaves p l.j l.m)) (map (domain_at_lem l.coarse p) (from (l.j + l.i) (l.m - l.i)))

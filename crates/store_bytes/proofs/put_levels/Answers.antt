@@ -1,5 +1,5 @@
 -- `store_bytes::put_levels` meets its contract. Assumes nothing.
-use Rattle.store_records.proofs.Remains.{begin, restated, room-now, part-written, done}
+use Rattle.bytes_out.proofs.Writing.{all_left, left_as, takes_part, part_done, nothing_left}
 use Rattle.store_bytes.proofs.Levels.{no-level, levels-all, turn-here}
 use Rattle.lists.proofs.Sums.{total-nil, total-step}
 use Rattle.packed.specs.Reading.{read_level}
@@ -19,7 +19,7 @@ loop-t-init c = let start = c in
     let p = packed_of a.tree in (
       sym total-nil,
       sym total-nil,
-      begin _ (levels-all p a.level_points.now a.counts.rows a.counts.domains a.counts.levels) start.requires.room_for,
+      all_left _ (levels-all p a.level_points.now a.counts.rows a.counts.domains a.counts.levels) start.requires.room_for,
     )
 
 pub offset_bounds-level_points-a : goal.offset_bounds-level_points-a
@@ -36,14 +36,14 @@ slice_bounds-put_whole_level-end c = let start = c in
     let v = c.loop-t in
     rows_inside p a.level_points.now a.counts.rows a.counts.domains v.t v.a v.j v.invariant.0 v.invariant.1 a.counts.levels start.requires.stands c.loop-t-test.true
 
-pub put_whole_level-next-requires : goal.put_whole_level-next-requires
-put_whole_level-next-requires c = let start = c in
+pub put_whole_level-requires : goal.put_whole_level-requires
+put_whole_level-requires c = let start = c in
     let a = start.args in
     let p = packed_of a.tree in
     let v = c.loop-t in
-    let w = restated _ (turn-here p a.level_points.now a.counts.rows a.counts.domains v.t v.a v.j v.invariant.0 v.invariant.1 a.counts.levels start.requires.stands c.loop-t-test.true) v.invariant.2 in record {
+    let w = left_as _ (turn-here p a.level_points.now a.counts.rows a.counts.domains v.t v.a v.j v.invariant.0 v.invariant.1 a.counts.levels start.requires.stands c.loop-t-test.true) v.invariant.2 in record {
       by_index = row_fits p a.level_points.now a.counts.rows a.counts.domains v.t v.a v.j v.invariant.0 v.invariant.1 a.counts.levels start.requires.stands c.loop-t-test.true;
-      room_for = room-now w;
+      room_for = takes_part w;
     }
 
 pub overflow_add-e : goal.overflow_add-e
@@ -65,10 +65,10 @@ loop-t-preserved c = let start = c in
     let a = start.args in
     let p = packed_of a.tree in
     let v = c.loop-t in
-    let w = restated _ (turn-here p a.level_points.now a.counts.rows a.counts.domains v.t v.a v.j v.invariant.0 v.invariant.1 a.counts.levels start.requires.stands c.loop-t-test.true) v.invariant.2 in (
+    let w = left_as _ (turn-here p a.level_points.now a.counts.rows a.counts.domains v.t v.a v.j v.invariant.0 v.invariant.1 a.counts.levels start.requires.stands c.loop-t-test.true) v.invariant.2 in (
       ap (λ (k : ℕ). k + get_or a.counts.rows v.t 0) v.invariant.0 ∙ sym (total-step a.counts.rows v.t),
       ap (λ (k : ℕ). k + get_or a.counts.domains v.t 0) v.invariant.1 ∙ sym (total-step a.counts.domains v.t),
-      part-written w c.put_whole_level-next.ensures,
+      part_done w c.put_whole_level.ensures,
     )
 
 pub returns : goal.returns
@@ -76,4 +76,4 @@ returns c = let start = c in
     let a = start.args in
     let p = packed_of a.tree in
     let v = c.loop-t in
-    done (restated [] (no-level (read_level p a.level_points.now a.counts.rows a.counts.domains) v.t a.counts.levels (search rules)) v.invariant.2)
+    nothing_left (left_as [] (no-level (read_level p a.level_points.now a.counts.rows a.counts.domains) v.t a.counts.levels (search rules)) v.invariant.2)

@@ -1,4 +1,4 @@
-use Rattle.store_records.proofs.Remains.{Remains}
+use Rattle.bytes_out.proofs.Writing.{Left}
 use Rattle.lists.specs.Lists.{joined, total, from}
 use Rattle.packed.specs.Reading.{read_level, read_levels}
 use Rattle.packed.specs.View.{packed_of}
@@ -12,5 +12,5 @@ use Rattle.store_bytes.proofs.put_levels.Given as goal
 abbrev pub invariant-loop-t : goal.invariant-loop-t
 invariant-loop-t l = let p = packed_of l.tree in
     (l.a ≡ total (take l.t l.counts.rows)) × (l.j ≡ total (take l.t l.counts.domains))
-    × Remains l.initial.out l.at (joined (tree_records (read_levels p l.level_points l.counts.rows l.counts.domains l.counts.levels))) l.out l.next
+    × Left l.initial.out l.out (joined (tree_records (read_levels p l.level_points l.counts.rows l.counts.domains l.counts.levels)))
     (tree_records (map (read_level p l.level_points l.counts.rows l.counts.domains) (from l.t (l.counts.levels - l.t))))

@@ -1,4 +1,4 @@
-use Rattle.store_records.proofs.Remains.{Remains}
+use Rattle.bytes_out.proofs.Writing.{Left}
 use Rattle.lists.specs.Lists.{joined, from}
 use Rattle.stored.specs.File.{point_bytes}
 use Prim.Native.Nat.{◌-◌}
@@ -6,5 +6,5 @@ use mathlib.Core.List.{map}
 use Rattle.store_bytes.proofs.put_points.Given as goal
 
 abbrev pub invariant-loop-i : goal.invariant-loop-i
-invariant-loop-i l = let f = point_bytes l.dimensions l.points in
-    Remains l.initial.out l.at (joined (map f (from 0 l.n))) l.out l.next (map f (from l.i (l.n - l.i)))
+invariant-loop-i l = let f = point_bytes l.points.dimensions l.points.coordinates.now in
+    Left l.initial.out l.out (joined (map f (from 0 l.n))) (map f (from l.i (l.n - l.i)))

@@ -1,43 +1,21 @@
 -- `store_records::put_head` meets its contract. Assumes nothing.
-use Rattle.store_records.proofs.Remains.{begin, room-now, part-written, done}
-use Rattle.store_records.proofs.Fields.{mark-wrote, settings-wrote, settings-room, number-wrote, number-room}
-use Rattle.store_records.proofs.Parts.{head-parts}
-use Rattle.config.specs.Params.{settings_of_lem}
-use Rattle.formats.specs.Bytes.{mark_bytes, number_bytes}
-use Rattle.formats.specs.Stream.{settings_bytes}
-use Rattle.stored.specs.File.{head_mark}
-use mathlib.Core.List.{[], ◌∷◌}
+use native.Mathlib.Omega.{arith}
+use Rattle.bytes_out.proofs.Writing.{takes_first, takes_next, ◌▸◌}
+use Rattle.stored.specs.File.{head_bytes_lem}
 use Rattle.store_records.proofs.put_head.Goals as goal
 
-pub put_mark-requires : goal.put_mark-requires
-put_mark-requires c = let start = c in
-    let a = start.args in
-    let s = settings_of_lem a.dimensions a.params in
-    let w0 = begin (mark_bytes head_mark ∷ settings_bytes s ∷ number_bytes a.n ∷ []) (head-parts s a.n) start.requires.room_for in
-    (room-now w0).fits
+pub mark-requires : goal.mark-requires
+unfolding head_bytes_lem
+mark-requires c = record { fits = omega (arith, c.requires.fits) }
 
 pub put_settings-requires : goal.put_settings-requires
-put_settings-requires c = let start = c in
-    let a = start.args in
-    let s = settings_of_lem a.dimensions a.params in
-    let w0 = begin (mark_bytes head_mark ∷ settings_bytes s ∷ number_bytes a.n ∷ []) (head-parts s a.n) start.requires.room_for in
-    let w1 = part-written w0 (mark-wrote c.put_mark.ensures) in
-    (settings-room s (room-now w1), start.requires.dimensions_bound)
+unfolding head_bytes_lem
+put_settings-requires c = takes_next c.mark.ensures (takes_first _ _ c.requires)
 
-pub put_short-requires : goal.put_short-requires
-put_short-requires c = let start = c in
-    let a = start.args in
-    let s = settings_of_lem a.dimensions a.params in
-    let w0 = begin (mark_bytes head_mark ∷ settings_bytes s ∷ number_bytes a.n ∷ []) (head-parts s a.n) start.requires.room_for in
-    let w1 = part-written w0 (mark-wrote c.put_mark.ensures) in
-    let w2 = part-written w1 (settings-wrote s c.put_settings.ensures) in
-    number-room a.n (room-now w2)
+pub field-requires : goal.field-requires
+unfolding head_bytes_lem
+field-requires c = takes_next (c.mark.ensures ▸ c.put_settings.ensures) c.requires
 
 pub returns : goal.returns
-returns c = let start = c in
-    let a = start.args in
-    let s = settings_of_lem a.dimensions a.params in
-    let w0 = begin (mark_bytes head_mark ∷ settings_bytes s ∷ number_bytes a.n ∷ []) (head-parts s a.n) start.requires.room_for in
-    let w1 = part-written w0 (mark-wrote c.put_mark.ensures) in
-    let w2 = part-written w1 (settings-wrote s c.put_settings.ensures) in
-    done (part-written w2 (number-wrote a.n c.put_short.ensures))
+unfolding head_bytes_lem
+returns c = c.mark.ensures ▸ c.put_settings.ensures ▸ c.field.ensures

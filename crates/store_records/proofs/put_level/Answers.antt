@@ -1,21 +1,17 @@
 -- `store_records::put_level` meets its contract. Assumes nothing.
-use Rattle.store_records.proofs.Remains.{begin, room-now, part-written, done}
-use Rattle.store_records.proofs.Parts.{level-parts}
+use Rattle.bytes_out.proofs.Writing.{takes_first, takes_next, ◌▸◌}
+use Rattle.formats.specs.Bytes.{numbers_bytes}
+use Rattle.store_records.specs.Records.{level_record}
 use Rattle.store_records.proofs.put_level.Goals as goal
 
-pub put_counts-listed-requires : goal.put_counts-listed-requires
-put_counts-listed-requires c =
-    let w0 = begin _ (level-parts c.args.rows.now c.args.domain_count) c.requires in
-    room-now w0
+pub put_counts-requires : goal.put_counts-requires
+unfolding level_record numbers_bytes
+put_counts-requires c = takes_first _ _ c.requires
 
-pub put_list-requires : goal.put_list-requires
-put_list-requires c =
-    let w0 = begin _ (level-parts c.args.rows.now c.args.domain_count) c.requires in
-    let w1 = part-written w0 c.put_counts-listed.ensures in
-    room-now w1
+pub fields-requires : goal.fields-requires
+unfolding level_record numbers_bytes
+fields-requires c = takes_next c.put_counts.ensures c.requires
 
 pub returns : goal.returns
-returns c =
-    let w0 = begin _ (level-parts c.args.rows.now c.args.domain_count) c.requires in
-    let w1 = part-written w0 c.put_counts-listed.ensures in
-    done (part-written w1 c.put_list.ensures)
+unfolding level_record numbers_bytes
+returns c = c.put_counts.ensures ▸ c.fields.ensures

@@ -1,33 +1,14 @@
 -- `store_records::put_point` meets its contract. Assumes nothing.
-use Rattle.store_records.proofs.Remains.{begin, room-now, part-written, done}
-use Rattle.store_records.proofs.Fields.{mark-wrote}
-use Rattle.store_records.proofs.Parts.{lent, point-parts}
-use Rattle.lists.specs.Lists.{joined}
-use Rattle.formats.specs.Bytes.{mark_bytes, float_bytes}
-use Rattle.stored.specs.File.{file_point_mark}
-use Prim.Native.Nat.{◌*◌}
-use mathlib.Core.List.{[], ◌∷◌, map}
+use mathlib.Core.Path.{sym}
+use Rattle.bytes_out.proofs.Writing.{spelt_as, takes_as, takes_first, takes_next, ◌▸◌}
+use Rattle.store_records.proofs.Parts.{point-parts}
 use Rattle.store_records.proofs.put_point.Goals as goal
 
-pub put_mark-requires : goal.put_mark-requires
-put_mark-requires c = let start = c in
-    let a = start.args in
-    let w0 = begin (mark_bytes file_point_mark ∷ joined (map float_bytes (lent a.points.now (a.i * a.dimensions) a.dimensions)) ∷ [])
-    (point-parts a.dimensions a.points.now a.i start.requires.dimensions_in_bounds) start.requires.room_for in
-    (room-now w0).fits
+pub mark-requires : goal.mark-requires
+mark-requires c = takes_first _ _ (takes_as (point-parts c.args.points.dimensions c.args.points.coordinates.now c.args.i c.requires.dimensions_in_bounds) c.requires.room_for)
 
-pub put_list-requires : goal.put_list-requires
-put_list-requires c = let start = c in
-    let a = start.args in
-    let w0 = begin (mark_bytes file_point_mark ∷ joined (map float_bytes (lent a.points.now (a.i * a.dimensions) a.dimensions)) ∷ [])
-    (point-parts a.dimensions a.points.now a.i start.requires.dimensions_in_bounds) start.requires.room_for in
-    let w1 = part-written w0 (mark-wrote c.put_mark.ensures) in
-    room-now w1
+pub fields-requires : goal.fields-requires
+fields-requires c = takes_next c.mark.ensures (takes_as (point-parts c.args.points.dimensions c.args.points.coordinates.now c.args.i c.requires.dimensions_in_bounds) c.requires.room_for)
 
 pub returns : goal.returns
-returns c = let start = c in
-    let a = start.args in
-    let w0 = begin (mark_bytes file_point_mark ∷ joined (map float_bytes (lent a.points.now (a.i * a.dimensions) a.dimensions)) ∷ [])
-    (point-parts a.dimensions a.points.now a.i start.requires.dimensions_in_bounds) start.requires.room_for in
-    let w1 = part-written w0 (mark-wrote c.put_mark.ensures) in
-    done (part-written w1 c.put_list.ensures)
+returns c = spelt_as (sym (point-parts c.args.points.dimensions c.args.points.coordinates.now c.args.i c.requires.dimensions_in_bounds)) (c.mark.ensures ▸ c.fields.ensures)

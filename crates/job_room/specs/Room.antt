@@ -1,0 +1,28 @@
+-- Lists and working room for the largest job: of these lengths, and all zeros. Definitions only.
+use Rattle.std.specs.Prelude.{ℕ, ◌+◌, ◌*◌, List, replicate, Float}
+use Rattle.definition.specs.Number.{plus_zero}
+use Rattle.definition.specs.Packed.{most_rows, row_numbers, row_floats_lem}
+use Rattle.definition.specs.Outcome.{TreeLists}
+use Rattle.formats.specs.Stream.{stream_points, stream_neighbours}
+use Rattle.job_room.specs.declared.JobLists.{JobLists}
+
+abbrev pub lent_lists : TreeLists
+lent_lists =
+    record {
+      level_points = replicate (4 * stream_points) 0;
+      internals = replicate (4 * stream_points) 0;
+      domains = replicate (row_numbers * most_rows stream_points) 0;
+      boxes = replicate (row_floats_lem 3 * most_rows stream_points) plus_zero;
+      borrowed = replicate (6 * stream_points * (stream_neighbours + 1)) 0;
+    }
+
+abbrev pub lent_floats : List Float
+lent_floats = replicate (32 * stream_points) plus_zero
+
+abbrev pub lent_wholes : List ℕ
+lent_wholes = replicate (32 * stream_points + 8 * stream_points * (stream_neighbours + 1)) 0
+
+-- the lists that are held, as the definition has them
+abbrev pub lists_held : JobLists → TreeLists
+lists_held l =
+    record { level_points = l.level_points; internals = l.internals; domains = l.domains; boxes = l.boxes; borrowed = l.borrowed }

@@ -1,2 +1,0 @@
--- What the contracts of the replay cite.
-pub mod Room
