@@ -19,7 +19,7 @@ use refusal::Refusal;
 use sampling::Sampled;
 use slots::Report;
 use table::{Head, Table, Wells};
-use tree_lists::{Room, TreeLists};
+use tree_lists::{Records, Room, TreeLists, TreeRead};
 
 // The version as one number: major * 10000 + minor * 100 + patch.
 #[unsafe(no_mangle)]
@@ -179,18 +179,19 @@ pub extern "C" fn ddm_build(
         return Refusal::ShortList.number();
     }
     let params = slots::params_of(leaf, neighbours, factor, policy, threshold);
-    let tree = ddm::build(
-        points,
+    let points = Points {
+        coordinates: points,
         dimensions,
-        params,
+    };
+    let mut lists = TreeLists {
         level_points,
         internals,
         domains,
         boxes,
         borrowed,
-        floats,
-        wholes,
-    );
+    };
+    let mut room = Room { floats, wholes };
+    let tree = ddm::build(points, params, &mut lists, &mut room);
     slots::put_tree(res, tree)
 }
 
@@ -226,19 +227,25 @@ pub extern "C" fn ddm_build_depth_first(
         return Refusal::ShortList.number();
     }
     let params = slots::params_of(leaf, neighbours, factor, policy, threshold);
-    let tree = depth_first_build::build_depth_first(
-        points,
+    let points = Points {
+        coordinates: points,
         dimensions,
-        params,
+    };
+    let mut lists = TreeLists {
         level_points,
         internals,
         domains,
         boxes,
         borrowed,
-        floats,
-        wholes,
-        cuts,
-        planes,
+    };
+    let mut room = Room { floats, wholes };
+    let mut records = Records { cuts, planes };
+    let tree = depth_first_build::build_depth_first(
+        points,
+        params,
+        &mut lists,
+        &mut room,
+        &mut records,
     );
     slots::put_tree(res, tree)
 }
@@ -276,18 +283,18 @@ pub extern "C" fn ddm_store(
     }
     let params = slots::params_of(leaf, neighbours, factor, policy, threshold);
     let counts = slots::counts_from(tree);
-    let stored = store::store_tree(
-        points,
+    let points = Points {
+        coordinates: points,
         dimensions,
-        params,
-        counts,
+    };
+    let lists = TreeRead {
         level_points,
         internals,
         domains,
         boxes,
         borrowed,
-        file,
-    );
+    };
+    let stored = store::store_tree(points, params, counts, lists, file);
     let told = Report::of(stored, 0);
     stretches::put_pair(res, 0, told.place, told.value);
     told.number
@@ -321,17 +328,18 @@ pub extern "C" fn ddm_load(
         return Refusal::ShortList.number();
     }
     let params = slots::params_of(leaf, neighbours, factor, policy, threshold);
-    let tree = load::load_tree(
-        points,
+    let points = Points {
+        coordinates: points,
         dimensions,
-        params,
-        file,
+    };
+    let mut lists = TreeLists {
         level_points,
         internals,
         domains,
         boxes,
         borrowed,
-    );
+    };
+    let tree = load::load_tree(points, params, file, &mut lists);
     slots::put_tree(res, tree)
 }
 

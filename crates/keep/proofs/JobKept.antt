@@ -20,7 +20,8 @@ use Rattle.stream_laws.specs.Sizes.{JobLimits}
 use Rattle.reload_laws.specs.Sizes.{most_file_bytes}
 use Rattle.reload_laws.proofs.KeptFits.{sound-file-fits}
 use Rattle.store.specs.Outcome.{Stored}
-use Rattle.job_room.proofs.Lists.{build-as-stated, lent_lists, lent_floats, lent_wholes, lent-largest}
+use Rattle.job_room.specs.Room.{lent_lists, lent_floats, lent_wholes}
+use Rattle.job_room.proofs.Lists.{build-as-stated, lent-largest}
 use Rattle.keep.specs.Keeping.{keep_answer, keep_output}
 use Rattle.keep.proofs.Outcomes.{answer-refused, output-refused, answer-file, output-file}
 

@@ -9,6 +9,8 @@ ghost use Rattle.reload_laws.specs.Sizes.{most_file_bytes};
 ghost use Rattle.settings_record.specs.Reading.{settings_are};
 ghost use Rattle.keep.specs.Keeping.{keep_answer, keep_output, keep_report};
 
+use job_room::{JobLists, JobRoom};
+use points::Points;
 use refusal::Refusal;
 use settings_record::Settings;
 
@@ -21,38 +23,17 @@ fn keep_job(settings: Settings, points: &[f64], file: &mut [u8]) -> Result<usize
     ensures answer { keep_report result ≡ keep_answer (kept_job (job (settings_are settings) points.now)) file.old }
     ensures output { file.new ≡ keep_output (kept_job (job (settings_are settings) points.now)) file.old }
 {
-    let mut level_points = [0usize; job_room::LEVEL_POINTS];
-    let mut internals = [0usize; job_room::LEVEL_POINTS];
-    let mut domains = [0usize; job_room::DOMAINS];
-    let mut boxes = [0.0; job_room::BOXES];
-    let mut borrowed = [0usize; job_room::BORROWED];
-    let mut floats = [0.0; job_room::FLOATS];
-    let mut wholes = [0usize; job_room::WHOLES];
     let Settings { dimensions, params } = settings;
-    let tree = ddm::build(
-        points,
+    let points = Points {
+        coordinates: points,
         dimensions,
-        params,
-        &mut level_points,
-        &mut internals,
-        &mut domains,
-        &mut boxes,
-        &mut borrowed,
-        &mut floats,
-        &mut wholes,
-    )?;
-    store::store_tree(
-        points,
-        dimensions,
-        params,
-        tree,
-        &level_points,
-        &internals,
-        &domains,
-        &boxes,
-        &borrowed,
-        file,
-    )
+    };
+    let mut lists = JobLists::zeros();
+    let mut lists = lists.lend();
+    let mut room = JobRoom::zeros();
+    let mut room = room.lend();
+    let tree = ddm::build(points, params, &mut lists, &mut room)?;
+    store::store_tree(points, params, tree, lists.read(), file)
 }
 
 // What is kept of a stream: the file of its tree at the front of `file`, which is to have 32,768 bytes at least, since no file is longer;

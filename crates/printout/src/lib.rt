@@ -10,50 +10,49 @@ ghost use Rattle.bytes_out.specs.Writing.{Appends};
 ghost use Rattle.job_room.specs.Printing.{print_answer_lem, print_output, printed_answer};
 
 use bytes_out::Writer;
+use job_room::{JobLists, JobRoom};
 use packed::Packed;
+use points::Points;
 use refusal::Refusal;
 use settings_record::Settings;
+use tree_lists::TreeRead;
 
 // The text of a job: of its tree, or of the build's refusal. The lists suffice for the largest job.
 fn write_job(settings: Settings, points: &[f64], out: &mut Writer<'_>)
     requires { JobLimits (settings_are settings) points.now × (out.old.at + most_bytes ≤ length out.old.bytes.now) }
     ensures { Appends out.old out.new (job_text (job (settings_are settings) points.now)) }
 {
-    let mut level_points = [0usize; job_room::LEVEL_POINTS];
-    let mut internals = [0usize; job_room::LEVEL_POINTS];
-    let mut domains = [0usize; job_room::DOMAINS];
-    let mut boxes = [0.0; job_room::BOXES];
-    let mut borrowed = [0usize; job_room::BORROWED];
-    let mut floats = [0.0; job_room::FLOATS];
-    let mut wholes = [0usize; job_room::WHOLES];
     let Settings { dimensions, params } = settings;
-    let built = ddm::build(
-        points,
+    let points = Points {
+        coordinates: points,
         dimensions,
-        params,
-        &mut level_points,
-        &mut internals,
-        &mut domains,
-        &mut boxes,
-        &mut borrowed,
-        &mut floats,
-        &mut wholes,
-    );
-    match built {
+    };
+    let mut lists = JobLists::zeros();
+    let mut lists = lists.lend();
+    let mut room = JobRoom::zeros();
+    let mut room = room.lend();
+    match ddm::build(points, params, &mut lists, &mut room) {
         Ok(tree) => {
-            let lists = Packed {
-                internals: &internals,
-                domains: &domains,
-                boxes: &boxes,
-                borrowed: &borrowed,
+            let TreeRead {
+                level_points,
+                internals,
+                domains,
+                boxes,
+                borrowed,
+            } = lists.read();
+            let packed = Packed {
+                internals,
+                domains,
+                boxes,
+                borrowed,
                 dimensions,
             };
             print_tree::write_tree(
                 tree.levels,
                 &tree.rows,
                 &tree.domains,
-                &level_points,
-                lists,
+                level_points,
+                packed,
                 out,
             );
         }

@@ -36,6 +36,7 @@ pub fn retire(
 }
 
 // Closes the gaps of the table, and writes each slot's new one to the front of the rename list. The new slot count.
+// Like `add` but for its edit: one function that is passed the edit as a closure would be longer than the three lines of each.
 pub fn close(head: &mut Head, wells: &mut Wells<'_>, rename: &mut [usize]) -> Result<usize, Refusal>
     ensures same { SameWells wells.old wells.new }
     ensures outcome { Closed wells.old.dimensions (wells_in head.old wells.old) (wells_in head.new wells.new) rename.old rename.new (slot_answer result) }

@@ -1,6 +1,7 @@
 -- `ddm_c::ddm_add` meets its contract. Assumes nothing.
-use mathlib.Core.Path.{refl, ◌∙◌}
+use mathlib.Core.Path.{◌≡◌, ◌∙◌}
 use native.Mathlib.Omega.{arith}
+use borrow.Author.Rules.{rules}
 use Rattle.table_checks.specs.Tables.{wells_in}
 use Rattle.slots.specs.Slots.{told}
 use Rattle.slots.proofs.Told.{add-short, add-long}
@@ -13,5 +14,7 @@ pub returns : goal.returns
 returns c = let P = c.args in
     let q = c.add-answer in
     let w = q.ensures.outcome in
+    let flags : _ ≡ q.new.wells.flags.now = search rules in
+    let coordinates : _ ≡ q.new.wells.coordinates.now = search rules in
     add-long P.dimensions P.head.now P.flags.now P.coordinates.now P.point.now P.res.now _ _ _ (told c.of-told.result)
-    (wells_in q.new.head q.new.wells) (omega arith) c.put_pair.ensures (c.of-told.ensures ∙ w.answers) w.table refl refl
+    (wells_in q.new.head q.new.wells) (omega arith) c.put_pair.ensures (c.of-told.ensures ∙ w.answers) w.table flags coordinates

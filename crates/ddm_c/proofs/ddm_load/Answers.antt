@@ -1,5 +1,7 @@
 -- `ddm_c::ddm_load` meets its contract. Assumes nothing.
+use mathlib.Core.Path.{◌∙◌}
 use native.Mathlib.Omega.{arith}
+use borrow.Author.Rules.{rules}
 use Rattle.config.specs.Params.{settings_of_lem}
 use Rattle.tree_answer.specs.Answers.{tree_answer_lem, lists_of}
 use Rattle.slots.specs.Settings.{settings_from}
@@ -13,8 +15,8 @@ pub returns : goal.returns
 returns c = let a = c.args in
     let p = c.params_of-params in
     let q = c.load_tree-tree in
-    let w = q.ensures in
+    let w = q.ensures.loaded in
     load-long _ _ (lists_of _ _ _ _ _) _ (lists_of _ _ _ _ _) _ _ (tree_answer_lem q.result) (settings_of_lem _ p.result)
     (settings_from a.dimensions a.leaf a.neighbours a.factor a.policy a.threshold)
     (p.ensures _)
-    c.if-res-lt10.false c.put_tree.ensures.number c.put_tree.ensures.slot w.answers w.level_points w.internals w.domains w.boxes w.borrowed
+    c.if-res-lt10.false c.put_tree.ensures.number c.put_tree.ensures.slot w.answers (search rules ∙ w.level_points) (search rules ∙ w.internals) (search rules ∙ w.domains) (search rules ∙ w.boxes) (search rules ∙ w.borrowed)

@@ -1,8 +1,9 @@
 -- `printout::write_job` meets its contract. Assumes nothing.
-use mathlib.Core.Path.{sym}
+use mathlib.Core.Path.{sym, ◌∙◌}
 use Rattle.bytes_out.proofs.Writing.{spelt_as, takes_as}
 use Rattle.settings_record.specs.Reading.{settings_are}
-use Rattle.job_room.proofs.Lists.{lent_lists, lent-largest}
+use Rattle.tree_lists.specs.Lent.{lists_in}
+use Rattle.job_room.proofs.Lists.{lent-sizes}
 use Rattle.job_room.proofs.Printing.{refusal-numbered}
 use Rattle.printout.proofs.Joins.{room_for, job-refused, tree-ready, job-tree}
 use native.Mathlib.Omega.{arith}
@@ -12,30 +13,34 @@ pub write_refusal-requires : goal.write_refusal-requires
 write_refusal-requires c = let start = c in
     let s = settings_are start.args.settings in
     let cs = start.args.points.now in
-    let w = c.in-Err.ensures in
-    takes_as (job-refused s cs lent_lists _ _ start.requires.0 lent-largest _ w.answers (refusal-numbered _)) (room_for s cs start.requires.0 start.requires.1)
+    let lent = lent-sizes (lists_in c.lend-lists.result) c.lend-room.result.floats.now c.lend-room.result.wholes.now (c.lend-lists.ensures ∙ c.zeros-lists.ensures) (c.lend-room.ensures.floats ∙ c.zeros-room.ensures.floats) (c.lend-room.ensures.wholes ∙ c.zeros-room.ensures.wholes) in
+    let w = c.in-Err.ensures.built in
+    takes_as (job-refused s cs (lists_in start.lend-lists.result) _ _ start.requires.0 lent _ w.answers (refusal-numbered _)) (room_for s cs start.requires.0 start.requires.1)
 
 pub returns-in-Err : goal.returns-in-Err
 returns-in-Err c = let start = c in
     let s = settings_are start.args.settings in
     let cs = start.args.points.now in
-    let w = c.in-Err.ensures in
-    spelt_as (sym (job-refused s cs lent_lists _ _ start.requires.0 lent-largest _ w.answers (refusal-numbered _))) c.write_refusal.ensures
+    let lent = lent-sizes (lists_in c.lend-lists.result) c.lend-room.result.floats.now c.lend-room.result.wholes.now (c.lend-lists.ensures ∙ c.zeros-lists.ensures) (c.lend-room.ensures.floats ∙ c.zeros-room.ensures.floats) (c.lend-room.ensures.wholes ∙ c.zeros-room.ensures.wholes) in
+    let w = c.in-Err.ensures.built in
+    spelt_as (sym (job-refused s cs (lists_in start.lend-lists.result) _ _ start.requires.0 lent _ w.answers (refusal-numbered _))) c.write_refusal.ensures
 
 pub write_tree-requires : goal.write_tree-requires
 write_tree-requires c = let start = c in
     let s = settings_are start.args.settings in
     let cs = start.args.points.now in
-    let w = c.in-Ok.ensures in
+    let lent = lent-sizes (lists_in c.lend-lists.result) c.lend-room.result.floats.now c.lend-room.result.wholes.now (c.lend-lists.ensures ∙ c.zeros-lists.ensures) (c.lend-room.ensures.floats ∙ c.zeros-room.ensures.floats) (c.lend-room.ensures.wholes ∙ c.zeros-room.ensures.wholes) in
+    let w = c.in-Ok.ensures.built in
     record {
-      stands = tree-ready s cs lent_lists _ _ start.requires.0 lent-largest _ w.answers (omega arith) _ w.lists;
+      stands = tree-ready s cs (lists_in start.lend-lists.result) _ _ start.requires.0 lent _ w.answers (omega arith) _ (start.read.ensures ∙ w.lists);
       room_for = takes_as
-          (job-tree s cs lent_lists _ _ start.requires.0 lent-largest _ w.answers (omega arith) _ w.lists) (room_for s cs start.requires.0 start.requires.1);
+          (job-tree s cs (lists_in start.lend-lists.result) _ _ start.requires.0 lent _ w.answers (omega arith) _ (start.read.ensures ∙ w.lists)) (room_for s cs start.requires.0 start.requires.1);
     }
 
 pub returns-in-Ok : goal.returns-in-Ok
 returns-in-Ok c = let start = c in
     let s = settings_are start.args.settings in
     let cs = start.args.points.now in
-    let w = c.in-Ok.ensures in
-    spelt_as (sym (job-tree s cs lent_lists _ _ start.requires.0 lent-largest _ w.answers (omega arith) _ w.lists)) c.write_tree.ensures
+    let lent = lent-sizes (lists_in c.lend-lists.result) c.lend-room.result.floats.now c.lend-room.result.wholes.now (c.lend-lists.ensures ∙ c.zeros-lists.ensures) (c.lend-room.ensures.floats ∙ c.zeros-room.ensures.floats) (c.lend-room.ensures.wholes ∙ c.zeros-room.ensures.wholes) in
+    let w = c.in-Ok.ensures.built in
+    spelt_as (sym (job-tree s cs (lists_in start.lend-lists.result) _ _ start.requires.0 lent _ w.answers (omega arith) _ (start.read.ensures ∙ w.lists))) c.write_tree.ensures
