@@ -1,11 +1,11 @@
 -- What is kept of the bytes read is what is kept of the stream. Assumes nothing.
--- Holds: front-replies, line-room, line-tells, told
+-- Holds: front-replies, line-room, line-fits, line-tells, told
 use mathlib.Core.Path.{◌≡◌, refl, ap, subst, ◌∙◌}
 use Prim.Native.Nat.{ℕ, ◌≤◌}
 use native.Mathlib.Omega.{arith}
 use native.Mathlib.Nat.{zero-add}
 use mathlib.Core.List.{List, ◌++◌}
-use lib.ListN.{length, take, drop, length-append}
+use lib.ListN.{length, take, drop}
 use lib.Seq.{take_at}
 use Rattle.std.specs.Prelude.{OnOk, Result, Ok, Err, Option}
 use Rattle.std.specs.Io.KnownBytes.{Appends}
@@ -16,7 +16,7 @@ use Rattle.stream_laws.specs.Sizes.{decisive}
 use Rattle.stream_laws.proofs.Long.{refusal-long}
 use Rattle.reload_laws.proofs.FrontDecides.{front_kept}
 use Rattle.bytes_out.specs.declared.writer.Writer.{Writer}
-use Rattle.bytes_out.specs.Writing.{Takes, Appends}
+use Rattle.bytes_out.specs.Writing.{Takes, Appends as Wrote}
 use Rattle.refusal.specs.declared.Refusal.{Refusal}
 use Rattle.refusal.specs.Refusals.{as_refusal}
 use Rattle.keep.specs.Keeping.{Found}
@@ -46,18 +46,22 @@ module _ (refused : Refusal) (line : List ℕ) where
     pub line-room : 53 ≤ length line → Takes w (refusal_text (as_refusal refused))
     line-room h = record { fits = omega (arith, h, start, ap length lent, refusal-long (as_refusal refused)) }
 
-    module _ {v : Writer} (a : Appends w v (refusal_text (as_refusal refused))) where
+    -- and when it is written to it, which then is `after`
+    module _ {v : Writer} (a : Wrote w v (refusal_text (as_refusal refused))) (after : List ℕ) (back : after ≡ v.bytes.now) where
       line-counted : v.at ≡ length text
       line-counted = a.place ∙ rw start (zero-add (length text))
 
-      line-is : v.bytes.now ≡ text ++ drop (length text) line
-      line-is = rw (a.same, start, lent) (put-zero line text)
+      line-is : after ≡ text ++ drop (length text) line
+      line-is = rw (back, a.same, start, lent) (put-zero line text)
+
+      pub line-fits : v.at ≤ length after
+      line-fits = rw back a.within
 
       -- it tells the refusal, whichever stream the input is
-      pub line-tells : (front : Front) (input : List ℕ) → KeptFor front input (nothing (as_refusal refused)) → RefusalFor front input (take v.at v.bytes.now)
+      pub line-tells : (front : Front) (input : List ℕ) → KeptFor front input (nothing (as_refusal refused)) → RefusalFor front input (take v.at after)
       line-tells front input h stream m =
-          let same : take v.at v.bytes.now ≡ text = rw (line-counted, line-is) (take_at text (drop (length text) line) (length text) refl) in
-          subst (Tells (take v.at v.bytes.now)) (h stream m) same
+          let same : take v.at after ≡ text = rw (line-counted, line-is) (take_at text (drop (length text) line) (length text) refl) in
+          subst (Tells (take v.at after)) (h stream m) same
 
 -- ---- where it is written
 pub told : {A E : Type 0} (r : Result A E) (front : Front) (input text : List ℕ) (old new : Option (List ℕ)) → RefusalFor front input text

@@ -18,13 +18,10 @@ use Rattle.stored.specs.Stored.{counts_size, leaf_in, leaf_size, leaves_at_lem, 
 use Rattle.tree_tests.specs.InTurn.{without, fitted, leaf_passes, leaves_pass}
 use Rattle.tree_tests.specs.Whole.{leaves_whole}
 use Rattle.tree_tests.proofs.Leaves.{leaves-pass-same}
-use Rattle.tree_tests.proofs.Sets.{without_in}
 use Rattle.marks.specs.Bits.{Marked}
 use Rattle.marks.proofs.Marks.{held, bits-marked, marked-held}
 use Rattle.file_domains.specs.declared.Passed.{Passed}
-use Rattle.row_sets.specs.Tested.{Inside}
 use Rattle.file_domains.specs.Domains.{DomainHere, DomainPassed, DomainsPassed, borrowed_rows, last_depth}
-use Rattle.row_sets.proofs.RowTests.{inside-sets, sets-inside}
 use Rattle.file_domains.proofs.OneDomain.{own-enough, domain-room}
 
 -- ---- the tests of m records from the front of bytes on
@@ -74,9 +71,6 @@ depth-none e d coarse bs = refl
 pub record Tested (file : List ℕ) (at m d : ℕ) (coarse : Bool) (rows : ℕ) (old-left old-listed left listed : List ℕ) (next remaining borrowed least i : ℕ) : Type 0 where
   pub within : next ≤ length file
   pub room : at + counts_size * i + number_size * borrowed ≤ next
-  pub left-length : length left ≡ length old-left
-  pub listed-length : length listed ≡ length old-listed
-  pub inside : Inside left listed
   pub listed_set : (q : ℕ → Bool) → Marked old-listed q → Marked listed q
   pub after : after_leaves d coarse (m - i) (drop next file) ≡ after_leaves d coarse m (drop at file)
   pub borrowed-all : borrowed + length (borrowed_rows (leaves_at_lem d coarse (m - i) (drop next file))) ≡ length (borrowed_rows (leaves_at_lem d coarse m (drop at file)))
@@ -84,16 +78,13 @@ pub record Tested (file : List ℕ) (at m d : ℕ) (coarse : Bool) (rows : ℕ) 
   pub rest : (p q : ℕ → Bool) → Marked old-left p → Marked old-listed q
       → answer d coarse rows q (held left) remaining least (m - i) (drop next file) ≡ answer d coarse rows q p rows 0 m (drop at file)
 
-pub tested-start : (file : List ℕ) (at m d : ℕ) (coarse : Bool) (rows : ℕ) (left listed : List ℕ) → at ≤ length file → Inside left listed
+pub tested-start : (file : List ℕ) (at m d : ℕ) (coarse : Bool) (rows : ℕ) (left listed : List ℕ) → at ≤ length file
     → Tested file at m d coarse rows left listed left listed at rows 0 0 0
-tested-start file at m d coarse rows left listed h inside =
+tested-start file at m d coarse rows left listed h =
     let z : m - 0 ≡ m = omega arith in
     record {
       within = h;
       room = omega arith;
-      left-length = refl;
-      listed-length = refl;
-      inside = inside;
       listed_set = λ q n. n;
       after = ap (λ (k : ℕ). after_leaves d coarse k (drop at file)) z;
       borrowed-all = omega (arith, ap (λ (k : ℕ). length (borrowed_rows (leaves_at_lem d coarse k (drop at file)))) z);
@@ -160,17 +151,12 @@ module _ (file : List ℕ) (at m d : ℕ) (coarse : Bool) (rows : ℕ) (old-left
       pub tested-fits : borrowed + f.borrowed ≤ length file
       tested-fits = omega (arith, s.room, one.within, domain-room file next d coarse (held left) (held listed) new-left new-listed f one)
 
-      pub tested-next : length new-left ≡ length left → length new-listed ≡ length listed
-          → Tested file at m d coarse rows old-left old-listed new-left new-listed f.next (remaining - f.own) (borrowed + f.borrowed) f.depth (i + 1)
+      pub tested-next : Tested file at m d coarse rows old-left old-listed new-left new-listed f.next (remaining - f.own) (borrowed + f.borrowed) f.depth (i + 1)
       unfolding after_leaves
-      tested-next x y =
+      tested-next =
           record {
             within = one.within;
             room = omega (arith, s.room, domain-room file next d coarse (held left) (held listed) new-left new-listed f one);
-            left-length = x ∙ s.left-length;
-            listed-length = y ∙ s.listed-length;
-            inside = sets-inside (x ∙ s.inside.same_length ∙ sym y) one.left_set one.listed_set
-                (λ j e. inside-sets s.inside (bits-marked left) (bits-marked listed) j (without_in (leaf_in d coarse here).own (held left) j e));
             listed_set = λ q b. (domain q (s.listed_set q b)).listed_set;
             after = ap (λ (bs : List ℕ). after_leaves d coarse (m - (i + 1)) bs) (sym after-it) ∙ sym (ap (λ (k : ℕ). after_leaves d coarse k here) one_less) ∙ s.after;
             borrowed-all =

@@ -1,13 +1,13 @@
-// The domain records of a stored tree's level, tested one after the other in the caller's bytes. Two sets of rows, one bit for each row,
-// go along: `left`, the level's rows that no domain so far has, and `listed`, all of the level's rows.
+// The domain records of a stored tree's level, tested one after the other in the caller's bytes. The level's rows go along, those that no
+// domain so far has and all that the level lists. The flag `coarse` is the definition's own: `leaf_size dimensions coarse` takes it too.
 #![tactic(auto)]
 
 ghost use Rattle.std.specs.Prelude.{Bool, ℕ, ◌≤◌, length};
 ghost use Rattle.marks.specs.Bits.{Marked};
-ghost use Rattle.row_sets.specs.Tested.{Inside};
 ghost use Rattle.file_domains.specs.Domains.{DomainPassed, DomainsPassed};
 
 use file_rows::FileRows;
+use row_sets::LevelRows;
 
 // Records that pass: where what comes after them starts, how many internal and borrowed rows they have, and the depth of the last one.
 #[derive(Clone, Copy)]
@@ -28,12 +28,11 @@ pub fn check_domain(
     rows: usize,
     least: usize,
     remaining: usize,
-    left: &mut [usize],
-    listed: &mut [usize],
+    sets: &mut LevelRows,
 ) -> Option<Passed>
-    requires { (dimensions ≤ 3) × (at ≤ length bytes.now) × Inside left.old listed.old }
-    ensures { (p q : ℕ → Bool) → Marked left.old p → Marked listed.old q
-        → DomainPassed bytes.now at dimensions coarse rows least remaining p q left.new listed.new result }
+    requires { (dimensions ≤ 3) × (at ≤ length bytes.now) }
+    ensures { (p q : ℕ → Bool) → Marked sets.old.left p → Marked sets.old.listed q
+        → DomainPassed bytes.now at dimensions coarse rows least remaining p q sets.new.left sets.new.listed result }
 {
     let floats = file_reader::record_floats(dimensions, coarse);
     let f = file_reader::fetch_domain(bytes, at, bytes_in::FLOAT * floats)?;
@@ -54,7 +53,7 @@ pub fn check_domain(
         at: f.borrowed_at,
         count: f.borrowed,
     };
-    if !row_sets::rows_pass(&own, &borrowed, left, listed) {
+    if !sets.rows_pass(&own, &borrowed) {
         return None;
     }
     if !bytes_in::no_nan_at(bytes, f.bounds_at, floats) {
@@ -76,12 +75,11 @@ pub fn check_domains(
     dimensions: usize,
     coarse: bool,
     rows: usize,
-    left: &mut [usize],
-    listed: &mut [usize],
+    sets: &mut LevelRows,
 ) -> Option<Passed>
-    requires { (dimensions ≤ 3) × (at ≤ length bytes.now) × Inside left.old listed.old }
-    ensures { (p q : ℕ → Bool) → Marked left.old p → Marked listed.old q
-        → DomainsPassed bytes.now at m dimensions coarse rows p q listed.new result }
+    requires { (dimensions ≤ 3) × (at ≤ length bytes.now) }
+    ensures { (p q : ℕ → Bool) → Marked sets.old.left p → Marked sets.old.listed q
+        → DomainsPassed bytes.now at m dimensions coarse rows p q sets.new.listed result }
 {
     let mut next = at;
     let mut remaining = rows;
@@ -89,7 +87,7 @@ pub fn check_domains(
     let mut least = 0;
     for _i in 0..m {
         let f = check_domain(
-            bytes, next, dimensions, coarse, rows, least, remaining, left, listed,
+            bytes, next, dimensions, coarse, rows, least, remaining, sets,
         )?;
         next = f.next;
         remaining -= f.own;

@@ -113,11 +113,9 @@ module _ {size : List Level → ℕ} {own : Level → ℕ} (k : Counting size ow
   counted-more o = k.more (level_in d bs) _ ∙ omega (arith, ap size (cond-false (one_domain bs) [] (levels_at d f (after_level d bs)) o))
 
 -- ---- the loop
-pub record LevelsTested (file : List ℕ) (at d n : ℕ) (old-left old-listed left listed : List ℕ) (place least below domains borrowed i : ℕ) : Type 0 where
+pub record LevelsTested (file : List ℕ) (at d n : ℕ) (listed : List ℕ) (place least below domains borrowed i : ℕ) : Type 0 where
   pub within : place ≤ length file
   pub room : at + counts_size * domains + number_size * borrowed ≤ place
-  pub left-length : length left ≡ length old-left
-  pub listed-length : length listed ≡ length old-listed
   pub domains-all : domains + length (leaves_in_lem (levels_at d (most_levels - i) (drop place file))) ≡ length (leaves_in_lem (levels_at d most_levels (drop at file)))
   pub borrowed-all : borrowed + length (packed_borrowed (levels_at d (most_levels - i) (drop place file))) ≡ length (packed_borrowed (levels_at d most_levels (drop at file)))
   pub rest : answer d (between least below) (held listed) (most_levels - i) (drop place file) ≡ answer d (λ k. eqb k n) (λ j. ltb j n) most_levels (drop at file)
@@ -128,20 +126,18 @@ only-n n k =
     (λ h. eq-eqb k n (omega (arith, leb-true n k (and-fst (leb n k) (ltb k (n + 1)) h), ltb-true k (n + 1) (and-snd (leb n k) (ltb k (n + 1)) h))))
     (λ h. let e = eqb-true k n h in and-of (le-leb n k (omega arith)) (lt-ltb k (n + 1) (omega arith)))
 
-pub levels-start : (file : List ℕ) (at d n : ℕ) (left listed : List ℕ) → at ≤ length file → Marked listed (λ j. ltb j n) → LevelsTested file at d n left listed left listed at n (n + 1) 0 0 0
-levels-start file at d n left listed h m =
+pub levels-start : (file : List ℕ) (at d n : ℕ) (listed : List ℕ) → at ≤ length file → Marked listed (λ j. ltb j n) → LevelsTested file at d n listed at n (n + 1) 0 0 0
+levels-start file at d n listed h m =
     record {
       within = h;
       room = omega arith;
-      left-length = refl;
-      listed-length = refl;
       domains-all = omega arith;
       borrowed-all = omega arith;
       rest = answer-same d (between n (n + 1)) (λ k. eqb k n) (held listed) (λ j. ltb j n) most_levels (drop at file) (only-n n) (λ j. marked-held m j);
     }
 
-module _ (file : List ℕ) (at d n : ℕ) (old-left old-listed left listed : List ℕ) (place least below domains borrowed i : ℕ)
-    (s : LevelsTested file at d n old-left old-listed left listed place least below domains borrowed i) where
+module _ (file : List ℕ) (at d n : ℕ) (listed : List ℕ) (place least below domains borrowed i : ℕ)
+    (s : LevelsTested file at d n listed place least below domains borrowed i) where
   abbrev here : List ℕ
   here = drop place file
 
@@ -233,14 +229,11 @@ module _ (file : List ℕ) (at d n : ℕ) (old-left old-listed left listed : Lis
         count-later : {size : List Level → ℕ} {own : Level → ℕ} → Counting size own → size (levels_at d (most_levels - (i + 1)) (after_level d here)) ≡ size (levels_at d (most_levels - (i + 1)) (drop l.next file))
         count-later {size} k = ap (λ (bs : List ℕ). size (levels_at d (most_levels - (i + 1)) bs)) (sym it.after)
 
-        pub levels-next : (new-left : List ℕ) → length new-left ≡ length left → length new-listed ≡ length listed
-            → LevelsTested file at d n old-left old-listed new-left new-listed l.next 1 l.rows (domains + l.domains) (borrowed + l.borrowed) (i + 1)
-        levels-next new-left x y =
+        pub levels-next : LevelsTested file at d n new-listed l.next 1 l.rows (domains + l.domains) (borrowed + l.borrowed) (i + 1)
+        levels-next =
             record {
               within = it.within;
               room = omega (arith, s.room, it.past);
-              left-length = x ∙ s.left-length;
-              listed-length = y ∙ s.listed-length;
               domains-all = omega (arith, s.domains-all, count-now leaves-counted, counted-more leaves-counted d (most_levels - (i + 1)) here not-one, count-later leaves-counted, it.domains);
               borrowed-all = omega (arith, s.borrowed-all, count-now borrowed-counted, counted-more borrowed-counted d (most_levels - (i + 1)) here not-one, count-later borrowed-counted, it.borrowed);
               rest = sym now-later ∙ sym (now-rest ∙ cond-false (one_domain here) (eqb (length (after_level d here)) 0) later not-one) ∙ s.rest;

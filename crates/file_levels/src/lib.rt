@@ -1,6 +1,5 @@
 // The levels of a stored tree, tested one after the other in the caller's bytes: each level's record, its rows among those of the level
-// above, and its domains. Two sets of rows, one bit for each row, go along: `listed`, the rows of the level above and then of the level
-// itself, and `left`, those of the level that no domain so far has.
+// above, and its domains. The rows go along, those of the level above and then of the level itself, and those that no domain so far has.
 #![tactic(auto)]
 
 ghost use Rattle.std.specs.Prelude.{◌≡◌, Bool, ◌&&◌, ℕ, ◌≤◌, ltb, length, drop};
@@ -14,7 +13,7 @@ ghost use Rattle.marks.specs.Bits.{Marked};
 ghost use Rattle.file_levels.specs.Levels.{IsHead, LevelPassedIs, TreePassedIs};
 
 use file_rows::FileRows;
-use row_sets::WORDS;
+use row_sets::LevelRows;
 
 // Where a level's two counts begin, and where they end.
 const ROWS: usize = bytes_in::MARK;
@@ -81,12 +80,11 @@ pub fn check_level(
     dimensions: usize,
     least: usize,
     below: usize,
-    left: &mut [usize],
-    listed: &mut [usize],
+    sets: &mut LevelRows,
 ) -> Option<LevelPassed>
-    requires { (dimensions ≤ 3) × (at ≤ length bytes.now) × (length left.old ≡ length listed.old) }
-    ensures { (p : ℕ → Bool) → Marked listed.old p
-        → LevelPassedIs bytes.now at dimensions least below p listed.new result }
+    requires { (dimensions ≤ 3) × (at ≤ length bytes.now) }
+    ensures { (p : ℕ → Bool) → Marked sets.old.listed p
+        → LevelPassedIs bytes.now at dimensions least below p sets.new.listed result }
 {
     let h = level_at(bytes, at)?;
     if h.rows < least || below <= h.rows {
@@ -97,12 +95,12 @@ pub fn check_level(
         at: h.rows_at,
         count: h.rows,
     };
-    if !row_sets::narrow(&rows, left, listed) {
+    if !sets.narrow(&rows) {
         return None;
     }
     let coarse = h.domains == 1;
     let r = file_domains::check_domains(
-        bytes, h.next, h.domains, dimensions, coarse, h.rows, left, listed,
+        bytes, h.next, h.domains, dimensions, coarse, h.rows, sets,
     )?;
     Some(LevelPassed {
         next: r.next,
@@ -119,10 +117,9 @@ pub fn check_levels(
     at: usize,
     dimensions: usize,
     n: usize,
-    left: &mut [usize],
-    listed: &mut [usize],
+    sets: &mut LevelRows,
 ) -> Option<TreePassed>
-    requires { (dimensions ≤ 3) × (n ≤ most_points) × (at ≤ length bytes.now) × (length left.old ≡ length listed.old) × Marked listed.old (λ i. ltb i n) }
+    requires { (dimensions ≤ 3) × (n ≤ most_points) × (at ≤ length bytes.now) × Marked sets.old.listed (λ i. ltb i n) }
     ensures { TreePassedIs bytes.now at dimensions n result }
 {
     let mut place = at;
@@ -131,7 +128,7 @@ pub fn check_levels(
     let mut domains = 0;
     let mut borrowed = 0;
     for _i in 0..MOST_LEVELS {
-        let l = check_level(bytes, place, dimensions, least, below, left, listed)?;
+        let l = check_level(bytes, place, dimensions, least, below, sets)?;
         place = l.next;
         domains += l.domains;
         borrowed += l.borrowed;
@@ -154,10 +151,8 @@ pub fn check_tree(bytes: &[u8], at: usize, dimensions: usize, n: usize, neighbou
     ensures { (s : Settings) → s.dimension ≡ dimensions → s.neighbours ≡ neighbours
         → result ≡ levels_whole dimensions most_levels (drop at bytes.now) && sound s n (levels_at dimensions most_levels (drop at bytes.now)) }
 {
-    let mut left = [0usize; WORDS];
-    let mut listed = [0usize; WORDS];
-    marks::mark_below(&mut listed, n);
-    let Some(t) = check_levels(bytes, at, dimensions, n, &mut left, &mut listed) else {
+    let mut sets = LevelRows::below(n);
+    let Some(t) = check_levels(bytes, at, dimensions, n, &mut sets) else {
         return false;
     };
     t.domains <= 6 * n + 1 && t.borrowed <= 6 * n * (neighbours + 1)

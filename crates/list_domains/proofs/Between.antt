@@ -7,20 +7,17 @@ use mathlib.Core.List.{List}
 use Prim.Native.Nat.{ℕ, suc, ◌+◌, ◌-◌, ◌≤◌, ◌<◌}
 use native.Mathlib.Nat.{add-zero, sub-zero, le_trans, mul-le-mul_left}
 use native.Mathlib.Omega.{arith}
-use borrow.Author.Tests.{eqb-true, eq-eqb, ne_eqb}
+use borrow.Author.Tests.{eq-eqb, ne_eqb}
 use lib.Dec.{eqb}
-use lib.ListN.{length}
 use Rattle.lists.proofs.Tests.{clash}
 use Rattle.definition.specs.Packed.{row_floats_lem}
 use Rattle.packed.specs.Reading.{Packed, own_count, borrowed_count, depth_at, read_leaf}
 use Rattle.tree_tests.specs.InTurn.{without}
-use Rattle.tree_tests.proofs.Sets.{without_in}
-use Rattle.marks.specs.Bits.{bit_at, Marked}
-use Rattle.marks.proofs.Marks.{marked-bit, held, bits-marked}
+use Rattle.marks.specs.Bits.{Marked}
+use Rattle.marks.proofs.Marks.{held, bits-marked}
 use Rattle.list_domains.specs.InLists.{domain_passes, domains_pass, borrowed_end}
 use Rattle.list_domains.specs.Passed.{Ready, DomainPassed, DomainsPassed}
 use Rattle.list_domains.specs.declared.Passed.{Passed}
-use Rattle.row_sets.proofs.RowTests.{bit_in}
 use Rattle.list_domains.proofs.Held.{RowHeld, row-held}
 
 -- ---- the row number j and those behind it
@@ -57,21 +54,17 @@ pub record Rest (coarse : Bool) (l : Packed) (most rows j a b k least m : ℕ) (
 
 pub record Between (coarse : Bool) (l : Packed) (most j a b k m : ℕ) (left₀ listed₀ left listed : List ℕ) (i a' b' k' least' : ℕ) : Type 0 where
   pub bound : i ≤ m
-  pub ready : Ready l most (j + i) (m - i) a' b' k' left listed
-  pub left-length : length left ≡ length left₀
-  pub listed-length : length listed ≡ length listed₀
+  pub ready : Ready l most (j + i) (m - i) a' b' k'
   pub rest : (p q : ℕ → Bool) → Marked left₀ p → Marked listed₀ q
       → Rest coarse l most k (j + i) a' b' k' least' (m - i) left listed (domains_pass coarse l most k q p j a b k 0 m) q
   pub end : borrowed_end l.domains j b m ≡ borrowed_end l.domains (j + i) b' (m - i)
 
 module _ {coarse : Bool} {l : Packed} {most j a b k m : ℕ} {left₀ listed₀ : List ℕ} where
-  pub between_start : Ready l most j m a b k left₀ listed₀ → Between coarse l most j a b k m left₀ listed₀ left₀ listed₀ 0 a b k 0
+  pub between_start : Ready l most j m a b k → Between coarse l most j a b k m left₀ listed₀ left₀ listed₀ 0 a b k 0
   between_start h =
       record {
         bound = omega arith;
         ready = rw (add-zero j, sub-zero m) h;
-        left-length = refl;
-        listed-length = refl;
         rest = λ p q n o. rw (add-zero j, sub-zero m) (record { set = p; marked = n; as-was = o; same = refl });
         end = rw (add-zero j, sub-zero m);
       }
@@ -104,7 +97,7 @@ module _ {coarse : Bool} {l : Packed} {most j a b k m : ℕ} {left₀ listed₀ 
       count : m - i ≡ suc (m - (i + 1))
       count = omega arith
 
-      pub row-ready : Ready l most (j + i) 1 a' b' k' left listed
+      pub row-ready : Ready l most (j + i) 1 a' b' k'
       row-ready =
           let w = row_floats_lem l.dimension in
           record {
@@ -114,8 +107,6 @@ module _ {coarse : Bool} {l : Packed} {most j a b k m : ℕ} {left₀ listed₀ 
             own = h.ready.own;
             end = h.ready.end;
             borrowed = h.ready.borrowed;
-            same_length = h.ready.same_length;
-            inside = h.ready.inside;
           }
 
       module _ (left' listed' : List ℕ) where
@@ -143,14 +134,8 @@ module _ {coarse : Bool} {l : Packed} {most j a b k m : ℕ} {left₀ listed₀ 
           next : j + (i + 1) ≡ suc (j + i)
           next = omega arith
 
-          left_in : (x : ℕ) → bit_at left' x ≡ 1 → bit_at listed' x ≡ 1
-          left_in x e =
-              let a = without_in (read_leaf l (j + i)).own (held left) x (bit_in (d.left_out (held left) (bits-marked left) refl) x e) in
-              marked-bit (d.listed_as_was (held listed) (bits-marked listed) refl) x (eq-eqb (bit_at listed x) 1 (h.ready.inside x (eqb-true (bit_at left x) 1 a)))
-
-          pub between_next : length left' ≡ length left → length listed' ≡ length listed
-              → Between coarse l most j a b k m left₀ listed₀ left' listed' (i + 1) (a' + r.own) (b' + r.borrowed) (k' - r.own) r.depth
-          between_next e f =
+          pub between_next : Between coarse l most j a b k m left₀ listed₀ left' listed' (i + 1) (a' + r.own) (b' + r.borrowed) (k' - r.own) r.depth
+          between_next =
               record {
                 bound = omega arith;
                 ready =
@@ -161,11 +146,7 @@ module _ {coarse : Bool} {l : Packed} {most j a b k m : ℕ} {left₀ listed₀ 
                       own = omega (arith, own-most, h.ready.own);
                       end = omega (arith, borrowed-most, h.ready.end);
                       borrowed = h.ready.borrowed;
-                      same_length = e ∙ h.ready.same_length ∙ sym f;
-                      inside = left_in;
                     };
-                left-length = e ∙ h.left-length;
-                listed-length = f ∙ h.listed-length;
                 rest = λ p q n o. let t = h.rest p q n o in
                     record {
                       set = without (read_leaf l (j + i)).own t.set;

@@ -35,11 +35,11 @@ row_read : (r : DomainRow) (domains : List ℕ) (j : ℕ) → IsRow r domains j 
 row_read r domains j h = rw (h.own_start, h.own_count, h.borrowed_start, h.borrowed_count, h.depth)
 
 -- the floats of a domain row lie inside their list
-floats-within : (l : Packed) (most j a b k : ℕ) (left listed : List ℕ) → Ready l most j 1 a b k left listed
+floats-within : (l : Packed) (most j a b k : ℕ) → Ready l most j 1 a b k
     → row_floats_lem l.dimension * j + box_width_lem l.dimension < length l.boxes
-floats-within l most j a b k left listed ready = omega (arith, ready.boxes, mul-add (row_floats_lem l.dimension) j 1, mul-one (row_floats_lem l.dimension))
+floats-within l most j a b k ready = omega (arith, ready.boxes, mul-add (row_floats_lem l.dimension) j 1, mul-one (row_floats_lem l.dimension))
 
-module _ (coarse : Bool) (l : Packed) (most rows j a b k least : ℕ) (left₀ listed₀ : List ℕ) (ready : Ready l most j 1 a b k left₀ listed₀) (row : DomainRow)
+module _ (coarse : Bool) (l : Packed) (most rows j a b k least : ℕ) (left₀ listed₀ : List ℕ) (ready : Ready l most j 1 a b k) (row : DomainRow)
     (is : IsRow row l.domains j) (t : Bool) (tells : t ≡ stretches_fit_lem (plain_row row) most a b k) where
   fits : t ≡ stretches_fit_lem (row_at l.domains j) most a b k
   fits = tells ∙ ap (λ r. stretches_fit_lem r most a b k) (row_read row l.domains j is)
@@ -120,7 +120,7 @@ module _ (coarse : Bool) (l : Packed) (most rows j a b k least : ℕ) (left₀ l
         box-is =
             let w = box_width_lem l.dimension in
             floats ∙ ap₂ (λ (y z : ℕ). floats_fit_lem coarse (part l.boxes y z) (get_or l.boxes (y + z) plus_zero)) at-is width_is
-            ∙ box-tests l.dimension coarse (read_leaf l j) (length_part l.boxes (row_floats_lem l.dimension * j) w (omega (arith, floats-within l most j a b k left₀ listed₀ ready)))
+            ∙ box-tests l.dimension coarse (read_leaf l j) (length_part l.boxes (row_floats_lem l.dimension * j) w (omega (arith, floats-within l most j a b k ready)))
 
         whole : (p q : ℕ → Bool) → domain_passes coarse l most rows q p j a b k least ≡ leaf-rows p q && x
         whole p q = now-leaf p q ∙ ap₂ (λ (y z : Bool). leaf-rows p q && (y && z)) (sym box-is) (sym depth_is ∙ deep) ∙ ap (λ (y : Bool). leaf-rows p q && y) (and-true x)

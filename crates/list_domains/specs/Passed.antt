@@ -3,21 +3,18 @@ use Rattle.std.specs.Prelude.{◌≡◌, Bool, true, List, ℕ, ◌+◌, ◌*◌
 use Rattle.definition.specs.Packed.{row_numbers, row_floats_lem}
 use Rattle.packed.specs.Reading.{Packed, own_count, borrowed_count, depth_at, read_leaf}
 use Rattle.tree_tests.specs.InTurn.{without}
-use Rattle.marks.specs.Bits.{bit_at, Marked}
+use Rattle.marks.specs.Bits.{Marked}
 use Rattle.list_domains.specs.InLists.{domain_passes, domains_pass, borrowed_end}
 use Rattle.list_domains.specs.declared.Passed.{Passed}
 
--- ---- before: m domain rows from the row number j on, with stretches of a + k own rows and of borrowed rows to `most`, lie inside the lists,
--- and what is left is listed
-pub record Ready (l : Packed) (most j m a b k : ℕ) (left listed : List ℕ) : Type 0 where
+-- ---- before: m domain rows from the row number j on, with stretches of a + k own rows and of borrowed rows to `most`, lie inside the lists
+pub record Ready (l : Packed) (most j m a b k : ℕ) : Type 0 where
   pub axes : l.dimension ≤ 3
   pub rows : row_numbers * (j + m) ≤ length l.domains
   pub boxes : row_floats_lem l.dimension * (j + m) ≤ length l.boxes
   pub own : a + k ≤ length l.internals
   pub end : b ≤ most
   pub borrowed : most ≤ length l.borrowed
-  pub same_length : length left ≡ length listed
-  pub inside : (i : ℕ) → bit_at left i ≡ 1 → bit_at listed i ≡ 1
 
 -- ---- after
 

@@ -1,5 +1,5 @@
-// The leaves of a level that stand in packed lists, tested one after the other. Two sets of rows are kept as bits: the rows that the level
-// lists, and those of them that no leaf before has.
+// The leaves of a level that stand in packed lists, tested one after the other. The level's rows go along, those that it lists and those of
+// them that no leaf before has. The flag `coarse` is the definition's own: its tests of a domain take it too.
 #![tactic(auto)]
 
 ghost use Rattle.std.specs.Prelude.{◌≡◌, ◌+◌, ◌≤◌, ◌<◌, length, get_or};
@@ -14,6 +14,7 @@ ghost use Rattle.list_domains.specs.Passed.{Ready, DomainPassed, DomainsPassed};
 
 use list_rows::ListRows;
 use packed::{DomainRow, Packed};
+use row_sets::LevelRows;
 
 // A domain row that passes with its leaf: how many own and borrowed rows it has, and its depth.
 #[derive(Clone, Copy)]
@@ -82,12 +83,11 @@ pub fn check_domain(
     least: usize,
     remaining: usize,
     borrowed_most: usize,
-    left: &mut [usize],
-    listed: &mut [usize],
+    sets: &mut LevelRows,
 ) -> Option<Passed>
-    requires { Ready (packed_of tree) borrowed_most j 1 own_at borrowed_at remaining left.old listed.old }
+    requires { Ready (packed_of tree) borrowed_most j 1 own_at borrowed_at remaining }
     ensures { DomainPassed coarse (packed_of tree.entry) borrowed_most rows j own_at borrowed_at remaining least
-        left.old listed.old left.new listed.new result }
+        sets.old.left sets.old.listed sets.new.left sets.new.listed result }
 {
     let row = packed::read_row(tree.domains, j);
     if !stretches_fit(row, borrowed_most, own_at, borrowed_at, remaining) {
@@ -111,7 +111,7 @@ pub fn check_domain(
     let borrowed = ListRows {
         list: &tree.borrowed[borrowed_at..borrowed_at + row.borrowed_count],
     };
-    if !row_sets::rows_pass(&own, &borrowed, left, listed) {
+    if !sets.rows_pass(&own, &borrowed) {
         return None;
     }
     Some(Passed {
@@ -132,12 +132,11 @@ pub fn check_domains(
     borrowed_at: usize,
     rows: usize,
     borrowed_most: usize,
-    left: &mut [usize],
-    listed: &mut [usize],
+    sets: &mut LevelRows,
 ) -> Option<usize>
-    requires { Ready (packed_of tree) borrowed_most first count own_at borrowed_at rows left.old listed.old }
+    requires { Ready (packed_of tree) borrowed_most first count own_at borrowed_at rows }
     ensures { DomainsPassed coarse (packed_of tree.entry) borrowed_most first own_at borrowed_at rows count
-        left.old listed.old listed.new result }
+        sets.old.left sets.old.listed sets.new.listed result }
 {
     let mut own = own_at;
     let mut end = borrowed_at;
@@ -154,8 +153,7 @@ pub fn check_domains(
             least,
             remaining,
             borrowed_most,
-            left,
-            listed,
+            sets,
         )?;
         own += one.own;
         end += one.borrowed;

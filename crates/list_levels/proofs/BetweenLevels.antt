@@ -27,7 +27,7 @@ use Rattle.list_levels.proofs.OneLevel.{LevelHeld, level-held}
 use Rattle.list_levels.proofs.Levels.{count_most, none-behind}
 
 -- before the level number t: those before it passed, and the rest decides under the set of rows that is listed now
-pub record BetweenLevels (l : Packed) (level_points : List ℕ) (c : Counts) (n most : ℕ) (left₀ listed₀ left listed : List ℕ) (t above : ℕ) (done : ListsPassed) : Type 0 where
+pub record BetweenLevels (l : Packed) (level_points : List ℕ) (c : Counts) (n most : ℕ) (listed : List ℕ) (t above : ℕ) (done : ListsPassed) : Type 0 where
   pub bound : t ≤ c.levels
   pub rows_are : done.rows ≡ up_to c.rows t
   pub domains-are : done.domains ≡ up_to c.domains t
@@ -36,8 +36,6 @@ pub record BetweenLevels (l : Packed) (level_points : List ℕ) (c : Counts) (n 
   pub few : done.domains ≤ most_rows n
   pub low : done.borrowed ≤ most
   pub fewer : above ≤ n
-  pub left-length : length left ≡ length left₀
-  pub listed-length : length listed ≡ length listed₀
   pub set : ℕ → Bool
   pub marked : Marked listed set
   pub same : held_levels_pass l level_points c n most 0 n (λ i. ltb i n) 0 c.levels ≡ held_levels_pass l level_points c n most t above set done.borrowed (c.levels - t)
@@ -58,8 +56,8 @@ module _ (l : Packed) (level_points : List ℕ) (c : Counts) (n most t above : �
   both =
       rw (and_assoc (count_fits_lem t n above (get_or c.rows t 0)) (one_only (eqb k 0) (get_or c.domains t 0)) (leb (get_or c.domains t 0) (most_rows n - up_to c.domains t)))
 
-module _ {l : Packed} {level_points : List ℕ} {c : Counts} {n most : ℕ} {left₀ listed₀ : List ℕ} (ready : LevelsReady l level_points c n most left₀ listed₀) where
-  pub between_start : BetweenLevels l level_points c n most left₀ listed₀ left₀ listed₀ 0 n (record { rows = 0; domains = 0; borrowed = 0 })
+module _ {l : Packed} {level_points : List ℕ} {c : Counts} {n most : ℕ} {listed₀ : List ℕ} (ready : LevelsReady l level_points c n most listed₀) where
+  pub between_start : BetweenLevels l level_points c n most listed₀ 0 n (record { rows = 0; domains = 0; borrowed = 0 })
   unfolding total borrowed_end
   between_start =
       record {
@@ -71,14 +69,12 @@ module _ {l : Packed} {level_points : List ℕ} {c : Counts} {n most : ℕ} {lef
         few = omega arith;
         low = omega arith;
         fewer = omega arith;
-        left-length = refl;
-        listed-length = refl;
         set = λ i. ltb i n;
         marked = ready.all;
         same = rw (sub-zero c.levels);
       }
 
-  module _ {left listed : List ℕ} {t above : ℕ} {done : ListsPassed} (h : BetweenLevels l level_points c n most left₀ listed₀ left listed t above done) where
+  module _ {listed : List ℕ} {t above : ℕ} {done : ListsPassed} (h : BetweenLevels l level_points c n most listed t above done) where
     -- ---- all levels passed
     pub between-end : c.levels ≤ t → LevelsPassed l level_points c n most (Some done)
     between-end g =
@@ -102,7 +98,7 @@ module _ {l : Packed} {level_points : List ℕ} {c : Counts} {n most : ℕ} {lef
       room-here : done.rows + n ≤ 4 * n
       room-here = omega (arith, h.room, ap (λ (x : ℕ). x * n) count ∙ suc-mul after n)
 
-      pub next-ready : NextReady l level_points n most above done left listed
+      pub next-ready : NextReady l level_points n most above done
       next-ready =
           record {
             axes = ready.axes;
@@ -112,7 +108,6 @@ module _ {l : Packed} {level_points : List ℕ} {c : Counts} {n most : ℕ} {lef
             domains = h.few;
             borrowed = h.low;
             fewer = h.fewer;
-            same_length = h.left-length ∙ ready.same_length ∙ sym h.listed-length;
           }
 
       last-is : eqb (t + 1) c.levels ≡ eqb after 0
@@ -120,7 +115,7 @@ module _ {l : Packed} {level_points : List ℕ} {c : Counts} {n most : ℕ} {lef
           same_test (eqb (t + 1) c.levels) (eqb after 0) (λ e. eq-eqb after 0 (omega (arith, eqb-true (t + 1) c.levels e)))
           (λ e. eq-eqb (t + 1) c.levels (omega (arith, eqb-true after 0 e)))
 
-      module _ (left' listed' : List ℕ) (rows m : ℕ) (rows_is : rows ≡ get_or c.rows t 0) (m-is : m ≡ get_or c.domains t 0) where
+      module _ (listed' : List ℕ) (rows m : ℕ) (rows_is : rows ≡ get_or c.rows t 0) (m-is : m ≡ get_or c.domains t 0) where
         here-is : {r : Option ListsPassed} → NextPassed (eqb (t + 1) c.levels) l level_points n most t above rows m done listed listed' r → (s : ℕ → Bool) → Marked listed s
             → is_some r ≡ here l level_points c n most t above s done.borrowed after
         here-is d s k = d.passed s k ∙ rw (last-is, rows_is, m-is, h.rows_are, h.domains-are)
@@ -170,8 +165,8 @@ module _ {l : Packed} {level_points : List ℕ} {c : Counts} {n most : ℕ} {lef
               d.borrowed_on ∙ ap₂ (λ (x y : ℕ). borrowed_end l.domains x y m) (sym (zero-add done.domains)) (h.borrowed_are ∙ ap (borrowed_end l.domains 0 0) (sym h.domains-are))
               ∙ sym (end-append l.domains done.domains m 0 0) ∙ ap (borrowed_end l.domains 0 0) next-domains
 
-          pub between_next : length left' ≡ length left → length listed' ≡ length listed → BetweenLevels l level_points c n most left₀ listed₀ left' listed' (t + 1) rows r
-          between_next e f =
+          pub between_next : BetweenLevels l level_points c n most listed' (t + 1) rows r
+          between_next =
               record {
                 bound = omega arith;
                 rows_are = d.rows_on ∙ next-rows;
@@ -181,8 +176,6 @@ module _ {l : Packed} {level_points : List ℕ} {c : Counts} {n most : ℕ} {lef
                 few = omega (arith, domains-most, d.domains_on);
                 low = end-most;
                 fewer = rows-most;
-                left-length = e ∙ h.left-length;
-                listed-length = f ∙ h.listed-length;
                 set = among (part level_points done.rows rows);
                 marked = d.listed_now refl;
                 same =

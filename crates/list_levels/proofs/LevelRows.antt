@@ -1,21 +1,23 @@
 -- One level: its rows asked for in the set above, both sets made its rows, and its domain rows checked with them. Assumes nothing.
 use Rattle.std.specs.Prelude.{Option, None}
-use mathlib.Core.Path.{◌≡◌, refl, sym, ◌∙◌}
+use mathlib.Core.Path.{◌≡◌, refl, ◌∙◌}
 use mathlib.Core.Bool.{Bool, true, false}
 use mathlib.Core.List.{List}
 use Prim.Native.Nat.{ℕ, ◌+◌, ◌-◌}
-use lib.ListN.{length, take, drop}
+use lib.ListN.{take, drop}
 use Rattle.lists.specs.Lists.{part}
 use Rattle.lists.proofs.Tests.{clash}
 use Rattle.packed.specs.Reading.{Packed}
 use Rattle.tree_tests.specs.InTurn.{among, in_order_lem}
 use Rattle.marks.specs.Bits.{Marked}
-use Rattle.marks.proofs.Marks.{marked-bit}
 use Rattle.list_domains.specs.Passed.{Ready, DomainsPassed}
 use Rattle.list_domains.proofs.Each.{stretch_is}
-use Rattle.row_sets.proofs.RowTests.{bit_in}
 use Rattle.list_levels.specs.InLists.{held_level_passes}
 use Rattle.list_levels.specs.Passed.{LevelReady, LevelPassed}
+
+-- the domain rows of a level lie inside the lists with it
+pub domains-ready : {l : Packed} {level_points : List ℕ} {most j m a b rows : ℕ} → LevelReady l level_points most j m a b rows → Ready l most j m a b rows
+domains-ready h = record { axes = h.axes; rows = h.domain_rows; boxes = h.boxes; own = h.own; end = h.end; borrowed = h.borrowed }
 
 -- ---- the rows of a level, asked for in the set above
 module _ (level_points : List ℕ) (a rows : ℕ) (listed₀ : List ℕ) (r : Bool)
@@ -44,20 +46,6 @@ module _ (level_points : List ℕ) (a rows : ℕ) (listed₀ : List ℕ) (r : Bo
 
     im : Marked listed₁ (among points)
     im = rw (stretch_is level_points a rows) at made.1
-
-    pub domains-ready : {l : Packed} {most j b m : ℕ} (left₀ : List ℕ) → LevelReady l level_points most j m a b rows left₀ listed₀ → length left₁ ≡ length left₀
-        → length listed₁ ≡ length listed₀ → Ready l most j m a b rows left₁ listed₁
-    domains-ready left₀ h e f =
-        record {
-          axes = h.axes;
-          rows = h.domain_rows;
-          boxes = h.boxes;
-          own = h.own;
-          end = h.end;
-          borrowed = h.borrowed;
-          same_length = e ∙ h.same_length ∙ sym f;
-          inside = λ i t. marked-bit im i (bit_in lm i t);
-        }
 
     pub level-tell : r ≡ true → (coarse : Bool) (l : Packed) (most j b m : ℕ) (listed : List ℕ) (g : Option ℕ) → DomainsPassed coarse l most j a b rows m left₁ listed₁ listed g
         → LevelPassed coarse l level_points most j a b rows m listed₀ listed g

@@ -32,8 +32,8 @@ no-level listed h =
       listed_now = λ g. clash g refl;
     }
 
-module _ (coarse : Bool) (l : Packed) (level_points : List ℕ) (n most t above rows m : ℕ) (done : ListsPassed) (left₀ listed₀ : List ℕ)
-    (ready : NextReady l level_points n most above done left₀ listed₀) (x : Bool) (count : x ≡ count_fits_lem t n above rows) where
+module _ (coarse : Bool) (l : Packed) (level_points : List ℕ) (n most t above rows m : ℕ) (done : ListsPassed) (listed₀ : List ℕ)
+    (ready : NextReady l level_points n most above done) (x : Bool) (count : x ≡ count_fits_lem t n above rows) where
   pub count-off : x ≡ false → (listed : List ℕ) → NextPassed coarse l level_points n most t above rows m done listed₀ listed None
   count-off f listed = no-level listed (λ set k. rw (← count, f))
 
@@ -48,7 +48,7 @@ module _ (coarse : Bool) (l : Packed) (level_points : List ℕ) (n most t above 
       pub domains-most : done.domains + m ≤ most_rows n
       domains-most = omega (arith, ready.domains, leb-true m (most_rows n - done.domains) (and-snd (one_only coarse m) (leb m (most_rows n - done.domains)) (sym domains ∙ some)))
 
-      pub level-ready : LevelReady l level_points most done.domains m done.rows done.borrowed rows left₀ listed₀
+      pub level-ready : LevelReady l level_points most done.domains m done.rows done.borrowed rows
       level-ready =
           record {
             axes = ready.axes;
@@ -58,7 +58,6 @@ module _ (coarse : Bool) (l : Packed) (level_points : List ℕ) (n most t above 
             own = omega (arith, rows-most, ready.room, ready.long.internals);
             end = ready.borrowed;
             borrowed = ready.long.borrowed;
-            same_length = ready.same_length;
           }
 
       module _ (listed : List ℕ) where

@@ -77,10 +77,10 @@ few_levels c x e t =
 
 -- ---- what the levels ask for
 pub levels-ready : (d n neighbours : ℕ) (c : Counts) (l : TreeLists) → d ≤ 3 → n ≤ most_points → lists_short_lem l (build_stated d n neighbours) ≡ false
-    → length c.rows ≡ most_levels → length c.domains ≡ most_levels → (x : Bool) → x ≡ counts_stand_lem c → x ≡ true → (left listed : List ℕ) → length left ≡ length listed
+    → length c.rows ≡ most_levels → length c.domains ≡ most_levels → (x : Bool) → x ≡ counts_stand_lem c → x ≡ true → (listed : List ℕ)
     → Marked listed (λ i. ltb i n)
-    → LevelsReady (packed l.internals l.domains l.boxes l.borrowed d) l.level_points c n (6 * n * (neighbours + 1)) left listed
-levels-ready d n neighbours c l axes many lent four-rows four-domains x stand t left listed same all =
+    → LevelsReady (packed l.internals l.domains l.boxes l.borrowed d) l.level_points c n (6 * n * (neighbours + 1)) listed
+levels-ready d n neighbours c l axes many lent four-rows four-domains x stand t listed all =
     let few = few_levels c x stand t in
     record {
       axes = axes;
@@ -89,6 +89,5 @@ levels-ready d n neighbours c l axes many lent four-rows four-domains x stand t 
       domains = omega arith;
       many = many;
       long = long-enough d n neighbours l lent;
-      same_length = same;
       all = all;
     }

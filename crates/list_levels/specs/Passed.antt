@@ -17,7 +17,7 @@ use Rattle.list_levels.specs.declared.ListsPassed.{ListsPassed}
 -- ---- before
 
 -- the rows of a level, its domain rows and what they name lie inside the lists
-pub record LevelReady (l : Packed) (level_points : List ℕ) (most j m a b rows : ℕ) (left listed : List ℕ) : Type 0 where
+pub record LevelReady (l : Packed) (level_points : List ℕ) (most j m a b rows : ℕ) : Type 0 where
   pub axes : l.dimension ≤ 3
   pub domain_rows : row_numbers * (j + m) ≤ length l.domains
   pub boxes : row_floats_lem l.dimension * (j + m) ≤ length l.boxes
@@ -25,7 +25,6 @@ pub record LevelReady (l : Packed) (level_points : List ℕ) (most j m a b rows 
   pub own : a + rows ≤ length l.internals
   pub end : b ≤ most
   pub borrowed : most ≤ length l.borrowed
-  pub same_length : length left ≡ length listed
 
 -- the lists are as long as a tree over n rows may need
 pub record Long (l : Packed) (level_points : List ℕ) (n most : ℕ) : Type 0 where
@@ -36,18 +35,17 @@ pub record Long (l : Packed) (level_points : List ℕ) (n most : ℕ) : Type 0 w
   pub borrowed : most ≤ length l.borrowed
 
 -- and at most four levels have their counts, with all rows listed above the first
-pub record LevelsReady (l : Packed) (level_points : List ℕ) (c : Counts) (n most : ℕ) (left listed : List ℕ) : Type 0 where
+pub record LevelsReady (l : Packed) (level_points : List ℕ) (c : Counts) (n most : ℕ) (listed : List ℕ) : Type 0 where
   pub axes : l.dimension ≤ 3
   pub few : c.levels ≤ most_levels
   pub rows : c.levels ≤ length c.rows
   pub domains : c.levels ≤ length c.domains
   pub many : n ≤ most_points
   pub long : Long l level_points n most
-  pub same_length : length left ≡ length listed
   pub all : Marked listed (λ i. ltb i n)
 
 -- one level more, where those before it have passed
-pub record NextReady (l : Packed) (level_points : List ℕ) (n most above : ℕ) (done : ListsPassed) (left listed : List ℕ) : Type 0 where
+pub record NextReady (l : Packed) (level_points : List ℕ) (n most above : ℕ) (done : ListsPassed) : Type 0 where
   pub axes : l.dimension ≤ 3
   pub many : n ≤ most_points
   pub long : Long l level_points n most
@@ -55,7 +53,6 @@ pub record NextReady (l : Packed) (level_points : List ℕ) (n most above : ℕ)
   pub domains : done.domains ≤ most_rows n
   pub borrowed : done.borrowed ≤ most
   pub fewer : above ≤ n
-  pub same_length : length left ≡ length listed
 
 -- ---- after
 

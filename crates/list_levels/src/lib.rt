@@ -13,7 +13,7 @@ ghost use Rattle.list_levels.specs.Passed.{LevelReady, NextReady, LevelsReady, L
 
 use list_rows::ListRows;
 use packed::Packed;
-use row_sets::WORDS;
+use row_sets::LevelRows;
 use tree_answer::DDMTree;
 
 // How many rows, domains and borrowed rows levels have in all.
@@ -35,17 +35,16 @@ pub fn check_level(
     borrowed_at: usize,
     rows: usize,
     borrowed_most: usize,
-    left: &mut [usize],
-    listed: &mut [usize],
+    sets: &mut LevelRows,
 ) -> Option<usize>
-    requires { LevelReady (packed_of tree) level_points.now borrowed_most first count own_at borrowed_at rows left.old listed.old }
+    requires { LevelReady (packed_of tree) level_points.now borrowed_most first count own_at borrowed_at rows }
     ensures { LevelPassed coarse (packed_of tree.entry) level_points.now borrowed_most first own_at borrowed_at rows count
-        listed.old listed.new result }
+        sets.old.listed sets.new.listed result }
 {
     let points = ListRows {
         list: &level_points[own_at..own_at + rows],
     };
-    if !row_sets::narrow(&points, left, listed) {
+    if !sets.narrow(&points) {
         return None;
     }
     list_domains::check_domains(
@@ -57,8 +56,7 @@ pub fn check_level(
         borrowed_at,
         rows,
         borrowed_most,
-        left,
-        listed,
+        sets,
     )
 }
 
@@ -99,12 +97,11 @@ fn next_level(
     count: usize,
     borrowed_most: usize,
     done: ListsPassed,
-    left: &mut [usize],
-    listed: &mut [usize],
+    sets: &mut LevelRows,
 ) -> Option<ListsPassed>
-    requires { NextReady (packed_of tree) level_points.now n borrowed_most above done left.old listed.old }
+    requires { NextReady (packed_of tree) level_points.now n borrowed_most above done }
     ensures { NextPassed coarse (packed_of tree.entry) level_points.now n borrowed_most t above rows count done
-        listed.old listed.new result }
+        sets.old.listed sets.new.listed result }
 {
     if !count_fits(t, n, above, rows) {
         return None;
@@ -122,8 +119,7 @@ fn next_level(
         done.borrowed,
         rows,
         borrowed_most,
-        left,
-        listed,
+        sets,
     )?;
     Some(ListsPassed {
         rows: done.rows + rows,
@@ -139,10 +135,9 @@ pub fn check_levels(
     tree: Packed<'_>,
     n: usize,
     borrowed_most: usize,
-    left: &mut [usize],
-    listed: &mut [usize],
+    sets: &mut LevelRows,
 ) -> Option<ListsPassed>
-    requires { LevelsReady (packed_of tree) level_points.now (counts_given counts) n borrowed_most left.old listed.old }
+    requires { LevelsReady (packed_of tree) level_points.now (counts_given counts) n borrowed_most sets.old.listed }
     ensures { LevelsPassed (packed_of tree.entry) level_points.now (counts_given counts) n borrowed_most result }
 {
     let mut done = ListsPassed {
@@ -165,8 +160,7 @@ pub fn check_levels(
             counts.domains[t],
             borrowed_most,
             done,
-            left,
-            listed,
+            sets,
         )?;
         above = rows;
     }
@@ -202,17 +196,7 @@ pub fn check_lists(
     if !counts_stand(counts) {
         return None;
     }
-    let mut left = [0; WORDS];
-    let mut listed = [0; WORDS];
-    marks::mark_below(&mut listed, n);
+    let mut sets = LevelRows::below(n);
     let borrowed_most = 6 * n * (neighbours + 1);
-    check_levels(
-        counts,
-        level_points,
-        tree,
-        n,
-        borrowed_most,
-        &mut left,
-        &mut listed,
-    )
+    check_levels(counts, level_points, tree, n, borrowed_most, &mut sets)
 }

@@ -1,5 +1,5 @@
 -- A set of rows as bits, 64 to a word. A set is a test of a row. Definitions only.
-use Rattle.std.specs.Prelude.{◌≡◌, ℕ, ◌+◌, ◌-◌, ◌*◌, ◌/◌, ◌%◌, ◌^◌, ◌≤◌, ◌<◌, Bool, true, false, not, ◌&&◌, List, eqb, length, get_or, set}
+use Rattle.std.specs.Prelude.{◌≡◌, ℕ, ◌+◌, ◌-◌, ◌*◌, ◌/◌, ◌%◌, ◌^◌, ◌≤◌, ◌<◌, Bool, false, List, length, get_or, set}
 use Rattle.lists.specs.Lists.{one_if}
 
 -- the bit of row i: 0 or 1
@@ -17,11 +17,3 @@ unmarking ws i = set ws (i / 64) (get_or ws (i / 64) 0 - 2 ^ (i % 64))
 pub record Marked (ws : List ℕ) (p : ℕ → Bool) : Type 0 where
   pub bit : (i : ℕ) → i < 64 * length ws → bit_at ws i ≡ one_if (p i)
   pub beyond : (i : ℕ) → 64 * length ws ≤ i → p i ≡ false
-
--- Whether row i was in the set p; if so, it is out of p and q, and otherwise they are as they were.
-pub record TakenOut (p q : ℕ → Bool) (i : ℕ) (left listed : List ℕ) (r : Bool) : Type 0 where
-  pub was : r ≡ p i
-  pub left_out : r ≡ true → Marked left (λ j. p j && not (eqb j i))
-  pub listed_out : r ≡ true → Marked listed (λ j. q j && not (eqb j i))
-  pub left_as_was : r ≡ false → Marked left p
-  pub listed_as_was : r ≡ false → Marked listed q

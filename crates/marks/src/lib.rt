@@ -2,7 +2,7 @@
 #![tactic(auto)]
 
 ghost use Rattle.std.specs.Prelude.{◌≡◌, Bool, false, not, ◌&&◌, ◌||◌, ℕ, ◌*◌, ◌≤◌, ◌<◌, eqb, ltb, length};
-ghost use Rattle.marks.specs.Bits.{bit_at, marking, unmarking, Marked, TakenOut};
+ghost use Rattle.marks.specs.Bits.{bit_at, marking, unmarking, Marked};
 
 // How many rows a word has.
 const WORD: usize = usize::BITS as usize;
@@ -33,19 +33,6 @@ pub fn unmark(words: &mut [usize], i: usize)
         × ((p : ℕ → Bool) → Marked words.old p → Marked words.new (λ j. p j && not (eqb j i))) }
 {
     words[i / WORD] &= !(1 << (i % WORD));
-}
-
-// Takes row i out of two sets where it is in the first, and says whether it was.
-pub fn take_out(left: &mut [usize], listed: &mut [usize], i: usize) -> bool
-    requires { (length left.old ≡ length listed.old) × ((j : ℕ) → bit_at left.old j ≡ 1 → bit_at listed.old j ≡ 1) }
-    ensures { (p q : ℕ → Bool) → Marked left.old p → Marked listed.old q → TakenOut p q i left.new listed.new result }
-{
-    if !is_marked(left, i) {
-        return false;
-    }
-    unmark(left, i);
-    unmark(listed, i);
-    true
 }
 
 // Takes the mark of every row away.

@@ -27,7 +27,7 @@ use Rattle.stored_laws.proofs.WellFormed.{well-formed-sound}
 use Rattle.stream_laws.specs.Sizes.{JobLimits}
 use Rattle.load.specs.Loading.{Loaded}
 use Rattle.load.proofs.SameFile.{its-dimension}
-use Rattle.job_room.proofs.Lists.{lent_lists}
+use Rattle.job_room.specs.Room.{lent_lists}
 use Rattle.reload.specs.Loading.{loaded_text}
 use Rattle.reload.proofs.LoadsAsStated.{load-as-stated}
 

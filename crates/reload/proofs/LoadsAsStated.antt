@@ -14,7 +14,8 @@ use Rattle.definition_laws.proofs.Accepted.{LentEnough}
 use Rattle.stored.specs.Outcome.{lists_short_lem, own_tests, load_verdict}
 use Rattle.stored.specs.Programs.{blank_lists}
 use Rattle.stream_laws.specs.Sizes.{JobLimits}
-use Rattle.job_room.proofs.Lists.{as-stated, largest-enough, lent_lists, lent_floats, lent_wholes, lent-largest}
+use Rattle.job_room.specs.Room.{lent_lists, lent_floats, lent_wholes}
+use Rattle.job_room.proofs.Lists.{as-stated, largest-enough, lent-largest}
 
 -- the five lists, where they and working room are long enough
 lists-long : (l : TreeLists) (floats : List Float) (wholes : List ℕ) (stated : BuildSizes) → LentEnough (lent_sizes l floats wholes) stated → lists_short_lem l stated ≡ false

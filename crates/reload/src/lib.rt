@@ -12,9 +12,12 @@ ghost use Rattle.job_room.specs.Printing.{print_answer_lem, print_output, printe
 ghost use Rattle.reload.specs.Loading.{loaded_text};
 
 use bytes_out::Writer;
+use job_room::JobLists;
 use packed::Packed;
+use points::Points;
 use refusal::Refusal;
 use settings_record::Settings;
+use tree_lists::TreeRead;
 
 // The longest file that is taken.
 pub const MOST_FILE: usize = 1048576;
@@ -24,38 +27,35 @@ fn write_loaded(settings: Settings, points: &[f64], file: &[u8], out: &mut Write
     requires { JobLimits (settings_are settings) points.now × Takes out.old (loaded_text (settings_are settings) points.now file.now) }
     ensures { Appends out.old out.new (loaded_text (settings_are settings) points.now file.now) }
 {
-    let mut level_points = [0usize; job_room::LEVEL_POINTS];
-    let mut internals = [0usize; job_room::LEVEL_POINTS];
-    let mut domains = [0usize; job_room::DOMAINS];
-    let mut boxes = [0.0; job_room::BOXES];
-    let mut borrowed = [0usize; job_room::BORROWED];
     let Settings { dimensions, params } = settings;
-    let loaded = load::load_tree(
-        points,
+    let points = Points {
+        coordinates: points,
         dimensions,
-        params,
-        file,
-        &mut level_points,
-        &mut internals,
-        &mut domains,
-        &mut boxes,
-        &mut borrowed,
-    );
-    match loaded {
+    };
+    let mut lists = JobLists::zeros();
+    let mut lists = lists.lend();
+    match load::load_tree(points, params, file, &mut lists) {
         Ok(tree) => {
-            let lists = Packed {
-                internals: &internals,
-                domains: &domains,
-                boxes: &boxes,
-                borrowed: &borrowed,
+            let TreeRead {
+                level_points,
+                internals,
+                domains,
+                boxes,
+                borrowed,
+            } = lists.read();
+            let packed = Packed {
+                internals,
+                domains,
+                boxes,
+                borrowed,
                 dimensions,
             };
             print_tree::write_tree(
                 tree.levels,
                 &tree.rows,
                 &tree.domains,
-                &level_points,
-                lists,
+                level_points,
+                packed,
                 out,
             );
         }

@@ -1,8 +1,7 @@
 -- Loops over rows: asked for, marked, and taken out of two sets, one after the other. The sets are words; what becomes of a set is in
 -- crate tree_tests. Assumes nothing.
 -- Holds: Asking, asking-start, asking-end, asking-low, asking-out, asking-next, Marking, marking-start, marking-end,
---   marking-next, marking-within, marking-clear, Taking, taking-start, taking-among, taking-end, taking-low, taking-out,
---   taking-next
+--   marking-next, marking-within, marking-clear, Taking, taking-start, taking-end, taking-low, taking-out, taking-next
 use mathlib.Core.Path.{◌≡◌, refl, sym, ap, ◌∙◌}
 use mathlib.Core.Bool.{Bool, true, false, ◌||◌}
 use Prim.Native.Nat.{ℕ, ◌+◌, ◌*◌, ◌≤◌, ◌<◌}
@@ -10,17 +9,17 @@ use native.Mathlib.Omega.{arith}
 use mathlib.Core.List.{List, []}
 use lib.Dec.{eqb}
 use lib.ListN.{length, get_or, take}
-use borrow.Author.Tests.{eq-eqb, eqb-true}
 use Rattle.lists.specs.Lists.{member}
 use Rattle.lists.proofs.All.{all-at, all-mem}
 use Rattle.tree_tests.specs.InTurn.{without, in_order_lem}
-use Rattle.tree_tests.proofs.Sets.{without-nil, without-inside, without_more, without_all}
+use Rattle.tree_tests.proofs.Sets.{without-nil, without_more, without_all}
 use Rattle.tree_tests.proofs.Checked.{Checked, check-start, check-step, check-low, check-out, check-end}
 use Rattle.tree_tests.proofs.Taken.{Taken, take-start, take_step, take-low, take_out, take-end}
 use Rattle.tree_tests.proofs.Marking.{Fresh, mark-fresh, mark-start, mark-step, mark-end}
-use Rattle.marks.specs.Bits.{bit_at, Marked, TakenOut}
-use Rattle.marks.proofs.Marks.{marked-same, marked-bit, unmarked-bit, held, bits-marked, marked-held}
+use Rattle.marks.specs.Bits.{bit_at, Marked}
+use Rattle.marks.proofs.Marks.{marked-same, unmarked-bit, held, bits-marked}
 use Rattle.row_sets.specs.Markable.{Markable}
+use Rattle.row_sets.specs.Tested.{TakenOut}
 
 -- ---- a loop that asks for rows: the rows before i passed, and the rest decides
 pub record Asking (rows ws : List ℕ) (least i : ℕ) : Type 0 where
@@ -89,8 +88,6 @@ module _ {rows old ws : List ℕ} {i : ℕ} (s : Marking rows old ws i) where
 -- ---- a loop that takes rows out of two sets: those before i are out of both, and the rest decides
 pub record Taking (rows old-left old-listed left listed : List ℕ) (least i : ℕ) : Type 0 where
   pub bound : i ≤ length rows
-  pub left-length : length left ≡ length old-left
-  pub listed-length : length listed ≡ length old-listed
   pub taken : (p : ℕ → Bool) → Marked old-left p → Taken p rows i least
   pub left_set : (p : ℕ → Bool) → Marked old-left p → Marked left (without (take i rows) p)
   pub listed_set : (q : ℕ → Bool) → Marked old-listed q → Marked listed (without (take i rows) q)
@@ -99,21 +96,12 @@ pub taking-start : (rows left listed : List ℕ) → Taking rows left listed lef
 taking-start rows left listed =
     record {
       bound = omega arith;
-      left-length = refl;
-      listed-length = refl;
       taken = λ p m. take-start p rows;
       left_set = λ p m. marked-same m (without [] p) (λ x. sym (without-nil p x));
       listed_set = λ q m. marked-same m (without [] q) (λ x. sym (without-nil q x));
     }
 
 module _ {rows old-left old-listed left listed : List ℕ} {least i : ℕ} (s : Taking rows old-left old-listed left listed least i) where
-  -- what is left stays among what is listed
-  pub taking-among : ((j : ℕ) → bit_at old-left j ≡ 1 → bit_at old-listed j ≡ 1) → (j : ℕ) → bit_at left j ≡ 1 → bit_at listed j ≡ 1
-  taking-among f j e =
-      let was = sym (marked-held (s.left_set (held old-left) (bits-marked old-left)) j) ∙ eq-eqb (bit_at left j) 1 e in
-      marked-bit (s.listed_set (held old-listed) (bits-marked old-listed)) j
-      (without-inside (take i rows) (held old-left) (held old-listed) (λ x h. eq-eqb (bit_at old-listed x) 1 (f x (eqb-true (bit_at old-left x) 1 h))) j was)
-
   pub taking-end : length rows ≤ i → (p q : ℕ → Bool) → Marked old-left p → Marked old-listed q
       → (true ≡ in_order_lem 0 p rows) × (true ≡ true → Marked left (without rows p) × Marked listed (without rows q))
   taking-end h p q m n = (
@@ -135,12 +123,10 @@ module _ {rows old-left old-listed left listed : List ℕ} {least i : ℕ} (s : 
       pub taking-out : r ≡ false → (p : ℕ → Bool) → Marked old-left p → false ≡ in_order_lem 0 p rows
       taking-out f p m = sym (take_out (s.taken p m) row h e l (sym (told p m) ∙ f))
 
-      pub taking-next : length new-left ≡ length left → length new-listed ≡ length listed → r ≡ true → Taking rows old-left old-listed new-left new-listed (row + 1) (i + 1)
-      taking-next a b t =
+      pub taking-next : r ≡ true → Taking rows old-left old-listed new-left new-listed (row + 1) (i + 1)
+      taking-next t =
           record {
             bound = omega arith;
-            left-length = a ∙ s.left-length;
-            listed-length = b ∙ s.listed-length;
             taken = λ p m. take_step (s.taken p m) row h e l (sym (told p m) ∙ t);
             left_set = λ p m. marked-same ((said (without (take i rows) p) (held listed) (s.left_set p m) (bits-marked listed)).left_out t) (without (take (i + 1) rows) p) (without_more rows i row h e p);
             listed_set = λ q m. marked-same ((said (held left) (without (take i rows) q) (bits-marked left) (s.listed_set q m)).listed_out t) (without (take (i + 1) rows) q) (without_more rows i row h e q);

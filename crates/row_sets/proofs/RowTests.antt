@@ -1,36 +1,38 @@
 -- A domain's own rows taken out of two sets, its borrowed rows asked for, and the own rows put back: one law for each way out. Assumes nothing.
--- Holds: bit_in, inside-sets, sets-inside, own-fail, own-markable, borrowed-fail, rows-good
-use mathlib.Core.Path.{◌≡◌, refl, sym, ◌∙◌}
-use mathlib.Core.Bool.{Bool, true, false, ◌||◌, and-false}
+-- Holds: bit_in, inside-sets, sets-inside, own-fail, own-markable, borrowed-fail, rows-good, taken-listed, none-listed,
+--   more_listed
+use mathlib.Core.Path.{◌≡◌, refl, sym, ap, ◌∙◌}
+use mathlib.Core.Bool.{Bool, true, false, not, ◌&&◌, ◌||◌, and-false}
 use Prim.Native.Nat.{ℕ, ◌*◌, ◌<◌}
 use native.Mathlib.Omega.{arith}
 use mathlib.Core.List.{List}
-use lib.ListN.{length}
+use lib.Dec.{eqb}
+use lib.ListN.{length, replicate, length-replicate}
 use borrow.Author.Tests.{eq-eqb}
 use Rattle.lists.specs.Lists.{member}
-use Rattle.lists.proofs.Tests.{clash, and-of}
+use Rattle.lists.proofs.Tests.{clash, and-of, and-fst, and-snd}
 use Rattle.lists.proofs.All.{all-of}
 use Rattle.tree_tests.specs.InTurn.{without, in_order_lem}
 use Rattle.tree_tests.proofs.Rows.{in-order-ascends, in-order-in}
 use Rattle.marks.specs.Bits.{bit_at, Marked}
-use Rattle.marks.proofs.Marks.{marked-bit, marked-within, held, bits-marked, marked-held}
+use Rattle.marks.proofs.Marks.{marked-bit, marked-within, held, bits-marked, marked-held, marked-zeros}
 use Rattle.row_sets.specs.Markable.{Markable}
 use Rattle.row_sets.proofs.PutBack.{taken-markable, put_back}
-use Rattle.row_sets.specs.Tested.{Inside, RowsPassed}
+use Rattle.row_sets.specs.Tested.{LeftIsListed, RowsPassed}
 
 -- a row whose bit is 1 is in the set
 pub bit_in : {ws : List ℕ} {p : ℕ → Bool} → Marked ws p → (i : ℕ) → bit_at ws i ≡ 1 → p i ≡ true
 bit_in {ws} m i e = sym (marked-held m i) ∙ eq-eqb (bit_at ws i) 1 e
 
 -- what is left is listed
-pub inside-sets : {left listed : List ℕ} {p q : ℕ → Bool} → Inside left listed → Marked left p → Marked listed q → (x : ℕ) → p x ≡ true → q x ≡ true
+pub inside-sets : {left listed : List ℕ} {p q : ℕ → Bool} → LeftIsListed left listed → Marked left p → Marked listed q → (x : ℕ) → p x ≡ true → q x ≡ true
 inside-sets s m n x e = bit_in n x (s.among x (marked-bit m x e))
 
 -- and so for the sets that words hold
-pub sets-inside : {left listed : List ℕ} {p q : ℕ → Bool} → length left ≡ length listed → Marked left p → Marked listed q → ((x : ℕ) → p x ≡ true → q x ≡ true) → Inside left listed
+pub sets-inside : {left listed : List ℕ} {p q : ℕ → Bool} → length left ≡ length listed → Marked left p → Marked listed q → ((x : ℕ) → p x ≡ true → q x ≡ true) → LeftIsListed left listed
 sets-inside l m n f = record { same_length = l; among = λ x e. marked-bit n x (f x (bit_in m x e)) }
 
-module _ (own left₀ listed₀ left listed : List ℕ) (r : Bool) (inside : Inside left₀ listed₀)
+module _ (own left₀ listed₀ left listed : List ℕ) (r : Bool) (inside : LeftIsListed left₀ listed₀)
     (took : (p q : ℕ → Bool) → Marked left₀ p → Marked listed₀ q → (r ≡ in_order_lem 0 p own) × (r ≡ true → Marked left (without own p) × Marked listed (without own q))) where
   -- the own rows do not pass
   pub own-fail : r ≡ false → (borrowed : List ℕ) (p q : ℕ → Bool) → Marked left₀ p → Marked listed₀ q → RowsPassed own borrowed p q left listed false
@@ -70,3 +72,24 @@ module _ (own left₀ listed₀ left listed : List ℕ) (r : Bool) (inside : Ins
             listed_set = λ _. put_back own q (all-of (λ x. q x ≡ true) own (λ x i. inside-sets inside m n x (in-order-in 0 p own (own-pass p m) x i)))
                 (again (without own q) ((took p q m n).1 t).1);
           }
+
+-- ---- what is left stays listed
+-- where a row is taken out of both
+pub taken-listed : (left listed left' listed' : List ℕ) (i : ℕ) → LeftIsListed left listed → length left' ≡ length left → length listed' ≡ length listed
+    → ((p : ℕ → Bool) → Marked left p → Marked left' (λ j. p j && not (eqb j i))) → ((q : ℕ → Bool) → Marked listed q → Marked listed' (λ j. q j && not (eqb j i)))
+    → LeftIsListed left' listed'
+taken-listed left listed left' listed' i s a b m n =
+    sets-inside (a ∙ s.same_length ∙ sym b) (m (held left) (bits-marked left)) (n (held listed) (bits-marked listed))
+    (λ x e. and-of (inside-sets s (bits-marked left) (bits-marked listed) x (and-fst (held left x) (not (eqb x i)) e)) (and-snd (held left x) (not (eqb x i)) e))
+
+-- where none is left
+pub none-listed : (listed : List ℕ) (k : ℕ) → length listed ≡ k → LeftIsListed (replicate k 0) listed
+none-listed listed k e =
+    sets-inside (length-replicate k 0 ∙ sym e) (marked-zeros k) (bits-marked listed) (λ x f. clash f refl)
+
+-- where rows are listed beside the others
+pub more_listed : (left listed new rows : List ℕ) → LeftIsListed left listed → length new ≡ length listed
+    → ((q : ℕ → Bool) → Marked listed q → Marked new (λ i. q i || member i rows)) → LeftIsListed left new
+more_listed left listed new rows s e m =
+    sets-inside (s.same_length ∙ sym e) (bits-marked left) (m (held listed) (bits-marked listed))
+    (λ x f. ap (λ (b : Bool). b || member x rows) (inside-sets s (bits-marked left) (bits-marked listed) x f))

@@ -1,13 +1,16 @@
 // Rows that stand one after the other, wherever that is: asked for, marked, and taken out of sets.
 #![tactic(auto)]
 
-ghost use Rattle.std.specs.Prelude.{◌≡◌, Bool, true, ◌||◌, ℕ, ◌<◌, List, leb, length, get_or};
+ghost use Rattle.std.specs.Prelude.{◌≡◌, Bool, ◌||◌, ℕ, ◌<◌, List, leb, length, get_or};
 ghost use Rattle.lists.specs.Lists.{member};
-ghost use Rattle.tree_tests.specs.InTurn.{without, among, in_order_lem};
+ghost use Rattle.tree_tests.specs.InTurn.{in_order_lem};
 ghost use Rattle.marks.specs.Bits.{Marked};
 ghost use Rattle.row_sets.specs.Markable.{Markable};
 ghost use Rattle.row_sets.specs.Order.{least_after};
-ghost use Rattle.row_sets.specs.Tested.{Inside, RowsPassed};
+
+mod level_rows;
+
+pub use level_rows::LevelRows;
 
 // The words of a set with a bit for each row of the largest tree, 1,048,576 rows.
 pub const WORDS: usize = 16_384;
@@ -56,57 +59,4 @@ pub fn mark_rows<R: Rows>(rows: &R, words: &mut [usize])
         let row = rows.row(i);
         marks::mark(words, row);
     }
-}
-
-// Takes the rows out of two sets, where they ascend and are all in the first, and says whether they are.
-pub fn take_rows<R: Rows>(rows: &R, left: &mut [usize], listed: &mut [usize]) -> bool
-    requires { Inside left.old listed.old }
-    ensures { (p q : ℕ → Bool) → Marked left.old p → Marked listed.old q
-        → (result ≡ in_order_lem 0 p (R.rows rows.now))
-        × (result ≡ true → Marked left.new (without (R.rows rows.now) p)
-        × Marked listed.new (without (R.rows rows.now) q)) }
-{
-    let mut last = 0;
-    for i in 0..rows.count() {
-        let row = rows.row(i);
-        if !follows(i, last, row) || !marks::take_out(left, listed, row) {
-            return false;
-        }
-        last = row;
-    }
-    true
-}
-
-// Whether a domain's own rows ascend and are left, and its borrowed rows ascend and are listed rows of others; takes the own rows out
-// of those left.
-pub fn rows_pass<O: Rows, B: Rows>(
-    own: &O,
-    borrowed: &B,
-    left: &mut [usize],
-    listed: &mut [usize],
-) -> bool
-    requires { Inside left.old listed.old }
-    ensures { (p q : ℕ → Bool) → Marked left.old p → Marked listed.old q
-        → RowsPassed (O.rows own.now) (B.rows borrowed.now) p q left.new listed.new result }
-{
-    if !take_rows(own, left, listed) || !rows_marked(borrowed, listed) {
-        return false;
-    }
-    mark_rows(own, listed);
-    true
-}
-
-// Whether the rows ascend and are all listed; where they are, both sets become these rows.
-pub fn narrow<R: Rows>(rows: &R, left: &mut [usize], listed: &mut [usize]) -> bool
-    requires { length left.old ≡ length listed.old }
-    ensures asked { (p : ℕ → Bool) → Marked listed.old p → result ≡ in_order_lem 0 p (R.rows rows.now) }
-    ensures set { result ≡ true → Marked left.new (among (R.rows rows.now)) × Marked listed.new (among (R.rows rows.now)) }
-{
-    if !rows_marked(rows, listed) {
-        return false;
-    }
-    marks::clear(left);
-    mark_rows(rows, left);
-    listed.copy_from_slice(left);
-    true
 }

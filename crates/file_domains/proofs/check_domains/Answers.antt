@@ -5,7 +5,7 @@ use borrow.Author.Rules.{rules}
 use Rattle.file_domains.proofs.check_domains.Goals as goal
 
 pub loop-i-init : goal.loop-i-init
-loop-i-init c = tested-start _ _ _ _ _ _ _ _ c.requires.1 c.requires.2
+loop-i-init c = tested-start _ _ _ _ _ _ _ _ c.requires.1
 
 pub returns-in_err-f : goal.returns-in_err-f
 returns-in_err-f c = λ p q a b. rw c.from_residual.ensures (tested-bad _ _ _ _ _ _ _ _ _ _ _ _ _ _ _ c.loop-i.invariant (search rules) _ _ _ c.check_domain.ensures c.in_err-f.was p q a b)
@@ -17,7 +17,7 @@ pub overflow_add-borrowed : goal.overflow_add-borrowed
 overflow_add-borrowed c = omega (arith, tested-fits _ _ _ _ _ _ _ _ _ _ _ _ _ _ _ c.loop-i.invariant (search rules) _ _ _ c.check_domain.ensures _ c.in_ok-f.was)
 
 pub loop-i-preserved : goal.loop-i-preserved
-loop-i-preserved c = tested-next _ _ _ _ _ _ _ _ _ _ _ _ _ _ _ c.loop-i.invariant (search rules) _ _ _ c.check_domain.ensures _ c.in_ok-f.was (search rules) (search rules)
+loop-i-preserved c = tested-next _ _ _ _ _ _ _ _ _ _ _ _ _ _ _ c.loop-i.invariant (search rules) _ _ _ c.check_domain.ensures _ c.in_ok-f.was
 
 pub returns-then-remaining-ne0 : goal.returns-then-remaining-ne0
 returns-then-remaining-ne0 c = λ p q a b. tested-left _ _ _ _ _ _ _ _ _ _ _ _ _ _ _ c.loop-i.invariant (search rules) (search rules) p q a b

@@ -2,12 +2,11 @@
 use mathlib.Core.Path.{◌∙◌}
 use native.Mathlib.Omega.{arith}
 use borrow.Author.Tests.{lt-leb}
-use Rattle.marks.proofs.Marks.{marked-zeros}
 use Rattle.file_levels.proofs.WholeTree.{levels-fail, domains-fail, borrowed-decide}
 use Rattle.file_levels.proofs.check_tree.Goals as goal
 
-pub mark_below-requires : goal.mark_below-requires
-mark_below-requires c = (marked-zeros 16384, omega arith)
+pub below-sets-requires : goal.below-sets-requires
+below-sets-requires c = omega arith
 
 pub returns-in_default : goal.returns-in_default
 returns-in_default c = λ s d k. levels-fail _ _ _ _ _ c.check_levels.ensures s d _ k c.in_default.is

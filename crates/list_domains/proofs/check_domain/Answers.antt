@@ -22,27 +22,27 @@ returns-then-not-floats_fit c =
 pub overflow_add-own : goal.overflow_add-own
 overflow_add-own c =
     let a = c.args in
-    let w = own-within a.coarse (packed_of a.tree) a.borrowed_most a.rows a.j a.own_at a.borrowed_at a.remaining a.least a.left.now a.listed.now c.requires
+    let w = own-within a.coarse (packed_of a.tree) a.borrowed_most a.rows a.j a.own_at a.borrowed_at a.remaining a.least a.sets.now.left a.sets.now.listed c.requires
     _ c.read_row-row.ensures _ c.stretches_fit.ensures c.if-not-stretches_fit.false in
     search rules
 
 pub slice_bounds-own-end : goal.slice_bounds-own-end
 slice_bounds-own-end c =
     let a = c.args in
-    own-within a.coarse (packed_of a.tree) a.borrowed_most a.rows a.j a.own_at a.borrowed_at a.remaining a.least a.left.now a.listed.now c.requires
+    own-within a.coarse (packed_of a.tree) a.borrowed_most a.rows a.j a.own_at a.borrowed_at a.remaining a.least a.sets.now.left a.sets.now.listed c.requires
     _ c.read_row-row.ensures _ c.stretches_fit.ensures c.if-not-stretches_fit.false
 
 pub overflow_add-borrowed : goal.overflow_add-borrowed
 overflow_add-borrowed c =
     let a = c.args in
-    let w = borrowed-within a.coarse (packed_of a.tree) a.borrowed_most a.rows a.j a.own_at a.borrowed_at a.remaining a.least a.left.now a.listed.now c.requires
+    let w = borrowed-within a.coarse (packed_of a.tree) a.borrowed_most a.rows a.j a.own_at a.borrowed_at a.remaining a.least a.sets.now.left a.sets.now.listed c.requires
     _ c.read_row-row.ensures _ c.stretches_fit.ensures c.if-not-stretches_fit.false in
     search rules
 
 pub slice_bounds-borrowed-end : goal.slice_bounds-borrowed-end
 slice_bounds-borrowed-end c =
     let a = c.args in
-    borrowed-within a.coarse (packed_of a.tree) a.borrowed_most a.rows a.j a.own_at a.borrowed_at a.remaining a.least a.left.now a.listed.now c.requires
+    borrowed-within a.coarse (packed_of a.tree) a.borrowed_most a.rows a.j a.own_at a.borrowed_at a.remaining a.least a.sets.now.left a.sets.now.listed c.requires
     _ c.read_row-row.ensures _ c.stretches_fit.ensures c.if-not-stretches_fit.false
 
 pub returns-then-not-rows_pass : goal.returns-then-not-rows_pass

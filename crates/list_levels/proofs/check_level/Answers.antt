@@ -7,11 +7,9 @@ pub returns-then-not-narrow : goal.returns-then-not-narrow
 returns-then-not-narrow c = level_out _ _ _ _ _ c.narrow.ensures.asked _ c.if-not-narrow.true
 
 pub check_domains-requires : goal.check_domains-requires
-check_domains-requires c = let a = c.args in
-    domains-ready a.level_points.now a.own_at a.rows a.listed.now _ c.narrow.ensures.asked _ _ (c.narrow.ensures.set c.if-not-narrow.false) a.left.now c.requires
-    c.narrow.auto.left c.narrow.auto.listed
+check_domains-requires c = domains-ready c.requires
 
 pub returns : goal.returns
 returns c = let a = c.args in
-    level-tell a.level_points.now a.own_at a.rows a.listed.now _ c.narrow.ensures.asked _ _ (c.narrow.ensures.set c.if-not-narrow.false) c.if-not-narrow.false a.coarse
-    (packed_of a.tree) a.borrowed_most a.first a.borrowed_at a.count c.check_domains.new.listed c.check_domains.result c.check_domains.ensures
+    level-tell a.level_points.now a.own_at a.rows a.sets.now.listed _ c.narrow.ensures.asked _ _ (c.narrow.ensures.set c.if-not-narrow.false) c.if-not-narrow.false a.coarse
+    (packed_of a.tree) a.borrowed_most a.first a.borrowed_at a.count c.check_domains.new.sets.listed c.check_domains.result c.check_domains.ensures

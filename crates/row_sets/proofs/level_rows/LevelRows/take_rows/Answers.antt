@@ -1,4 +1,4 @@
--- `row_sets::take_rows` meets its contract: before row i the rows before it are out of both sets, and the rest decides. Assumes nothing.
+-- `LevelRows::take_rows` meets its contract: before row i the rows before it are out of both sets, and the rest decides. Assumes nothing.
 use mathlib.Core.Path.{refl}
 use Prim.Native.Nat.{◌<◌}
 use native.Mathlib.Omega.{arith}
@@ -6,19 +6,13 @@ use lib.ListN.{length}
 use Rattle.lists.proofs.Tests.{clash}
 use Rattle.row_sets.specs.Order.{least_after}
 use Rattle.row_sets.proofs.Order.{taking-after, too-low, not_low}
-use Rattle.row_sets.proofs.Loops.{taking-start, taking-among, taking-low, taking-out, taking-next, taking-end}
-use borrow.Author.Rules.{rules}
-use Rattle.row_sets.proofs.take_rows.Goals as goal
-use Rattle.row_sets.proofs.take_rows.Goals.{then-not-follows-via-then-not-follows, then-not-follows-via-else-not-follows+then-not-take_out}
+use Rattle.row_sets.proofs.Loops.{taking-start, taking-low, taking-out, taking-next, taking-end}
+use Rattle.row_sets.proofs.level_rows.LevelRows.take_rows.Goals as goal
+use Rattle.row_sets.proofs.level_rows.LevelRows.take_rows.Goals.{then-not-follows-via-then-not-follows, then-not-follows-via-else-not-follows+then-not-take_out}
 
 pub loop-i-init : goal.loop-i-init
 unfolding least_after
 loop-i-init g c = taking-start _ _ _
-
-pub take_out-requires : goal.take_out-requires
-take_out-requires g c =
-    let s = c.loop-i.invariant in
-    (omega (arith, s.left-length, s.listed-length, c.requires.same_length), taking-among s c.requires.among)
 
 pub returns-then-not-follows : goal.returns-then-not-follows
 returns-then-not-follows g c =
@@ -36,7 +30,7 @@ pub loop-i-preserved : goal.loop-i-preserved
 loop-i-preserved g c =
     let here : c.loop-i.i < length (g.R.Rows.rows c.args.rows.now) = omega arith in
     let up = not_low _ _ _ c.follows.ensures c.if-not-follows.false in
-    taking-after _ _ (taking-next c.loop-i.invariant _ here c.row-row.ensures up _ _ _ c.take_out.ensures (search rules) (search rules) c.if-not-take_out.false)
+    taking-after _ _ (taking-next c.loop-i.invariant _ here c.row-row.ensures up _ _ _ c.take_out.ensures c.if-not-take_out.false)
 
 pub returns : goal.returns
 returns g c = taking-end c.loop-i.invariant (omega arith)
