@@ -24,7 +24,7 @@ trap 'rm -rf "$made"' EXIT
 add_stages() {
     mkdir -p "$1/crates/ddm_stages/src"
     cp "$1/rust/stages/lib.rt.txt" "$1/crates/ddm_stages/src/lib.rt"
-    cited=$(sed -n 's/.*Rattle\.\([a-z0-9_]*\)\..*/\1/p; s/^\(use \)* *\([a-z0-9_]*\)::.*/\2/p' "$1/rust/stages/lib.rt.txt" | grep -v '^std$' | sort -u | tr '\n' ' ')
+    cited=$(sed -n 's/.*Rattle\.\([a-z0-9_]*\)\..*/\1/p; s/^ *\([a-z0-9_]*\)::.*/\1/p; s/^use \([a-z0-9_]*\)::.*/\1/p' "$1/rust/stages/lib.rt.txt" | grep -v '^std$' | sort -u | tr '\n' ' ')
     echo "ddm_stages staticlib: $cited" >> "$1/crates.txt"
 }
 

@@ -1,5 +1,5 @@
 -- Records of bytes compared one after the other: floats, point records, and the front of a file. Assumes nothing.
--- Holds: differs, records-same, float_after, floats-found, floats-end, float-differs, float-agrees, row_differs, row_same,
+-- Holds: differs, records-same, float_of, floats-found, floats-end, float-differs, float-agrees, row_differs, row_same,
 --   count-differs, rows-decide
 use mathlib.Core.Path.{◌≡◌, refl, sym, ap, ap₂, ◌∙◌}
 use mathlib.Core.Bool.{Bool, true, false, not, ◌&&◌, ◌||◌}
@@ -63,44 +63,44 @@ records-same f w at n bs e h =
 
 -- ---- floats
 
--- the bytes of the float number i from `start` on
-abbrev pub float_after : List Float → ℕ → ℕ → List ℕ
-float_after xs start i = float_bytes (get_or xs (start + i) nan)
+-- the bytes of the float number i
+abbrev pub float_of : List Float → ℕ → List ℕ
+float_of xs i = float_bytes (get_or xs i nan)
 
-floats_same : (xs : List Float) (start count at : ℕ) (bs : List ℕ) → start + count ≤ length xs → at + float_size * count ≤ length bs
-    → same (floats_bytes (part xs start count)) (part bs at (float_size * count)) ≡ not (any_of (differs (float_after xs start) float_size at bs) (from 0 count))
+floats_same : (xs : List Float) (at : ℕ) (bs : List ℕ) → at + float_size * length xs ≤ length bs
+    → same (floats_bytes xs) (part bs at (float_size * length xs)) ≡ not (any_of (differs (float_of xs) float_size at bs) (from 0 (length xs)))
 unfolding floats_bytes
-floats_same xs start count at bs h g =
-    let read : ℕ → Float = λ i. get_or xs (start + i) nan in
-    let parted : part xs start count ≡ map read (from 0 count) = list-below read (part xs start count) count nan (length_part xs start count h) (λ i l. get_d_part xs start count i nan l) in
-    let turn : float_size * count ≡ count * float_size = omega arith in
-    ap₂ (λ (l : List Float) (m : ℕ). same (joined (map float_bytes l)) (part bs at m)) parted turn
-    ∙ ap (λ (l : List (List ℕ)). same (joined l) (part bs at (count * float_size))) (map-map float_bytes read (from 0 count))
-    ∙ records-same (float_after xs start) float_size at count bs (λ i. length-bytes float_size (to_bits binary64 (get_or xs (start + i) nan))) (omega arith)
+floats_same xs at bs g =
+    let read : ℕ → Float = λ i. get_or xs i nan in
+    let listed : xs ≡ map read (from 0 (length xs)) = list-below read xs (length xs) nan refl (λ i l. refl) in
+    let turn : float_size * length xs ≡ length xs * float_size = omega arith in
+    ap₂ (λ (l : List Float) (m : ℕ). same (joined (map float_bytes l)) (part bs at m)) listed turn
+    ∙ ap (λ (l : List (List ℕ)). same (joined l) (part bs at (length xs * float_size))) (map-map float_bytes read (from 0 (length xs)))
+    ∙ records-same (float_of xs) float_size at (length xs) bs (λ i. length-bytes float_size (to_bits binary64 (get_or xs i nan))) (omega arith)
 
-module _ (xs : List Float) (start count at : ℕ) (bs : List ℕ) (h : start + count ≤ length xs) (g : at + float_size * count ≤ length bs) where
+module _ (xs : List Float) (at : ℕ) (bs : List ℕ) (g : at + float_size * length xs ≤ length bs) where
   abbrev FloatsSame : Bool → Type 0
-  FloatsSame r = r ≡ same (floats_bytes (part xs start count)) (part bs at (float_size * count))
+  FloatsSame r = r ≡ same (floats_bytes xs) (part bs at (float_size * length xs))
 
-  pub floats-found : (i : ℕ) → i < count → differs (float_after xs start) float_size at bs i ≡ true → FloatsSame false
-  floats-found i l e = sym (floats_same xs start count at bs h g ∙ ap not (one_found (differs (float_after xs start) float_size at bs) count i l e))
+  pub floats-found : (i : ℕ) → i < length xs → differs (float_of xs) float_size at bs i ≡ true → FloatsSame false
+  floats-found i l e = sym (floats_same xs at bs g ∙ ap not (one_found (differs (float_of xs) float_size at bs) (length xs) i l e))
 
-  pub floats-end : (i : ℕ) → i ≡ count → any_of (differs (float_after xs start) float_size at bs) (from 0 i) ≡ false → FloatsSame true
+  pub floats-end : (i : ℕ) → i ≡ length xs → any_of (differs (float_of xs) float_size at bs) (from 0 i) ≡ false → FloatsSame true
   floats-end i l e =
-      sym (floats_same xs start count at bs h g ∙ ap not (ap (λ (k : ℕ). any_of (differs (float_after xs start) float_size at bs) (from 0 k)) (sym l) ∙ e))
+      sym (floats_same xs at bs g ∙ ap not (ap (λ (k : ℕ). any_of (differs (float_of xs) float_size at bs) (from 0 k)) (sym l) ∙ e))
 
 -- one of them: its bits, and those that are read at its place
-module _ (xs : List Float) (start at i : ℕ) (bs : List ℕ) (fit : T (fits binary64 (get_or xs (start + i) nan))) (bytes : (k : ℕ) → get_or bs k 0 < 256)
-    (h : at + float_size * i + float_size ≤ length bs) (bits read : ℕ) (e : bits ≡ to_bits binary64 (get_or xs (start + i) nan)) (g : read ≡ field float_size (at + float_size * i) bs) where
+module _ (xs : List Float) (at i : ℕ) (bs : List ℕ) (fit : T (fits binary64 (get_or xs i nan))) (bytes : (k : ℕ) → get_or bs k 0 < 256)
+    (h : at + float_size * i + float_size ≤ length bs) (bits read : ℕ) (e : bits ≡ to_bits binary64 (get_or xs i nan)) (g : read ≡ field float_size (at + float_size * i) bs) where
   abbrev FloatDiffers : Bool → Type 0
-  FloatDiffers b = differs (float_after xs start) float_size at bs i ≡ b
+  FloatDiffers b = differs (float_of xs) float_size at bs i ≡ b
 
-  bits-same : eqb bits read ≡ same (float_after xs start i) (part bs (at + i * float_size) float_size)
+  bits-same : eqb bits read ≡ same (float_of xs i) (part bs (at + i * float_size) float_size)
   bits-same =
       let turn : at + float_size * i ≡ at + i * float_size = omega arith in
-      let x = get_or xs (start + i) nan in
+      let x = get_or xs i nan in
       ap₂ eqb e g ∙ field-same float_size (to_bits binary64 x) (at + float_size * i) bs (to_bits-lt binary64 x fit) h bytes
-      ∙ ap (λ (k : ℕ). same (float_after xs start i) (part bs k float_size)) turn
+      ∙ ap (λ (k : ℕ). same (float_of xs i) (part bs k float_size)) turn
 
   pub float-differs : (bits ≡ read → ⊥) → FloatDiffers true
   float-differs k = ap not (sym bits-same ∙ ne_eqb bits read k)

@@ -96,13 +96,13 @@ pub fn check_front(bytes: &[u8]) -> Option<Front>
 
 // ---- compared
 
-// Whether `count` floats of a list, those from `start` on, have the bits in the bytes from `at` on.
-fn floats_are(xs: &[f64], start: usize, count: usize, bytes: &[u8], at: usize) -> bool
-    requires { (start + count ≤ length xs.now) × (at + float_size * count ≤ length bytes.now) }
-    ensures { result ≡ same (floats_bytes (part xs.now start count)) (part bytes.now at (float_size * count)) }
+// Whether floats have the bits in the bytes from `at` on. The bits are compared, since `==` takes 0 and -0 for equal.
+fn floats_are(xs: &[f64], bytes: &[u8], at: usize) -> bool
+    requires { at + float_size * length xs.now ≤ length bytes.now }
+    ensures { result ≡ same (floats_bytes xs.now) (part bytes.now at (float_size * length xs.now)) }
 {
-    for i in 0..count {
-        let bits = bytes_out::bits_of(xs[start + i]);
+    for (i, &x) in xs.iter().enumerate() {
+        let bits = bytes_out::bits_of(x);
         if bits != bytes_in::bits_at(bytes, at + bytes_in::FLOAT * i) {
             return false;
         }
@@ -126,8 +126,8 @@ pub fn same_points(points: Points<'_>, bytes: &[u8]) -> bool
     let mut at = HEAD;
     for i in 0..n {
         let start = i * points.dimensions;
-        let found = at + bytes_in::MARK;
-        if !floats_are(points.coordinates, start, points.dimensions, bytes, found) {
+        let row = &points.coordinates[start..start + points.dimensions];
+        if !floats_are(row, bytes, at + bytes_in::MARK) {
             return false;
         }
         at += size;

@@ -14,18 +14,9 @@ ghost use Rattle.file_reader.specs.Fetch.{record_floats_lem};
 ghost use Rattle.tree_lists.specs.Lent.{SameLists};
 ghost use Rattle.load_lists.specs.Places.{packed_in, floats_read, ahead, domain_at_lem, domains_at, level_at_lem, Room, Written, tree_from, CanHold};
 
+use file_levels::{LevelHead, MOST_LEVELS};
 use tree_answer::DDMTree;
 use tree_lists::TreeLists;
-
-// Where a level's row count and its domain count stand, and where its rows begin.
-const ROWS: usize = bytes_in::MARK;
-
-const DOMAINS: usize = ROWS + bytes_in::NUMBER;
-
-const LISTED: usize = DOMAINS + bytes_in::NUMBER;
-
-// The most levels of a tree.
-const MOST_LEVELS: usize = 4;
 
 // Where the next record starts in the file, and where its parts go in the lists: level points, internals, borrowed rows and domain
 // row.
@@ -39,6 +30,9 @@ struct Cursor {
 }
 
 // ---- a domain
+
+// `coarse` stays a flag in these functions: the definition has it as one (`leaf_size dimensions coarse`, `leaf_in dimensions coarse`), and each
+// contract would turn an enum back into it.
 
 // Writes the floats that stand at `at` in a domain's record to the boxes from k on: its box and its cover; before the coarse domain's
 // cover +0 for each bound of the box that it does not have.
@@ -155,16 +149,15 @@ fn put_level(bytes: &[u8], dimensions: usize, c: Cursor, lists: &mut TreeLists<'
     ensures written { Written (level_at_lem dimensions c bytes.now).leaves c result
         (packed_in lists.old dimensions) (packed_in lists.new dimensions) }
 {
-    let rows = bytes_in::number_at(bytes, c.at + ROWS);
-    let count = bytes_in::number_at(bytes, c.at + DOMAINS);
-    let listed = c.at + LISTED;
-    bytes_in::read_numbers(bytes, listed, rows, lists.level_points, c.points);
+    let head = file_levels::level_at(bytes, c.at).unwrap();
+    let LevelHead { rows, domains, .. } = head;
+    bytes_in::read_numbers(bytes, head.rows_at, rows, lists.level_points, c.points);
     let inside = Cursor {
-        at: listed + bytes_in::NUMBER * rows,
+        at: head.next,
         points: c.points + rows,
         ..c
     };
-    put_domains(bytes, dimensions, count == 1, count, inside, lists)
+    put_domains(bytes, dimensions, domains == 1, domains, inside, lists)
 }
 
 // Writes the tree whose levels begin at `at` to the fronts of the lists, and answers with its counts.

@@ -63,10 +63,8 @@ fn send_row(
         × (length active.now ≤ n) × (n + 2 * neighbours ≤ length wholes.old) }
     ensures { Taken points.entry.dimensions points.entry.coordinates.now neighbours active.now p wholes.old wholes.new n result }
 {
-    let mut near = [0usize; NEAREST];
-    let mut far = [0.0f64; NEAREST];
-    let count = nearest_scan::nearest(points, neighbours, active, active[p], &mut near, &mut far);
-    send(&near[..count], p, wholes, n)
+    let near = nearest_scan::nearest::<NEAREST>(points, neighbours, active, active[p]);
+    send(near.found(), p, wholes, n)
 }
 
 // What all active rows send, behind their owners: the answer is where it ends.

@@ -41,7 +41,8 @@ impl<'a> Borrowing<'a> {
     }
 }
 
-// Moves each number of a list in order, once, to the front. The answer is how many there are.
+// Moves each number of a list in order, once, to the front. The answer is how many there are. By hand: `dedup` is a `Vec`'s, and nothing here
+// is on the heap.
 fn drop_repeats(codes: &mut [usize]) -> usize
     requires { Sorted (λ x y. x ≤ y) codes.old }
     ensures { (result ≤ length codes.old) × Distinct codes.old (take result codes.new) }

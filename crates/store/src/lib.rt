@@ -18,9 +18,6 @@ use refusal::Refusal;
 use tree_answer::DDMTree;
 use tree_lists::TreeRead;
 
-// The head's bytes: the settings record's, and the point count's.
-const HEAD: usize = settings_record::SIZE + bytes_in::NUMBER;
-
 // A level's or a domain's bytes before its rows: the mark's, and two counts.
 const COUNTS: usize = bytes_in::MARK + 2 * bytes_in::NUMBER;
 
@@ -42,7 +39,7 @@ fn file_size(
 {
     let point = bytes_in::MARK + bytes_in::FLOAT * dimensions;
     let bounds = bytes_in::FLOAT * boxes::box_width(dimensions);
-    let front = HEAD + n * point;
+    let front = file_front::HEAD + n * point;
     let counts = COUNTS * (levels + domains);
     let numbers = bytes_in::NUMBER * (2 * rows + borrowed);
     let ends = END * domains;

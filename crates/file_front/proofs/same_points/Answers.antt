@@ -1,7 +1,10 @@
 -- `file_front::same_points` meets its contract: before row i, the rows before it agree. Assumes nothing.
-use mathlib.Core.Path.{sym, ◌∙◌}
+use mathlib.Core.Path.{sym, ap, ◌∙◌}
+use Prim.Native.Nat.{◌*◌}
 use native.Mathlib.Omega.{arith}
 use borrow.Author.Rules.{rules}
+use lib.ListN.{length}
+use Rattle.lists.proofs.Put.{part-lent, length_part}
 use Rattle.file_front.proofs.Tested.{head-inside}
 use Rattle.file_front.proofs.PresentPoints.{front-parts, other-count, comparing-start, comparing-listed, comparing-inside, comparing-found, comparing-next, comparing-end}
 use Rattle.file_front.proofs.same_points.Goals as goal
@@ -22,17 +25,27 @@ loop-i-init c =
 pub floats_are-requires : goal.floats_are-requires
 floats_are-requires c =
     let t = c.loop-i.invariant in
-    (comparing-listed t (search rules), omega (arith, comparing-inside t (search rules)))
+    let a = c.args in
+    let cs = a.points.coordinates.now in
+    let d = a.points.dimensions in
+    let listed = comparing-listed t (search rules) in
+    omega (arith, comparing-inside t (search rules), ap length (part-lent cs (c.loop-i.i * d) d), length_part cs (c.loop-i.i * d) d listed)
 
 pub returns-then-not-floats_are : goal.returns-then-not-floats_are
 returns-then-not-floats_are c =
     let t = c.loop-i.invariant in
-    comparing-found t (search rules) c.floats_are.result c.floats_are.ensures c.if-not-floats_are.true
+    let cs = c.args.points.coordinates.now in
+    let d = c.args.points.dimensions in
+    let told = rw (part-lent cs (c.loop-i.i * d) d, length_part cs (c.loop-i.i * d) d (comparing-listed t (search rules))) at c.floats_are.ensures in
+    comparing-found t (search rules) c.floats_are.result told c.if-not-floats_are.true
 
 pub loop-i-preserved : goal.loop-i-preserved
 loop-i-preserved c =
     let t = c.loop-i.invariant in
-    comparing-next t (search rules) c.floats_are.result c.floats_are.ensures c.if-not-floats_are.false c.point_size-size.result c.point_size-size.ensures
+    let cs = c.args.points.coordinates.now in
+    let d = c.args.points.dimensions in
+    let told = rw (part-lent cs (c.loop-i.i * d) d, length_part cs (c.loop-i.i * d) d (comparing-listed t (search rules))) at c.floats_are.ensures in
+    comparing-next t (search rules) c.floats_are.result told c.if-not-floats_are.false c.point_size-size.result c.point_size-size.ensures
 
 pub returns : goal.returns
 returns c = comparing-end c.loop-i.invariant (search rules)
