@@ -7,6 +7,7 @@ ghost use Rattle.std.specs.Float.{binary64};
 ghost use Rattle.std.specs.Float.Ieee.Scale.{finite};
 ghost use Rattle.lists.specs.Lists.{any_of, from, put};
 ghost use Rattle.formats.specs.Bytes.{field, number_at, numbers_at, number_size, float_at, floats_at, float_size, mark_of, mark_size, whole};
+ghost use Rattle.bytes_in.specs.Each.{numbers-each, floats-each};
 
 // The bytes of a record's mark, of a number, and of a float.
 pub const MARK: usize = 2;
@@ -86,23 +87,31 @@ pub fn record_at(input: &[u8], at: usize, size: usize, a: u8, b: u8) -> bool
 // ---- fields one after the other
 
 // What stands in records with a fixed number of bytes: numbers, and floats.
-trait Field: Copy {
+pub trait Field: Copy {
     ghost SIZE: { ℕ };
 
-    // The value in the bytes from a place on.
+    // The value in the bytes from a place on, and so many of them.
     ghost read: { ℕ → List ℕ → Self };
+
+    ghost read_all: { ℕ → ℕ → List ℕ → List Self };
 
     const SIZE: usize;
 
     fn read_at(input: &[u8], at: usize) -> Self
         requires { at + SIZE ≤ length input.now }
         ensures { result ≡ read at input.now };
+
+    ghost each: { (n at : ℕ) (bs : List ℕ) → read_all n at bs ≡ map (λ i. read (at + SIZE * i) bs) (from 0 n) };
 }
 
 impl Field for usize {
     ghost SIZE = { number_size };
 
     ghost read = { number_at };
+
+    ghost read_all = { numbers_at };
+
+    ghost each = { numbers-each };
 
     const SIZE: usize = NUMBER;
 
@@ -116,6 +125,10 @@ impl Field for f64 {
 
     ghost read = { float_at };
 
+    ghost read_all = { floats_at };
+
+    ghost each = { floats-each };
+
     const SIZE: usize = FLOAT;
 
     fn read_at(input: &[u8], at: usize) -> f64 {
@@ -123,30 +136,15 @@ impl Field for f64 {
     }
 }
 
-// Reads `count` fields from `at` on, and stores them from the index k on.
-fn read_fields<T: Field>(input: &[u8], at: usize, count: usize, out: &mut [T], k: usize)
+// Reads `count` numbers or floats from `at` on, and stores them from the index k on. A place and a count, here and below, as the definition
+// has them (`numbers_at count at`): each contract would turn a slice of the bytes back into them.
+pub fn read_fields<T: Field>(input: &[u8], at: usize, count: usize, out: &mut [T], k: usize)
     requires { (at + T.SIZE * count ≤ length input.now) × (k + count ≤ length out.old) }
-    ensures { out.new ≡ put out.old k (map (λ i. T.read (at + T.SIZE * i) input.now) (from 0 count)) }
+    ensures { out.new ≡ put out.old k (T.read_all count at input.now) }
 {
     for i in 0..count {
         out[k + i] = T::read_at(input, at + T::SIZE * i);
     }
-}
-
-// Reads `count` numbers from `at` on, and stores them from the index k on.
-pub fn read_numbers(input: &[u8], at: usize, count: usize, out: &mut [usize], k: usize)
-    requires { (at + number_size * count ≤ length input.now) × (k + count ≤ length out.old) }
-    ensures { out.new ≡ put out.old k (numbers_at count at input.now) }
-{
-    read_fields(input, at, count, out, k);
-}
-
-// The same of floats.
-pub fn read_floats(input: &[u8], at: usize, count: usize, out: &mut [f64], k: usize)
-    requires { (at + float_size * count ≤ length input.now) × (k + count ≤ length out.old) }
-    ensures { out.new ≡ put out.old k (floats_at count at input.now) }
-{
-    read_fields(input, at, count, out, k);
 }
 
 // Whether each of `count` floats from `at` on has bits below `limit`, the sign apart.

@@ -22,7 +22,7 @@ const DOMAINS: usize = ROWS + bytes_in::NUMBER;
 
 const COUNTS: usize = DOMAINS + bytes_in::NUMBER;
 
-// The most levels of a tree.
+// The most levels of a tree. The build has the same number from its own fine levels (levels_loop), of which the loader knows nothing.
 pub const MOST_LEVELS: usize = 4;
 
 // A whole level record: its counts, and where its rows and its domains begin.

@@ -34,7 +34,8 @@ pub struct Fetched {
     pub next: usize,
 }
 
-// How many floats a domain's record has: the bounds of its box, and its cover; the coarse domain has no box.
+// How many floats a domain's record has: the bounds of its box, and its cover; the coarse domain has no box. The flag is the definition's own:
+// `leaf_size dimensions coarse` takes it too.
 pub fn record_floats(dimensions: usize, coarse: bool) -> usize
     requires { dimensions ≤ 3 }
     ensures { result ≡ record_floats_lem dimensions coarse }

@@ -20,7 +20,8 @@ fn size_fits(rows: usize, own: usize, depth: usize) -> bool
     least <= own && own - least <= 1
 }
 
-// Whether the depth of a leaf passes, where the leaf before it is at `least`, and 0 stands for none. The coarse domain is at depth 0.
+// Whether the depth of a leaf passes, where the leaf before it is at `least`, and 0 stands for none. The coarse domain is at depth 0. The flag
+// is the definition's own: `depth_passes_lem coarse` takes it too.
 #[tactic(auto, using(std::proofs::lemmas::Bool::Decides::nat_tests), unfolding(tree_tests::specs::InTurn::depth_passes_lem))]
 pub fn depth_passes(coarse: bool, rows: usize, least: usize, own: usize, depth: usize) -> bool
     ensures { result ≡ depth_passes_lem coarse rows least own depth }

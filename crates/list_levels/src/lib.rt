@@ -24,6 +24,8 @@ pub struct ListsPassed {
     pub borrowed: usize,
 }
 
+// `coarse` stays a flag, here and below: the tests of the definition take the same one, and each contract would turn an enum back into it.
+
 // Whether a level's rows are listed above, and its domain rows pass with these rows listed; where they do, where its borrowed rows end.
 pub fn check_level(
     level_points: &[usize],

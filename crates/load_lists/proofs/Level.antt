@@ -1,5 +1,6 @@
 -- A level at a place of a file: its rows, and where its domains stand. Assumes nothing.
--- Holds: inside, level-stands, level-within, rows-many, rows-read, rows-within, domains-stand, domains-after, domains-room, level-written
+-- Holds: inside, level-stands, level-within, rows-many, rows-read, rows-within, domains-stand, domains-after, domains-room,
+--   level-written
 use mathlib.Core.Path.{◌≡◌, sym, ap, ◌∙◌}
 use mathlib.Core.Bool.{true, ◌&&◌}
 use mathlib.Core.List.{List}

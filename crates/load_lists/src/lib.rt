@@ -51,9 +51,9 @@ fn put_row_floats(
     let floats = packed::row_floats(dimensions);
     if coarse {
         boxes::put_zeros(boxes, k, width);
-        bytes_in::read_floats(bytes, at, packed::COVER, boxes, k + width);
+        bytes_in::read_fields(bytes, at, packed::COVER, boxes, k + width);
     } else {
-        bytes_in::read_floats(bytes, at, floats, boxes, k);
+        bytes_in::read_fields(bytes, at, floats, boxes, k);
     }
 }
 
@@ -76,8 +76,8 @@ fn put_domain(
     let floats = file_reader::record_floats(dimensions, coarse);
     let found = file_reader::fetch_domain(bytes, c.at, bytes_in::FLOAT * floats).unwrap();
     let depth = bytes_in::number_at(bytes, found.depth_at);
-    bytes_in::read_numbers(bytes, found.own_at, found.own, lists.internals, c.own);
-    bytes_in::read_numbers(
+    bytes_in::read_fields(bytes, found.own_at, found.own, lists.internals, c.own);
+    bytes_in::read_fields(
         bytes,
         found.borrowed_at,
         found.borrowed,
@@ -151,7 +151,7 @@ fn put_level(bytes: &[u8], dimensions: usize, c: Cursor, lists: &mut TreeLists<'
 {
     let head = file_levels::level_at(bytes, c.at).unwrap();
     let LevelHead { rows, domains, .. } = head;
-    bytes_in::read_numbers(bytes, head.rows_at, rows, lists.level_points, c.points);
+    bytes_in::read_fields(bytes, head.rows_at, rows, lists.level_points, c.points);
     let inside = Cursor {
         at: head.next,
         points: c.points + rows,

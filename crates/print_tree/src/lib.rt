@@ -24,7 +24,7 @@ fn write_box(fine: bool, bounds: &[f64], out: &mut Writer<'_>)
     }
 }
 
-// The line of the domain number i; the coarse domain has a dash for its box.
+// The line of the domain number i; the coarse domain has a dash for its box, and `fine` is passed on to say so.
 fn write_domain(i: usize, leaf: Leaf<'_>, fine: bool, out: &mut Writer<'_>)
     requires { Takes out.old (domain_line i (leaf_of leaf) (box_part fine (leaf_of leaf).box)) }
     ensures { Appends out.old out.new (domain_line i (leaf_of leaf.entry) (box_part fine (leaf_of leaf.entry).box)) }

@@ -1,7 +1,7 @@
 -- A domain's own rows taken out of two sets, its borrowed rows asked for, and the own rows put back: one law for each way out. Assumes nothing.
--- Holds: bit_in, inside-sets, sets-inside, own-fail, own-markable, borrowed-fail, rows-good, taken-listed, none-listed,
+-- Holds: bit_in, inside-sets, sets-inside, own-fail, own-markable, borrowed-fail, rows-good, asked_in, taken-listed, none-listed,
 --   more_listed
-use mathlib.Core.Path.{◌≡◌, refl, sym, ap, ◌∙◌}
+use mathlib.Core.Path.{◌≡◌, refl, sym, ap, subst, ◌∙◌}
 use mathlib.Core.Bool.{Bool, true, false, not, ◌&&◌, ◌||◌, and-false}
 use Prim.Native.Nat.{ℕ, ◌*◌, ◌<◌}
 use native.Mathlib.Omega.{arith}
@@ -72,6 +72,10 @@ module _ (own left₀ listed₀ left listed : List ℕ) (r : Bool) (inside : Lef
             listed_set = λ _. put_back own q (all-of (λ x. q x ≡ true) own (λ x i. inside-sets inside m n x (in-order-in 0 p own (own-pass p m) x i)))
                 (again (without own q) ((took p q m n).1 t).1);
           }
+
+-- ---- rows asked for in words, and in a list that is the same
+pub asked_in : {ws vs : List ℕ} {b : Bool} (rows : List ℕ) → ws ≡ vs → ((q : ℕ → Bool) → Marked ws q → b ≡ in_order_lem 0 q rows) → (q : ℕ → Bool) → Marked vs q → b ≡ in_order_lem 0 q rows
+asked_in rows e f q m = f q (subst (λ (l : List ℕ). Marked l q) (sym e) m)
 
 -- ---- what is left stays listed
 -- where a row is taken out of both

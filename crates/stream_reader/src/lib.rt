@@ -54,7 +54,7 @@ pub fn read_job(input: &[u8], points: &mut [f64]) -> Result<Job, Refusal>
         if n == MOST_POINTS {
             return Err(Refusal::LargeJob);
         }
-        bytes_in::read_floats(input, at + bytes_in::MARK, d, points, n * d);
+        bytes_in::read_fields(input, at + bytes_in::MARK, d, points, n * d);
         at += size;
         n += 1;
     }

@@ -7,13 +7,13 @@ pub unwrap-found-requires : goal.unwrap-found-requires
 unwrap-found-requires c = let a = c.args in
     stands a.dimensions a.coarse a.bytes.now a.c _ _ c.record_floats-floats.ensures c.fetch_domain.ensures c.requires.dimensions_bound.1
 
-pub read_numbers-requires : goal.read_numbers-requires
-read_numbers-requires c = let a = c.args in
+pub read_fields-requires : goal.read_fields-requires
+read_fields-requires c = let a = c.args in
     let h = found a.dimensions a.coarse a.bytes.now a.c _ _ c.record_floats-floats.ensures (rw c.unwrap-found.ensures at c.fetch_domain.ensures) in
     (h.own-within, own-fits h c.requires.room)
 
-pub read_numbers-requires-2 : goal.read_numbers-requires-2
-read_numbers-requires-2 c = let a = c.args in
+pub read_fields-requires-2 : goal.read_fields-requires-2
+read_fields-requires-2 c = let a = c.args in
     let h = found a.dimensions a.coarse a.bytes.now a.c _ _ c.record_floats-floats.ensures (rw c.unwrap-found.ensures at c.fetch_domain.ensures) in
     (h.borrowed-within, borrowed-fits h c.requires.room)
 
@@ -26,4 +26,4 @@ pub returns-clause-written : goal.returns-clause-written
 returns-clause-written c = let a = c.args in
     let h = found a.dimensions a.coarse a.bytes.now a.c _ _ c.record_floats-floats.ensures (rw c.unwrap-found.ensures at c.fetch_domain.ensures) in
     domain-written h a.lists.now.internals.now a.lists.now.domains.now a.lists.now.boxes.now a.lists.now.borrowed.now _ _ _ _ _ _ c.number_at-depth.ensures.0 c.floats_before-box_at.ensures
-    c.read_numbers.ensures c.read_numbers-2.ensures c.put_row.ensures c.put_row_floats.ensures
+    c.read_fields.ensures c.read_fields-2.ensures c.put_row.ensures c.put_row_floats.ensures

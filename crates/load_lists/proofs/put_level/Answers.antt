@@ -14,8 +14,8 @@ level_at-requires c = let a = c.args in omega (arith, level-within a.dimensions 
 pub unwrap-head-requires : goal.unwrap-head-requires
 unwrap-head-requires c = let a = c.args in c.level_at.ensures.stands ∙ level-stands a.dimensions a.bytes.now a.c c.requires.dimensions_bound.1
 
-pub read_numbers-requires : goal.read_numbers-requires
-read_numbers-requires c = let a = c.args in
+pub read_fields-requires : goal.read_fields-requires
+read_fields-requires c = let a = c.args in
     let whole = c.requires.dimensions_bound.1 in
     let h : HeadHere (drop a.c.at a.bytes.now) a.c.at c.unwrap-head.result = (rw c.unwrap-head.ensures at c.level_at.ensures).parts in
     (rows-within a.dimensions a.bytes.now a.c whole h, omega (arith, c.requires.bytes_in_bounds.0, rows-many a.dimensions a.bytes.now a.c whole h))
@@ -46,6 +46,6 @@ returns c = let a = c.args in
         w.next.0 ∙ domains-after a.dimensions a.bytes.now a.c whole h,
         omega (arith, w.next.1, rows-many a.dimensions a.bytes.now a.c whole h),
       );
-      level_points = w.kept ∙ c.read_numbers.ensures ∙ ap (put a.lists.now.level_points.now a.c.points) (rows-read a.dimensions a.bytes.now a.c whole h);
+      level_points = w.kept ∙ c.read_fields.ensures ∙ ap (put a.lists.now.level_points.now a.c.points) (rows-read a.dimensions a.bytes.now a.c whole h);
       written = level-written a.dimensions a.bytes.now a.c whole h w.written;
     }

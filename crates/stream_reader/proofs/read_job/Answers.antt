@@ -58,8 +58,8 @@ overflow_mul-n c = let turn = c.loop-at in
     let d = c.settings_of-settings.result.dimensions in
     omega (arith, spot turn.n d (omega (arith, turn.invariant.0.few, c.if-n-eq-MOST_POINTS.false)) turn.invariant.0.flat)
 
-pub read_floats-requires : goal.read_floats-requires
-read_floats-requires c = let turn = c.loop-at in
+pub read_fields-requires : goal.read_fields-requires
+read_fields-requires c = let turn = c.loop-at in
     let r = turn.invariant.0 in
     let d = c.settings_of-settings.result.dimensions in
     let room = spot turn.n d (omega (arith, r.few, c.if-n-eq-MOST_POINTS.false)) r.flat in
@@ -85,7 +85,7 @@ pub loop-at-preserved : goal.loop-at-preserved
 loop-at-preserved c = let turn = c.loop-at in (
   reading-more turn.invariant.0 c.loop-at-test.true
       (sym c.record_at.ensures ∙ c.if-not-record_at.false)
-      c.if-n-eq-MOST_POINTS.false _ c.read_floats.ensures (search rules),
+      c.if-n-eq-MOST_POINTS.false _ c.read_fields.ensures (search rules),
   search rules,
 )
 

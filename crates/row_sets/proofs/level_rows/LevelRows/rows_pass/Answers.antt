@@ -7,7 +7,7 @@ use native.Mathlib.Omega.{arith}
 use borrow.Author.Rules.{rules}
 use Rattle.row_sets.specs.Sets.{RowSets}
 use Rattle.row_sets.specs.Tested.{LeftIsListed}
-use Rattle.row_sets.proofs.RowTests.{own-fail, own-markable, borrowed-fail, rows-good, more_listed}
+use Rattle.row_sets.proofs.RowTests.{own-fail, own-markable, borrowed-fail, rows-good, asked_in, more_listed}
 use Rattle.row_sets.proofs.level_rows.LevelRows.rows_pass.Goals as goal
 use Rattle.row_sets.proofs.level_rows.LevelRows.rows_pass.Goals.{then-not-take_rows-via-then-not-take_rows, then-not-take_rows-via-else-not-take_rows+then-not-rows_marked}
 
@@ -26,7 +26,7 @@ returns-then-not-take_rows g c =
     elim c.then-not-take_rows.branch [
       | then-not-take_rows-via-then-not-take_rows w ↦ own-fail _ _ _ _ _ _ kept c.take_rows.ensures w.if-not-take_rows.true _
       | then-not-take_rows-via-else-not-take_rows+then-not-rows_marked w ↦
-          let asked = rw (ap listed_of c.self-2.view_is) at w.rows_marked.ensures in
+          let asked = asked_in _ (ap listed_of c.self-2.view_is) w.rows_marked.ensures in
           borrowed-fail _ _ _ _ _ _ kept c.take_rows.ensures w.if-not-take_rows.false _ _ asked w.if-not-rows_marked.true
     ]
 
@@ -43,6 +43,6 @@ invariant_of-self g c = more_listed _ _ _ _ c.self-3.invariant (search rules) c.
 pub returns : goal.returns
 returns g c =
     let kept = subst Kept c.self.view_is c.self.invariant in
-    let asked = rw (ap listed_of c.self-2.view_is) at c.rows_marked.ensures in
+    let asked = asked_in _ (ap listed_of c.self-2.view_is) c.rows_marked.ensures in
     let again = rw (ap listed_of c.self-3.view_is) at c.mark_rows.ensures in
     rw (ap left_of c.self-3.view_is) (rows-good _ _ _ _ _ _ kept c.take_rows.ensures c.if-not-take_rows.false _ _ asked c.if-not-rows_marked.false _ again)

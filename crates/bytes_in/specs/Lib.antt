@@ -1,0 +1,2 @@
+-- The laws of the trait of fields.
+pub mod Each
