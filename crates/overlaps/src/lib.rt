@@ -39,6 +39,32 @@ impl<'a> Borrowing<'a> {
             count: self.count,
         }
     }
+
+    // Writes what the leaves borrow, by the numbers in any order and with repeats: the rows to the list that takes them, and start and
+    // count to the domain rows. The answer is how many rows there are.
+    fn lend(&mut self, codes: &mut [usize], active: &[usize]) -> usize
+        requires { (length active.now ≤ most_leaves) × (self.old.count ≤ most_leaves) × (row_numbers * (self.old.first + self.old.count) ≤ length self.old.domains.now)
+            × (self.old.at + length codes.old ≤ length self.old.borrowed.now)
+            × ((z : ℕ) → Memᴰ z codes.old → z % most_leaves < length active.now) }
+        ensures same { SameBorrowing self.old self.new }
+        ensures number { (ls : List (List ℕ)) → Encoded self.old.count (length active.now) codes.old ls → result ≡ length (joined ls) }
+        ensures rows { (ls : List (List ℕ)) → Encoded self.old.count (length active.now) codes.old ls
+            → self.new.borrowed.now ≡ put self.old.borrowed.now self.old.at (joined (map (map (λ q. get_or active.now q 0)) ls)) }
+        ensures columns { (ls : List (List ℕ)) → Encoded self.old.count (length active.now) codes.old ls
+            → self.new.domains.now ≡ with_borrowed self.old.at ls self.old.first self.old.domains.now }
+        ensures most { result ≤ length codes.old }
+    {
+        let count = order_once(codes);
+        write_rows(&codes[..count], active, self.borrowed, self.at);
+        write_columns(
+            &codes[..count],
+            self.domains,
+            self.first,
+            self.count,
+            self.at,
+        );
+        count
+    }
 }
 
 // Moves each number of a list in order, once, to the front. The answer is how many there are. By hand: `dedup` is a `Vec`'s, and nothing here
@@ -60,7 +86,8 @@ fn drop_repeats(codes: &mut [usize]) -> usize
     kept
 }
 
-// Writes the row of each number, from `bat` on.
+// Writes the row of each number, from `bat` on. This and `write_columns` take the list that they write, and not the whole value: as methods
+// they would have to promise that the rest of it stays.
 fn write_rows(codes: &[usize], active: &[usize], borrowed: &mut [usize], bat: usize)
     requires { (bat + length codes.now ≤ length borrowed.old) × ((k : ℕ) → k < length codes.now → get_or codes.now k 0 % most_leaves < length active.now) }
     ensures { borrowed.new ≡ put borrowed.old bat (coded_rows active.now codes.now) }
@@ -107,32 +134,6 @@ fn order_once(codes: &mut [usize]) -> usize
     drop_repeats(codes)
 }
 
-// Writes what the leaves borrow, by the numbers in any order and with repeats: the rows to the list that takes them, and start and
-// count to the domain rows. The answer is how many rows there are.
-fn lend(codes: &mut [usize], active: &[usize], leaves: &mut Borrowing<'_>) -> usize
-    requires { (length active.now ≤ most_leaves) × (leaves.old.count ≤ most_leaves) × (row_numbers * (leaves.old.first + leaves.old.count) ≤ length leaves.old.domains.now)
-        × (leaves.old.at + length codes.old ≤ length leaves.old.borrowed.now)
-        × ((z : ℕ) → Memᴰ z codes.old → z % most_leaves < length active.now) }
-    ensures same { SameBorrowing leaves.old leaves.new }
-    ensures number { (ls : List (List ℕ)) → Encoded leaves.old.count (length active.now) codes.old ls → result ≡ length (joined ls) }
-    ensures rows { (ls : List (List ℕ)) → Encoded leaves.old.count (length active.now) codes.old ls
-        → leaves.new.borrowed.now ≡ put leaves.old.borrowed.now leaves.old.at (joined (map (map (λ q. get_or active.now q 0)) ls)) }
-    ensures columns { (ls : List (List ℕ)) → Encoded leaves.old.count (length active.now) codes.old ls
-        → leaves.new.domains.now ≡ with_borrowed leaves.old.at ls leaves.old.first leaves.old.domains.now }
-    ensures most { result ≤ length codes.old }
-{
-    let count = order_once(codes);
-    write_rows(&codes[..count], active, leaves.borrowed, leaves.at);
-    write_columns(
-        &codes[..count],
-        leaves.domains,
-        leaves.first,
-        leaves.count,
-        leaves.at,
-    );
-    count
-}
-
 // The overlap stage of a level. For each active row and each row that it takes with another owner, each owner's leaf borrows the other
 // row. The borrowed rows are written leaf by leaf, and each leaf's start and count to the last two columns of its domain row. The answer
 // is how many borrowed rows there are. `wholes` holds the owners and, behind them, the numbers.
@@ -157,5 +158,5 @@ pub fn overlaps(
     overlap_owners::owners(active, leaves.level(), wholes);
     let a = active.len();
     let end = overlap_pairs::collect(points, neighbours, active, wholes);
-    lend(&mut wholes[a..end], active, leaves)
+    leaves.lend(&mut wholes[a..end], active)
 }

@@ -88,9 +88,9 @@ returns c = let p = c.requires in
       same = search rules;
       number = stage-number d cs a.neighbours a.active.now v.internals.now v.domains.now v.first v.count p.stage W o h U g.result g.ensures r l.result (l.ensures.number ls H);
       borrowed = stage-borrowed d cs a.neighbours a.active.now v.internals.now v.domains.now v.first v.count p.stage W o h U g.result g.ensures r v.borrowed.now
-          l.new.leaves.borrowed.now v.at (l.ensures.rows ls H);
+          l.new.self.borrowed.now v.at (l.ensures.rows ls H);
       domains = stage-domains d cs a.neighbours a.active.now v.internals.now v.domains.now v.first v.count p.stage W o h U g.result g.ensures r
-          l.new.leaves.domains.now v.at (l.ensures.columns ls H);
+          l.new.self.domains.now v.at (l.ensures.columns ls H);
       most = omega (
         arith,
         l.ensures.most,

@@ -1,4 +1,4 @@
--- `overlaps::lend` meets its contract. Assumes nothing.
+-- `overlaps::Borrowing::lend` meets its contract. Assumes nothing.
 use mathlib.Core.Path.{◌≡◌, sym, ap, ◌∙◌}
 use lib.ListN.{length, take}
 use lib.Seq.{length-take-le}
@@ -6,7 +6,7 @@ use Rattle.lists.specs.Lists.{put}
 use Rattle.overlaps.proofs.Lends.{small-lists, distinct-codes, distinct-rows, distinct-length, distinct-inside}
 use native.Mathlib.Omega.{arith}
 use borrow.Author.Rules.{rules}
-use Rattle.overlaps.proofs.lend.Goals as goal
+use Rattle.overlaps.proofs.Borrowing.lend.Goals as goal
 
 pub write_rows-requires : goal.write_rows-requires
 write_rows-requires c = let s = c in
@@ -19,7 +19,7 @@ write_rows-requires c = let s = c in
 pub returns : goal.returns
 returns c = let s = c in
     let a = s.args in
-    let v = a.leaves.now in
+    let v = a.self.now in
     let f = c.order_once-count in
     let N = take f.result f.new.codes in
     let e : length N ≡ f.result = length-take-le f.result f.new.codes (omega (
