@@ -8,7 +8,6 @@ ghost use Rattle.definition.specs.Sampling.{sent_by, leaf_cover};
 ghost use Rattle.definition.specs.Packed.{row_numbers};
 ghost use Rattle.definition.specs.Refusals.{most_points};
 ghost use Rattle.rows.specs.Rows.{GoodRows};
-ghost use Rattle.packed.specs.Reading.{own_at};
 ghost use Rattle.packed.specs.View.{own_of};
 ghost use Rattle.coarse_points.specs.Sent.{sent_rows, sent_covers, counts_at, sent_at, covers_at, SendsUp, LeavesFit, Reordered};
 ghost use Rattle.tree_lists.specs.Lent.{SameRoom};

@@ -2,8 +2,8 @@
 // and the farthest row is chosen. -1 stands for the square of a chosen row: it is below every squared distance.
 #![tactic(auto)]
 
-ghost use Rattle.std.specs.Prelude.{◌≡◌, true, false, ℕ, ◌+◌, ◌<◌, ◌≤◌, length, get_or};
-ghost use Rattle.std.specs.Float.{nan, inf};
+ghost use Rattle.std.specs.Prelude.{◌≡◌, true, ℕ, ◌+◌, ◌<◌, ◌≤◌, length, get_or};
+ghost use Rattle.std.specs.Float.{nan};
 ghost use Rattle.lists.specs.Lists.{put};
 ghost use Rattle.definition.specs.Sampling.{sample, cover_of};
 ghost use Rattle.root_laws.specs.Sorts.{good};
