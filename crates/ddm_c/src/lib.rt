@@ -1,6 +1,7 @@
 // The public functions for C and Rust callers: numbers and slices only. c/ddm.h is their header. Each returns a refusal's
 // number, 0 for none, and writes its place and its values to the slot `result`. A slot that is too short is refused with 11
-// before anything else is looked at, and nothing is written then.
+// before anything else is looked at, and nothing is written then. C passes each list and number by itself, so what the library takes as one
+// value comes here part by part.
 #![tactic(auto)]
 
 ghost use Rattle.std.specs.Prelude.{◌≡◌};

@@ -1,10 +1,11 @@
 -- `ddm::build` meets its contract. Assumes nothing.
-use mathlib.Core.Path.{sym, ◌∙◌}
+use mathlib.Core.Path.{sym, ap, ◌∙◌}
 use native.Mathlib.Omega.{arith}
 use borrow.Author.Rules.{rules}
 use Rattle.std.proofs.lemmas.Result.{err_from_is_err_and}
 use Rattle.definition.specs.Tree.{levels}
 use Rattle.definition.specs.Packed.{counts_of}
+use Rattle.definition.specs.Refusals.{build_verdict}
 use Rattle.definition.specs.Outcome.{build_call, zero_counts}
 use Rattle.config.specs.Params.{settings_of_lem}
 use Rattle.refusal.proofs.Answers.{answer-refused, answer-accepted}
@@ -15,10 +16,12 @@ use Rattle.ddm.proofs.Outcomes.{built}
 use Rattle.ddm.proofs.build.Goals as goal
 
 pub grow-requires : goal.grow-requires
-grow-requires c = record {
-  wholes_value = sym (rw c.lent-lent.ensures at c.in_ok-check_build.ensures);
-  record_room = (omega arith, omega arith);
-}
+grow-requires c = let P = c.args in
+    let s = settings_of_lem P.points.dimensions P.params in
+    record {
+      wholes_value = sym (c.in_ok-check_build.ensures ∙ ap (build_verdict s P.points.coordinates.now) c.lent-lent.ensures);
+      record_room = (omega arith, omega arith);
+    }
 
 pub returns-in_err-check_build-clause-built : goal.returns-in_err-check_build-clause-built
 returns-in_err-check_build-clause-built c = let P = c.args in
@@ -29,7 +32,7 @@ returns-in_err-check_build-clause-built c = let P = c.args in
     let old = lists_in P.lists.now in
     let v = build_call s cs old floats wholes in
     let p = err_from_is_err_and c.from_residual.result c.from_residual.ensures.1 in
-    let e = sym (rw c.lent-lent.ensures at c.in_err-check_build.ensures) in
+    let e = sym (c.in_err-check_build.ensures ∙ ap (build_verdict s cs) c.lent-lent.ensures) in
     rw (p.1, p.2)
     (built s cs old floats wholes (answer-refused counts_given (counts_of (levels s cs)) zero_counts v _ e) (lists-refused v (levels s cs) old _ e)
     (room-refused v _ floats e) (room-refused v _ wholes e))
@@ -42,7 +45,7 @@ returns-clause-built c = let P = c.args in
     let wholes = P.room.now.wholes.now in
     let old = lists_in P.lists.now in
     let v = build_call s cs old floats wholes in
-    let e = sym (rw c.lent-lent.ensures at c.in_ok-check_build.ensures) in
+    let e = sym (c.in_ok-check_build.ensures ∙ ap (build_verdict s cs) c.lent-lent.ensures) in
     let w = c.grow.ensures in
     let lists = whole-lists w.level_points w.internals w.domains w.boxes w.borrowed ∙ lists-accepted v (levels s cs) old e in
     built s cs old floats wholes (answer-accepted counts_given _ (counts_of (levels s cs)) zero_counts v e w.counts) lists

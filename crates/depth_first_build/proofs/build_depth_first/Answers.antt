@@ -1,11 +1,11 @@
 -- `depth_first_build::build_depth_first` meets its contract. Assumes nothing.
-use mathlib.Core.Path.{sym, ◌∙◌}
+use mathlib.Core.Path.{sym, ap₂, ◌∙◌}
 use Rattle.std.proofs.lemmas.Result.{err_from_is_err_and}
 use borrow.Author.Rules.{rules}
 use Rattle.definition.specs.Tree.{levels}
 use Rattle.definition.specs.Packed.{counts_of}
 use Rattle.definition.specs.Outcome.{lent_sizes, zero_counts}
-use Rattle.definition.specs.DepthFirst.{lent_records, depth_first_call}
+use Rattle.definition.specs.DepthFirst.{lent_records, depth_first_verdict, depth_first_call}
 use Rattle.config.specs.Params.{settings_of_lem}
 use Rattle.refusal.proofs.Answers.{answer-refused, answer-accepted}
 use Rattle.tree_answer.specs.Answers.{counts_given}
@@ -23,7 +23,7 @@ grow-requires c = let P = c.args in
     let wholes = P.room.now.wholes.now in
     let old = lists_in P.lists.now in
     let records = records_in P.records.now in
-    let e = sym (rw (c.lent-lent.ensures, c.lent-record_lent.ensures) at c.in_ok-check_depth_first.ensures) in
+    let e = sym (c.in_ok-check_depth_first.ensures ∙ ap₂ (depth_first_verdict s cs) c.lent-lent.ensures c.lent-record_lent.ensures) in
     record {
       wholes_value = both-accepted s cs (lent_sizes old floats wholes) (lent_records records) e;
       record_room = records-room s cs old floats wholes records e;
@@ -39,7 +39,7 @@ returns-in_err-check_depth_first-clause-built c = let P = c.args in
     let records = records_in P.records.now in
     let v = depth_first_call s cs old floats wholes records in
     let p = err_from_is_err_and c.from_residual.result c.from_residual.ensures.1 in
-    let e = sym (rw (c.lent-lent.ensures, c.lent-record_lent.ensures) at c.in_err-check_depth_first.ensures) in
+    let e = sym (c.in_err-check_depth_first.ensures ∙ ap₂ (depth_first_verdict s cs) c.lent-lent.ensures c.lent-record_lent.ensures) in
     rw (p.1, p.2)
     (built-depth-first s cs old floats wholes records (answer-refused counts_given (counts_of (levels s cs)) zero_counts v _ e) (lists-refused v (levels s cs) old _ e)
     (records-refused v s cs (levels s cs) records _ e) (room-refused v _ floats e) (room-refused v _ wholes e))
@@ -53,7 +53,7 @@ returns-clause-built c = let P = c.args in
     let old = lists_in P.lists.now in
     let records = records_in P.records.now in
     let v = depth_first_call s cs old floats wholes records in
-    let e = sym (rw (c.lent-lent.ensures, c.lent-record_lent.ensures) at c.in_ok-check_depth_first.ensures) in
+    let e = sym (c.in_ok-check_depth_first.ensures ∙ ap₂ (depth_first_verdict s cs) c.lent-lent.ensures c.lent-record_lent.ensures) in
     let w = c.grow.ensures in
     let lists = whole-lists w.level_points w.internals w.domains w.boxes w.borrowed ∙ lists-accepted v (levels s cs) old e in
     let taken = whole-records w.cuts w.planes ∙ records-accepted v s cs (levels s cs) records e in
