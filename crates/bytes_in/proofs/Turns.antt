@@ -1,25 +1,13 @@
--- A loop over the numbers below a count: what it stores, and what it has tested. Assumes nothing.
--- Holds: stored-none, stored_more, none-tested, none_more, one_found, any-map
-use mathlib.Core.Path.{◌≡◌, refl, sym, ap, ap₂}
+-- A loop over the numbers below a count: what it has tested. Assumes nothing.
+-- Holds: none-tested, none_more, one_found, any-map
+use mathlib.Core.Path.{◌≡◌, refl, ap₂}
 use mathlib.Core.Bool.{Bool, true, false, ◌||◌}
 use Prim.Native.Nat.{ℕ, ◌+◌, ◌<◌}
 use native.Mathlib.Omega.{arith}
 use mathlib.Core.List.{List, [], ◌∷◌, map}
-use lib.ListN.{length, set}
-use Rattle.lists.specs.Lists.{any_of, from, put}
-use Rattle.lists.proofs.Put.{put-nil, put-snoc}
-use Rattle.lists.proofs.From.{mem-from, below_suc, map-below-suc, length-map-from}
+use Rattle.lists.specs.Lists.{any_of, from}
+use Rattle.lists.proofs.From.{mem-from, below_suc}
 use Rattle.lists.proofs.Members.{mem-any, any_append}
-
-module _ {A : Type 0} (f : ℕ → A) (l : List A) (k : ℕ) where
-  pub stored-none : l ≡ put l k (map f (from 0 0))
-  unfolding from
-  stored-none = sym (put-nil l k)
-
-  pub stored_more : (m : List A) (i : ℕ) (x : A) → m ≡ put l k (map f (from 0 i)) → k + i < length l → x ≡ f i
-      → set m (k + i) x ≡ put l k (map f (from 0 (i + 1)))
-  stored_more m i x e h g =
-      rw (e, g, map-below-suc f i) (put-snoc l k (map f (from 0 i)) (f i) (k + i) (ap (λ (j : ℕ). k + j) (length-map-from f 0 i)) h)
 
 module _ (p : ℕ → Bool) where
   pub none-tested : any_of p (from 0 0) ≡ false

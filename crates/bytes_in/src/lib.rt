@@ -5,7 +5,7 @@ ghost use Rattle.std.specs.Prelude.{◌≡◌, not, ℕ, List, map, ◌+◌, ◌
 ghost use Rattle.std.specs.Float.Ieee.{of_bits, is_nan};
 ghost use Rattle.std.specs.Float.{binary64};
 ghost use Rattle.std.specs.Float.Ieee.Scale.{finite};
-ghost use Rattle.lists.specs.Lists.{any_of, from, put};
+ghost use Rattle.lists.specs.Lists.{any_of, from};
 ghost use Rattle.formats.specs.Bytes.{field, number_at, numbers_at, number_size, float_at, floats_at, float_size, mark_of, mark_size, whole};
 ghost use Rattle.bytes_in.specs.Each.{numbers-each, floats-each};
 
@@ -136,16 +136,18 @@ impl Field for f64 {
     }
 }
 
-// Reads `count` numbers or floats from `at` on, and stores them from the index k on. A place and a count, here and below, as the definition
-// has them (`numbers_at count at`): each contract would turn a slice of the bytes back into them.
-pub fn read_fields<T: Field>(input: &[u8], at: usize, count: usize, out: &mut [T], k: usize)
-    requires { (at + T.SIZE * count ≤ length input.now) × (k + count ≤ length out.old) }
-    ensures { out.new ≡ put out.old k (T.read_all count at input.now) }
+// Reads the numbers or floats that stand from `at` on, as many as `out` has places.
+pub fn read_fields<T: Field>(input: &[u8], at: usize, out: &mut [T])
+    requires { at + T.SIZE * length out.old ≤ length input.now }
+    ensures { out.new ≡ T.read_all (length out.old) at input.now }
 {
-    for i in 0..count {
-        out[k + i] = T::read_at(input, at + T::SIZE * i);
+    for (i, x) in out.iter_mut().enumerate() {
+        *x = T::read_at(input, at + T::SIZE * i);
     }
 }
+
+// A place and a count, here and below, as the definition has them (`floats_at count at`): each contract would turn a slice of the bytes
+// back into them.
 
 // Whether each of `count` floats from `at` on has bits below `limit`, the sign apart.
 fn bits_below(limit: u64, input: &[u8], at: usize, count: usize) -> bool

@@ -51,9 +51,10 @@ fn put_row_floats(
     let floats = packed::row_floats(dimensions);
     if coarse {
         boxes::put_zeros(boxes, k, width);
-        bytes_in::read_fields(bytes, at, packed::COVER, boxes, k + width);
+        let cover = k + width;
+        bytes_in::read_fields(bytes, at, &mut boxes[cover..cover + packed::COVER]);
     } else {
-        bytes_in::read_fields(bytes, at, floats, boxes, k);
+        bytes_in::read_fields(bytes, at, &mut boxes[k..k + floats]);
     }
 }
 
@@ -76,13 +77,13 @@ fn put_domain(
     let floats = file_reader::record_floats(dimensions, coarse);
     let found = file_reader::fetch_domain(bytes, c.at, bytes_in::FLOAT * floats).unwrap();
     let depth = bytes_in::number_at(bytes, found.depth_at);
-    bytes_in::read_fields(bytes, found.own_at, found.own, lists.internals, c.own);
+    let own_end = c.own + found.own;
+    let borrowed_end = c.borrowed + found.borrowed;
+    bytes_in::read_fields(bytes, found.own_at, &mut lists.internals[c.own..own_end]);
     bytes_in::read_fields(
         bytes,
         found.borrowed_at,
-        found.borrowed,
-        lists.borrowed,
-        c.borrowed,
+        &mut lists.borrowed[c.borrowed..borrowed_end],
     );
     let row = packed::DomainRow {
         internal_start: c.own,
@@ -104,8 +105,8 @@ fn put_domain(
     Cursor {
         at: found.next,
         points: c.points,
-        own: c.own + found.own,
-        borrowed: c.borrowed + found.borrowed,
+        own: own_end,
+        borrowed: borrowed_end,
         row: c.row + 1,
     }
 }
@@ -151,10 +152,11 @@ fn put_level(bytes: &[u8], dimensions: usize, c: Cursor, lists: &mut TreeLists<'
 {
     let head = file_levels::level_at(bytes, c.at).unwrap();
     let LevelHead { rows, domains, .. } = head;
-    bytes_in::read_fields(bytes, head.rows_at, rows, lists.level_points, c.points);
+    let end = c.points + rows;
+    bytes_in::read_fields(bytes, head.rows_at, &mut lists.level_points[c.points..end]);
     let inside = Cursor {
         at: head.next,
-        points: c.points + rows,
+        points: end,
         ..c
     };
     put_domains(bytes, dimensions, domains == 1, domains, inside, lists)

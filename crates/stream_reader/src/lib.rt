@@ -54,7 +54,8 @@ pub fn read_job(input: &[u8], points: &mut [f64]) -> Result<Job, Refusal>
         if n == MOST_POINTS {
             return Err(Refusal::LargeJob);
         }
-        bytes_in::read_fields(input, at + bytes_in::MARK, d, points, n * d);
+        let row = n * d;
+        bytes_in::read_fields(input, at + bytes_in::MARK, &mut points[row..row + d]);
         at += size;
         n += 1;
     }

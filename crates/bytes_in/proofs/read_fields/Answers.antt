@@ -1,27 +1,31 @@
--- `bytes_in::read_fields` meets its contract. Assumes nothing.
-use Rattle.bytes_in.proofs.Turns.{stored-none, stored_more}
-use mathlib.Core.Path.{◌≡◌, sym, ap, ◌∙◌}
+-- `bytes_in::read_fields` meets its contract. The loop's invariant: the places passed are written. Assumes nothing.
+use mathlib.Core.Path.{◌≡◌, refl, sym, ap, ◌∙◌}
 use mathlib.Core.List.{map}
-use Rattle.lists.specs.Lists.{from, put}
+use lib.ListN.{length}
+use lib.Seq.{take_all}
 use borrow.Author.Rules.{rules}
 use Prim.Native.Nat.{ℕ, ◌+◌, ◌*◌}
 use native.Mathlib.Omega.{arith}
+use Rattle.lists.specs.Lists.{from}
+use Rattle.lists.proofs.From.{fill_more}
 use Rattle.bytes_in.proofs.read_fields.Goals as goal
 
 pub loop-i-init : goal.loop-i-init
-loop-i-init g c = stored-none (λ i. g.T.Field.read (c.args.at + g.T.Field.SIZE * i) c.args.input.now) c.args.out.now c.args.k
+unfolding from
+loop-i-init g c = refl
 
 pub loop-i-preserved : goal.loop-i-preserved
 loop-i-preserved g c =
     let a = c.args in
-    let i = c.loop-i.i in
-    let here = c.read_at.ensures ∙ ap (λ (s : ℕ). g.T.Field.read (a.at + s * i) a.input.now) c.SIZE.ensures in
-    stored_more (λ j. g.T.Field.read (a.at + g.T.Field.SIZE * j) a.input.now) a.out.now a.k _ i _ c.loop-i.invariant
-    (omega (arith, c.requires.1, c.loop-i-test.true)) here
+    let l = c.loop-i in
+    let here = c.read_at.ensures ∙ ap (λ (s : ℕ). g.T.Field.read (a.at + s * l.i) a.input.now) c.SIZE.ensures in
+    fill_more (λ j. g.T.Field.read (a.at + g.T.Field.SIZE * j) a.input.now) l.out l.i _ (omega arith) here l.invariant
 
 pub returns : goal.returns
 returns g c =
     let a = c.args in
-    let all : c.loop-i.i ≡ a.count = search rules in
-    c.loop-i.invariant ∙ ap (λ (n : ℕ). put a.out.now a.k (map (λ i. g.T.Field.read (a.at + g.T.Field.SIZE * i) a.input.now) (from 0 n))) all
-    ∙ ap (put a.out.now a.k) (sym (g.met.T.Field.each a.count a.at a.input.now))
+    let l = c.loop-i in
+    let all : l.i ≡ length l.out = search rules in
+    sym (take_all l.i l.out (omega arith)) ∙ l.invariant
+    ∙ ap (λ (n : ℕ). map (λ i. g.T.Field.read (a.at + g.T.Field.SIZE * i) a.input.now) (from 0 n)) (omega arith)
+    ∙ sym (g.met.T.Field.each _ a.at a.input.now)

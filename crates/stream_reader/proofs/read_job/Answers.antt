@@ -1,8 +1,10 @@
 -- `stream_reader::read_job` meets its contract. Assumes nothing.
 use Rattle.stream_reader.proofs.Records.{job-broken, whole_long, job-low, job-high, begun, reading-cut, reading-full, spot, reading-more, reading-over, reading-done}
 use Rattle.bytes_in.proofs.Bytes.{record-room}
+use Rattle.bytes_in.proofs.Fields.{lent_many, floats-back}
 use Rattle.formats.specs.Stream.{point_mark, point_size_lem}
 use mathlib.Core.Path.{refl, sym, ◌∙◌}
+use Prim.Native.Nat.{◌*◌}
 use borrow.Author.Rules.{rules}
 use native.Mathlib.Omega.{arith}
 use Rattle.stream_reader.proofs.read_job.Goals as goal
@@ -53,8 +55,8 @@ returns-then-n-eq-MOST_POINTS c = record {
   within = tt;
 }
 
-pub overflow_mul-n : goal.overflow_mul-n
-overflow_mul-n c = let turn = c.loop-at in
+pub overflow_mul-row : goal.overflow_mul-row
+overflow_mul-row c = let turn = c.loop-at in
     let d = c.settings_of-settings.result.dimensions in
     omega (arith, spot turn.n d (omega (arith, turn.invariant.0.few, c.if-n-eq-MOST_POINTS.false)) turn.invariant.0.flat)
 
@@ -65,7 +67,7 @@ read_fields-requires c = let turn = c.loop-at in
     let room = spot turn.n d (omega (arith, r.few, c.if-n-eq-MOST_POINTS.false)) r.flat in
     let long = record-room point_mark (point_size_lem d) turn.at c.args.input.now
     r.within (sym c.record_at.ensures ∙ c.if-not-record_at.false) in
-    (omega arith, omega (arith, r.room))
+    omega (arith, lent_many c.loop-at.points (turn.n * d) d (omega (arith, r.room)))
 
 pub overflow_add-at-in-loop-at : goal.overflow_add-at-in-loop-at
 overflow_add-at-in-loop-at c = let start = c in
@@ -82,12 +84,15 @@ pub loop-at-smaller : goal.loop-at-smaller
 loop-at-smaller c = omega (arith, c.loop-at-test.true)
 
 pub loop-at-preserved : goal.loop-at-preserved
-loop-at-preserved c = let turn = c.loop-at in (
-  reading-more turn.invariant.0 c.loop-at-test.true
-      (sym c.record_at.ensures ∙ c.if-not-record_at.false)
-      c.if-n-eq-MOST_POINTS.false _ c.read_fields.ensures (search rules),
-  search rules,
-)
+loop-at-preserved c = let turn = c.loop-at in
+    let r = turn.invariant.0 in
+    let d = c.settings_of-settings.result.dimensions in
+    let room = spot turn.n d (omega (arith, r.few, c.if-n-eq-MOST_POINTS.false)) r.flat in (
+      reading-more turn.invariant.0 c.loop-at-test.true
+          (sym c.record_at.ensures ∙ c.if-not-record_at.false)
+          c.if-n-eq-MOST_POINTS.false _ (floats-back (turn.n * d) d _ _ turn.points (omega (arith, r.room)) c.read_fields.ensures) (search rules),
+      search rules,
+    )
 
 pub returns-then-settings-gt-MOST_NEIGHBOURS : goal.returns-then-settings-gt-MOST_NEIGHBOURS
 returns-then-settings-gt-MOST_NEIGHBOURS c = record {
