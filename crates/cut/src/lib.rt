@@ -8,7 +8,7 @@ ghost use Rattle.definition.specs.Cut.{longest_axis_lem, plane};
 ghost use Rattle.rows.specs.Rows.{Inside, GoodRows};
 ghost use Rattle.halving.specs.Cuts.{halved};
 
-use points::Points;
+use points::{Column, Points};
 
 // Where a domain is cut: the axis, and the coordinate of the right row that comes first.
 #[derive(Clone, Copy)]
@@ -18,11 +18,11 @@ pub struct Plane {
 }
 
 // The rounded extent of the rows on one axis.
-fn extent_on(points: Points<'_>, axis: usize, rows: &[usize]) -> f64
-    requires { (axis < points.dimensions) × (0 < length rows.now) × All (Inside points.dimensions points.coordinates.now) rows.now }
-    ensures { result ≡ extent points.entry.dimensions points.entry.coordinates.now rows.now axis }
+fn extent_on(column: Column<'_>, rows: &[usize]) -> f64
+    requires { (column.axis < column.points.dimensions) × (0 < length rows.now) × All (Inside column.points.dimensions column.points.coordinates.now) rows.now }
+    ensures { result ≡ extent column.entry.points.dimensions column.entry.points.coordinates.now rows.now column.entry.axis }
 {
-    extents::upper_bound(points, axis, rows) - extents::lower_bound(points, axis, rows)
+    extents::upper_bound(column, rows) - extents::lower_bound(column, rows)
 }
 
 // The first axis with the longest extent of the rows.
@@ -31,9 +31,9 @@ pub fn longest_axis(points: Points<'_>, rows: &[usize]) -> usize
     ensures { result ≡ longest_axis_lem points.entry.dimensions points.entry.coordinates.now rows.now }
 {
     let mut longest = 0;
-    let mut e = extent_on(points, 0, rows);
+    let mut e = extent_on(points.column(0), rows);
     for axis in 1..points.dimensions {
-        let v = extent_on(points, axis, rows);
+        let v = extent_on(points.column(axis), rows);
         if e < v {
             longest = axis;
             e = v;
@@ -52,7 +52,8 @@ pub fn cut_stretch(points: Points<'_>, rows: &mut [usize], room: &mut [usize]) -
     ensures plane { (result.axis ≡ longest_axis_lem points.entry.dimensions points.entry.coordinates.now rows.old) × (result.value ≡ plane points.entry.dimensions points.entry.coordinates.now rows.old) }
 {
     let axis = longest_axis(points, rows);
-    let row = halving::halves(points, axis, rows, room);
-    let value = points.coordinate(row, axis);
+    let column = points.column(axis);
+    let row = halving::halves(column, rows, room);
+    let value = column.at(row);
     Plane { axis, value }
 }

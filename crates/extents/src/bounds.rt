@@ -1,31 +1,24 @@
 // The extents of some rows. Of equal zeros the sign met first stays.
 ghost use Rattle.std.specs.Prelude.{◌≡◌, Bool, ◌≤◌, ◌<◌, Float, length};
 ghost use Rattle.lists.specs.Ascends.{All};
-ghost use Rattle.definition.specs.Points.{coordinate, column, lower_bound_lem, upper_bound_lem, extents};
+ghost use Rattle.definition.specs.Points.{lower_bound_lem, upper_bound_lem, extents};
 ghost use Rattle.rows.specs.Rows.{Inside};
+ghost use Rattle.points.specs.Columns.{column_of};
 ghost use Rattle.boxes.specs.Boxes.{floats_of};
 ghost use Rattle.extents.specs.Bests.{Decides, best_of};
 
 use boxes::Extents;
-use points::Points;
-
-// The coordinate of a row on one axis.
-fn coordinate_of(points: Points<'_>, axis: usize, row: usize) -> f64
-    requires { (axis < points.dimensions) × Inside points.dimensions points.coordinates.now row }
-    ensures { result ≡ coordinate points.entry.dimensions points.entry.coordinates.now row axis }
-{
-    points.coordinate(row, axis)
-}
+use points::{Column, Points};
 
 // The first coordinate of the rows on one axis that no other is better than.
-fn bound<F: Fn(f64, f64) -> bool>(points: Points<'_>, axis: usize, rows: &[usize], better: F) -> f64
-    requires rows { (axis < points.dimensions) × (0 < length rows.now) × All (Inside points.dimensions points.coordinates.now) rows.now }
+fn bound<F: Fn(f64, f64) -> bool>(column: Column<'_>, rows: &[usize], better: F) -> f64
+    requires rows { (column.axis < column.points.dimensions) × (0 < length rows.now) × All (Inside column.points.dimensions column.points.coordinates.now) rows.now }
     requires callable { F.IsAlwaysCallable better }
-    ensures { (b : Float → Float → Bool) → Decides F.Fn better b → result ≡ best_of b (column points.entry.dimensions points.entry.coordinates.now rows.now axis) }
+    ensures { (b : Float → Float → Bool) → Decides F.Fn better b → result ≡ best_of b (column_of column.entry rows.now) }
 {
-    let mut best = coordinate_of(points, axis, rows[0]);
+    let mut best = column.at(rows[0]);
     for &row in &rows[1..] {
-        let v = coordinate_of(points, axis, row);
+        let v = column.at(row);
         if better(v, best) {
             best = v;
         }
@@ -34,19 +27,19 @@ fn bound<F: Fn(f64, f64) -> bool>(points: Points<'_>, axis: usize, rows: &[usize
 }
 
 // The least coordinate of the rows on one axis.
-pub fn lower_bound(points: Points<'_>, axis: usize, rows: &[usize]) -> f64
-    requires { (axis < points.dimensions) × (0 < length rows.now) × All (Inside points.dimensions points.coordinates.now) rows.now }
-    ensures { result ≡ lower_bound_lem points.entry.dimensions points.entry.coordinates.now rows.now axis }
+pub fn lower_bound(column: Column<'_>, rows: &[usize]) -> f64
+    requires { (column.axis < column.points.dimensions) × (0 < length rows.now) × All (Inside column.points.dimensions column.points.coordinates.now) rows.now }
+    ensures { result ≡ lower_bound_lem column.entry.points.dimensions column.entry.points.coordinates.now rows.now column.entry.axis }
 {
-    bound(points, axis, rows, |v, w| v < w)
+    bound(column, rows, |v, w| v < w)
 }
 
 // The greatest coordinate of the rows on one axis.
-pub fn upper_bound(points: Points<'_>, axis: usize, rows: &[usize]) -> f64
-    requires { (axis < points.dimensions) × (0 < length rows.now) × All (Inside points.dimensions points.coordinates.now) rows.now }
-    ensures { result ≡ upper_bound_lem points.entry.dimensions points.entry.coordinates.now rows.now axis }
+pub fn upper_bound(column: Column<'_>, rows: &[usize]) -> f64
+    requires { (column.axis < column.points.dimensions) × (0 < length rows.now) × All (Inside column.points.dimensions column.points.coordinates.now) rows.now }
+    ensures { result ≡ upper_bound_lem column.entry.points.dimensions column.entry.points.coordinates.now rows.now column.entry.axis }
 {
-    bound(points, axis, rows, |v, w| w < v)
+    bound(column, rows, |v, w| w < v)
 }
 
 // The box of the rows: their least and greatest coordinate on each axis.
@@ -57,8 +50,9 @@ pub fn get_pointarray_extents(points: Points<'_>, rows: &[usize]) -> Extents
     let mut lower = [0.0; 3];
     let mut upper = [0.0; 3];
     for axis in 0..points.dimensions {
-        lower[axis] = lower_bound(points, axis, rows);
-        upper[axis] = upper_bound(points, axis, rows);
+        let column = points.column(axis);
+        lower[axis] = lower_bound(column, rows);
+        upper[axis] = upper_bound(column, rows);
     }
     Extents {
         lower,

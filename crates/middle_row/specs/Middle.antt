@@ -7,6 +7,7 @@ use Rattle.definition.specs.Points.{coordinate}
 use Rattle.definition.specs.Keys.{Key, keyed, before, key_at}
 use Rattle.argsort.specs.Rows.{key_on}
 use Rattle.rows.specs.Rows.{GoodRows}
+use Rattle.points.specs.declared.Column.{Column}
 
 -- the rows with their coordinates on the axis
 abbrev pub keys_on : ℕ → List Float → ℕ → List ℕ → List Key
@@ -45,3 +46,13 @@ pub record Narrows (d : ℕ) (cs : List Float) (axis : ℕ) (rows : List ℕ) (k
   pub below : j < n
   pub good : GoodRows d cs (take n after)
   pub leads : (q : ℕ) → Ranked d cs axis (take n after) q j → Ranked d cs axis rows q k
+
+-- ---- the same of a column as lent
+
+-- m is the middle row of the rows, by the column
+abbrev pub MiddleIn : Column → List ℕ → ℕ → Type 0
+MiddleIn c rows m = MiddleRow c.points.dimensions c.points.coordinates.now c.axis rows m
+
+-- whether row i comes before row p, or after it, by the column
+abbrev pub side_in : Column → ℕ → Bool → ℕ → Bool
+side_in c p low i = on_side c.points.dimensions c.points.coordinates.now c.axis p low i

@@ -1,22 +1,24 @@
 // The middle row of a list of rows, found without sorting them all.
 #![tactic(auto)]
 
-ghost use Rattle.std.specs.Prelude.{◌≡◌, ℕ, Bool, true, ◌+◌, ◌*◌, ◌≤◌, ◌<◌, length};
+ghost use Rattle.std.specs.Prelude.{◌≡◌, ℕ, Bool, true, ◌≤◌, ◌<◌, length};
 ghost use Rattle.lists.specs.Ascends.{All};
 ghost use Rattle.lists.specs.Lists.{count, keep, put};
-ghost use Rattle.rows.specs.Rows.{FiniteOn, GoodRows};
-ghost use Rattle.middle_row.specs.Middle.{MiddleRow, on_side, Tells, Round, Narrows};
+ghost use Rattle.rows.specs.Rows.{GoodRows};
+ghost use Rattle.points.specs.Columns.{HasRow};
+ghost use Rattle.argsort.specs.Rows.{FiniteIn};
+ghost use Rattle.middle_row.specs.Middle.{MiddleIn, side_in, Tells, Round, Narrows};
 
-use points::Points;
+use points::Column;
 
 // How many of the rows come before row p.
-fn count_before(points: Points<'_>, axis: usize, rows: &[usize], p: usize) -> usize
-    requires { FiniteOn points.dimensions points.coordinates.now axis rows.now × (p * points.dimensions + axis < length points.coordinates.now) }
-    ensures { result ≡ count (on_side points.entry.dimensions points.entry.coordinates.now axis p true) rows.now }
+fn count_before(column: Column<'_>, rows: &[usize], p: usize) -> usize
+    requires { FiniteIn column rows.now × HasRow column p }
+    ensures { result ≡ count (side_in column.entry p true) rows.now }
 {
     let mut n = 0;
     for &r in rows {
-        if argsort::comes_before(points, axis, r, p) {
+        if argsort::comes_before(column, r, p) {
             n += 1;
         }
     }
@@ -49,21 +51,21 @@ struct Search {
 
 // One round of the search for the row with k others before it: the rows on the side of the row at the index `at`, or that row alone where
 // it is the one looked for.
-fn narrow(points: Points<'_>, axis: usize, rows: &mut [usize], k: usize, at: usize) -> Search
-    requires { Round points.dimensions points.coordinates.now axis rows.old k at }
-    ensures { Narrows points.entry.dimensions points.entry.coordinates.now axis rows.old k rows.new result.count result.rank }
+fn narrow(column: Column<'_>, rows: &mut [usize], k: usize, at: usize) -> Search
+    requires { Round column.points.dimensions column.points.coordinates.now column.axis rows.old k at }
+    ensures { Narrows column.entry.points.dimensions column.entry.points.coordinates.now column.entry.axis rows.old k rows.new result.count result.rank }
 {
     let p = rows[at];
-    let c = count_before(points, axis, rows, p);
+    let c = count_before(column, rows, p);
     if c == k {
         rows[0] = p;
         return Search { count: 1, rank: 0 };
     }
     if k < c {
-        let count = keep_front(rows, |r| argsort::comes_before(points, axis, r, p));
+        let count = keep_front(rows, |r| argsort::comes_before(column, r, p));
         return Search { count, rank: k };
     }
-    let count = keep_front(rows, |r| argsort::comes_before(points, axis, p, r));
+    let count = keep_front(rows, |r| argsort::comes_before(column, p, r));
     Search {
         count,
         rank: k - c - 1,
@@ -75,9 +77,9 @@ fn narrow(points: Points<'_>, axis: usize, rows: &mut [usize], k: usize, at: usi
 // right one where the coordinates ascend with the rows, and the later ones at rows here and there, so that no usual order of the
 // points is a bad one. The rounds look at no more than 8 rows for each row of the list. The rows that are left after them, or 32 of
 // them or fewer, are sorted.
-pub fn middle(points: Points<'_>, axis: usize, rows: &mut [usize]) -> usize
-    requires { (axis < points.dimensions) × (1 ≤ length rows.old) × GoodRows points.dimensions points.coordinates.now rows.old }
-    ensures { MiddleRow points.entry.dimensions points.entry.coordinates.now axis rows.old result }
+pub fn middle(column: Column<'_>, rows: &mut [usize]) -> usize
+    requires { (column.axis < column.points.dimensions) × (1 ≤ length rows.old) × GoodRows column.points.dimensions column.points.coordinates.now rows.old }
+    ensures { MiddleIn column.entry rows.old result }
 {
     let count = rows.len();
     let mut s = Search {
@@ -91,8 +93,8 @@ pub fn middle(points: Points<'_>, axis: usize, rows: &mut [usize]) -> usize
         let at = (s.count / 2 + round * 2654435761) % s.count;
         left -= s.count;
         round += 1;
-        s = narrow(points, axis, &mut rows[..s.count], s.rank, at);
+        s = narrow(column, &mut rows[..s.count], s.rank, at);
     }
-    argsort::argsort(points, axis, &mut rows[..s.count]);
+    argsort::argsort(column, &mut rows[..s.count]);
     rows[s.rank]
 }

@@ -1,8 +1,9 @@
-// The points of a build, as one value: their coordinates and the number of axes.
+// The points of a build, as one value: their coordinates and the number of axes; and their coordinates on one axis.
 #![tactic(auto)]
 
 ghost use Rattle.std.specs.Prelude.{◌≡◌, ◌+◌, ◌*◌, ◌<◌, length};
 ghost use Rattle.definition.specs.Points.{coordinate};
+ghost use Rattle.points.specs.Columns.{HasRow, value_of};
 
 // The points as they are lent: the coordinates of the first one, then those of the second, and so on, `dimensions` of them for each. They are
 // passed by value: a contract reads `points.coordinates.now` in a `requires`, and `points.entry.coordinates.now` in an `ensures`.
@@ -12,6 +13,14 @@ pub struct Points<'a> {
     pub dimensions: usize,
 }
 
+// The coordinates of the points on one axis. They are passed by value, as the points are. A contract reads them by specs/Columns.antt:
+// `value_of column i` in a `requires`, and `value_of column.entry i` in an `ensures`.
+#[derive(Clone, Copy)]
+pub struct Column<'a> {
+    pub points: Points<'a>,
+    pub axis: usize,
+}
+
 impl<'a> Points<'a> {
     // The coordinate of a row on one axis.
     pub fn coordinate(self, row: usize, axis: usize) -> f64
@@ -19,5 +28,21 @@ impl<'a> Points<'a> {
         ensures { result ≡ coordinate self.entry.dimensions self.entry.coordinates.now row axis }
     {
         self.coordinates[row * self.dimensions + axis]
+    }
+    // The coordinates on one axis.
+    pub fn column(self, axis: usize) -> Column<'a>
+        ensures { result ≡ record { points = self.entry; axis = axis } }
+    {
+        Column { points: self, axis }
+    }
+}
+
+impl<'a> Column<'a> {
+    // The coordinate of a row.
+    pub fn at(self, row: usize) -> f64
+        requires { HasRow self row }
+        ensures { result ≡ value_of self.entry row }
+    {
+        self.points.coordinate(row, self.axis)
     }
 }

@@ -7,16 +7,16 @@ ghost use Rattle.definition.specs.Sampling.{centroid, seed_of};
 ghost use Rattle.rows.specs.Rows.{GoodRows};
 
 use distances::LocalIdx;
-use points::Points;
+use points::{Column, Points};
 
 // The centroid of the rows on one axis: the sum in row order, divided by the count.
-fn centroid_axis(points: Points<'_>, rows: &[usize], axis: usize) -> f64
-    requires { GoodRows points.dimensions points.coordinates.now rows.now × (axis < points.dimensions) }
-    ensures { result ≡ centroid points.entry.dimensions points.entry.coordinates.now rows.now axis }
+fn centroid_axis(column: Column<'_>, rows: &[usize]) -> f64
+    requires { GoodRows column.points.dimensions column.points.coordinates.now rows.now × (column.axis < column.points.dimensions) }
+    ensures { result ≡ centroid column.entry.points.dimensions column.entry.points.coordinates.now rows.now column.entry.axis }
 {
     let mut sum = 0.0;
     for &row in rows {
-        sum += points.coordinate(row, axis);
+        sum += column.at(row);
     }
     sum / rows.len() as f64
 }
@@ -28,7 +28,7 @@ fn get_centroid(points: Points<'_>, rows: &[usize]) -> [f64; 3]
 {
     let mut center = [0.0; 3];
     for axis in 0..points.dimensions {
-        center[axis] = centroid_axis(points, rows, axis);
+        center[axis] = centroid_axis(points.column(axis), rows);
     }
     center
 }

@@ -9,18 +9,21 @@ longest_axis-axis-requires c = let p = c.requires in (p.0, p.1, good-inside _ p.
 
 pub halves-row-requires : goal.halves-row-requires
 halves-row-requires c = let p = c.requires in
-    (axis_in p.0 p.2 c.longest_axis-axis.ensures, p.1, p.2, p.3)
+    rw c.column-column.ensures (axis_in p.0 p.2 c.longest_axis-axis.ensures, p.1, p.2, p.3)
 
-pub coordinate-value-requires : goal.coordinate-value-requires
-coordinate-value-requires c = let p = c.requires in value_in p.0 p.2 c.longest_axis-axis.ensures c.halves-row.ensures.row
+pub at-value-requires : goal.at-value-requires
+at-value-requires c = let p = c.requires in
+    let e = c.column-column.ensures in
+    rw e (value_in p.0 p.2 c.longest_axis-axis.ensures (rw e at c.halves-row.ensures.row))
 
 pub returns : goal.returns
 returns c = let h = c in
     let p = h.requires in
     let x = h.longest_axis-axis.ensures in
-    let e = h.halves-row.ensures in
+    let k = h.column-column.ensures in
+    let e = rw k at h.halves-row.ensures in
     record {
       rows = rw x at e.rows;
       room = e.room;
-      plane = (x, h.coordinate-value.ensures ∙ plane-value p.0 p.2 x e.row);
+      plane = (x, (rw k at h.at-value.ensures) ∙ plane-value p.0 p.2 x e.row);
     }

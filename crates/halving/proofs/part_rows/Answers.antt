@@ -13,7 +13,7 @@ pub comes_before-requires : goal.comes_before-requires
 comes_before-requires c = let s = c in
     let a = s.args in
     let r =
-    row_inside a.points.dimensions a.points.coordinates.now a.axis _
+    row_inside a.column.points.dimensions a.column.points.coordinates.now a.column.axis _
     (parted-row c.loop-i.invariant c.loop-i-test.true _ s.requires.1) in
     let m = s.requires.2 in
     (omega arith, omega arith)

@@ -12,7 +12,7 @@ loop-r-init c = counted-first _ _
 pub comes_before-requires : goal.comes_before-requires
 comes_before-requires c = let s = c in
     let a = s.args in
-    (row_inside a.points.dimensions a.points.coordinates.now a.axis _ (all-at _ a.rows.now c.loop-r.r-index 0 s.requires.0 c.loop-r-test.true), s.requires.1)
+    (row_inside a.column.points.dimensions a.column.points.coordinates.now a.column.axis _ (all-at _ a.rows.now c.loop-r.r-index 0 s.requires.0 c.loop-r-test.true), s.requires.1)
 
 pub loop-r-preserved : goal.loop-r-preserved
 loop-r-preserved c =

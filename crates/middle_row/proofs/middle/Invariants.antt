@@ -6,7 +6,7 @@ use Rattle.definition.specs.Refusals.{most_points}
 use Rattle.middle_row.proofs.middle.Given as goal
 
 abbrev pub invariant-loop-s : goal.invariant-loop-s
-invariant-loop-s l = Narrows l.points.dimensions l.points.coordinates.now l.axis l.initial.rows (length l.initial.rows / 2) l.rows l.s.count l.s.rank × (length l.rows ≡ length l.initial.rows)
+invariant-loop-s l = Narrows l.column.points.dimensions l.column.points.coordinates.now l.column.axis l.initial.rows (length l.initial.rows / 2) l.rows l.s.count l.s.rank × (length l.rows ≡ length l.initial.rows)
     × (32 * l.round + l.left ≤ 8 * length l.initial.rows)
     × (length l.initial.rows ≤ most_points)
 

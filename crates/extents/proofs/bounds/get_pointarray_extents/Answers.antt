@@ -10,7 +10,7 @@ pub loop-axis-preserved : goal.loop-axis-preserved
 loop-axis-preserved c = let turn = c in
     let s = turn in
     filled_more turn.loop-axis.invariant c.lower_bound.result c.upper_bound.result turn.loop-axis-test.true s.requires.0
-    c.lower_bound.ensures c.upper_bound.ensures
+    (rw c.column-column.ensures at c.lower_bound.ensures) (rw c.column-column.ensures at c.upper_bound.ensures)
 
 pub returns : goal.returns
 returns c = (refl, filled-all c.loop-axis.invariant c.loop-axis-test.false)

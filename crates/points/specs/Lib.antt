@@ -1,0 +1,2 @@
+-- What the contracts over columns cite.
+pub mod Columns
