@@ -29,6 +29,7 @@ impl<'a> Points<'a> {
     {
         self.coordinates[row * self.dimensions + axis]
     }
+
     // The coordinates on one axis.
     pub fn column(self, axis: usize) -> Column<'a>
         ensures { result ≡ record { points = self.entry; axis = axis } }
