@@ -1,5 +1,5 @@
 // The domain records of a stored tree's level, tested one after the other in the caller's bytes. The level's rows go along, those that no
-// domain so far has and all that the level lists. The flag `coarse` is the definition's own: `leaf_size dimensions coarse` takes it too.
+// domain so far has and all that the level lists.
 #![tactic(auto)]
 
 ghost use Rattle.std.specs.Prelude.{Bool, ℕ, ◌≤◌, length};
@@ -7,6 +7,7 @@ ghost use Rattle.marks.specs.Bits.{Marked};
 ghost use Rattle.file_domains.specs.Domains.{DomainPassed, DomainsPassed};
 
 use file_rows::FileRows;
+use leaf_depths::LeafLevel;
 use row_sets::LevelRows;
 
 // Records that pass: where what comes after them starts, how many internal and borrowed rows they have, and the depth of the last one.
@@ -18,29 +19,28 @@ pub struct Passed {
     pub depth: usize,
 }
 
-// Whether the domain record at a place stands there whole and passes; the level has `rows` rows, `remaining` of them are left, and the domain
-// before is at depth `least`. Takes its own rows out of those left.
+// Whether the domain record at a place stands there whole and passes; `remaining` rows of the level are left, and the domain before is at
+// depth `least`. Takes its own rows out of those left.
 pub fn check_domain(
     bytes: &[u8],
     at: usize,
     dimensions: usize,
-    coarse: bool,
-    rows: usize,
+    level: LeafLevel,
     least: usize,
     remaining: usize,
     sets: &mut LevelRows,
 ) -> Option<Passed>
     requires { (dimensions ≤ 3) × (at ≤ length bytes.now) }
     ensures { (p q : ℕ → Bool) → Marked sets.old.left p → Marked sets.old.listed q
-        → DomainPassed bytes.now at dimensions coarse rows least remaining p q sets.new.left sets.new.listed result }
+        → DomainPassed bytes.now at dimensions level.coarse level.rows least remaining p q sets.new.left sets.new.listed result }
 {
-    let floats = file_reader::record_floats(dimensions, coarse);
+    let floats = file_reader::record_floats(dimensions, level.coarse);
     let f = file_reader::fetch_domain(bytes, at, bytes_in::FLOAT * floats)?;
     if remaining < f.own {
         return None;
     }
     let depth = bytes_in::number_at(bytes, f.depth_at);
-    if !leaf_depths::depth_passes(coarse, rows, least, f.own, depth) {
+    if !level.depth_passes(least, f.own, depth) {
         return None;
     }
     let own = FileRows {
@@ -67,28 +67,25 @@ pub fn check_domain(
     })
 }
 
-// Whether m domain records from a place on stand there whole and pass, and have each of the level's rows, `rows` in number, once.
+// Whether m domain records from a place on stand there whole and pass, and have each row of the level once.
 pub fn check_domains(
     bytes: &[u8],
     at: usize,
     m: usize,
     dimensions: usize,
-    coarse: bool,
-    rows: usize,
+    level: LeafLevel,
     sets: &mut LevelRows,
 ) -> Option<Passed>
     requires { (dimensions ≤ 3) × (at ≤ length bytes.now) }
     ensures { (p q : ℕ → Bool) → Marked sets.old.left p → Marked sets.old.listed q
-        → DomainsPassed bytes.now at m dimensions coarse rows p q sets.new.listed result }
+        → DomainsPassed bytes.now at m dimensions level.coarse level.rows p q sets.new.listed result }
 {
     let mut next = at;
-    let mut remaining = rows;
+    let mut remaining = level.rows;
     let mut borrowed = 0;
     let mut least = 0;
     for _i in 0..m {
-        let f = check_domain(
-            bytes, next, dimensions, coarse, rows, least, remaining, sets,
-        )?;
+        let f = check_domain(bytes, next, dimensions, level, least, remaining, sets)?;
         next = f.next;
         remaining -= f.own;
         borrowed += f.borrowed;
@@ -99,7 +96,7 @@ pub fn check_domains(
     }
     Some(Passed {
         next,
-        own: rows,
+        own: level.rows,
         borrowed,
         depth: least,
     })

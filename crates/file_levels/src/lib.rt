@@ -13,6 +13,7 @@ ghost use Rattle.marks.specs.Bits.{Marked};
 ghost use Rattle.file_levels.specs.Levels.{IsHead, LevelPassedIs, TreePassedIs};
 
 use file_rows::FileRows;
+use leaf_depths::LeafLevel;
 use row_sets::LevelRows;
 
 // Where a level's two counts begin, and where they end.
@@ -98,10 +99,11 @@ pub fn check_level(
     if !sets.narrow(&rows) {
         return None;
     }
-    let coarse = h.domains == 1;
-    let r = file_domains::check_domains(
-        bytes, h.next, h.domains, dimensions, coarse, h.rows, sets,
-    )?;
+    let level = LeafLevel {
+        rows: h.rows,
+        coarse: h.domains == 1,
+    };
+    let r = file_domains::check_domains(bytes, h.next, h.domains, dimensions, level, sets)?;
     Some(LevelPassed {
         next: r.next,
         rows: h.rows,

@@ -20,11 +20,20 @@ fn size_fits(rows: usize, own: usize, depth: usize) -> bool
     least <= own && own - least <= 1
 }
 
-// Whether the depth of a leaf passes, where the leaf before it is at `least`, and 0 stands for none. The coarse domain is at depth 0. The flag
-// is the definition's own: `depth_passes_lem coarse` takes it too.
-#[tactic(auto, using(std::proofs::lemmas::Bool::Decides::nat_tests), unfolding(tree_tests::specs::InTurn::depth_passes_lem))]
-pub fn depth_passes(coarse: bool, rows: usize, least: usize, own: usize, depth: usize) -> bool
-    ensures { result ≡ depth_passes_lem coarse rows least own depth }
-{
-    least <= depth && size_fits(rows, own, depth) && (!coarse || depth == 0)
+// The level of a leaf, as far as the tests of its leaves ask: how many rows it has, and whether it is the coarse one. The flag is the definition's
+// own: its tests take it too, and each contract would turn an enum back into it.
+#[derive(Clone, Copy)]
+pub struct LeafLevel {
+    pub rows: usize,
+    pub coarse: bool,
+}
+
+impl LeafLevel {
+    // Whether the depth of a leaf passes, where the leaf before it is at `least`, and 0 stands for none. The coarse domain is at depth 0.
+    #[tactic(auto, using(std::proofs::lemmas::Bool::Decides::nat_tests), unfolding(tree_tests::specs::InTurn::depth_passes_lem))]
+    pub fn depth_passes(self, least: usize, own: usize, depth: usize) -> bool
+        ensures { result ≡ depth_passes_lem self.coarse self.rows least own depth }
+    {
+        least <= depth && size_fits(self.rows, own, depth) && (!self.coarse || depth == 0)
+    }
 }

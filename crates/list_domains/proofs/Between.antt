@@ -1,5 +1,5 @@
 -- The loop over the domain rows of a level: what holds between two of them, at the start, and at each end. Assumes nothing.
--- Holds: Rest, Between, between_start, between-left, between-end, row-ready, between-out, own-most, borrowed-most, between_next
+-- Holds: Rest, Between, between_start, between-left, between-end, row-ready, between-out, between_next
 use Rattle.std.specs.Prelude.{Some, None}
 use mathlib.Core.Path.{◌≡◌, refl, sym, ◌∙◌}
 use mathlib.Core.Bool.{Bool, true, false}
@@ -17,7 +17,7 @@ use Rattle.marks.specs.Bits.{Marked}
 use Rattle.marks.proofs.Marks.{held, bits-marked}
 use Rattle.list_domains.specs.InLists.{domain_passes, domains_pass, borrowed_end}
 use Rattle.list_domains.specs.Passed.{Ready, DomainPassed, DomainsPassed}
-use Rattle.list_domains.specs.declared.Passed.{Passed}
+use Rattle.list_domains.specs.declared.SoFar.{SoFar}
 use Rattle.list_domains.proofs.Held.{RowHeld, row-held}
 
 -- ---- the row number j and those behind it
@@ -121,20 +121,14 @@ module _ {coarse : Bool} {l : Packed} {most j a b k m : ℕ} {left₀ listed₀ 
             }
 
         -- it passes
-        module _ {r : Passed} (d : DomainPassed coarse l most k (j + i) a' b' k' least' left listed left' listed' (Some r)) where
+        module _ {r : SoFar} (d : DomainPassed coarse l most k (j + i) a' b' k' least' left listed left' listed' (Some r)) where
           row : RowHeld coarse l most k (held listed) (held left) (j + i) a' b' k' least'
           row = row-held coarse l most k (held listed) (held left) (j + i) a' b' k' least' (sym (d.passed (held left) (held listed) (bits-marked left) (bits-marked listed)))
-
-          pub own-most : r.own ≤ k'
-          own-most = omega (arith, d.own, row.own-few)
-
-          pub borrowed-most : r.borrowed ≤ most - b'
-          borrowed-most = omega (arith, d.borrowed, row.borrowed_few)
 
           next : j + (i + 1) ≡ suc (j + i)
           next = omega arith
 
-          pub between_next : Between coarse l most j a b k m left₀ listed₀ left' listed' (i + 1) (a' + r.own) (b' + r.borrowed) (k' - r.own) r.depth
+          pub between_next : Between coarse l most j a b k m left₀ listed₀ left' listed' (i + 1) r.own_at r.borrowed_at r.remaining r.least
           between_next =
               record {
                 bound = omega arith;
@@ -143,8 +137,8 @@ module _ {coarse : Bool} {l : Packed} {most j a b k m : ℕ} {left₀ listed₀ 
                       axes = h.ready.axes;
                       rows = omega (arith, h.ready.rows);
                       boxes = le_trans (mul-le-mul_left (row_floats_lem l.dimension) (omega arith)) h.ready.boxes;
-                      own = omega (arith, own-most, h.ready.own);
-                      end = omega (arith, borrowed-most, h.ready.end);
+                      own = omega (arith, d.own, d.remaining, row.own-few, h.ready.own);
+                      end = omega (arith, d.borrowed, row.borrowed_few, h.ready.end);
                       borrowed = h.ready.borrowed;
                     };
                 rest = λ p q n o. let t = h.rest p q n o in
@@ -152,7 +146,7 @@ module _ {coarse : Bool} {l : Packed} {most j a b k m : ℕ} {left₀ listed₀ 
                       set = without (read_leaf l (j + i)).own t.set;
                       marked = d.left_out t.set t.marked refl;
                       as-was = d.listed_as_was q t.as-was refl;
-                      same = t.same ∙ rw (count, next, d.own, d.borrowed, d.depth)
+                      same = t.same ∙ rw (count, next, d.own, d.borrowed, d.remaining, d.depth)
                           (one_passes coarse l most k q t.set (j + i) a' b' k' least' (m - (i + 1)) (sym (d.passed t.set q t.marked t.as-was)));
                     };
                 end = h.end ∙ rw (count, next, d.borrowed) (one-ends l.domains (j + i) b' (m - (i + 1)));

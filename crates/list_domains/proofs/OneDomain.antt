@@ -1,5 +1,5 @@
 -- One domain row: what is known of it once its stretches fit, and what its tests come to at each end of `check_domain`. Assumes nothing.
--- Holds: stretches-off, own-within, borrowed-within, depth-off, box-off, rows-off, rows_tell
+-- Holds: stretches-off, own-within, borrowed-within, own-left, depth-off, box-off, rows-off, rows_tell
 use Rattle.std.specs.Prelude.{Option, Some, None}
 use mathlib.Core.Path.{◌≡◌, refl, sym, ap, ap₂, ◌∙◌}
 use mathlib.Core.Bool.{Bool, true, false, ◌&&◌, and-false}
@@ -26,7 +26,7 @@ use Rattle.marks.specs.Bits.{Marked}
 use Rattle.marks.proofs.Marks.{held, bits-marked}
 use Rattle.row_sets.specs.Tested.{RowsPassed}
 use Rattle.list_domains.specs.Passed.{Ready, DomainPassed}
-use Rattle.list_domains.specs.declared.Passed.{Passed}
+use Rattle.list_domains.specs.declared.SoFar.{SoFar}
 use Rattle.list_domains.proofs.Boxes.{box-tests}
 use Rattle.list_domains.proofs.Each.{stretch_is}
 
@@ -44,7 +44,7 @@ module _ (coarse : Bool) (l : Packed) (most rows j a b k least : ℕ) (left₀ l
   fits : t ≡ stretches_fit_lem (row_at l.domains j) most a b k
   fits = tells ∙ ap (λ r. stretches_fit_lem r most a b k) (row_read row l.domains j is)
 
-  abbrev Is : (left listed : List ℕ) (r : Option Passed) → Type 0
+  abbrev Is : (left listed : List ℕ) (r : Option SoFar) → Type 0
   Is left listed r = DomainPassed coarse l most rows j a b k least left₀ listed₀ left listed r
 
   -- what is said where the row does not pass: nothing of the sets
@@ -54,6 +54,7 @@ module _ (coarse : Bool) (l : Packed) (most rows j a b k least : ℕ) (left₀ l
         passed = λ p q m n. sym (h p q m n);
         own = tt;
         borrowed = tt;
+        remaining = tt;
         depth = tt;
         left_out = λ p m f. clash f refl;
         listed_as_was = λ q n f. clash f refl;
@@ -87,6 +88,10 @@ module _ (coarse : Bool) (l : Packed) (most rows j a b k least : ℕ) (left₀ l
     borrowed-is : part l.borrowed b row.borrowed_count ≡ (read_leaf l j).borrowed
     unfolding read_leaf
     borrowed-is = ap₂ (λ (x y : ℕ). part l.borrowed x y) (sym tests.1) is.borrowed_count
+
+    -- as many rows are left as are its own
+    pub own-left : row.internal_count ≤ k
+    own-left = omega (arith, is.own_count, tests.2)
 
     own-length : length (read_leaf l j).own ≡ row.internal_count
     own-length = ap length (sym own_is) ∙ length_part l.internals a row.internal_count own-within
@@ -141,12 +146,14 @@ module _ (coarse : Bool) (l : Packed) (most rows j a b k least : ℕ) (left₀ l
           pub rows-off : r ≡ false → Is left listed None
           rows-off e = no-domain left listed (λ p q m n. now-rows p q m n ∙ e)
 
-          pub rows_tell : r ≡ true → Is left listed (Some (record { own = row.internal_count; borrowed = row.borrowed_count; depth = row.depth }))
+          pub rows_tell : r ≡ true → Is left listed
+              (Some (record { own_at = a + row.internal_count; borrowed_at = b + row.borrowed_count; remaining = k - row.internal_count; least = row.depth }))
           rows_tell e =
               record {
                 passed = λ p q m n. sym (now-rows p q m n ∙ e);
-                own = is.own_count;
-                borrowed = is.borrowed_count;
+                own = ap (λ (x : ℕ). a + x) is.own_count;
+                borrowed = ap (λ (x : ℕ). b + x) is.borrowed_count;
+                remaining = ap (λ (x : ℕ). k - x) is.own_count;
                 depth = is.depth;
                 left_out = λ p m t. (told p (held listed₀) m (bits-marked listed₀)).left_set e;
                 listed_as_was = λ q n t. (told (held left₀) q (bits-marked left₀) n).listed_set e;

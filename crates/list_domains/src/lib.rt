@@ -1,5 +1,5 @@
 // The leaves of a level that stand in packed lists, tested one after the other. The level's rows go along, those that it lists and those of
-// them that no leaf before has. The flag `coarse` is the definition's own: its tests of a domain take it too.
+// them that no leaf before has.
 #![tactic(auto)]
 
 ghost use Rattle.std.specs.Prelude.{◌≡◌, ◌+◌, ◌≤◌, ◌<◌, length, get_or};
@@ -12,16 +12,27 @@ ghost use Rattle.list_domains.specs.Boxes.{bound_fits_lem, floats_fit_lem};
 ghost use Rattle.list_domains.specs.InLists.{stretches_fit_lem};
 ghost use Rattle.list_domains.specs.Passed.{Ready, DomainPassed, DomainsPassed};
 
+use leaf_depths::LeafLevel;
 use list_rows::ListRows;
 use packed::{DomainRow, Packed};
 use row_sets::LevelRows;
 
-// A domain row that passes with its leaf: how many own and borrowed rows it has, and its depth.
+// How many rows, domains and borrowed rows levels have in all: where those of the next level start.
 #[derive(Clone, Copy)]
-pub struct Passed {
-    pub own: usize,
+pub struct ListsPassed {
+    pub rows: usize,
+    pub domains: usize,
     pub borrowed: usize,
-    pub depth: usize,
+}
+
+// How far the leaves of a level have passed: where the own and the borrowed rows of the next one are to start, how many rows are left for those
+// to come, and the depth of the leaf before, or 0.
+#[derive(Clone, Copy)]
+pub struct SoFar {
+    pub own_at: usize,
+    pub borrowed_at: usize,
+    pub remaining: usize,
+    pub least: usize,
 }
 
 // Whether one bound of a box may stand there. The coarse domain has no box, and +0 in its place.
@@ -54,46 +65,34 @@ fn floats_fit(boxes: &[f64], at: usize, width: usize, coarse: bool) -> bool
 
 // Whether a domain row's stretches start where those before them end, and end inside what is left.
 #[tactic(auto, using(std::proofs::lemmas::Bool::Decides::nat_tests), unfolding(crate::specs::InLists::stretches_fit_lem))]
-fn stretches_fit(
-    row: DomainRow,
-    most: usize,
-    own_at: usize,
-    borrowed_at: usize,
-    remaining: usize,
-) -> bool
-    requires { borrowed_at ≤ most }
-    ensures { result ≡ stretches_fit_lem (plain_row row) most own_at borrowed_at remaining }
+fn stretches_fit(row: DomainRow, most: usize, so_far: SoFar) -> bool
+    requires { so_far.borrowed_at ≤ most }
+    ensures { result ≡ stretches_fit_lem (plain_row row) most so_far.own_at so_far.borrowed_at so_far.remaining }
 {
-    row.internal_start == own_at
-        && row.borrowed_start == borrowed_at
-        && row.internal_count <= remaining
-        && row.borrowed_count <= most - borrowed_at
+    row.internal_start == so_far.own_at
+        && row.borrowed_start == so_far.borrowed_at
+        && row.internal_count <= so_far.remaining
+        && row.borrowed_count <= most - so_far.borrowed_at
 }
 
-// Whether the domain row number j and its leaf pass, in a level of so many rows, where the leaf before is at depth `least`. Its stretches are
-// to start at `own_at` and `borrowed_at`, its own rows to be among the `remaining` ones that are left, and its borrowed rows to end by
-// `borrowed_most`.
+// How far the leaves have passed with the domain row number j and its leaf, where these pass. All borrowed rows are to end by `borrowed_most`.
 pub fn check_domain(
     tree: Packed<'_>,
     j: usize,
-    coarse: bool,
-    own_at: usize,
-    borrowed_at: usize,
-    rows: usize,
-    least: usize,
-    remaining: usize,
+    level: LeafLevel,
     borrowed_most: usize,
+    so_far: SoFar,
     sets: &mut LevelRows,
-) -> Option<Passed>
-    requires { Ready (packed_of tree) borrowed_most j 1 own_at borrowed_at remaining }
-    ensures { DomainPassed coarse (packed_of tree.entry) borrowed_most rows j own_at borrowed_at remaining least
+) -> Option<SoFar>
+    requires { Ready (packed_of tree) borrowed_most j 1 so_far.own_at so_far.borrowed_at so_far.remaining }
+    ensures { DomainPassed level.coarse (packed_of tree.entry) borrowed_most level.rows j so_far.own_at so_far.borrowed_at so_far.remaining so_far.least
         sets.old.left sets.old.listed sets.new.left sets.new.listed result }
 {
     let row = packed::read_row(tree.domains, j);
-    if !stretches_fit(row, borrowed_most, own_at, borrowed_at, remaining) {
+    if !stretches_fit(row, borrowed_most, so_far) {
         return None;
     }
-    if !leaf_depths::depth_passes(coarse, rows, least, row.internal_count, row.depth) {
+    if !level.depth_passes(so_far.least, row.internal_count, row.depth) {
         return None;
     }
     let box_at = packed::floats_before(tree.dimensions, j);
@@ -101,67 +100,54 @@ pub fn check_domain(
         tree.boxes,
         box_at,
         boxes::box_width(tree.dimensions),
-        coarse,
+        level.coarse,
     ) {
         return None;
     }
+    let own_end = so_far.own_at + row.internal_count;
     let own = ListRows {
-        list: &tree.internals[own_at..own_at + row.internal_count],
+        list: &tree.internals[so_far.own_at..own_end],
     };
+    let borrowed_end = so_far.borrowed_at + row.borrowed_count;
     let borrowed = ListRows {
-        list: &tree.borrowed[borrowed_at..borrowed_at + row.borrowed_count],
+        list: &tree.borrowed[so_far.borrowed_at..borrowed_end],
     };
     if !sets.rows_pass(&own, &borrowed) {
         return None;
     }
-    Some(Passed {
-        own: row.internal_count,
-        borrowed: row.borrowed_count,
-        depth: row.depth,
+    Some(SoFar {
+        own_at: own_end,
+        borrowed_at: borrowed_end,
+        remaining: so_far.remaining - row.internal_count,
+        least: row.depth,
     })
 }
 
-// Whether so many domain rows pass, from the row number `first` on, and have just the `rows` that the level lists as their own rows;
-// where they do, where their borrowed rows end.
+// Whether the next `count` domain rows, behind those of the levels before, pass, and have just the rows that their level lists as their own
+// rows; where they do, where their borrowed rows end.
 pub fn check_domains(
     tree: Packed<'_>,
-    first: usize,
+    before: ListsPassed,
     count: usize,
-    coarse: bool,
-    own_at: usize,
-    borrowed_at: usize,
-    rows: usize,
+    level: LeafLevel,
     borrowed_most: usize,
     sets: &mut LevelRows,
 ) -> Option<usize>
-    requires { Ready (packed_of tree) borrowed_most first count own_at borrowed_at rows }
-    ensures { DomainsPassed coarse (packed_of tree.entry) borrowed_most first own_at borrowed_at rows count
+    requires { Ready (packed_of tree) borrowed_most before.domains count before.rows before.borrowed level.rows }
+    ensures { DomainsPassed level.coarse (packed_of tree.entry) borrowed_most before.domains before.rows before.borrowed level.rows count
         sets.old.left sets.old.listed sets.new.listed result }
 {
-    let mut own = own_at;
-    let mut end = borrowed_at;
-    let mut remaining = rows;
-    let mut least = 0;
+    let mut so_far = SoFar {
+        own_at: before.rows,
+        borrowed_at: before.borrowed,
+        remaining: level.rows,
+        least: 0,
+    };
     for i in 0..count {
-        let one = check_domain(
-            tree,
-            first + i,
-            coarse,
-            own,
-            end,
-            rows,
-            least,
-            remaining,
-            borrowed_most,
-            sets,
-        )?;
-        own += one.own;
-        end += one.borrowed;
-        remaining -= one.own;
-        least = one.depth;
+        so_far = check_domain(tree, before.domains + i, level, borrowed_most, so_far, sets)?;
     }
-    if remaining != 0 {
+    if so_far.remaining != 0 {
         return None;
     }
-    Some(end)
+    Some(so_far.borrowed_at)
 }

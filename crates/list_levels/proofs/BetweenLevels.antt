@@ -22,7 +22,7 @@ use Rattle.list_domains.specs.InLists.{borrowed_end}
 use Rattle.list_domains.proofs.AsPacked.{end-append, borrowed_end_is}
 use Rattle.list_levels.specs.InLists.{count_fits_lem, one_only, held_level_passes, held_levels_pass}
 use Rattle.list_levels.specs.Passed.{LevelsReady, NextReady, NextPassed, LevelsPassed}
-use Rattle.list_levels.specs.declared.ListsPassed.{ListsPassed}
+use Rattle.list_domains.specs.declared.ListsPassed.{ListsPassed}
 use Rattle.list_levels.proofs.OneLevel.{LevelHeld, level-held}
 use Rattle.list_levels.proofs.Levels.{count_most, none-behind}
 

@@ -15,7 +15,7 @@ use Rattle.packed.specs.Reading.{Packed}
 use Rattle.marks.specs.Bits.{Marked}
 use Rattle.list_levels.specs.InLists.{count_fits_lem, one_only, held_level_passes}
 use Rattle.list_levels.specs.Passed.{LevelReady, NextReady, LevelPassed, NextPassed}
-use Rattle.list_levels.specs.declared.ListsPassed.{ListsPassed}
+use Rattle.list_domains.specs.declared.ListsPassed.{ListsPassed}
 use Rattle.list_levels.proofs.Levels.{count_most}
 
 -- what is said where the level does not pass: nothing of the sets

@@ -19,7 +19,7 @@ use Rattle.stored.specs.Outcome.{lists_short_lem, tree_held, packs}
 use Rattle.marks.specs.Bits.{Marked}
 use Rattle.list_levels.specs.InLists.{none_beyond_lem, counts_stand_lem, held_levels_pass, held_tree_passes}
 use Rattle.list_levels.specs.Passed.{Long, LevelsReady, LevelsPassed, TreePassed}
-use Rattle.list_levels.specs.declared.ListsPassed.{ListsPassed}
+use Rattle.list_domains.specs.declared.ListsPassed.{ListsPassed}
 use Rattle.list_levels.proofs.LongEnough.{long-enough}
 use Rattle.list_levels.proofs.Tree.{tree-passes, rows-total, domains-total, borrowed-total}
 

@@ -12,7 +12,7 @@ use Rattle.tree_tests.specs.InTurn.{among}
 use Rattle.marks.specs.Bits.{Marked}
 use Rattle.list_domains.specs.InLists.{borrowed_end}
 use Rattle.list_levels.specs.InLists.{count_fits_lem, one_only, held_level_passes, held_levels_pass}
-use Rattle.list_levels.specs.declared.ListsPassed.{ListsPassed}
+use Rattle.list_domains.specs.declared.ListsPassed.{ListsPassed}
 
 -- ---- before
 

@@ -11,55 +11,35 @@ ghost use Rattle.tree_answer.specs.Answers.{counts_given, lists_of};
 ghost use Rattle.list_levels.specs.InLists.{count_fits_lem, one_only, all_zero, counts_stand_lem};
 ghost use Rattle.list_levels.specs.Passed.{LevelReady, NextReady, LevelsReady, LevelPassed, NextPassed, LevelsPassed, TreePassed};
 
+use leaf_depths::LeafLevel;
+use list_domains::ListsPassed;
 use list_rows::ListRows;
 use packed::Packed;
 use row_sets::LevelRows;
 use tree_answer::DDMTree;
 
-// How many rows, domains and borrowed rows levels have in all.
-#[derive(Clone, Copy)]
-pub struct ListsPassed {
-    pub rows: usize,
-    pub domains: usize,
-    pub borrowed: usize,
-}
-
-// `coarse` stays a flag, here and below: the tests of the definition take the same one, and each contract would turn an enum back into it.
-
-// Whether a level's rows are listed above, and its domain rows pass with these rows listed; where they do, where its borrowed rows end.
+// Whether a level's rows are listed above, and its domain rows pass with these rows listed; where they do, where its borrowed rows end. They
+// stand behind those of the levels before.
 pub fn check_level(
     level_points: &[usize],
     tree: Packed<'_>,
-    first: usize,
+    before: ListsPassed,
     count: usize,
-    coarse: bool,
-    own_at: usize,
-    borrowed_at: usize,
-    rows: usize,
+    level: LeafLevel,
     borrowed_most: usize,
     sets: &mut LevelRows,
 ) -> Option<usize>
-    requires { LevelReady (packed_of tree) level_points.now borrowed_most first count own_at borrowed_at rows }
-    ensures { LevelPassed coarse (packed_of tree.entry) level_points.now borrowed_most first own_at borrowed_at rows count
+    requires { LevelReady (packed_of tree) level_points.now borrowed_most before.domains count before.rows before.borrowed level.rows }
+    ensures { LevelPassed level.coarse (packed_of tree.entry) level_points.now borrowed_most before.domains before.rows before.borrowed level.rows count
         sets.old.listed sets.new.listed result }
 {
     let points = ListRows {
-        list: &level_points[own_at..own_at + rows],
+        list: &level_points[before.rows..before.rows + level.rows],
     };
     if !sets.narrow(&points) {
         return None;
     }
-    list_domains::check_domains(
-        tree,
-        first,
-        count,
-        coarse,
-        own_at,
-        borrowed_at,
-        rows,
-        borrowed_most,
-        sets,
-    )
+    list_domains::check_domains(tree, before, count, level, borrowed_most, sets)
 }
 
 // Whether a level may have so many rows: the first one all n, and any other some, and fewer than the level above it.
@@ -93,38 +73,26 @@ fn next_level(
     tree: Packed<'_>,
     n: usize,
     t: usize,
-    coarse: bool,
     above: usize,
-    rows: usize,
     count: usize,
+    level: LeafLevel,
     borrowed_most: usize,
     done: ListsPassed,
     sets: &mut LevelRows,
 ) -> Option<ListsPassed>
     requires { NextReady (packed_of tree) level_points.now n borrowed_most above done }
-    ensures { NextPassed coarse (packed_of tree.entry) level_points.now n borrowed_most t above rows count done
+    ensures { NextPassed level.coarse (packed_of tree.entry) level_points.now n borrowed_most t above level.rows count done
         sets.old.listed sets.new.listed result }
 {
-    if !count_fits(t, n, above, rows) {
+    if !count_fits(t, n, above, level.rows) {
         return None;
     }
-    if !domains_fit(coarse, count, 6 * n + 1 - done.domains) {
+    if !domains_fit(level.coarse, count, 6 * n + 1 - done.domains) {
         return None;
     }
-    let borrowed = check_level(
-        level_points,
-        tree,
-        done.domains,
-        count,
-        coarse,
-        done.rows,
-        done.borrowed,
-        rows,
-        borrowed_most,
-        sets,
-    )?;
+    let borrowed = check_level(level_points, tree, done, count, level, borrowed_most, sets)?;
     Some(ListsPassed {
-        rows: done.rows + rows,
+        rows: done.rows + level.rows,
         domains: done.domains + count,
         borrowed,
     })
@@ -149,22 +117,23 @@ pub fn check_levels(
     };
     let mut above = n;
     for t in 0..counts.levels {
-        let rows = counts.rows[t];
-        let coarse = t + 1 == counts.levels;
+        let level = LeafLevel {
+            rows: counts.rows[t],
+            coarse: t + 1 == counts.levels,
+        };
         done = next_level(
             level_points,
             tree,
             n,
             t,
-            coarse,
             above,
-            rows,
             counts.domains[t],
+            level,
             borrowed_most,
             done,
             sets,
         )?;
-        above = rows;
+        above = level.rows;
     }
     Some(done)
 }

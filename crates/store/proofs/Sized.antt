@@ -28,7 +28,7 @@ use Rattle.tree_tests.proofs.Limits.{sound-counted}
 use Rattle.tree_tests.proofs.FileLength.{file-length}
 use Rattle.stored_laws.proofs.Verdicts.{own-boxes}
 use Rattle.list_levels.specs.Passed.{TreePassed}
-use Rattle.list_levels.specs.declared.ListsPassed.{ListsPassed}
+use Rattle.list_domains.specs.declared.ListsPassed.{ListsPassed}
 use Rattle.store.specs.Limits.{Limited}
 use Rattle.store.proofs.Held.{held-levels, held-some}
 

@@ -1,7 +1,7 @@
 -- `list_domains::check_domain` meets its contract: each way out has its law. Assumes nothing.
 use borrow.Author.Rules.{rules}
 use Rattle.packed.specs.View.{packed_of}
-use Rattle.list_domains.proofs.OneDomain.{stretches-off, own-within, borrowed-within, depth-off, box-off, rows-off, rows_tell}
+use Rattle.list_domains.proofs.OneDomain.{stretches-off, own-within, borrowed-within, own-left, depth-off, box-off, rows-off, rows_tell}
 use Rattle.list_domains.proofs.check_domain.Goals as goal
 
 pub returns-then-not-stretches_fit : goal.returns-then-not-stretches_fit
@@ -19,30 +19,30 @@ returns-then-not-floats_fit c =
     _ c.depth_passes.ensures c.if-not-depth_passes.false _ _ c.floats_before-box_at.ensures c.box_width.ensures
     _ c.floats_fit.ensures c.if-not-floats_fit.true _ _
 
-pub overflow_add-own : goal.overflow_add-own
-overflow_add-own c =
+pub overflow_add-own_end : goal.overflow_add-own_end
+overflow_add-own_end c =
     let a = c.args in
-    let w = own-within a.coarse (packed_of a.tree) a.borrowed_most a.rows a.j a.own_at a.borrowed_at a.remaining a.least a.sets.now.left a.sets.now.listed c.requires
+    let w = own-within a.level.coarse (packed_of a.tree) a.borrowed_most a.level.rows a.j a.so_far.own_at a.so_far.borrowed_at a.so_far.remaining a.so_far.least a.sets.now.left a.sets.now.listed c.requires
     _ c.read_row-row.ensures _ c.stretches_fit.ensures c.if-not-stretches_fit.false in
     search rules
 
 pub slice_bounds-own-end : goal.slice_bounds-own-end
 slice_bounds-own-end c =
     let a = c.args in
-    own-within a.coarse (packed_of a.tree) a.borrowed_most a.rows a.j a.own_at a.borrowed_at a.remaining a.least a.sets.now.left a.sets.now.listed c.requires
+    own-within a.level.coarse (packed_of a.tree) a.borrowed_most a.level.rows a.j a.so_far.own_at a.so_far.borrowed_at a.so_far.remaining a.so_far.least a.sets.now.left a.sets.now.listed c.requires
     _ c.read_row-row.ensures _ c.stretches_fit.ensures c.if-not-stretches_fit.false
 
-pub overflow_add-borrowed : goal.overflow_add-borrowed
-overflow_add-borrowed c =
+pub overflow_add-borrowed_end : goal.overflow_add-borrowed_end
+overflow_add-borrowed_end c =
     let a = c.args in
-    let w = borrowed-within a.coarse (packed_of a.tree) a.borrowed_most a.rows a.j a.own_at a.borrowed_at a.remaining a.least a.sets.now.left a.sets.now.listed c.requires
+    let w = borrowed-within a.level.coarse (packed_of a.tree) a.borrowed_most a.level.rows a.j a.so_far.own_at a.so_far.borrowed_at a.so_far.remaining a.so_far.least a.sets.now.left a.sets.now.listed c.requires
     _ c.read_row-row.ensures _ c.stretches_fit.ensures c.if-not-stretches_fit.false in
     search rules
 
 pub slice_bounds-borrowed-end : goal.slice_bounds-borrowed-end
 slice_bounds-borrowed-end c =
     let a = c.args in
-    borrowed-within a.coarse (packed_of a.tree) a.borrowed_most a.rows a.j a.own_at a.borrowed_at a.remaining a.least a.sets.now.left a.sets.now.listed c.requires
+    borrowed-within a.level.coarse (packed_of a.tree) a.borrowed_most a.level.rows a.j a.so_far.own_at a.so_far.borrowed_at a.so_far.remaining a.so_far.least a.sets.now.left a.sets.now.listed c.requires
     _ c.read_row-row.ensures _ c.stretches_fit.ensures c.if-not-stretches_fit.false
 
 pub returns-then-not-rows_pass : goal.returns-then-not-rows_pass
@@ -50,6 +50,12 @@ returns-then-not-rows_pass c =
     rows-off _ _ _ _ _ _ _ _ _ _ _ c.requires _ c.read_row-row.ensures _ c.stretches_fit.ensures c.if-not-stretches_fit.false
     _ c.depth_passes.ensures c.if-not-depth_passes.false _ _ c.floats_before-box_at.ensures c.box_width.ensures
     _ c.floats_fit.ensures c.if-not-floats_fit.false _ _ _ c.rows_pass.ensures c.if-not-rows_pass.true
+
+pub overflow_sub-result : goal.overflow_sub-result
+overflow_sub-result c =
+    let a = c.args in
+    own-left a.level.coarse (packed_of a.tree) a.borrowed_most a.level.rows a.j a.so_far.own_at a.so_far.borrowed_at a.so_far.remaining a.so_far.least a.sets.now.left a.sets.now.listed c.requires
+    _ c.read_row-row.ensures _ c.stretches_fit.ensures c.if-not-stretches_fit.false
 
 pub returns : goal.returns
 returns c =

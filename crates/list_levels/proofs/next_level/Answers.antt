@@ -6,11 +6,11 @@ use Rattle.list_levels.proofs.next_level.Goals as goal
 
 pub check_level-requires : goal.check_level-requires
 check_level-requires c =
-    level-ready c.args.coarse (packed_of c.args.tree) _ _ _ c.args.t _ _ _ _ c.args.sets.now.listed c.requires _ c.count_fits.ensures _ c.domains_fit.ensures c.if-not-count_fits.false c.if-not-domains_fit.false
+    level-ready c.args.level.coarse (packed_of c.args.tree) _ _ _ c.args.t _ _ _ _ c.args.sets.now.listed c.requires _ c.count_fits.ensures _ c.domains_fit.ensures c.if-not-count_fits.false c.if-not-domains_fit.false
 
 pub overflow_add-result : goal.overflow_add-result
 overflow_add-result c =
-    let few = rows-most c.args.coarse (packed_of c.args.tree) _ _ _ c.args.t _ _ _ _ c.args.sets.now.listed c.requires _ c.count_fits.ensures _ c.domains_fit.ensures c.if-not-count_fits.false c.if-not-domains_fit.false in
+    let few = rows-most c.args.level.coarse (packed_of c.args.tree) _ _ _ c.args.t _ _ _ _ c.args.sets.now.listed c.requires _ c.count_fits.ensures _ c.domains_fit.ensures c.if-not-count_fits.false c.if-not-domains_fit.false in
     let room = c.requires.room in
     let many = c.requires.many in
     search rules
