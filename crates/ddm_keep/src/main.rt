@@ -13,14 +13,12 @@ ghost use Rattle.program_input.specs.Input.{Stopped};
 ghost use Rattle.ddm_keep.specs.Output.{KeptFor, FileFor, RefusalFor, RefusalAdded, KeptIn, Replies};
 
 use bytes_out::Writer;
+use job_room::STREAM;
 use program_input::Front;
 use refusal::Refusal;
 use std::io;
 use std::io::{Read, Write};
 use std::process::ExitCode;
-
-// The room for a stream. Its first 878 bytes decide what is kept of it (`front_kept` of reload_laws), so a longer stream is read no further.
-const STREAM: usize = 1024;
 
 // The room for the line of a refusal: none has over 53 bytes (`refusal-long` of stream_laws).
 const LINE: usize = 64;

@@ -9,20 +9,15 @@ ghost use Rattle.stream_laws.specs.Sizes.{decisive, most_bytes};
 ghost use Rattle.program_input.specs.Input.{Stopped, MayBe};
 ghost use Rattle.ddm_reload.specs.Output.{ReloadedFrom};
 
+use job_room::{STREAM, TEXT};
 use program_input::Front;
 use std::io;
 use std::io::{Read, Write};
 use std::process::ExitCode;
 use std::rt::{Env, Files};
 
-// The room for a stream. Its first 878 bytes decide what is printed (`front-reloaded` of reload_laws).
-const STREAM: usize = 1024;
-
 // The room for a file: a longer one is refused like one that fills it (`front-of-file` of reload_laws).
 const FILE: usize = reload::MOST_FILE + 1;
-
-// The room for the text: none is longer (`reloaded-long` of reload_laws).
-const TEXT: usize = job_room::TEXT;
 
 // Reads a file, where it could be opened.
 fn read_opened<F: Read + Drop>(opened: io::Result<F>, input: &mut [u8]) -> io::Result<Front>

@@ -8,16 +8,11 @@ ghost use Rattle.stream_laws.specs.Sizes.{decisive, most_bytes};
 ghost use Rattle.program_input.specs.Input.{Stopped};
 ghost use Rattle.ddm_tree.specs.Output.{PrintoutFor};
 
+use job_room::{STREAM, TEXT};
 use program_input::Front;
 use std::io;
 use std::io::{Read, Write};
 use std::process::ExitCode;
-
-// The room for a stream. Its first 878 bytes decide the printout (`front-printed` of stream_laws), so a longer stream is read no further.
-const STREAM: usize = 1024;
-
-// The room for a printout: none is longer (`printout-long` of stream_laws).
-const TEXT: usize = job_room::TEXT;
 
 // The printout of the bytes, at the front of `text`.
 fn print_bytes(bytes: &[u8], text: &mut [u8]) -> usize

@@ -1,65 +1,69 @@
 // Samples, and each refusal of a sampling. (Refusal 8 needs a list longer than a program's stack holds.)
-use printing::{print_list, print_named, print_text};
+use points::Points;
+use printing::Numbers;
 use sampling::Sampled;
 use std::io;
 use std::io::Write;
+use tree_lists::Room;
 
 // One call, with the output after it, and the working room too where the call is refused.
 fn print_sample<W: Write>(
     to: &mut W,
-    points: &[f64],
-    dimensions: usize,
+    points: Points<'_>,
     wanted: usize,
     seed: usize,
     out: &mut [usize],
-    floats: &mut [f64],
-    wholes: &mut [usize],
+    room: &mut Room<'_>,
 ) -> io::Result<()> {
-    print_named(to, b"sample", wanted)?;
-    print_named(to, b" from", seed)?;
-    let answer = sampling::farthest_point_sampling(
-        points, dimensions, wanted, seed, out, floats, wholes,
-    );
-    match answer {
+    write!(to, "sample {wanted} from {seed}:")?;
+    let Points {
+        coordinates,
+        dimensions,
+    } = points;
+    let floats: &mut [f64] = room.floats;
+    let wholes: &mut [usize] = room.wholes;
+    match sampling::farthest_point_sampling(
+        coordinates,
+        dimensions,
+        wanted,
+        seed,
+        out,
+        floats,
+        wholes,
+    ) {
         Ok(Sampled { rows, cover }) => {
-            print_named(to, b": rows", rows)?;
-            print_text(to, b" cover ")?;
+            // not-a-number has one pattern here, which `to_bits` takes none of
             let bits = bytes_out::bits_of(cover);
-            write!(to, "{bits:016x}")?;
+            write!(to, " rows {rows} cover {bits:016x}")?;
         }
         Err(refusal) => {
-            print_named(to, b": refused", refusal.number())?;
-            print_named(to, b" at", refusal.place())?;
-            print_text(to, b" room")?;
-            print_list(to, wholes)?;
+            let number = refusal.number();
+            let place = refusal.place();
+            write!(to, " refused {number} at {place} room{}", Numbers(wholes))?;
         }
     }
-    print_text(to, b" output")?;
-    print_list(to, out)?;
-    print_text(to, b"\n")
+    writeln!(to, " output{}", Numbers(out))
 }
 
 // A call over up to four rows, with an output of four entries and enough working room.
 fn print_rows<W: Write>(
     to: &mut W,
-    points: &[f64],
+    coordinates: &[f64],
     dimensions: usize,
     wanted: usize,
     seed: usize,
 ) -> io::Result<()> {
-    let mut out = [77usize; 4];
-    let mut floats = [0.5; 8];
-    let mut wholes = [88usize; 4];
-    print_sample(
-        to,
-        points,
+    let points = Points {
+        coordinates,
         dimensions,
-        wanted,
-        seed,
-        &mut out,
-        &mut floats,
-        &mut wholes,
-    )
+    };
+    let mut floats = [0.5; 8];
+    let mut wholes = [88; 4];
+    let mut room = Room {
+        floats: &mut floats,
+        wholes: &mut wholes,
+    };
+    print_sample(to, points, wanted, seed, &mut [77; 4], &mut room)
 }
 
 // Samples: on a line, of equal rows, of a square's corners, and by two squares that share one root. The last ones tell covers: to
@@ -102,34 +106,28 @@ pub fn print_refusals<W: Write>(to: &mut W) -> io::Result<()> {
     print_rows(to, &[-1.0 / 0.0, 1.0, 2.0, 3.0], 2, 3, 1)
 }
 
-// An output of two entries, where three are wanted.
-fn print_short_output<W: Write>(to: &mut W, points: &[f64]) -> io::Result<()> {
-    let mut out = [77usize; 2];
-    let mut floats = [0.5; 8];
-    let mut wholes = [88usize; 4];
-    print_sample(to, points, 1, 3, 1, &mut out, &mut floats, &mut wholes)
+// Three of four rows on a line, with an output and a working room of these lengths.
+fn print_lent<W: Write>(
+    to: &mut W,
+    line: &[f64; 4],
+    out: &mut [usize],
+    floats: &mut [f64],
+    wholes: &mut [usize],
+) -> io::Result<()> {
+    let points = Points {
+        coordinates: line,
+        dimensions: 1,
+    };
+    let mut room = Room { floats, wholes };
+    print_sample(to, points, 3, 1, out, &mut room)
 }
 
-// A float too few for four rows.
-fn print_short_floats<W: Write>(to: &mut W, points: &[f64]) -> io::Result<()> {
-    let mut out = [77usize; 3];
-    let mut floats = [0.5; 7];
-    let mut wholes = [88usize; 4];
-    print_sample(to, points, 1, 3, 1, &mut out, &mut floats, &mut wholes)
-}
-
-// A whole number too few for four rows.
-fn print_short_wholes<W: Write>(to: &mut W, points: &[f64]) -> io::Result<()> {
-    let mut out = [77usize; 3];
-    let mut floats = [0.5; 8];
-    let mut wholes = [88usize; 3];
-    print_sample(to, points, 1, 3, 1, &mut out, &mut floats, &mut wholes)
-}
-
-// Lists that are too short.
+// Lists that are too short: the output where three rows are wanted, and a float, and a whole number, too few for four rows.
 pub fn print_short<W: Write>(to: &mut W) -> io::Result<()> {
-    print_short_output(to, &[0.0, 1.0, 3.0, 7.0])?;
-    print_short_floats(to, &[0.0, 1.0, 3.0, 7.0])?;
-    print_short_wholes(to, &[0.0, 1.0, 3.0, 7.0])?;
-    print_short_wholes(to, &[0.0, 1.0, 3.0, 1.0 / 0.0])
+    let line = [0.0, 1.0, 3.0, 7.0];
+    let endless = [0.0, 1.0, 3.0, 1.0 / 0.0];
+    print_lent(to, &line, &mut [77; 2], &mut [0.5; 8], &mut [88; 4])?;
+    print_lent(to, &line, &mut [77; 3], &mut [0.5; 7], &mut [88; 4])?;
+    print_lent(to, &line, &mut [77; 3], &mut [0.5; 8], &mut [88; 3])?;
+    print_lent(to, &endless, &mut [77; 3], &mut [0.5; 8], &mut [88; 3])
 }

@@ -3,14 +3,13 @@
 // stream, and the answer. tools/make_job_streams.py makes the file.
 #![tactic(auto)]
 
-ghost use Rattle.std.specs.Prelude.{◌≡◌, ◌+◌, ◌≤◌, ◌<◌, length};
+ghost use Rattle.std.specs.Prelude.{◌<◌, length, IfSome};
 
+use job_room::TEXT;
 use std::io;
 
-// The room for a file, and for a printout.
+// The room for a file.
 const FILE: usize = 1835008;
-
-const TEXT: usize = job_room::TEXT;
 
 // How many streams were printed, and how many of the printouts are not the stored ones.
 #[derive(Clone, Copy)]
@@ -19,45 +18,40 @@ struct Tally {
     differ: u64,
 }
 
-// The number in the two bytes from `at` on.
-fn number(file: &[u8], at: usize) -> usize
-    requires { at + 2 ≤ length file.now }
-    ensures { result < 65536 }
+// The first record of a file: its stream and its answer, and what stands behind it. `None` says that the file ends before it does.
+fn split_record(file: &[u8]) -> Option<(&[u8], &[u8], &[u8])>
+    ensures { IfSome result (λ p. length p.2.now < length file.now) }
 {
-    u16::from_le_bytes([file[at], file[at + 1]]) as usize
+    let ([a, b, c, d], rest) = file.split_first_chunk::<4>()?;
+    let (stream, rest) = rest.split_at_checked(u16::from_le_bytes([*a, *b]) as usize)?;
+    let (answer, rest) = rest.split_at_checked(u16::from_le_bytes([*c, *d]) as usize)?;
+    Some((stream, answer, rest))
 }
 
 // Whether the printout of the stream is the answer.
 fn agrees(stream: &[u8], answer: &[u8], text: &mut [u8]) -> bool {
     match printout::printout(stream, text) {
-        Ok(count) => check::same(&text[..count], answer),
+        Ok(count) => &text[..count] == answer,
         Err(_) => false,
     }
 }
 
-// All records of the file. A record that ends past the file counts as one that differs.
+// All records of the file. A record that ends past the file counts as one that differs, and is the last.
 fn replay(file: &[u8], text: &mut [u8]) -> Tally {
     let mut streams: u64 = 0;
     let mut differ: u64 = 0;
-    let mut at = 0;
+    let mut rest = file;
     // a record says how long it is: no counted loop
-    while at < file.len() {
+    while !rest.is_empty() {
         streams += 1;
-        if file.len() - at < 4 {
+        let Some((stream, answer, after)) = split_record(rest) else {
             differ += 1;
             break;
-        }
-        let start = at + 4;
-        let middle = start + number(file, at);
-        let end = middle + number(file, at + 2);
-        if file.len() < end {
-            differ += 1;
-            break;
-        }
-        if !agrees(&file[start..middle], &file[middle..end], text) {
+        };
+        if !agrees(stream, answer, text) {
             differ += 1;
         }
-        at = end;
+        rest = after;
     }
     Tally { streams, differ }
 }
