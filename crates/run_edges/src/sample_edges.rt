@@ -16,21 +16,7 @@ fn print_sample<W: Write>(
     room: &mut Room<'_>,
 ) -> io::Result<()> {
     write!(to, "sample {wanted} from {seed}:")?;
-    let Points {
-        coordinates,
-        dimensions,
-    } = points;
-    let floats: &mut [f64] = room.floats;
-    let wholes: &mut [usize] = room.wholes;
-    match sampling::farthest_point_sampling(
-        coordinates,
-        dimensions,
-        wanted,
-        seed,
-        out,
-        floats,
-        wholes,
-    ) {
+    match sampling::farthest_point_sampling(points, wanted, seed, out, room) {
         Ok(Sampled { rows, cover }) => {
             // not-a-number has one pattern here, which `to_bits` takes none of
             let bits = bytes_out::bits_of(cover);
@@ -39,7 +25,11 @@ fn print_sample<W: Write>(
         Err(refusal) => {
             let number = refusal.number();
             let place = refusal.place();
-            write!(to, " refused {number} at {place} room{}", Numbers(wholes))?;
+            write!(
+                to,
+                " refused {number} at {place} room{}",
+                Numbers(room.wholes)
+            )?;
         }
     }
     writeln!(to, " output{}", Numbers(out))
