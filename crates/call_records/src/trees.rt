@@ -45,7 +45,8 @@ impl Lists {
         })
     }
 
-    // The same where the front of each list stands after its length.
+    // The same where the front of each list stands after its length. It is a function of its own: what lends a list is generic over the entries,
+    // and no closure is.
     pub fn lend_filled<'r>(&'r mut self, fields: &mut Fields<'_>) -> Option<TreeLists<'r>> {
         let Lists {
             level_points,

@@ -26,14 +26,14 @@ use Rattle.program_input.proofs.Fronts.{front-decides}
 use Rattle.ddm_keep.specs.Output.{KeptFor, Tells, RefusalFor, RefusalAdded, Replies}
 
 -- a reply to the bytes read is one to the input: a full list holds the decisive bytes
-pub front-replies : (front : Front) (n : ℕ) (input bytes : List ℕ) (r : Result ℕ Refusal) → n ≡ front_count front → Stopped (length input) front
-    → decisive ≤ length input → Found (kept (take n input)) bytes r → Replies front input bytes r
-front-replies front n input bytes r e s h = go r
+pub front-replies : (front : Front) (input bytes : List ℕ) (r : Result ℕ Refusal) → Stopped (length input) front
+    → decisive ≤ length input → Found (kept (take (front_count front) input)) bytes r → Replies front input bytes r
+front-replies front input bytes r s h = go r
   where
-    decides : (k : Kept) → k ≡ kept (take n input) → KeptFor front input k
-    decides k p = front-decides kept decisive front_kept front input s h k (p ∙ ap (λ i. kept (take i input)) e)
+    decides : (k : Kept) → k ≡ kept (take (front_count front) input) → KeptFor front input k
+    decides k p = front-decides kept decisive front_kept front input s h k p
 
-    go : (r : Result ℕ Refusal) → Found (kept (take n input)) bytes r → Replies front input bytes r
+    go : (r : Result ℕ Refusal) → Found (kept (take (front_count front) input)) bytes r → Replies front input bytes r
     go (Ok m) h = (h.0, decides (file (take m bytes)) h.1)
     go (Err x) h = decides (nothing (as_refusal x)) h
 

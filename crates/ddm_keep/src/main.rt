@@ -14,7 +14,7 @@ ghost use Rattle.ddm_keep.specs.Output.{KeptFor, FileFor, RefusalFor, RefusalAdd
 
 use bytes_out::Writer;
 use job_room::STREAM;
-use program_input::Front;
+use program_input::Input;
 use refusal::Refusal;
 use std::io;
 use std::io::{Read, Write};
@@ -32,39 +32,33 @@ fn keep_bytes(bytes: &[u8], file: &mut [u8]) -> Result<usize, Refusal>
 }
 
 // The same for what was read. The list that was read to holds the decisive bytes of every stream.
-fn reply_to(input: &[u8], front: Front, file: &mut [u8]) -> Result<usize, Refusal>
-    requires { Stopped (length input.now) front × (decisive ≤ length input.now) × (most_file_bytes ≤ length file.old) }
-    ensures { Replies front input.now file.new result }
+fn reply_to(input: Input<'_>, file: &mut [u8]) -> Result<usize, Refusal>
+    requires { Stopped (length input.bytes.now) input.front × (decisive ≤ length input.bytes.now) × (most_file_bytes ≤ length file.old) }
+    ensures { Replies input.entry.front input.entry.bytes.now file.new result }
 {
-    let n = front.count();
-    keep_bytes(&input[..n], file)
+    keep_bytes(input.read(), file)
 }
 
 // Writes the file for what was read.
-fn write_file<W: Write>(out: &mut W, input: &[u8], front: Front, bytes: &[u8]) -> io::Result<()>
-    requires { FileFor front input.now bytes.now }
+fn write_file<W: Write>(out: &mut W, input: Input<'_>, bytes: &[u8]) -> io::Result<()>
+    requires { FileFor input.front input.bytes.now bytes.now }
     ensures { OnOk result (Appends (W.contents out.old) (W.contents out.new) bytes.now) }
 {
     out.write_all(bytes)
 }
 
 // Writes the text of the refusal for what was read.
-fn write_text<W: Write>(errors: &mut W, input: &[u8], front: Front, text: &[u8]) -> io::Result<()>
-    requires { RefusalFor front input.now text.now }
+fn write_text<W: Write>(errors: &mut W, input: Input<'_>, text: &[u8]) -> io::Result<()>
+    requires { RefusalFor input.front input.bytes.now text.now }
     ensures { OnOk result (Appends (W.contents errors.old) (W.contents errors.new) text.now) }
 {
     errors.write_all(text)
 }
 
 // The same by the refusal.
-fn write_refusal<W: Write>(
-    errors: &mut W,
-    input: &[u8],
-    front: Front,
-    refusal: Refusal,
-) -> io::Result<()>
-    requires { KeptFor front input.now (nothing (as_refusal refusal)) }
-    ensures { OnOk result (RefusalAdded front input.now (W.contents errors.old) (W.contents errors.new)) }
+fn write_refusal<W: Write>(errors: &mut W, input: Input<'_>, refusal: Refusal) -> io::Result<()>
+    requires { KeptFor input.front input.bytes.now (nothing (as_refusal refusal)) }
+    ensures { OnOk result (RefusalAdded input.entry.front input.entry.bytes.now (W.contents errors.old) (W.contents errors.new)) }
 {
     let mut line = [0u8; LINE];
     let mut out = Writer {
@@ -73,7 +67,7 @@ fn write_refusal<W: Write>(
     };
     print_texts::write_refusal(refusal, &mut out);
     let count = out.at;
-    write_text(errors, input, front, &line[..count])
+    write_text(errors, input, &line[..count])
 }
 
 // Why the file or the refusal was not written, or not all of it.
@@ -94,13 +88,17 @@ fn keep_stream<R: Read, W: Write, E: Write>(
     ensures { OnOk result (IfSome (R.remaining reader.old) (λ stream. KeptIn (kept stream)
         (W.contents out.old) (W.contents out.new) (E.contents errors.old) (E.contents errors.new))) }
 {
-    let mut input = [0u8; STREAM];
+    let mut bytes = [0u8; STREAM];
     let mut file = [0u8; keep::MOST_FILE_BYTES];
-    let front = program_input::read_input(reader, &mut input).map_err(Failure::Input)?;
-    let reply = reply_to(&input, front, &mut file);
+    let front = program_input::read_input(reader, &mut bytes).map_err(Failure::Input)?;
+    let input = Input {
+        bytes: &bytes,
+        front,
+    };
+    let reply = reply_to(input, &mut file);
     match reply {
-        Ok(count) => write_file(out, &input, front, &file[..count]).map_err(Failure::Output),
-        Err(refusal) => write_refusal(errors, &input, front, refusal).map_err(Failure::Errors),
+        Ok(count) => write_file(out, input, &file[..count]).map_err(Failure::Output),
+        Err(refusal) => write_refusal(errors, input, refusal).map_err(Failure::Errors),
     }
 }
 

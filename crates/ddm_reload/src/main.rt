@@ -10,7 +10,7 @@ ghost use Rattle.program_input.specs.Input.{Stopped, MayBe};
 ghost use Rattle.ddm_reload.specs.Output.{ReloadedFrom};
 
 use job_room::{STREAM, TEXT};
-use program_input::Front;
+use program_input::{Front, Input};
 use std::io;
 use std::io::{Read, Write};
 use std::process::ExitCode;
@@ -46,28 +46,24 @@ fn print_bytes(stream: &[u8], file: &[u8], text: &mut [u8]) -> usize
 }
 
 // What is printed for the two inputs that were read, at the front of `text`. The lists that were read to hold the bytes that decide it.
-fn reply_to(stream: &[u8], job: Front, file: &[u8], tree: Front, text: &mut [u8]) -> usize
-    requires job_value { Stopped (length stream.now) job × (decisive ≤ length stream.now) }
-    requires tree_value { Stopped (length file.now) tree × (most_file < length file.now) }
+fn reply_to(job: Input<'_>, tree: Input<'_>, text: &mut [u8]) -> usize
+    requires job_value { Stopped (length job.bytes.now) job.front × (decisive ≤ length job.bytes.now) }
+    requires tree_value { Stopped (length tree.bytes.now) tree.front × (most_file < length tree.bytes.now) }
     requires most_bytes_in_bounds { most_bytes ≤ length text.old }
     ensures fits { result ≤ length text.new }
-    ensures same { ReloadedFrom job stream.now tree file.now (take result text.new) }
+    ensures same { ReloadedFrom job.entry.front job.entry.bytes.now tree.entry.front tree.entry.bytes.now (take result text.new) }
 {
-    let n = job.count();
-    let m = tree.count();
-    print_bytes(&stream[..n], &file[..m], text)
+    print_bytes(job.read(), tree.read(), text)
 }
 
 // Writes what is printed for the two inputs.
 fn write_reply<W: Write>(
     out: &mut W,
-    stream: &[u8],
-    job: Front,
-    file: &[u8],
-    tree: Front,
+    job: Input<'_>,
+    tree: Input<'_>,
     text: &[u8],
 ) -> io::Result<()>
-    requires { ReloadedFrom job stream.now tree file.now text.now }
+    requires { ReloadedFrom job.front job.bytes.now tree.front tree.bytes.now text.now }
     ensures { OnOk result (Appends (W.contents out.old) (W.contents out.new) text.now) }
 {
     out.write_all(text)
@@ -84,12 +80,20 @@ enum Failure {
 // Reads the stream and the file that the arguments name, and writes what is printed for them.
 fn print_reloaded<R: Env + Files + Alloc, W: Write>(rt: &R, out: &mut W) -> Result<(), Failure> {
     let mut stream = [0u8; STREAM];
-    let job = read_argument(rt, 1, &mut stream).map_err(Failure::Job)?;
+    let front = read_argument(rt, 1, &mut stream).map_err(Failure::Job)?;
+    let job = Input {
+        bytes: &stream,
+        front,
+    };
     let mut file = program_input::room::<FILE>();
-    let tree = read_argument(rt, 2, &mut file).map_err(Failure::Tree)?;
+    let front = read_argument(rt, 2, &mut file).map_err(Failure::Tree)?;
+    let tree = Input {
+        bytes: &file,
+        front,
+    };
     let mut text = program_input::room::<TEXT>();
-    let count = reply_to(&stream, job, &file, tree, &mut text);
-    write_reply(out, &stream, job, &file, tree, &text[..count]).map_err(Failure::Output)
+    let count = reply_to(job, tree, &mut text);
+    write_reply(out, job, tree, &text[..count]).map_err(Failure::Output)
 }
 
 fn main(rt: HostRuntime) -> ExitCode {

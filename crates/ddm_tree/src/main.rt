@@ -9,7 +9,7 @@ ghost use Rattle.program_input.specs.Input.{Stopped};
 ghost use Rattle.ddm_tree.specs.Output.{PrintoutFor};
 
 use job_room::{STREAM, TEXT};
-use program_input::Front;
+use program_input::Input;
 use std::io;
 use std::io::{Read, Write};
 use std::process::ExitCode;
@@ -25,18 +25,17 @@ fn print_bytes(bytes: &[u8], text: &mut [u8]) -> usize
 }
 
 // The printout for what was read, at the front of `text`. The list that was read to holds the decisive bytes of every stream.
-fn reply_to(input: &[u8], front: Front, text: &mut [u8]) -> usize
-    requires { Stopped (length input.now) front × (decisive ≤ length input.now) × (most_bytes ≤ length text.old) }
+fn reply_to(input: Input<'_>, text: &mut [u8]) -> usize
+    requires { Stopped (length input.bytes.now) input.front × (decisive ≤ length input.bytes.now) × (most_bytes ≤ length text.old) }
     ensures fits { result ≤ length text.new }
-    ensures same { PrintoutFor front input.now (take result text.new) }
+    ensures same { PrintoutFor input.entry.front input.entry.bytes.now (take result text.new) }
 {
-    let n = front.count();
-    print_bytes(&input[..n], text)
+    print_bytes(input.read(), text)
 }
 
 // Writes the printout for what was read.
-fn write_reply<W: Write>(out: &mut W, input: &[u8], front: Front, text: &[u8]) -> io::Result<()>
-    requires { PrintoutFor front input.now text.now }
+fn write_reply<W: Write>(out: &mut W, input: Input<'_>, text: &[u8]) -> io::Result<()>
+    requires { PrintoutFor input.front input.bytes.now text.now }
     ensures { OnOk result (Appends (W.contents out.old) (W.contents out.new) text.now) }
 {
     out.write_all(text)
@@ -54,11 +53,15 @@ fn print_stream<R: Read, W: Write>(reader: &mut R, out: &mut W) -> Result<(), Fa
     ensures { OnOk result (IfSome (R.remaining reader.old)
         (λ stream. Appends (W.contents out.old) (W.contents out.new) (printout stream))) }
 {
-    let mut input = [0u8; STREAM];
+    let mut bytes = [0u8; STREAM];
     let mut text = program_input::room::<TEXT>();
-    let front = program_input::read_input(reader, &mut input).map_err(Failure::Input)?;
-    let count = reply_to(&input, front, &mut text);
-    write_reply(out, &input, front, &text[..count]).map_err(Failure::Output)
+    let front = program_input::read_input(reader, &mut bytes).map_err(Failure::Input)?;
+    let input = Input {
+        bytes: &bytes,
+        front,
+    };
+    let count = reply_to(input, &mut text);
+    write_reply(out, input, &text[..count]).map_err(Failure::Output)
 }
 
 fn main(rt: HostRuntime) -> ExitCode {

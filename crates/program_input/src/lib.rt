@@ -28,6 +28,23 @@ impl Front {
     }
 }
 
+// What was read: the list that it was read to, and where reading stopped.
+#[derive(Clone, Copy)]
+pub struct Input<'a> {
+    pub bytes: &'a [u8],
+    pub front: Front,
+}
+
+impl<'a> Input<'a> {
+    // The bytes that were read.
+    pub fn read(self) -> &'a [u8]
+        requires { Stopped (length self.bytes.now) self.front }
+        ensures { result.now ≡ take (front_count self.entry.front) self.entry.bytes.now }
+    {
+        &self.bytes[..self.front.count()]
+    }
+}
+
 // A list of N zeros to read to.
 pub fn room<const N: usize>() -> [u8; N]
     ensures long { length result ≡ N }

@@ -16,7 +16,7 @@ pub slice_bounds-write_text-end : goal.slice_bounds-write_text-end
 slice_bounds-write_text-end g c = sym (length-take-le _ _ (line-fits _ _ refl refl c.write_refusal.ensures _ (search rules)))
 
 pub write_text-requires : goal.write_text-requires
-write_text-requires g c = line-tells _ _ refl refl c.write_refusal.ensures _ (search rules) c.args.front c.args.input.now c.requires
+write_text-requires g c = line-tells _ _ refl refl c.write_refusal.ensures _ (search rules) c.args.input.front c.args.input.bytes.now c.requires
 
 pub returns : goal.returns
-returns g c = told _ _ _ _ _ _ (line-tells _ _ refl refl c.write_refusal.ensures _ (search rules) c.args.front c.args.input.now c.requires) c.write_text.ensures
+returns g c = told _ _ _ _ _ _ (line-tells _ _ refl refl c.write_refusal.ensures _ (search rules) c.args.input.front c.args.input.bytes.now c.requires) c.write_text.ensures
