@@ -1,10 +1,12 @@
 -- What holds of the least squared distances in a round of sampling. Definitions only.
-use Rattle.std.specs.Prelude.{◌≡◌, ◌⊎◌, true, false, cond, List, ℕ, ◌≤◌, ◌<◌, get_or, Float}
+use Rattle.std.specs.Prelude.{◌≡◌, ◌⊎◌, true, false, cond, List, ℕ, ◌≤◌, ◌<◌, length, get_or, Float}
 use Rattle.std.specs.Float.{nan, binary64}
 use Rattle.std.specs.Float.Ieee.{lt, neg, of_bits}
 use Rattle.definition.specs.Number.{square_root_lem}
 use Rattle.definition.specs.Points.{rows_sq}
 use Rattle.root_laws.specs.Sorts.{good}
+use Rattle.rows.specs.Rows.{GoodRows}
+use Rattle.sampling_rounds.specs.declared.Sampled.{Sampled}
 
 -- the lesser of two values; y where neither is less
 abbrev pub lesser : Float → Float → Float
@@ -58,3 +60,25 @@ pub record Worst (v : ℕ → Float) (n : ℕ) (x : Float) : Type 0 where
   pub free : good (v place) ≡ true
   pub here : x ≡ square_root_lem (v place)
   pub greatest : (j : ℕ) → j < n → good (v j) ≡ true → lt x (square_root_lem (v j)) ≡ false
+
+-- the squares that a round makes of those kept, once the squared distance to the row at the place `last` is taken in, by place
+abbrev pub brought : Sampled → ℕ → ℕ → Float
+brought s last = lessened s.points.dimensions s.points.coordinates.now s.rows.now last s.squares.now
+
+-- a round can be made: the rows are good, the row at `last` is one of them, and each has a square that is kept
+pub record Ready (s : Sampled) (last : ℕ) : Type 0 where
+  pub rows : GoodRows s.points.dimensions s.points.coordinates.now s.rows.now
+  pub here : last < length s.rows.now
+  pub room : length s.rows.now ≤ length s.squares.now
+  pub kept : (i : ℕ) → i < length s.rows.now → KeptSquare (get_or s.squares.now i nan)
+
+-- a row that is not chosen
+abbrev pub Unchosen : Sampled → Type 0
+Unchosen s = (i : ℕ) × ((i < length s.rows.now) × (good (get_or s.squares.now i nan) ≡ true))
+
+-- both are of the same rows, and hold the same list of squares, as long as it was
+pub record SameSampled (s t : Sampled) : Type 0 where
+  pub points : t.points ≡ s.points
+  pub rows : t.rows ≡ s.rows
+  pub squares : t.squares.ghost_name ≡ s.squares.ghost_name
+  pub squares_len : length t.squares.now ≡ length s.squares.now

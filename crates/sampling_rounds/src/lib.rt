@@ -8,7 +8,7 @@ ghost use Rattle.lists.specs.Lists.{put};
 ghost use Rattle.definition.specs.Sampling.{sample, cover_of};
 ghost use Rattle.root_laws.specs.Sorts.{good};
 ghost use Rattle.rows.specs.Rows.{GoodRows};
-ghost use Rattle.sampling_rounds.specs.Rounds.{lesser, lessened, KeptSquare, Peaked, Held, Earliest, Chosen, Worst};
+ghost use Rattle.sampling_rounds.specs.Rounds.{lesser, KeptSquare, Peaked, Held, Earliest, Chosen, Worst, Ready, Unchosen, SameSampled, brought};
 
 use distances::{GlobalIdx, LocalIdx};
 use points::Points;
@@ -27,35 +27,6 @@ fn lesser_of(x: f64, y: f64) -> f64
     ensures { result ≡ lesser x y }
 {
     if x < y { x } else { y }
-}
-
-// Takes the squared distances to the row at `last` into the least ones, and gives the greatest of these.
-fn lessen(points: Points<'_>, rows: &[usize], last: LocalIdx, floats: &mut [f64]) -> Peak
-    requires rows { GoodRows points.dimensions points.coordinates.now rows.now }
-    requires room { (last.0 < length rows.now) × (length rows.now ≤ length floats.old) }
-    requires kept { (i : ℕ) → i < length rows.now → KeptSquare (get_or floats.old i nan) }
-    ensures values { (i : ℕ) → i < length rows.now → get_or floats.new i nan ≡ lessened points.entry.dimensions points.entry.coordinates.now rows.now last.0 floats.old i }
-    ensures peak { Peaked (lessened points.entry.dimensions points.entry.coordinates.now rows.now last.0 floats.old) (length rows.now) result.place result.most result.second }
-{
-    let row = GlobalIdx(rows[last.0]);
-    let mut place = 0;
-    let mut most = -1.0;
-    let mut second = -1.0;
-    for (i, &other) in rows.iter().enumerate() {
-        let square = distances::distance_sq(points, row, GlobalIdx(other));
-        let value = lesser_of(square, floats[i]);
-        floats[i] = value;
-        if most < value {
-            second = most;
-            most = value;
-            place = i;
-        }
-    }
-    Peak {
-        place,
-        most,
-        second,
-    }
 }
 
 // The first place up to `best` whose root is not less than that of the square at `best`. Squares up to `low` have lesser
@@ -105,31 +76,73 @@ fn first_farthest(floats: &[f64], peak: Peak) -> usize
     look_back(floats, best)
 }
 
-// One round: brings the least squares up to date and chooses the farthest row.
-fn next_place(points: Points<'_>, rows: &[usize], last: LocalIdx, floats: &mut [f64]) -> LocalIdx
-    requires rows { GoodRows points.dimensions points.coordinates.now rows.now }
-    requires room { (last.0 < length rows.now) × (length rows.now ≤ length floats.old) }
-    requires kept { (i : ℕ) → i < length rows.now → KeptSquare (get_or floats.old i nan) }
-    requires open { (i : ℕ) × ((i < length rows.now) × (good (get_or floats.old i nan) ≡ true)) }
-    ensures { Chosen (lessened points.entry.dimensions points.entry.coordinates.now rows.now last.0 floats.old) (length rows.now) result.0 floats.new }
-{
-    let peak = lessen(points, rows, last, floats);
-    let place = first_farthest(floats, peak);
-    floats[place] = -1.0;
-    LocalIdx(place)
+// The rows that are sampled, and what is kept for each of them, at the front of `squares`: -1 where the row is chosen, and otherwise its
+// least squared distance to the chosen rows.
+#[derive(Drop)]
+struct Sampled<'a, 'b> {
+    points: Points<'a>,
+    rows: &'a [usize],
+    squares: &'b mut [f64],
 }
 
-// The greatest least distance to a chosen row, over the rows that are not chosen: the root of the greatest least square,
-// once the last chosen row is taken in too.
-fn worst_distance(points: Points<'_>, rows: &[usize], last: LocalIdx, floats: &mut [f64]) -> f64
-    requires rows { GoodRows points.dimensions points.coordinates.now rows.now }
-    requires room { (last.0 < length rows.now) × (length rows.now ≤ length floats.old) }
-    requires kept { (i : ℕ) → i < length rows.now → KeptSquare (get_or floats.old i nan) }
-    requires open { (i : ℕ) × ((i < length rows.now) × (good (get_or floats.old i nan) ≡ true)) }
-    ensures { Worst (lessened points.entry.dimensions points.entry.coordinates.now rows.now last.0 floats.old) (length rows.now) result }
-{
-    let square = lessen(points, rows, last, floats).most;
-    root::root(square)
+impl<'a, 'b> Sampled<'a, 'b> {
+    // Takes the squared distances to the row at `last` into the least ones, and gives the greatest of these.
+    fn lessen(&mut self, last: LocalIdx) -> Peak
+        requires { Ready self.old last.0 }
+        ensures same { SameSampled self.old self.new }
+        ensures values { (i : ℕ) → i < length self.old.rows.now → get_or self.new.squares.now i nan ≡ brought self.old last.0 i }
+        ensures peak { Peaked (brought self.old last.0) (length self.old.rows.now) result.place result.most result.second }
+    {
+        // taken out of `self`, where they would be read for each row
+        let points = self.points;
+        let rows = self.rows;
+        let squares: &mut [f64] = self.squares;
+        let row = GlobalIdx(rows[last.0]);
+        let mut place = 0;
+        let mut most = -1.0;
+        let mut second = -1.0;
+        for (i, &other) in rows.iter().enumerate() {
+            let square = distances::distance_sq(points, row, GlobalIdx(other));
+            let value = lesser_of(square, squares[i]);
+            squares[i] = value;
+            if most < value {
+                second = most;
+                most = value;
+                place = i;
+            }
+        }
+        Peak {
+            place,
+            most,
+            second,
+        }
+    }
+
+    // One round: brings the least squares up to date and chooses the farthest row.
+    fn next_place(&mut self, last: LocalIdx) -> LocalIdx
+        requires ready { Ready self.old last.0 }
+        requires unchosen { Unchosen self.old }
+        ensures same { SameSampled self.old self.new }
+        ensures chosen { Chosen (brought self.old last.0) (length self.old.rows.now) result.0 self.new.squares.now }
+    {
+        let peak = self.lessen(last);
+        let squares: &mut [f64] = self.squares;
+        let place = first_farthest(squares, peak);
+        squares[place] = -1.0;
+        LocalIdx(place)
+    }
+
+    // The greatest least distance to a chosen row, over the rows that are not chosen: the root of the greatest least square,
+    // once the last chosen row is taken in too.
+    fn worst_distance(&mut self, last: LocalIdx) -> f64
+        requires ready { Ready self.old last.0 }
+        requires unchosen { Unchosen self.old }
+        ensures same { SameSampled self.old self.new }
+        ensures worst { Worst (brought self.old last.0) (length self.old.rows.now) result }
+    {
+        let square = self.lessen(last).most;
+        root::root(square)
+    }
 }
 
 // Writes `wanted` of the rows to `out` from `at` on: the row at the place `seed`, and then repeatedly the first unchosen
@@ -152,13 +165,18 @@ pub fn sample_rows(
     floats[..rows.len()].fill(f64::INFINITY);
     out[at] = rows[seed.0];
     floats[seed.0] = -1.0;
+    let mut sampled = Sampled {
+        points,
+        rows,
+        squares: floats,
+    };
     let mut last = seed;
     for k in 1..wanted {
-        last = next_place(points, rows, last, floats);
+        last = sampled.next_place(last);
         out[at + k] = rows[last.0];
     }
     if wanted == rows.len() {
         return 0.0;
     }
-    worst_distance(points, rows, last, floats)
+    sampled.worst_distance(last)
 }
