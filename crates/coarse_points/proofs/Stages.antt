@@ -2,11 +2,11 @@
 -- Holds: counts_all, leaves-fit, sent-size, up-size, sorted-up, covers_up, written-up, reordered, quotas-front, lent-good,
 --   lent-size, leaf_room, leaf-end, leaf-list
 use mathlib.Core.Path.{◌≡◌, sym, ap, ◌∙◌}
-use mathlib.Core.List.{List, [], map, zip_with, map-map}
+use mathlib.Core.List.{List, [], ◌++◌, map, zip_with, map-map}
 use Prim.Native.Nat.{ℕ, ◌+◌, ◌-◌, ◌≤◌, ◌<◌}
 use native.Mathlib.Omega.{arith}
 use lib.ListN.{length, get_or, take, drop}
-use lib.Seq.{get_or-take, length-take-le}
+use lib.Seq.{get_or-take, length-take-le, take_at}
 use lib.Ieee.{Float}
 use borrow.Rule.Slice.PartMut.{put_mid}
 use Rattle.lists.specs.Lists.{total, from, joined, keep, member, count, part, put}
@@ -24,9 +24,7 @@ use Rattle.definition.specs.Quotas.{quotas_for}
 use Rattle.definition.specs.Sampling.{sent_by}
 use Rattle.definition.specs.Tree.{next_active}
 use Rattle.definition.specs.Fair.{Fair}
-use Rattle.definition.specs.Outcome.{written}
 use Rattle.definition.proofs.Fairness.{fair-for, quotas-held, quotas-length}
-use Rattle.quotas.proofs.Written.{take-written}
 use Rattle.rows.specs.Rows.{GoodRow, GoodRows}
 use Rattle.sort.specs.Heap.{Sorted}
 use Rattle.packed.specs.Reading.{own_start, own_count, own_at, read_own}
@@ -167,10 +165,10 @@ reordered l start e ys h g o s = record {
 
 -- ---- the quotas at the front of the working list
 pub quotas-front : (sizes mid new : List ℕ) (m size : ℕ) → m ≤ length mid → take m mid ≡ sizes → size ≤ total sizes
-    → new ≡ written (quotas_for (take m mid) size) mid → take m new ≡ quotas_for sizes size
+    → new ≡ quotas_for (take m mid) size → take m (new ++ drop m mid) ≡ quotas_for sizes size
 quotas-front sizes mid new m size h e g q =
-    let n : length (quotas_for (take m mid) size) ≡ m = quotas-length (take m mid) size (rw e g) ∙ length-take-le m mid h in
-    ap (take m) q ∙ take-written (quotas_for (take m mid) size) mid m n ∙ ap (λ (z : List ℕ). quotas_for z size) e
+    let n : length new ≡ m = ap length q ∙ quotas-length (take m mid) size (rw e g) ∙ length-take-le m mid h in
+    take_at new (drop m mid) m n ∙ q ∙ ap (λ (z : List ℕ). quotas_for z size) e
 
 -- ---- one leaf's own rows, as they are lent
 module _ (d : ℕ) (cs : List Float) (I D : List ℕ) (r quota k : ℕ) (f : LeafFits d cs I D r quota k) (rows : List ℕ) (e : rows ≡ own_at I D r) where

@@ -34,7 +34,7 @@ fn leaf_quotas(leaves: LevelLeaves<'_>, a: usize, size: usize, wholes: &mut [usi
     ensures { take leaves.entry.count wholes.new ≡ quotas_for (counts_at leaves.entry.domains.now leaves.entry.first leaves.entry.count) size }
 {
     copy_sizes(leaves, wholes);
-    quotas::share_in_place(wholes, leaves.count, a, size);
+    quotas::share_in_place(&mut wholes[..leaves.count], a, size);
 }
 
 // Writes `quota` of the rows, chosen from the row nearest their centroid on, from `at` on: none where the quota is 0. Gives the

@@ -1,4 +1,3 @@
 -- The laws that belong to no one function.
-pub mod Written
 pub mod OneLeaf
 pub mod Verdicts

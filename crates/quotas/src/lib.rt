@@ -5,7 +5,6 @@ ghost use Rattle.std.specs.Prelude.{◌≡◌, length, take, ℕ, ◌-◌, ◌*�
 ghost use Rattle.lists.specs.Lists.{total};
 ghost use Rattle.definition.specs.Quotas.{size_at, nonempty, leftover, quotas_for};
 ghost use Rattle.definition.specs.Refusals.{most_points};
-ghost use Rattle.definition.specs.Outcome.{written};
 ghost use Rattle.quotas.specs.Answers.{quota_report_lem};
 ghost use Rattle.definition.specs.SeatCut.{extra_by};
 ghost use Rattle.quotas.specs.Outcome.{SeatsShared};
@@ -146,7 +145,7 @@ fn deal(sizes: &mut [usize], first: usize, rest: usize, capacity: usize)
 }
 
 // The quotas for s seats, of leaves with `rows` rows in all, in the place of their sizes.
-fn share(sizes: &mut [usize], rows: usize, s: usize)
+pub fn share_in_place(sizes: &mut [usize], rows: usize, s: usize)
     requires { (rows ≡ total sizes.old) × (rows ≤ most_points) × (s ≤ rows) }
     ensures { sizes.new ≡ quotas_for sizes.old s }
 {
@@ -156,14 +155,6 @@ fn share(sizes: &mut [usize], rows: usize, s: usize)
     } else {
         deal(sizes, 0, s, rows);
     }
-}
-
-// The same for leaves whose sizes are the first m numbers of the list. What stands past them stays.
-pub fn share_in_place(list: &mut [usize], m: usize, rows: usize, s: usize)
-    requires { (m ≤ length list.old) × (rows ≡ total (take m list.old)) × (rows ≤ most_points) × (s ≤ rows) }
-    ensures { list.new ≡ written (quotas_for (take m list.old) s) list.old }
-{
-    share(&mut list[..m], rows, s);
 }
 
 // The quotas for `wanted` seats, held to the total. Document 01's refusals come in its order: 8, 11. The sharing works in the
@@ -185,7 +176,8 @@ pub fn get_domain_coarse_quotas(
         return Err(Refusal::ShortList);
     }
     let seats = wanted.min(rows);
-    quotas[..leaves].copy_from_slice(sizes);
-    share_in_place(quotas, leaves, rows, seats);
+    let front = &mut quotas[..leaves];
+    front.copy_from_slice(sizes);
+    share_in_place(front, rows, seats);
     Ok(Seated { leaves, seats })
 }
