@@ -91,7 +91,7 @@ fn setting_at(input: &[u8], at: usize) -> u32
     bytes_in::number_at(input, at) as u32
 }
 
-// The settings in a whole record.
+// The settings in a whole record. It is no `From`, which takes no `requires`: a record stands in a list of any length.
 pub fn settings_of(input: &[u8]) -> Settings
     requires { settings_size ≤ length input.now }
     ensures { settings_are result ≡ settings_in input.now }

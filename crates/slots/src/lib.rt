@@ -82,7 +82,8 @@ pub fn put_sizes(res: &mut [usize], answer: Result<BuildSizes, Refusal>) -> usiz
     told.number
 }
 
-// The settings, from the numbers of the call: of the policy, 0 is Auto, and any other number Fixed.
+// The settings, from the numbers of the call: of the policy, 0 is Auto, and any other number Fixed. It is no `From`: C hands over five plain
+// numbers, which are no value of their own.
 pub fn params_of(leaf: u32, neighbours: u32, factor: u32, policy: u32, threshold: u32) -> DDMParams
     ensures { (d : ℕ) → settings_of_lem d result ≡ settings_from d leaf neighbours factor policy threshold }
 {
@@ -118,7 +119,7 @@ pub fn put_tree(res: &mut [usize], answer: Result<DDMTree, Refusal>) -> usize
     told.number
 }
 
-// The counts of a tree, from the slot that a build or a load wrote.
+// The counts of a tree, from the slot that a build or a load wrote. It is no `From`, which takes no `requires`: a slot is a list of any length.
 pub fn counts_from(tree: &[usize]) -> DDMTree
     requires { 10 ≤ length tree.now }
     ensures { counts_given result ≡ counts_in tree.now }
