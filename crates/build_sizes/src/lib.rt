@@ -41,7 +41,7 @@ impl BuildSizes {
     }
 }
 
-// The lengths for n points on `dimensions` axes with this neighbour count.
+// The lengths for n points on `dimensions` axes with this neighbour count: three numbers, as the public call is asked with them.
 pub fn stated_sizes(dimensions: usize, n: usize, neighbours: usize) -> BuildSizes
     requires { (dimensions ≤ 3) × (n ≤ most_points) × (neighbours ≤ most_neighbours) }
     ensures { sizes_of result ≡ build_stated dimensions n neighbours }

@@ -32,7 +32,7 @@ pub struct Cut {
 
 // The leaves of the active rows, by this engine. Their rows go to the internals from `start.from` on, packed; start, count and depth of each
 // to the domain rows from the first on, and their boxes to `boxes`, behind `start.skip` floats, from the first on. The record goes to `cuts`
-// and `planes` from `start.node` on; the queue writes none.
+// and `planes` from `start.node` on; the queue writes none. Both engines are lent the same values, each as it is lent to here.
 pub fn cut_level(
     engine: Engine,
     points: Points<'_>,

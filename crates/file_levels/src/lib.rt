@@ -73,6 +73,9 @@ pub fn level_at(bytes: &[u8], at: usize) -> Option<LevelHead>
     })
 }
 
+// Bytes, place and axes stay side by side, here and in file_domains and load_lists: the place moves on from record to record, and the
+// definition speaks of the bytes from a place on.
+
 // Whether the level at a place stands there whole, has at least `least` and fewer than `below` rows, and passes against the listed rows of
 // the level above. Where it does, its rows are the listed ones.
 pub fn check_level(

@@ -1,5 +1,6 @@
 // The limits of a build: how many points, neighbours and leaves it may have, and how large a row may be. The facts about rows stand
-// in specs and proofs.
+// in specs and proofs: they are asked clause by clause, since rows are stretches of one list that is cut in place, and a type that promised
+// them would be made anew at each cut.
 #![tactic(auto)]
 
 // A build takes at most this many points (the definition's most_points).

@@ -91,7 +91,7 @@ fn sampling_verdict(
 
 // Farthest point sampling of all rows, from the row `seed` on: `wanted` rows are written to the front of `out`. The cover
 // is how far the worst left-out row is from its nearest chosen one. The working room, 2 floats and 1 whole number per row, is
-// left free but for its length. A refusal writes to no list.
+// left free but for its length. A refusal writes to no list. Points, number and seed are what document 01 has it called with.
 pub fn farthest_point_sampling(
     points: Points<'_>,
     wanted: usize,
