@@ -1,7 +1,7 @@
 // The levels of a tree that stand in packed lists, tested one after the other, and the whole tree.
 #![tactic(auto)]
 
-ghost use Rattle.std.specs.Prelude.{◌≡◌, false, ◌&&◌, ◌*◌, ◌+◌, ◌≤◌, leb};
+ghost use Rattle.std.specs.Prelude.{◌≡◌, false, ◌&&◌, ◌*◌, ◌+◌, ◌≤◌, ◌<◌, leb, eqb, get_or};
 ghost use Rattle.definition.specs.Tree.{Settings};
 ghost use Rattle.definition.specs.Packed.{build_stated};
 ghost use Rattle.definition.specs.Refusals.{most_points, most_neighbours};
@@ -14,32 +14,30 @@ ghost use Rattle.list_levels.specs.Passed.{LevelReady, NextReady, LevelsReady, L
 use leaf_depths::LeafLevel;
 use list_domains::ListsPassed;
 use list_rows::ListRows;
-use packed::Packed;
 use row_sets::LevelRows;
-use tree_answer::DDMTree;
+use tree_answer::{DDMTree, PackedTree};
 
 // Whether a level's rows are listed above, and its domain rows pass with these rows listed; where they do, where its borrowed rows end. They
 // stand behind those of the levels before.
 pub fn check_level(
-    level_points: &[usize],
-    tree: Packed<'_>,
+    tree: PackedTree<'_>,
     before: ListsPassed,
     count: usize,
     level: LeafLevel,
     borrowed_most: usize,
     sets: &mut LevelRows,
 ) -> Option<usize>
-    requires { LevelReady (packed_of tree) level_points.now borrowed_most before.domains count before.rows before.borrowed level.rows }
-    ensures { LevelPassed level.coarse (packed_of tree.entry) level_points.now borrowed_most before.domains before.rows before.borrowed level.rows count
-        sets.old.listed sets.new.listed result }
+    requires { LevelReady (packed_of tree.leaves) tree.level_points.now borrowed_most before.domains count before.rows before.borrowed level.rows }
+    ensures { LevelPassed level.coarse (packed_of tree.entry.leaves) tree.entry.level_points.now borrowed_most before.domains before.rows before.borrowed
+        level.rows count sets.old.listed sets.new.listed result }
 {
     let points = ListRows {
-        list: &level_points[before.rows..before.rows + level.rows],
+        list: &tree.level_points[before.rows..before.rows + level.rows],
     };
     if !sets.narrow(&points) {
         return None;
     }
-    list_domains::check_domains(tree, before, count, level, borrowed_most, sets)
+    list_domains::check_domains(tree.leaves, before, count, level, borrowed_most, sets)
 }
 
 // Whether a level may have so many rows: the first one all n, and any other some, and fewer than the level above it.
@@ -69,28 +67,31 @@ fn all_zero(counts: &[usize]) -> bool
 
 // The level number t, where the levels before it have passed: its counts, and the level itself. The answer is that of all levels to this one.
 fn next_level(
-    level_points: &[usize],
-    tree: Packed<'_>,
+    tree: PackedTree<'_>,
     n: usize,
+    borrowed_most: usize,
     t: usize,
     above: usize,
-    count: usize,
-    level: LeafLevel,
-    borrowed_most: usize,
     done: ListsPassed,
     sets: &mut LevelRows,
 ) -> Option<ListsPassed>
-    requires { NextReady (packed_of tree) level_points.now n borrowed_most above done }
-    ensures { NextPassed level.coarse (packed_of tree.entry) level_points.now n borrowed_most t above level.rows count done
-        sets.old.listed sets.new.listed result }
+    requires ready { NextReady (packed_of tree.leaves) tree.level_points.now n borrowed_most above done }
+    requires counted { t < 4 }
+    ensures { NextPassed (eqb (t + 1) tree.entry.counts.levels) (packed_of tree.entry.leaves) tree.entry.level_points.now n borrowed_most t above
+        (get_or tree.entry.counts.rows t 0) (get_or tree.entry.counts.domains t 0) done sets.old.listed sets.new.listed result }
 {
+    let level = LeafLevel {
+        rows: tree.counts.rows[t],
+        coarse: t + 1 == tree.counts.levels,
+    };
     if !count_fits(t, n, above, level.rows) {
         return None;
     }
+    let count = tree.counts.domains[t];
     if !domains_fit(level.coarse, count, 6 * n + 1 - done.domains) {
         return None;
     }
-    let borrowed = check_level(level_points, tree, done, count, level, borrowed_most, sets)?;
+    let borrowed = check_level(tree, done, count, level, borrowed_most, sets)?;
     Some(ListsPassed {
         rows: done.rows + level.rows,
         domains: done.domains + count,
@@ -100,15 +101,13 @@ fn next_level(
 
 // The levels by their row and domain counts, from the first one, above which all n rows are listed, to the coarse one.
 pub fn check_levels(
-    counts: DDMTree,
-    level_points: &[usize],
-    tree: Packed<'_>,
+    tree: PackedTree<'_>,
     n: usize,
     borrowed_most: usize,
     sets: &mut LevelRows,
 ) -> Option<ListsPassed>
-    requires { LevelsReady (packed_of tree) level_points.now (counts_given counts) n borrowed_most sets.old.listed }
-    ensures { LevelsPassed (packed_of tree.entry) level_points.now (counts_given counts) n borrowed_most result }
+    requires { LevelsReady (packed_of tree.leaves) tree.level_points.now (counts_given tree.counts) n borrowed_most sets.old.listed }
+    ensures { LevelsPassed (packed_of tree.entry.leaves) tree.entry.level_points.now (counts_given tree.entry.counts) n borrowed_most result }
 {
     let mut done = ListsPassed {
         rows: 0,
@@ -116,24 +115,9 @@ pub fn check_levels(
         borrowed: 0,
     };
     let mut above = n;
-    for t in 0..counts.levels {
-        let level = LeafLevel {
-            rows: counts.rows[t],
-            coarse: t + 1 == counts.levels,
-        };
-        done = next_level(
-            level_points,
-            tree,
-            n,
-            t,
-            above,
-            counts.domains[t],
-            level,
-            borrowed_most,
-            done,
-            sets,
-        )?;
-        above = level.rows;
+    for t in 0..tree.counts.levels {
+        done = next_level(tree, n, borrowed_most, t, above, done, sets)?;
+        above = tree.counts.rows[t];
     }
     Some(done)
 }
@@ -150,24 +134,19 @@ fn counts_stand(counts: DDMTree) -> bool
 }
 
 // The tree in the lists with these counts, where it passes the tests of a stored tree over n rows.
-pub fn check_lists(
-    level_points: &[usize],
-    tree: Packed<'_>,
-    n: usize,
-    neighbours: usize,
-    counts: DDMTree,
-) -> Option<ListsPassed>
-    requires { (tree.dimensions ≤ 3) × (n ≤ most_points) × (neighbours ≤ most_neighbours)
-        × (lists_short_lem (lists_of level_points.now tree.internals.now tree.domains.now tree.boxes.now tree.borrowed.now)
-        (build_stated tree.dimensions n neighbours) ≡ false) }
-    ensures { (s : Settings) → s.dimension ≡ tree.entry.dimensions → s.neighbours ≡ neighbours
-        → TreePassed s n (counts_given counts)
-        (lists_of level_points.now tree.entry.internals.now tree.entry.domains.now tree.entry.boxes.now tree.entry.borrowed.now) result }
+pub fn check_lists(tree: PackedTree<'_>, n: usize, neighbours: usize) -> Option<ListsPassed>
+    requires { (tree.leaves.dimensions ≤ 3) × (n ≤ most_points) × (neighbours ≤ most_neighbours)
+        × (lists_short_lem (lists_of tree.level_points.now tree.leaves.internals.now tree.leaves.domains.now tree.leaves.boxes.now tree.leaves.borrowed.now)
+        (build_stated tree.leaves.dimensions n neighbours) ≡ false) }
+    ensures { (s : Settings) → s.dimension ≡ tree.entry.leaves.dimensions → s.neighbours ≡ neighbours
+        → TreePassed s n (counts_given tree.entry.counts)
+        (lists_of tree.entry.level_points.now tree.entry.leaves.internals.now tree.entry.leaves.domains.now tree.entry.leaves.boxes.now
+        tree.entry.leaves.borrowed.now) result }
 {
-    if !counts_stand(counts) {
+    if !counts_stand(tree.counts) {
         return None;
     }
     let mut sets = LevelRows::below(n);
     let borrowed_most = 6 * n * (neighbours + 1);
-    check_levels(counts, level_points, tree, n, borrowed_most, &mut sets)
+    check_levels(tree, n, borrowed_most, &mut sets)
 }

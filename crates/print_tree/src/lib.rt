@@ -10,6 +10,7 @@ ghost use Rattle.print_tree.specs.Unpack.{box_part, points_line, leaf_line, fine
 
 use bytes_out::Writer;
 use packed::{Leaf, Packed};
+use tree_answer::PackedTree;
 
 // The bounds of a box; a dash for the coarse domain's. The flag stays: an Option of the bounds is no plainer, since each contract
 // would take it apart again.
@@ -90,47 +91,35 @@ fn write_coarse(t: usize, rows: &[usize], j: usize, tree: Packed<'_>, out: &mut 
 }
 
 // The lines of all levels.
-fn write_levels(
-    levels: usize,
-    rows: &[usize],
-    counts: &[usize],
-    level_points: &[usize],
-    tree: Packed<'_>,
-    out: &mut Writer<'_>,
-)
-    requires stands { Stands (packed_of tree) level_points.now rows.now counts.now levels }
-    requires room_for { Takes out.old (levels_text 0 (read_levels (packed_of tree) level_points.now rows.now counts.now levels)) }
-    ensures { Appends out.old out.new (levels_text 0 (read_levels (packed_of tree.entry) level_points.now rows.now counts.now levels)) }
+fn write_levels(tree: PackedTree<'_>, out: &mut Writer<'_>)
+    requires stands { Stands (packed_of tree.leaves) tree.level_points.now tree.counts.rows tree.counts.domains tree.counts.levels }
+    requires room_for { Takes out.old (levels_text 0 (read_levels (packed_of tree.leaves) tree.level_points.now tree.counts.rows tree.counts.domains tree.counts.levels)) }
+    ensures { Appends out.old out.new (levels_text 0
+        (read_levels (packed_of tree.entry.leaves) tree.entry.level_points.now tree.entry.counts.rows tree.entry.counts.domains tree.entry.counts.levels)) }
 {
-    let last = levels - 1;
+    let counts = tree.counts;
+    let last = counts.levels - 1;
     let mut a = 0;
     let mut j = 0;
     for t in 0..last {
-        let e = a + rows[t];
-        let m = counts[t];
-        write_fine(t, &level_points[a..e], j, m, tree, out);
+        let e = a + counts.rows[t];
+        let m = counts.domains[t];
+        write_fine(t, &tree.level_points[a..e], j, m, tree.leaves, out);
         a = e;
         j += m;
     }
-    let e = a + rows[last];
-    write_coarse(last, &level_points[a..e], j, tree, out);
+    let e = a + counts.rows[last];
+    write_coarse(last, &tree.level_points[a..e], j, tree.leaves, out);
 }
 
-// The whole tree: its levels with their row and domain counts, and the packed lists. The counts stay lists of any length: the struct
-// of a tree's counts holds four levels.
-pub fn write_tree(
-    levels: usize,
-    rows: &[usize],
-    counts: &[usize],
-    level_points: &[usize],
-    tree: Packed<'_>,
-    out: &mut Writer<'_>,
-)
-    requires stands { Stands (packed_of tree) level_points.now rows.now counts.now levels }
-    requires room_for { Takes out.old (tree_text (read_levels (packed_of tree) level_points.now rows.now counts.now levels)) }
-    ensures { Appends out.old out.new (tree_text (read_levels (packed_of tree.entry) level_points.now rows.now counts.now levels)) }
+// The whole tree: its levels with their row and domain counts, and the packed lists.
+pub fn write_tree(tree: PackedTree<'_>, out: &mut Writer<'_>)
+    requires stands { Stands (packed_of tree.leaves) tree.level_points.now tree.counts.rows tree.counts.domains tree.counts.levels }
+    requires room_for { Takes out.old (tree_text (read_levels (packed_of tree.leaves) tree.level_points.now tree.counts.rows tree.counts.domains tree.counts.levels)) }
+    ensures { Appends out.old out.new (tree_text
+        (read_levels (packed_of tree.entry.leaves) tree.entry.level_points.now tree.entry.counts.rows tree.entry.counts.domains tree.entry.counts.levels)) }
 {
-    print_texts::write_numbered(b"levels ", levels, out);
+    print_texts::write_numbered(b"levels ", tree.counts.levels, out);
     out.byte(b'\n');
-    write_levels(levels, rows, counts, level_points, tree, out);
+    write_levels(tree, out);
 }

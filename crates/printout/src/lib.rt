@@ -15,7 +15,7 @@ use packed::Packed;
 use points::Points;
 use refusal::Refusal;
 use settings_record::Settings;
-use tree_lists::TreeRead;
+use tree_answer::PackedTree;
 
 // The text of a job: of its tree, or of the build's refusal. The lists suffice for the largest job.
 fn write_job(settings: Settings, points: &[f64], out: &mut Writer<'_>)
@@ -33,28 +33,19 @@ fn write_job(settings: Settings, points: &[f64], out: &mut Writer<'_>)
     let mut room = room.lend();
     match ddm::build(points, params, &mut lists, &mut room) {
         Ok(tree) => {
-            let TreeRead {
-                level_points,
-                internals,
-                domains,
-                boxes,
-                borrowed,
-            } = lists.read();
-            let packed = Packed {
-                internals,
-                domains,
-                boxes,
-                borrowed,
-                dimensions,
+            let lists = lists.read();
+            let tree = PackedTree {
+                counts: tree,
+                level_points: lists.level_points,
+                leaves: Packed {
+                    internals: lists.internals,
+                    domains: lists.domains,
+                    boxes: lists.boxes,
+                    borrowed: lists.borrowed,
+                    dimensions,
+                },
             };
-            print_tree::write_tree(
-                tree.levels,
-                &tree.rows,
-                &tree.domains,
-                level_points,
-                packed,
-                out,
-            );
+            print_tree::write_tree(tree, out);
         }
         Err(refusal) => print_texts::write_refusal(refusal, out),
     }

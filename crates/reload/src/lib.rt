@@ -17,7 +17,7 @@ use packed::Packed;
 use points::Points;
 use refusal::Refusal;
 use settings_record::Settings;
-use tree_lists::TreeRead;
+use tree_answer::PackedTree;
 
 // The longest file that is taken.
 pub const MOST_FILE: usize = 1048576;
@@ -36,28 +36,19 @@ fn write_loaded(settings: Settings, points: &[f64], file: &[u8], out: &mut Write
     let mut lists = lists.lend();
     match load::load_tree(points, params, file, &mut lists) {
         Ok(tree) => {
-            let TreeRead {
-                level_points,
-                internals,
-                domains,
-                boxes,
-                borrowed,
-            } = lists.read();
-            let packed = Packed {
-                internals,
-                domains,
-                boxes,
-                borrowed,
-                dimensions,
+            let lists = lists.read();
+            let tree = PackedTree {
+                counts: tree,
+                level_points: lists.level_points,
+                leaves: Packed {
+                    internals: lists.internals,
+                    domains: lists.domains,
+                    boxes: lists.boxes,
+                    borrowed: lists.borrowed,
+                    dimensions,
+                },
             };
-            print_tree::write_tree(
-                tree.levels,
-                &tree.rows,
-                &tree.domains,
-                level_points,
-                packed,
-                out,
-            );
+            print_tree::write_tree(tree, out);
         }
         Err(refusal) => print_texts::write_refusal(refusal, out),
     }

@@ -15,7 +15,7 @@ use config::DDMParams;
 use packed::Packed;
 use points::Points;
 use refusal::Refusal;
-use tree_answer::DDMTree;
+use tree_answer::{DDMTree, PackedTree};
 use tree_lists::TreeRead;
 
 // A level's or a domain's bytes before its rows: the mark's, and two counts.
@@ -63,17 +63,20 @@ fn store_sound(
         coordinates,
         dimensions,
     } = points;
-    let level_points = tree.level_points;
-    let lists = Packed {
-        internals: tree.internals,
-        domains: tree.domains,
-        boxes: tree.boxes,
-        borrowed: tree.borrowed,
-        dimensions,
+    let tree = PackedTree {
+        counts,
+        level_points: tree.level_points,
+        leaves: Packed {
+            internals: tree.internals,
+            domains: tree.domains,
+            boxes: tree.boxes,
+            borrowed: tree.borrowed,
+            dimensions,
+        },
     };
     let n = coordinates.len() / dimensions;
     let neighbours = params.overlap_knn as usize;
-    let Some(passed) = list_levels::check_lists(level_points, lists, n, neighbours, counts) else {
+    let Some(passed) = list_levels::check_lists(tree, n, neighbours) else {
         return Err(Refusal::NoSoundTree);
     };
     let size = file_size(
@@ -87,7 +90,7 @@ fn store_sound(
     if file.len() < size {
         return Err(Refusal::ShortList);
     }
-    Ok(store_bytes::put_file(coordinates, params, counts, level_points, lists, file))
+    Ok(store_bytes::put_file(coordinates, params, tree, file))
 }
 
 // Writes the file of the tree that stands in the lists with these counts, over these points and settings. The bytes go to the front of the

@@ -14,7 +14,7 @@ use bytes_out::Writer;
 use config::DDMParams;
 use packed::Packed;
 use points::Points;
-use tree_answer::DDMTree;
+use tree_answer::PackedTree;
 
 // The first n points.
 fn put_points(points: Points<'_>, n: usize, out: &mut Writer<'_>)
@@ -67,44 +67,38 @@ fn put_whole_level(
 }
 
 // The levels, by the row and domain counts per level; the last one is the coarse one.
-fn put_levels(counts: DDMTree, level_points: &[usize], tree: Packed<'_>, out: &mut Writer<'_>)
-    requires stands { Stands (packed_of tree) level_points.now counts.rows counts.domains counts.levels }
-    requires room_for { Takes out.old (joined (tree_records (levels_in counts level_points.now (packed_of tree)))) }
-    ensures { Appends out.old out.new (joined (tree_records (levels_in counts level_points.now (packed_of tree.entry)))) }
+fn put_levels(tree: PackedTree<'_>, out: &mut Writer<'_>)
+    requires stands { Stands (packed_of tree.leaves) tree.level_points.now tree.counts.rows tree.counts.domains tree.counts.levels }
+    requires room_for { Takes out.old (joined (tree_records (levels_in tree.counts tree.level_points.now (packed_of tree.leaves)))) }
+    ensures { Appends out.old out.new (joined (tree_records (levels_in tree.entry.counts tree.entry.level_points.now (packed_of tree.entry.leaves)))) }
 {
+    let counts = tree.counts;
     let mut a = 0;
     let mut j = 0;
     for t in 0..counts.levels {
         let e = a + counts.rows[t];
         let m = counts.domains[t];
         let coarse = t + 1 == counts.levels;
-        put_whole_level(&level_points[a..e], tree, j, m, coarse, out);
+        put_whole_level(&tree.level_points[a..e], tree.leaves, j, m, coarse, out);
         a = e;
         j += m;
     }
 }
 
 // The whole file of the tree that stands in the lists with these counts. The answer is the number of its bytes.
-pub fn put_file(
-    points: &[f64],
-    params: DDMParams,
-    counts: DDMTree,
-    level_points: &[usize],
-    tree: Packed<'_>,
-    out: &mut [u8],
-) -> usize
-    requires le_dimensions { (1 ≤ tree.dimensions) × (tree.dimensions ≤ 3) }
-    requires stands { Stands (packed_of tree) level_points.now counts.rows counts.domains counts.levels }
-    requires borrowed_in_bounds { length (file_of params points.now counts level_points.now (packed_of tree)) ≤ length out.old }
-    ensures answer { result ≡ length (file_of params points.now counts level_points.now (packed_of tree.entry)) }
-    ensures file { out.new ≡ put out.old 0 (file_of params points.now counts level_points.now (packed_of tree.entry)) }
+pub fn put_file(points: &[f64], params: DDMParams, tree: PackedTree<'_>, out: &mut [u8]) -> usize
+    requires le_dimensions { (1 ≤ tree.leaves.dimensions) × (tree.leaves.dimensions ≤ 3) }
+    requires stands { Stands (packed_of tree.leaves) tree.level_points.now tree.counts.rows tree.counts.domains tree.counts.levels }
+    requires borrowed_in_bounds { length (file_of params points.now tree.counts tree.level_points.now (packed_of tree.leaves)) ≤ length out.old }
+    ensures answer { result ≡ length (file_of params points.now tree.entry.counts tree.entry.level_points.now (packed_of tree.entry.leaves)) }
+    ensures file { out.new ≡ put out.old 0 (file_of params points.now tree.entry.counts tree.entry.level_points.now (packed_of tree.entry.leaves)) }
 {
     let points = Points {
         coordinates: points,
-        dimensions: tree.dimensions,
+        dimensions: tree.leaves.dimensions,
     };
     let mut writer = Writer { bytes: out, at: 0 };
     put_front(points, params, &mut writer);
-    put_levels(counts, level_points, tree, &mut writer);
+    put_levels(tree, &mut writer);
     writer.at
 }

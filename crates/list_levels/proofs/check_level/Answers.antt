@@ -11,5 +11,5 @@ check_domains-requires c = domains-ready c.requires
 
 pub returns : goal.returns
 returns c = let a = c.args in
-    level-tell a.level_points.now a.before.rows a.level.rows a.sets.now.listed _ c.narrow.ensures.asked _ _ (c.narrow.ensures.set c.if-not-narrow.false) c.if-not-narrow.false a.level.coarse
-    (packed_of a.tree) a.borrowed_most a.before.domains a.before.borrowed a.count c.check_domains.new.sets.listed c.check_domains.result c.check_domains.ensures
+    level-tell a.tree.level_points.now a.before.rows a.level.rows a.sets.now.listed _ c.narrow.ensures.asked _ _ (c.narrow.ensures.set c.if-not-narrow.false) c.if-not-narrow.false a.level.coarse
+    (packed_of a.tree.leaves) a.borrowed_most a.before.domains a.before.borrowed a.count c.check_domains.new.sets.listed c.check_domains.result c.check_domains.ensures

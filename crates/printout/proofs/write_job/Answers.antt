@@ -32,9 +32,9 @@ write_tree-requires c = let start = c in
     let lent = lent-sizes (lists_in c.lend-lists.result) c.lend-room.result.floats.now c.lend-room.result.wholes.now (c.lend-lists.ensures ∙ c.zeros-lists.ensures) (c.lend-room.ensures.floats ∙ c.zeros-room.ensures.floats) (c.lend-room.ensures.wholes ∙ c.zeros-room.ensures.wholes) in
     let w = c.in-Ok.ensures.built in
     record {
-      stands = tree-ready s cs (lists_in start.lend-lists.result) _ _ start.requires.0 lent _ w.answers (omega arith) _ (start.read.ensures ∙ w.lists);
+      stands = tree-ready s cs (lists_in start.lend-lists.result) _ _ start.requires.0 lent _ w.answers (omega arith) _ (start.read-lists.ensures ∙ w.lists);
       room_for = takes_as
-          (job-tree s cs (lists_in start.lend-lists.result) _ _ start.requires.0 lent _ w.answers (omega arith) _ (start.read.ensures ∙ w.lists)) (room_for s cs start.requires.0 start.requires.1);
+          (job-tree s cs (lists_in start.lend-lists.result) _ _ start.requires.0 lent _ w.answers (omega arith) _ (start.read-lists.ensures ∙ w.lists)) (room_for s cs start.requires.0 start.requires.1);
     }
 
 pub returns-in-Ok : goal.returns-in-Ok
@@ -43,4 +43,4 @@ returns-in-Ok c = let start = c in
     let cs = start.args.points.now in
     let lent = lent-sizes (lists_in c.lend-lists.result) c.lend-room.result.floats.now c.lend-room.result.wholes.now (c.lend-lists.ensures ∙ c.zeros-lists.ensures) (c.lend-room.ensures.floats ∙ c.zeros-room.ensures.floats) (c.lend-room.ensures.wholes ∙ c.zeros-room.ensures.wholes) in
     let w = c.in-Ok.ensures.built in
-    spelt_as (sym (job-tree s cs (lists_in start.lend-lists.result) _ _ start.requires.0 lent _ w.answers (omega arith) _ (start.read.ensures ∙ w.lists))) c.write_tree.ensures
+    spelt_as (sym (job-tree s cs (lists_in start.lend-lists.result) _ _ start.requires.0 lent _ w.answers (omega arith) _ (start.read-lists.ensures ∙ w.lists))) c.write_tree.ensures

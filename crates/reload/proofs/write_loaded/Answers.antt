@@ -28,7 +28,7 @@ write_tree-requires c = let start = c in
     let s = settings_are start.args.settings in
     let cs = start.args.points.now in
     let bs = start.args.file.now in
-    let w = rw (c.lend-lists.ensures ∙ c.zeros-lists.ensures, sym c.read.ensures) at c.in-Ok.ensures.loaded in
+    let w = rw (c.lend-lists.ensures ∙ c.zeros-lists.ensures, sym c.read-lists.ensures) at c.in-Ok.ensures.loaded in
     record {
       stands = loaded-stands s cs bs start.requires.0 _ _ w (omega arith);
       room_for = takes_as (load-tree-text s cs bs start.requires.0 _ _ w (omega arith)) start.requires.1;
@@ -39,5 +39,5 @@ returns-in-Ok c = let start = c in
     let s = settings_are start.args.settings in
     let cs = start.args.points.now in
     let bs = start.args.file.now in
-    let w = rw (c.lend-lists.ensures ∙ c.zeros-lists.ensures, sym c.read.ensures) at c.in-Ok.ensures.loaded in
+    let w = rw (c.lend-lists.ensures ∙ c.zeros-lists.ensures, sym c.read-lists.ensures) at c.in-Ok.ensures.loaded in
     spelt_as (sym (load-tree-text s cs bs start.requires.0 _ _ w (omega arith))) c.write_tree.ensures

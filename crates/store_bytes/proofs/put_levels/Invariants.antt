@@ -10,7 +10,7 @@ use mathlib.Core.List.{map}
 use Rattle.store_bytes.proofs.put_levels.Given as goal
 
 abbrev pub invariant-loop-t : goal.invariant-loop-t
-invariant-loop-t l = let p = packed_of l.tree in
-    (l.a ≡ total (take l.t l.counts.rows)) × (l.j ≡ total (take l.t l.counts.domains))
-    × Left l.initial.out l.out (joined (tree_records (read_levels p l.level_points l.counts.rows l.counts.domains l.counts.levels)))
-    (tree_records (map (read_level p l.level_points l.counts.rows l.counts.domains) (from l.t (l.counts.levels - l.t))))
+invariant-loop-t l = let p = packed_of l.tree.leaves in
+    (l.a ≡ total (take l.t l.tree.counts.rows)) × (l.j ≡ total (take l.t l.tree.counts.domains))
+    × Left l.initial.out l.out (joined (tree_records (read_levels p l.tree.level_points.now l.tree.counts.rows l.tree.counts.domains l.tree.counts.levels)))
+    (tree_records (map (read_level p l.tree.level_points.now l.tree.counts.rows l.tree.counts.domains) (from l.t (l.tree.counts.levels - l.t))))
