@@ -15,6 +15,7 @@ ghost use Rattle.file_levels.specs.Levels.{IsHead, LevelPassedIs, TreePassedIs};
 use file_rows::FileRows;
 use leaf_depths::LeafLevel;
 use row_sets::LevelRows;
+use tree_answer::MOST_LEVELS;
 
 // Where a level's two counts begin, and where they end.
 const ROWS: usize = bytes_in::MARK;
@@ -22,9 +23,6 @@ const ROWS: usize = bytes_in::MARK;
 const DOMAINS: usize = ROWS + bytes_in::NUMBER;
 
 const COUNTS: usize = DOMAINS + bytes_in::NUMBER;
-
-// The most levels of a tree. The build has the same number from its own fine levels (levels_loop), of which the loader knows nothing.
-pub const MOST_LEVELS: usize = 4;
 
 // A whole level record: its counts, and where its rows and its domains begin.
 #[derive(Clone, Copy)]

@@ -16,14 +16,11 @@ ghost use Rattle.levels_loop.specs.Records.{records_by, RecordRoom};
 ghost use Rattle.tree_lists.specs.Lent.{SameLists, SameRoom, SameRecords};
 
 use fine_level::{Place, Plan, Written};
-use tree_answer::DDMTree;
+use tree_answer::{DDMTree, MOST_LEVELS};
 use tree_lists::{LeafLists, Records, Room, TreeLists};
 
 // The most fine levels.
-const MOST_FINE: usize = 3;
-
-// The most levels: those and the coarse one.
-pub const MOST_LEVELS: usize = MOST_FINE + 1;
+const MOST_FINE: usize = MOST_LEVELS - 1;
 
 // Whether a fine level is next: one more is allowed, and the active rows outnumber the coarse threshold.
 fn is_fine(built: usize, a: usize, c: usize) -> bool

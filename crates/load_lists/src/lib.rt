@@ -14,8 +14,8 @@ ghost use Rattle.file_reader.specs.Fetch.{record_floats_lem};
 ghost use Rattle.tree_lists.specs.Lent.{SameLists};
 ghost use Rattle.load_lists.specs.Places.{packed_in, floats_read, ahead, domain_at_lem, domains_at, level_at_lem, Room, Written, tree_from, CanHold};
 
-use file_levels::{LevelHead, MOST_LEVELS};
-use tree_answer::DDMTree;
+use file_levels::LevelHead;
+use tree_answer::{DDMTree, MOST_LEVELS};
 use tree_lists::TreeLists;
 
 // Where the next record starts in the file, and where its parts go in the lists: level points, internals, borrowed rows and domain

@@ -7,12 +7,15 @@ ghost use Rattle.tree_answer.specs.Answers.{counts_given};
 
 use packed::Packed;
 
+// The most levels that a tree has: three fine ones and the coarse one.
+pub const MOST_LEVELS: usize = 4;
+
 // How many levels the tree has, and how many rows and domains each of them has.
 #[derive(Clone, Copy)]
 pub struct DDMTree {
     pub levels: usize,
-    pub rows: [usize; 4],
-    pub domains: [usize; 4],
+    pub rows: [usize; MOST_LEVELS],
+    pub domains: [usize; MOST_LEVELS],
 }
 
 impl DDMTree {
@@ -22,8 +25,8 @@ impl DDMTree {
     {
         DDMTree {
             levels: 0,
-            rows: [0; 4],
-            domains: [0; 4],
+            rows: [0; MOST_LEVELS],
+            domains: [0; MOST_LEVELS],
         }
     }
 }
