@@ -6,6 +6,7 @@ use Rattle.lists.specs.Lists.{joined, put, part}
 use Rattle.definition.specs.Overlaps.{nearest}
 use Rattle.rows.specs.Rows.{most_leaves}
 use Rattle.nearest_scan.specs.Near.{Found}
+use Rattle.nearest_scan.specs.declared.Scan.{Scan}
 
 -- a leaf, and a position below most_leaves
 abbrev pub code : ℕ → ℕ → ℕ
@@ -60,3 +61,11 @@ module _ (d : ℕ) (cs : List Float) (neighbours : ℕ) (active : List ℕ) wher
     pub stay : (i : ℕ) → i < length active → get_or new i 0 ≡ get_or old i 0
     pub only : (z : ℕ) → Memᴰ z (part new (length active) (r - length active)) → PairCode (λ i. get_or old i 0) n z
     pub all : (z : ℕ) → PairCode (λ i. get_or old i 0) n z → Memᴰ z (part new (length active) (r - length active))
+
+-- what the row at p of a scan sends
+abbrev pub TakenBy : Scan → ℕ → List ℕ → List ℕ → ℕ → ℕ → Type 0
+TakenBy s p old new n r = Taken s.points.dimensions s.points.coordinates.now s.neighbours s.active.now p old new n r
+
+-- what the first n positions of a scan send
+abbrev pub CollectedBy : Scan → List ℕ → ℕ → List ℕ → ℕ → Type 0
+CollectedBy s old n new r = Collected s.points.dimensions s.points.coordinates.now s.neighbours s.active.now old n new r

@@ -4,10 +4,11 @@
 ghost use Rattle.std.specs.Prelude.{◌≡◌, ℕ, ◌+◌, ◌*◌, ◌%◌, ◌<◌, ◌≤◌, length, get_or};
 ghost use Rattle.lists.specs.Lists.{put};
 ghost use Rattle.definition.specs.Refusals.{most_neighbours};
-ghost use Rattle.rows.specs.Rows.{most_leaves, GoodRows};
-ghost use Rattle.overlap_pairs.specs.Pairs.{code, pairs_of, PairRoom, Taken, Owners, Collected};
+ghost use Rattle.rows.specs.Rows.{most_leaves};
+ghost use Rattle.nearest_scan.specs.Near.{GoodScan};
+ghost use Rattle.overlap_pairs.specs.Pairs.{code, pairs_of, PairRoom, TakenBy, Owners, CollectedBy};
 
-use points::Points;
+use nearest_scan::Scan;
 
 // How many positions there are at most.
 const POSITIONS: usize = rows::MOST_LEAVES;
@@ -51,36 +52,25 @@ fn send(near: &[usize], p: usize, wholes: &mut [usize], n: usize) -> usize
 }
 
 // What the row at position p sends.
-fn send_row(
-    points: Points<'_>,
-    neighbours: usize,
-    active: &[usize],
-    p: usize,
-    wholes: &mut [usize],
-    n: usize,
-) -> usize
-    requires { GoodRows points.dimensions points.coordinates.now active.now × (neighbours ≤ most_neighbours) × (p < length active.now) × Owners (length active.now) wholes.old
-        × (length active.now ≤ n) × (n + 2 * neighbours ≤ length wholes.old) }
-    ensures { Taken points.entry.dimensions points.entry.coordinates.now neighbours active.now p wholes.old wholes.new n result }
+fn send_row(scan: Scan<'_>, p: usize, wholes: &mut [usize], n: usize) -> usize
+    requires { GoodScan scan × (scan.neighbours ≤ most_neighbours) × (p < length scan.active.now) × Owners (length scan.active.now) wholes.old
+        × (length scan.active.now ≤ n) × (n + 2 * scan.neighbours ≤ length wholes.old) }
+    ensures { TakenBy scan.entry p wholes.old wholes.new n result }
 {
-    let near = nearest_scan::nearest::<NEAREST>(points, neighbours, active, active[p]);
+    let near = scan.nearest::<NEAREST>(scan.active[p]);
     send(near.found(), p, wholes, n)
 }
 
 // What all active rows send, behind their owners: the answer is where it ends.
-pub fn collect(
-    points: Points<'_>,
-    neighbours: usize,
-    active: &[usize],
-    wholes: &mut [usize],
-) -> usize
-    requires { GoodRows points.dimensions points.coordinates.now active.now × (neighbours ≤ most_neighbours) × Owners (length active.now) wholes.old
-        × (length active.now + length active.now * (2 * neighbours) ≤ length wholes.old) }
-    ensures { Collected points.entry.dimensions points.entry.coordinates.now neighbours active.now wholes.old (length active.now) wholes.new result }
+pub fn collect(scan: Scan<'_>, wholes: &mut [usize]) -> usize
+    requires { GoodScan scan × (scan.neighbours ≤ most_neighbours) × Owners (length scan.active.now) wholes.old
+        × (length scan.active.now + length scan.active.now * (2 * scan.neighbours) ≤ length wholes.old) }
+    ensures { CollectedBy scan.entry wholes.old (length scan.entry.active.now) wholes.new result }
 {
-    let mut n = active.len();
-    for p in 0..active.len() {
-        n = send_row(points, neighbours, active, p, wholes, n);
+    let a = scan.active.len();
+    let mut n = a;
+    for p in 0..a {
+        n = send_row(scan, p, wholes, n);
     }
     n
 }

@@ -11,6 +11,7 @@ ghost use Rattle.packed.specs.Reading.{read_own};
 ghost use Rattle.overlaps.specs.Codes.{codes_from, coded_rows, Distinct, Reached, Positions, Encoded};
 ghost use Rattle.overlaps.specs.Borrowed.{borrowed_lists, with_borrowed, Stage, SameBorrowing};
 
+use nearest_scan::Scan;
 use overlap_pairs::{code, position_of};
 use packed::LevelLeaves;
 use points::Points;
@@ -136,7 +137,8 @@ fn order_once(codes: &mut [usize]) -> usize
 
 // The overlap stage of a level. For each active row and each row that it takes with another owner, each owner's leaf borrows the other
 // row. The borrowed rows are written leaf by leaf, and each leaf's start and count to the last two columns of its domain row. The answer
-// is how many borrowed rows there are. `wholes` holds the owners and, behind them, the numbers.
+// is how many borrowed rows there are. `wholes` holds the owners and, behind them, the numbers. It does not take a `Scan`: that was tried, and
+// where fine_level lends a stretch of its level points in such a struct, the check does not know that they come back as they were.
 pub fn overlaps(
     points: Points<'_>,
     neighbours: usize,
@@ -155,8 +157,13 @@ pub fn overlaps(
         ≡ with_borrowed leaves.old.at (borrowed_lists points.entry.dimensions points.entry.coordinates.now neighbours active.now (read_own leaves.old.internals.now leaves.old.domains.now leaves.old.first leaves.old.count)) leaves.old.first leaves.old.domains.now }
     ensures most { result ≤ 2 * length active.now * (neighbours + 1) }
 {
+    let scan = Scan {
+        points,
+        active,
+        neighbours,
+    };
     overlap_owners::owners(active, leaves.level(), wholes);
     let a = active.len();
-    let end = overlap_pairs::collect(points, neighbours, active, wholes);
+    let end = overlap_pairs::collect(scan, wholes);
     leaves.lend(&mut wholes[a..end], active)
 }

@@ -10,7 +10,7 @@ use Rattle.overlap_pairs.proofs.send_row.Goals as goal
 pub nearest-near-requires : goal.nearest-near-requires
 nearest-near-requires c = let s = c in
     let a = s.args in
-    (omega arith, (s.requires.0, good-at a.active.now s.requires.0 a.p s.requires.2, s.requires.1))
+    (omega arith, (s.requires.0, good-at a.scan.active.now s.requires.0 a.p s.requires.2, s.requires.1))
 
 pub found-requires : goal.found-requires
 found-requires c = omega (arith, c.nearest-near.ensures.0, c.requires.1)
@@ -21,7 +21,7 @@ send-requires c = let s = c in
     let f = c.nearest-near in
     let r = f.result in
     let k : length (take r.count r.positions) ≡ r.count = length-take-le r.count r.positions (omega arith) in
-    (length a.active.now, rw c.found.ensures (row_room a.points.dimensions a.points.coordinates.now a.neighbours a.active.now (get_or a.active.now a.p 0) a.p a.wholes.now a.n (take r.count r.positions) (take r.count r.squares) s.requires.3 s.requires.4 s.requires.5 s.requires.2 (omega (arith, f.ensures.0)) f.ensures.1))
+    (length a.scan.active.now, rw c.found.ensures (row_room a.scan.points.dimensions a.scan.points.coordinates.now a.scan.neighbours a.scan.active.now (get_or a.scan.active.now a.p 0) a.p a.wholes.now a.n (take r.count r.positions) (take r.count r.squares) s.requires.3 s.requires.4 s.requires.5 s.requires.2 (omega (arith, f.ensures.0)) f.ensures.1))
 
 pub returns : goal.returns
 returns c = let s = c in

@@ -96,7 +96,7 @@ unfolding of_bits
 worst_distance-requires-clause-ready c =
     let l = c.loop-k in
     let v = l.invariant.0 in
-    can-go _ _ l.invariant.1 l.last.0 c.requires.rows v.within (marked _ _ _ c.requires.room.1 (c.fill.ensures.after (λ y e. e)) _ _)
+    can-go _ _ l.invariant.1 _ c.requires.rows (omega (arith, v.within, c.requires.wanted)) (marked _ _ _ c.requires.room.1 (c.fill.ensures.after (λ y e. e)) _ _)
     (choosing-kept _ _ _ c.requires.rows _ _ _ _ _ _ _ _ v)
 
 pub worst_distance-requires-clause-unchosen : goal.worst_distance-requires-clause-unchosen
