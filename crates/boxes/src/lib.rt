@@ -92,10 +92,11 @@ pub fn write_halves(whole: Extents, axis: usize, plane: f64, out: &mut [f64], at
     write_box(whole.with_lower(axis, plane), out, right);
 }
 
-// Writes `count` zeros to the box list, from `at` on: the box of a domain that has none.
+// Writes `count` zeros to the box list, from `at` on: the box of a domain that has none. A place and a count, and no slice: the callers'
+// contracts speak of the whole list, and the step from the part that is lent to it stands here once.
 pub fn put_zeros(boxes: &mut [f64], at: usize, count: usize)
     requires { at + count ≤ length boxes.old }
     ensures { boxes.new ≡ put boxes.old at (replicate count plus_zero) }
 {
-    stretches::fill_part(boxes, at, count, 0.0);
+    boxes[at..at + count].fill(0.0);
 }

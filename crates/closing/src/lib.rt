@@ -86,7 +86,7 @@ pub fn closed(head: Head, wells: &mut Wells<'_>, rename: &mut [usize]) -> Result
     close_fault(wells.table(head), rename)?;
     move_down(slots, wells, rename);
     let gone = slots - live;
-    stretches::fill_part(wells.flags, live, gone, 0);
+    wells.flags[live..slots].fill(0);
     boxes::put_zeros(wells.coordinates, live * dimensions, gone * dimensions);
     Ok(Edited {
         slot: live,

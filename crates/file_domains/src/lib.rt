@@ -20,7 +20,8 @@ pub struct Passed {
 }
 
 // Whether the domain record at a place stands there whole and passes; `remaining` rows of the level are left, and the domain before is at
-// depth `least`. Takes its own rows out of those left.
+// depth `least`. Takes its own rows out of those left. Place, depth and rows left stay three parameters: one value, answered anew as in
+// list_domains, would keep a sum of borrowed rows too, and this function would have to ask for the bound of it.
 pub fn check_domain(
     bytes: &[u8],
     at: usize,

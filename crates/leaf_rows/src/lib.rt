@@ -30,7 +30,8 @@ pub fn stretch_test(length: usize, start: usize, count: usize) -> Result<(), Ref
     Ok(())
 }
 
-// That stretch of the list itself, or an empty part where it ends past the list.
+// That stretch of the list itself, or an empty part where it ends past the list. A start and a count, as they stand in a row that the
+// caller hands back: nothing says yet that there is such a slice.
 #[tactic(auto, unfolding(definition::specs::Refusals::stretch_verdict, definition::specs::Refusals::verdict, definition::specs::Outcome::value_of, lists::specs::Lists::part))]
 fn stretch_of<'a>(list: &'a [usize], start: usize, count: usize) -> &'a [usize]
     ensures { result.now ≡ value_of (stretch_verdict start count (length list.now)) (part list.now start count) [] }

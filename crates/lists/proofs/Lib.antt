@@ -3,6 +3,7 @@ pub mod Tests
 pub mod All
 pub mod Take
 pub mod Put
+pub mod Lent
 pub mod Found
 pub mod Map
 pub mod Count

@@ -71,6 +71,9 @@ impl From<PolicyFields> for SizePolicy {
 
 // ---- read
 
+// A slice here and below, and no array of `SIZE` bytes: the record is the front of a longer list of bytes, and each caller would have to
+// turn that front into an array first.
+
 // Whether the record has policy 1, or policy 0 with the threshold 0.
 pub fn policy_fits(input: &[u8]) -> bool
     requires { settings_size ≤ length input.now }

@@ -1,6 +1,7 @@
 -- `closing::closed` meets its contract. Assumes nothing.
 use native.Mathlib.Omega.{arith}
 use Rattle.std.proofs.lemmas.Result.{err_from_is_err_and}
+use Rattle.lists.proofs.Lent.{fill_to}
 use Rattle.table_checks.specs.Tables.{wells_in}
 use Rattle.closing.proofs.Closes.{close-refused, close-room, close-done}
 use Rattle.closing.proofs.closed.Goals as goal
@@ -25,8 +26,20 @@ overflow_sub-gone c = let a = c.args in
     let room = close-room a.wells.now.dimensions (wells_in a.head a.wells.now) a.rename.now passed in
     room.live-few
 
-pub fill_part-requires : goal.fill_part-requires
-fill_part-requires c = let a = c.args in
+pub slice_bounds-fill-start : goal.slice_bounds-fill-start
+slice_bounds-fill-start c = let a = c.args in
+    let v = c.table.ensures in
+    let passed = rw (v.head, v.flags, v.coordinates, v.dimensions) at c.in_ok-close_fault.ensures in
+    (close-room a.wells.now.dimensions (wells_in a.head a.wells.now) a.rename.now passed).live-few
+
+pub slice_bounds-fill-count : goal.slice_bounds-fill-count
+slice_bounds-fill-count c = let a = c.args in
+    let v = c.table.ensures in
+    let passed = rw (v.head, v.flags, v.coordinates, v.dimensions) at c.in_ok-close_fault.ensures in
+    (close-room a.wells.now.dimensions (wells_in a.head a.wells.now) a.rename.now passed).live-few
+
+pub slice_bounds-fill-end : goal.slice_bounds-fill-end
+slice_bounds-fill-end c = let a = c.args in
     let v = c.table.ensures in
     let passed = rw (v.head, v.flags, v.coordinates, v.dimensions) at c.in_ok-close_fault.ensures in
     let room = close-room a.wells.now.dimensions (wells_in a.head a.wells.now) a.rename.now passed in
@@ -60,4 +73,6 @@ returns-clause-outcome c = let a = c.args in
     let v = c.table.ensures in
     let passed = rw (v.head, v.flags, v.coordinates, v.dimensions) at c.in_ok-close_fault.ensures in
     let moved = c.move_down.ensures in
-    close-done a.wells.now.dimensions (wells_in a.head a.wells.now) a.rename.now passed _ _ _ _ _ moved.flags moved.coordinates moved.rename c.fill_part.ensures c.put_zeros.ensures
+    let room = close-room a.wells.now.dimensions (wells_in a.head a.wells.now) a.rename.now passed in
+    let flags = fill_to c.move_down.new.wells.flags.now a.head.live a.head.slots 0 room.live-few (omega (arith, room.in-flags, moved.same.flags_len)) (c.fill.ensures.after (λ y e. e)) in
+    close-done a.wells.now.dimensions (wells_in a.head a.wells.now) a.rename.now passed _ _ _ _ _ moved.flags moved.coordinates moved.rename flags c.put_zeros.ensures
