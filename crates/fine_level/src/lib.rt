@@ -20,7 +20,8 @@ use packed::LevelLeaves;
 use points::Points;
 use tree_lists::{LeafLists, Records, Room, Start, TreeLists};
 
-// What every level of a build shares: the points, how they are cut, the leaf threshold and the neighbour count.
+// What every level of a build shares: the points, how they are cut, the leaf threshold and the neighbour count. What is asked of plan, place
+// and lists together (`GivenBy`, `FitsAt`, ..) stands in the contract of each function below: no one value holds the three.
 #[derive(Clone, Copy)]
 pub struct Plan<'a> {
     pub points: Points<'a>,

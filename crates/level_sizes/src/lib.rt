@@ -46,7 +46,7 @@ pub fn get_num_level_reductions(n: usize, c: u32, f: u32) -> u32
 }
 
 // The least m with m^r at least c * a^(r-1), by halving: no root is taken, so nothing is rounded. The three numbers stay side by side, here
-// and below, as document 01's formula has them.
+// and below, as document 01's formula has them, and what holds of them is asked of each.
 fn exact_size(a: usize, c: usize, r: u32) -> usize
     requires { (a ≤ most_points) × (c < a) × (1 ≤ r) × (r ≤ 3) }
     ensures { result ≡ exact_size_lem a c r }

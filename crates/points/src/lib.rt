@@ -16,7 +16,8 @@ pub struct Points<'a> {
 }
 
 // The coordinates of the points on one axis. They are passed by value, as the points are. A contract reads them by specs/Columns.antt:
-// `value_of column i` in a `requires`, and `value_of column.entry i` in an `ensures`.
+// `value_of column i` in a `requires`, and `value_of column.entry i` in an `ensures`. That the axis is below the number of axes is no invariant:
+// it would ask more of those who take any column, as the sort does.
 #[derive(Clone, Copy)]
 pub struct Column<'a> {
     pub points: Points<'a>,

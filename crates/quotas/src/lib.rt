@@ -21,7 +21,7 @@ pub struct Seated {
 }
 
 // One sharing: the seats that each nonempty leaf has first, the seats that are then shared, and the capacity that is left for
-// these, or 1 where none is left.
+// these, or 1 where none is left. What relates them to the sizes is asked by each method: the sizes are lent beside them, and not held.
 #[derive(Clone, Copy)]
 struct Terms {
     first: usize,

@@ -9,6 +9,8 @@ ghost use Rattle.root.specs.Answers.{root_report};
 
 use refusal::Refusal;
 
+// A pattern of a finite value is a `u64` below infinity's, which three inner functions ask for; a type for it would serve these alone.
+
 // A significand m with its leading digit at bit 52, and an exponent.
 #[derive(Clone, Copy)]
 struct Lead {

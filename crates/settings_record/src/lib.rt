@@ -139,7 +139,7 @@ pub fn put_settings(dimensions: usize, params: DDMParams, out: &mut Writer<'_>)
     put_policy(params.coarse_threshold, out);
 }
 
-// ---- compared
+// ---- compared, byte for byte: settings that are read and then compared by `==` would be the same for records that differ
 
 // Whether the byte at `at` is that of a number.
 fn byte_is(n: usize, input: &[u8], at: usize) -> bool

@@ -32,6 +32,7 @@ impl DDMTree {
 }
 
 // A tree: its counts, the rows of its levels, one level after the other, and its leaves. It is passed by value, as `tree: PackedTree<'_>`.
+// That the tree stands there is asked by those who read it: whoever lends lists to the writer may lend others.
 #[derive(Clone, Copy)]
 pub struct PackedTree<'a> {
     pub counts: DDMTree,
