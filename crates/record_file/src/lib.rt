@@ -43,9 +43,13 @@ pub fn read_next<R: Read>(reader: &mut R, room: &mut [u8]) -> io::Result<Option<
     }
 }
 
-// All records of the file: whether the call of each has the record's outcome. One that cannot be read whole counts as one that differs, and
-// is the last.
-pub fn replay<R: Read, F: Fn(&[u8]) -> bool>(file: &mut R, room: &mut [u8], agrees: F) -> Tally
+// All records of the file: whether the call of each has the record's outcome, where `None` says that a record is no whole record of a call.
+// One that cannot be read whole counts as one that differs, and is the last.
+pub fn replay<R: Read, F: Fn(&[u8]) -> Option<bool>>(
+    file: &mut R,
+    room: &mut [u8],
+    agrees: F,
+) -> Tally
     requires { F.IsAlwaysCallable agrees }
 {
     let mut tally = Tally {
@@ -57,7 +61,7 @@ pub fn replay<R: Read, F: Fn(&[u8]) -> bool>(file: &mut R, room: &mut [u8], agre
         let next = read_next(file, room);
         let same = match next {
             Ok(None) => break,
-            Ok(Some(size)) => agrees(&room[..size]),
+            Ok(Some(size)) => agrees(&room[..size]) == Some(true),
             Err(_) => false,
         };
         tally.calls = calls + 1;

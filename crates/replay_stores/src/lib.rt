@@ -9,7 +9,8 @@ use tree_answer::DDMTree;
 // The most entries of a file list in the stored calls.
 const FILE: usize = 2000;
 
-// Four counts.
+// Four counts of eight bytes. `Fields::counts` reads four numbers of four bytes: one function of both would be passed the reading, and be no
+// shorter than the four lines.
 fn four(fields: &mut Fields<'_>) -> Option<[usize; 4]> {
     Some([
         fields.count()?,

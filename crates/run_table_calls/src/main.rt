@@ -88,13 +88,10 @@ fn outcome_agrees(record: &[u8]) -> Option<bool> {
     }
 }
 
-fn agrees(record: &[u8]) -> bool {
-    outcome_agrees(record) == Some(true)
-}
-
+// The room and the test are the program's own; the rest is record_file's.
 fn main(rt: HostRuntime) -> io::Result<()> {
     let mut file = program_input::open_argument(&rt, 1)?;
     let mut room = [0u8; ROOM];
-    let tally = record_file::replay(&mut file, &mut room, agrees);
+    let tally = record_file::replay(&mut file, &mut room, outcome_agrees);
     tally.print(&mut rt.stdout())
 }
