@@ -7,9 +7,6 @@ ghost use Rattle.job_room.specs.Room.{lent_lists, lent_floats, lent_wholes, list
 
 use tree_lists::{Room, TreeLists};
 
-// What was found of a job that was read (`JobLimits` of stream_laws) relates its settings to its points, and is asked by the functions that
-// are passed both. A program's lists of bytes stay slices, whose length is asked for: an array would ask for one length of room.
-
 // The bytes of a stream: its first 878 decide what is printed, kept and loaded (`front-printed` of stream_laws, `front_kept` and
 // `front-reloaded` of reload_laws), so a longer one is read no further.
 pub const STREAM: usize = 1024;
