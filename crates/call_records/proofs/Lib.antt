@@ -1,0 +1,2 @@
+-- Laws on the fields of a record.
+pub mod Widths

@@ -1,0 +1,2 @@
+-- What the contracts of the reader of records cite.
+pub mod Reads
