@@ -1,25 +1,19 @@
 -- Laws of the reductions and of the level size. Assumes nothing.
--- Holds: reductions-steps, exact-is, goal-bound, exact-ge, sized, reductions-few, reductions-reach, ends
+-- Holds: exact-is, goal-bound, exact-ge, sized, reductions-few, reductions-reach, ends
 use Prim.Native.Nat.{ℕ, zero, suc, ◌-◌, ◌*◌, ◌^◌, ◌≤◌, ◌<◌}
 use mathlib.Core.Path.{◌≡◌, refl, sym}
 use mathlib.Core.Logic.{⊎_elim}
-use mathlib.Core.Bool.{true, false, cond}
-use native.Mathlib.Nat.{pow-zero, mul-one, mul_assoc, mul-le-mul, pow-le-pow_left, pow-le-pow_right, le_trans, pow-succ', mul-le-mul_left, mul-lt-mul_of_pos_right, one-le-pow, lt_of_le_of_lt}
+use mathlib.Core.Bool.{true, false}
+use native.Mathlib.Nat.{pow-zero, mul-one, mul-le-mul, pow-le-pow_left, pow-le-pow_right, le_trans, pow-succ', mul-le-mul_left, mul-lt-mul_of_pos_right, one-le-pow, lt_of_le_of_lt}
 use native.Mathlib.Omega.{arith}
 use lib.Dec.{leb}
 use borrow.Author.Tests.{leb-true, leb-false, le-leb, lt-leb}
-use Rattle.lists.specs.Lists.{least_from}
 use Rattle.lists.proofs.Tests.{true-or-false, cond-true, cond-false}
 use Rattle.lists.proofs.Least.{least-is, least_above, least-le, least-holds}
 use Rattle.definition.specs.Levels.{reductions, exact_size_lem, level_size_lem}
 use Rattle.definition.specs.LevelLaws.{active_after, Sized, Ends}
-use Rattle.definition.proofs.Powers.{pow-1, pow-2, pow-3}
+use Rattle.definition.proofs.Powers.{pow-1}
 use Rattle.definition.specs.Refusals.{most_points}
-
--- ---- the number of reductions, test by test
-pub reductions-steps : (n c f : ℕ) → reductions n c f ≡ cond (leb n c) 0 (cond (leb n (c * f)) 1 (cond (leb n (c * f * f)) 2 (cond (leb n (c * f * f * f)) 3 4)))
-unfolding reductions least_from
-reductions-steps n c f = simp (pow-zero, pow-1, pow-2, pow-3, mul-one, mul_assoc)
 
 -- ---- the exact size
 module _ (a c r : ℕ) where

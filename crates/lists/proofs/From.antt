@@ -2,7 +2,7 @@
 -- Holds: from-mem, mem-from, all_from, length_from, get_d-from, from-append, from-snoc, from_suc, below-snoc, below_suc,
 --   count-below-nil, count-below-snoc, count-below-suc, count-below-yes, count-below-no, count-below-same, map-from-nil,
 --   map-below-snoc, map-below-suc, length-map-from, get_d-map-from, get_d-map-below, map-from-shift, front-below-suc, noted_more,
---   list-below, map-below-same, list_at, map_at, map-from-at, zip-from-at, fill_more, numbered_more, front_read, front-whole
+--   list-below, map-below-same, list_at, map_at, map-from-at, zip-from-at, fill_more, numbered_more, front_read
 use mathlib.Core.Path.{◌≡◌, refl, sym, ap, ap₂, ◌∙◌}
 use mathlib.Core.Logic.{⊎_elim}
 use Prim.Native.Nat.{ℕ, zero, suc, ◌+◌, ◌≤◌, ◌<◌}
@@ -11,9 +11,9 @@ use native.Mathlib.Nat.{add-zero, zero-add, not-suc-le-zero, eq-or-lt_of_le}
 use native.Mathlib.Numerals.{add-one}
 use mathlib.Core.Bool.{Bool, true, false}
 use mathlib.Core.List.Memᴰ
-use mathlib.Core.List.{List, [], ◌∷◌, ◌++◌, map, zip_with, append_assoc, Memᴰ, append-nil}
+use mathlib.Core.List.{List, [], ◌∷◌, ◌++◌, map, zip_with, append_assoc, Memᴰ}
 use lib.ListN.{length, get_or, set, drop, length-map, take}
-use lib.Seq.{ext_get_or, get_or-set_same, get_or-set_other, drop-cons, set_at, take-suc-set, drop-length, get_or-append-add, get_or-drop}
+use lib.Seq.{ext_get_or, get_or-set_same, get_or-set_other, drop-cons, set_at, take-suc-set, get_or-append-add, get_or-drop}
 use lib.Dec.{eqb}
 use borrow.Author.Tests.{eqb-true, eqb-false}
 use Rattle.lists.specs.Lists.{one_if, count, from, put}
@@ -209,6 +209,3 @@ module _ {A : Type 0} where
 
   pub front_read : (f : ℕ → A) (n : ℕ) (old now : List A) (z : A) → now ≡ map f (from 0 n) ++ drop n old → get_or now n z ≡ get_or old n z
   front_read f n old now z e = ap (λ (l : List A). get_or l n z) e ∙ front-next f n old z
-
-  pub front-whole : (f : ℕ → A) (n : ℕ) (old : List A) → n ≡ length old → map f (from 0 n) ++ drop n old ≡ map f (from 0 (length old))
-  front-whole f n old e = rw (e, drop-length old, append-nil)

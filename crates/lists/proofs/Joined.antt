@@ -1,5 +1,5 @@
 -- Lists one after the other: their length and counts, one more list, and each list found again as a stretch. Assumes nothing.
--- Holds: joined-nil, joined-cons, joined-one, joined-two, joined-append, joined_snoc, length-joined, count-joined, joined_at,
+-- Holds: joined-nil, joined-cons, joined-one, joined-append, joined_snoc, length-joined, count-joined, joined_at,
 --   joined-fits, get_d-joined, even-lengths, joined-even, joined-map-append, joined-map-snoc, joined-map-more, joined-map-even,
 --   parts-front, two-lists, sum-joined
 use mathlib.Core.Path.{◌≡◌, refl, sym, ap, ◌∙◌}
@@ -35,10 +35,6 @@ module _ {A : Type 0} where
   pub joined-one : (l : List A) → joined (l ∷ []) ≡ l
   unfolding joined
   joined-one l = append-nil l
-
-  pub joined-two : (xs ys : List A) → xs ++ ys ≡ joined (xs ∷ ys ∷ [])
-  unfolding joined
-  joined-two xs ys = rw (append-nil ys)
 
   pub joined-append : (xs ys : List (List A)) → joined (xs ++ ys) ≡ joined xs ++ joined ys
   unfolding joined

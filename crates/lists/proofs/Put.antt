@@ -3,8 +3,8 @@
 --   set-put, put-def, put_next, put-next-at, put-longer, put-over, put-snoc, get_d-put-in, get_d-put-before, get_d-put-after,
 --   part-put-in, part-whole, part-put-same, part-put-after, part-take, part-put-before, part-part, part-append, part-nil,
 --   part-snoc, part-cons, part-drop, get_d_part, part-around, put-part, put-left, put_right, put-tail, put-comm, part-first,
---   part-second, take-put-front, view-put, part-lent, copy-none, copy_more, set-two, put-before, put-set, get_d-put-at,
---   front-put, put_whole, part-grown, mid_back, part-back, read_more, write-more, put-same-more, put-again, spliced, put-spliced,
+--   part-second, take-put-front, view-put, part-lent, copy_more, set-two, put-before, put-set, get_d-put-at,
+--   front-put, put_whole, part-grown, mid_back, part-back, read_more, put-same-more, put-again, spliced, put-spliced,
 --   map-spliced
 use mathlib.Core.Path.{◌≡◌, refl, sym, ap, ◌∙◌, ap₂}
 use Prim.Native.Nat.{ℕ, zero, suc, ◌+◌, ◌-◌, ◌≤◌, ◌<◌}
@@ -238,9 +238,6 @@ module _ {A : Type 0} where
   part-lent l at n = let e : at + n - at ≡ n = omega arith in rw e
 
   -- ---- the turn of a loop that copies a stretch of l to `to`: into another list, and within l to a stretch apart
-  pub copy-none : (out : List A) (to : ℕ) (l : List A) (at : ℕ) → out ≡ put out to (part l at 0)
-  copy-none out to l at = rw (part-nil l at) (sym (put-nil out to))
-
   pub copy_more : (out : List A) (to : ℕ) (l : List A) (at i : ℕ) (d : A) → at + i < length l → to + i < length out
       → set (put out to (part l at i)) (to + i) (get_or l (at + i) d) ≡ put out to (part l at (i + 1))
   copy_more out to l at i d h g =
@@ -296,11 +293,6 @@ module _ {A : Type 0} where
   -- ---- one element more of a stretch that is read or written one after the other
   pub read_more : (l m : List A) (at k : ℕ) (d : A) → k < length m → at + k < length l → take k m ≡ part l at k → take (k + 1) (set m k (get_or l (at + k) d)) ≡ part l at (k + 1)
   read_more l m at k d h g e = rw (add-one, take-suc-set m k (get_or l (at + k) d) h, e, part-snoc l at k d g)
-
-  pub write-more : (l m : List A) (at k : ℕ) (d : A) → k < length m → at + k < length l → set (put l at (take k m)) (at + k) (get_or m k d) ≡ put l at (take (k + 1) m)
-  write-more l m at k d h g =
-      put-snoc l at (take k m) (get_or m k d) (at + k) (ap (λ (n : ℕ). at + n) (length-take-le k m (omega arith))) g
-      ∙ rw (add-one, take-suc m k d h)
 
   -- one element more of a stretch of one value
   pub put-same-more : (l : List A) (at i : ℕ) (x : A) → at + i < length l → set (put l at (replicate i x)) (at + i) x ≡ put l at (replicate (i + 1) x)
