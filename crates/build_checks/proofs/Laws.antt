@@ -2,7 +2,7 @@
 -- Holds: build-groups, reductions-many, checked-reductions, points-groups, nine-met, nine-passed, tests-stop, tests-pass, tests-short, tests-last,
 --   and those of point_checks that are passed on
 pub use Rattle.point_checks.proofs.Laws.{and_then, verdict-append, fault-first, fault-second, bad-test}
-use mathlib.Core.Path.{◌≡◌, sym, ap, ◌∙◌}
+use mathlib.Core.Path.{◌≡◌, refl, sym, ap, ◌∙◌}
 use mathlib.Core.Bool.{Bool, true, false, not, ◌&&◌}
 use mathlib.Core.List.{List, [], ◌∷◌, ◌++◌}
 use Prim.Native.Nat.{ℕ, ◌*◌, ◌^◌, ◌/◌, ◌%◌, ◌≤◌, ◌<◌}
@@ -20,6 +20,7 @@ use Rattle.definition.specs.Packed.{BuildSizes, build_stated}
 use Rattle.definition.specs.Refusals as definition
 use Rattle.definition.specs.Refusals.{Test, Verdict, accepted, refused, on, verdict, most_points, not_finite_lem, coordinates_missing, settings_tests, points_tests, build_tests, build_verdict, build_short}
 use Rattle.point_checks.specs.Tests.{count_tests}
+use Rattle.build_checks.specs.Checked.{Checks}
 
 -- ---- groups of tests
 
@@ -94,3 +95,29 @@ module _ (s : Settings) (n : ℕ) (missing lacking : Bool) (judged : Test) where
       → verdict (judged ∷ []) ≡ verdict (build_tests s n missing lacking judged)
   unfolding verdict
   tests-last e long = ap (λ (b : Bool). verdict (on b 11 ∷ judged ∷ [])) (sym long) ∙ tests-pass e
+
+-- ---- over all points, with any answer to whether a list is short
+never : {P : Type 0} (r : definition.Refusal) (v : Verdict) → refused r ≡ v → accepted ≡ v → P
+never r v e f = let z : ◌≡◌ {A = ℕ} 0 1 = cc in absurd (omega arith)
+
+module _ (answers : ℕ → Bool → Type 0) (s : Settings) (cs : List Float) where
+  pub checks-stop : (r : definition.Refusal) → refused r ≡ verdict (settings_tests s ++ points_tests s (point_count s.dimension cs) (coordinates_missing s.dimension cs)) → Checks answers s cs (refused r)
+  checks-stop r e = (false, λ f. never r _ e f, tests-stop s _ _ _ _ r e)
+
+  module _ (e : accepted ≡ verdict (settings_tests s ++ points_tests s (point_count s.dimension cs) (coordinates_missing s.dimension cs))) where
+    pub checks-short : answers (point_count s.dimension cs) true → Checks answers s cs (refused (record { number = 11; place = 0 }))
+    checks-short h = (true, λ f. h, tests-short s _ _ _ _ e refl)
+
+    pub checks-last : answers (point_count s.dimension cs) false → (v : Verdict) → v ≡ verdict (not_finite_lem cs ∷ []) → Checks answers s cs v
+    checks-last h v f = (false, λ g. h, f ∙ tests-last s _ _ _ _ e refl)
+
+-- where 1 to 9 refuse, the answer does not matter
+pub same-tests : (s : Settings) (n : ℕ) (missing short lacking : Bool) (judged : Test)
+    → (accepted ≡ verdict (settings_tests s ++ points_tests s n missing) → short ≡ lacking)
+    → verdict (build_tests s n missing short judged) ≡ verdict (build_tests s n missing lacking judged)
+same-tests s n missing short lacking judged f = go (verdict (settings_tests s ++ points_tests s n missing)) refl
+  where
+    go : (v : Verdict) → v ≡ verdict (settings_tests s ++ points_tests s n missing)
+        → verdict (build_tests s n missing short judged) ≡ verdict (build_tests s n missing lacking judged)
+    go accepted e = ap (λ (b : Bool). verdict (build_tests s n missing b judged)) (f e)
+    go (refused r) e = sym (tests-stop s n missing short judged r e) ∙ tests-stop s n missing lacking judged r e

@@ -1,12 +1,13 @@
 // The refusals of a build, tried in document 01's order before anything is written.
 #![tactic(auto)]
 
-ghost use Rattle.std.specs.Prelude.{◌≡◌, not, ◌++◌, ◌/◌, ◌%◌, ◌≤◌, eqb, IfOk, OnOk};
+ghost use Rattle.std.specs.Prelude.{◌≡◌, ℕ, not, ◌++◌, ◌/◌, ◌%◌, ◌≤◌, eqb, IfOk, OnOk};
 ghost use Rattle.definition.specs.Packed.{build_stated};
 ghost use Rattle.definition.specs.Refusals.{most_points, most_neighbours, verdict, settings_tests, points_tests, zero_threshold_lem, build_short, build_verdict};
 ghost use Rattle.config.specs.Params.{threshold_policy, settings_of_lem, settings_are};
 ghost use Rattle.build_sizes.specs.Sizes.{sizes_of};
 ghost use Rattle.refusal.specs.Refusals.{verdict_of};
+ghost use Rattle.build_checks.specs.Checked.{Checks};
 
 use build_sizes::BuildSizes;
 use config::{DDMParams, Settings, SizePolicy};
@@ -84,18 +85,31 @@ pub fn is_short(lent: BuildSizes, dimensions: usize, n: usize, neighbours: usize
         || lent.wholes < stated.wholes
 }
 
-// The tests of a build over all points, with lists of these lengths.
-pub fn check_build(points: Points<'_>, params: DDMParams, lent: BuildSizes) -> Result<(), Refusal>
-    ensures { verdict_of result ≡ build_verdict (settings_of_lem points.entry.dimensions params) points.entry.coordinates.now (sizes_of lent) }
+// The tests of a build over all points: `is_short` answers whether a lent list is shorter than so many points ask for.
+pub fn check_points<F: FnOnce(usize) -> bool>(
+    points: Points<'_>,
+    params: DDMParams,
+    is_short: F,
+) -> Result<(), Refusal>
+    requires { (n : ℕ) → points.dimensions ≤ 3 → n ≤ most_points → params.overlap_knn ≤ most_neighbours → F.pre is_short n }
+    ensures { Checks (F.post is_short) (settings_of_lem points.entry.dimensions params) points.entry.coordinates.now (verdict_of result) }
 {
     let Points {
         coordinates,
         dimensions,
     } = points;
-    let settings = Settings { dimensions, params };
-    let n = first_fault(coordinates.len(), settings)?;
-    if is_short(lent, dimensions, n, params.overlap_knn as usize) {
+    let n = first_fault(coordinates.len(), Settings { dimensions, params })?;
+    if is_short(n) {
         return Err(Refusal::ShortList);
     }
     point_checks::check_finite(coordinates)
+}
+
+// The tests of a build over all points, with lists of these lengths.
+pub fn check_build(points: Points<'_>, params: DDMParams, lent: BuildSizes) -> Result<(), Refusal>
+    ensures { verdict_of result ≡ build_verdict (settings_of_lem points.entry.dimensions params) points.entry.coordinates.now (sizes_of lent) }
+{
+    check_points(points, params, |n| {
+        is_short(lent, points.dimensions, n, params.overlap_knn as usize)
+    })
 }
