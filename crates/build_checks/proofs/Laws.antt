@@ -1,9 +1,9 @@
 -- The tests of a build, group by group. Assumes nothing.
--- Holds: build-groups, reductions-many, checked-reductions, points-groups, nine-met, nine-passed, tests-stop, tests-pass, tests-short, tests-last,
---   and those of point_checks that are passed on
+-- Holds: build-groups, reductions-many, checked-reductions, points-groups, nine-met, nine-passed, short-pairs, tests-stop, tests-pass,
+--   tests-short, tests-last, checks-stop, checks-short, checks-last, same-tests, and those of point_checks that are passed on
 pub use Rattle.point_checks.proofs.Laws.{and_then, verdict-append, fault-first, fault-second, bad-test}
 use mathlib.Core.Path.{◌≡◌, refl, sym, ap, ◌∙◌}
-use mathlib.Core.Bool.{Bool, true, false, not, ◌&&◌}
+use mathlib.Core.Bool.{Bool, true, false, not, ◌&&◌, ◌||◌}
 use mathlib.Core.List.{List, [], ◌∷◌, ◌++◌}
 use Prim.Native.Nat.{ℕ, ◌*◌, ◌^◌, ◌/◌, ◌%◌, ◌≤◌, ◌<◌}
 use native.Mathlib.Omega.{arith}
@@ -11,6 +11,7 @@ use native.Mathlib.Nat.{mul-le-mul_left, le_trans, pow-le-pow_right}
 use borrow.Author.Tests.{lt-ltb, le-ltb, leb-true, leb-false}
 use lib.Dec.{leb, ltb, eqb}
 use lib.Ieee.{Float}
+use Rattle.std.specs.List.{list_any, zip}
 use Rattle.lists.specs.Lists.{least}
 use Rattle.lists.proofs.Least.{least-before, least-holds}
 use Rattle.std.proofs.lemmas.Bool.Decides.{nat_tests}
@@ -19,6 +20,7 @@ use Rattle.definition.specs.Tree.{Settings, most_fine, point_count}
 use Rattle.definition.specs.Packed.{BuildSizes, build_stated}
 use Rattle.definition.specs.Refusals as definition
 use Rattle.definition.specs.Refusals.{Test, Verdict, accepted, refused, on, verdict, most_points, not_finite_lem, coordinates_missing, settings_tests, points_tests, build_tests, build_verdict, build_short}
+use Rattle.build_sizes.specs.Sizes.{lengths_of}
 use Rattle.point_checks.specs.Tests.{count_tests}
 use Rattle.build_checks.specs.Checked.{Checks}
 
@@ -71,6 +73,25 @@ module _ (s : Settings) (n : ℕ) where
   pub nine-passed : 1 ≤ s.factor → reductions n (threshold s.policy n) s.factor ≤ 3 → accepted ≡ verdict (on (ltb (threshold s.policy n * s.factor ^ most_fine) n) 9 ∷ [])
   unfolding verdict
   nine-passed f h = rw (le-ltb (threshold s.policy n * s.factor ^ most_fine) n (checked-reductions n (threshold s.policy n) s.factor f h))
+
+-- ---- the lists
+-- the same answers, in the order in which they are asked
+in-turn : (a b c d e f g : Bool) → a || (b || (c || (d || (e || (f || (g || false)))))) ≡ a || b || c || d || e || f || g
+in-turn true b c d e f g = refl
+in-turn false true c d e f g = refl
+in-turn false false true d e f g = refl
+in-turn false false false true e f g = refl
+in-turn false false false false true f g = refl
+in-turn false false false false false true g = refl
+in-turn false false false false false false true = refl
+in-turn false false false false false false false = refl
+
+-- some list is short where one length of a pair is below the other
+pub short-pairs : (lent stated : BuildSizes) → list_any (λ p. ltb p.0 p.1) (zip (lengths_of lent) (lengths_of stated)) ≡ build_short lent stated
+unfolding build_short
+short-pairs lent stated =
+    in-turn (ltb lent.level_points stated.level_points) (ltb lent.internals stated.internals) (ltb lent.domains stated.domains)
+    (ltb lent.boxes stated.boxes) (ltb lent.borrowed stated.borrowed) (ltb lent.floats stated.floats) (ltb lent.wholes stated.wholes)
 
 -- ---- the whole verdict from what the groups came to
 

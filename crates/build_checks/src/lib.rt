@@ -63,43 +63,40 @@ pub fn points_fault(count: usize, settings: Settings) -> Result<usize, Refusal>
 // Settings and points, of `count` coordinates: the first of 1 to 9 whose condition is met; or how many points there are.
 pub fn first_fault(count: usize, settings: Settings) -> Result<usize, Refusal>
     ensures number { verdict_of result ≡ verdict (settings_tests (settings_are settings) ++ points_tests (settings_are settings) (count / settings.dimensions) (not (eqb (count % settings.dimensions) 0))) }
-    ensures fine { IfOk result (λ n. (n ≡ count / settings.dimensions) × (n ≤ most_points) × (settings.dimensions ≤ 3) × (settings.params.overlap_knn ≤ most_neighbours)) }
+    ensures fine { IfOk result (λ n. (n ≡ count / settings.dimensions) × (n ≤ most_points) × (1 ≤ settings.dimensions) × (settings.dimensions ≤ 3) × (settings.params.overlap_knn ≤ most_neighbours)) }
 {
     settings_fault(settings)?;
     points_fault(count, settings)
 }
 
 // Whether one of the lists is shorter than n points on `dimensions` axes with this neighbour count ask for.
-#[tactic(auto, unfolding(definition::specs::Refusals::build_short))]
 pub fn is_short(lent: BuildSizes, dimensions: usize, n: usize, neighbours: usize) -> bool
     requires { (dimensions ≤ 3) × (n ≤ most_points) × (neighbours ≤ most_neighbours) }
     ensures { result ≡ build_short (sizes_of lent) (build_stated dimensions n neighbours) }
 {
-    let stated = build_sizes::stated_sizes(dimensions, n, neighbours);
-    lent.level_points < stated.level_points
-        || lent.internals < stated.internals
-        || lent.domains < stated.domains
-        || lent.boxes < stated.boxes
-        || lent.borrowed < stated.borrowed
-        || lent.floats < stated.floats
-        || lent.wholes < stated.wholes
+    let lengths = lent.lengths();
+    let stated = build_sizes::stated_sizes(dimensions, n, neighbours).lengths();
+    lengths
+        .iter()
+        .zip(stated.iter())
+        .any(|(has, asked)| has < asked)
 }
 
-// The tests of a build over all points: `is_short` answers whether a lent list is shorter than so many points ask for.
+// The tests of a build over all points: `short` answers whether a lent list is shorter than so many points ask for.
 pub fn check_points<F: FnOnce(usize) -> bool>(
     points: Points<'_>,
     params: DDMParams,
-    is_short: F,
+    short: F,
 ) -> Result<(), Refusal>
-    requires { (n : ℕ) → points.dimensions ≤ 3 → n ≤ most_points → params.overlap_knn ≤ most_neighbours → F.pre is_short n }
-    ensures { Checks (F.post is_short) (settings_of_lem points.entry.dimensions params) points.entry.coordinates.now (verdict_of result) }
+    requires { (n : ℕ) → points.dimensions ≤ 3 → n ≤ most_points → params.overlap_knn ≤ most_neighbours → F.pre short n }
+    ensures { Checks (F.post short) (settings_of_lem points.entry.dimensions params) points.entry.coordinates.now (verdict_of result) }
 {
     let Points {
         coordinates,
         dimensions,
     } = points;
     let n = first_fault(coordinates.len(), Settings { dimensions, params })?;
-    if is_short(n) {
+    if short(n) {
         return Err(Refusal::ShortList);
     }
     point_checks::check_finite(coordinates)
