@@ -1,6 +1,6 @@
 -- The seed: the centroid of the rows, and the first row nearest to it, found by few roots. Assumes nothing.
--- Holds: Summed, summed-more, summed-all, from_center, center-square, center-good, Nearest, infinity, nearest-start,
---   nearest-far, nearest-tie, nearest-less, nearest-end
+-- Holds: Summed, summed-more, summed-all, from_center, center-square, center-good, Nearest, infinity, nearest-start, nearest-far,
+--   nearest-tie, nearest-less, nearest-end
 use mathlib.Core.Path.{◌≡◌, refl, sym, ap, ◌∙◌}
 use mathlib.Core.Bool.{true, false, true≢false}
 use mathlib.Core.List.{List}
