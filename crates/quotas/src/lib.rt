@@ -14,7 +14,7 @@ use refusal::Refusal;
 use rows::MOST_POINTS;
 
 // The leaves that got a quota, and the seats handed out in all.
-#[derive(Clone, Copy)]
+#[derive(Clone, Copy, Default)]
 pub struct Seated {
     pub leaves: usize,
     pub seats: usize,

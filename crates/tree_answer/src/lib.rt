@@ -23,6 +23,16 @@ impl DDMTree {
     pub fn none() -> DDMTree
         ensures { counts_given result ≡ zero_counts }
     {
+        DDMTree::default()
+    }
+}
+
+// The library has no zero of an array, so this is not derived.
+impl Default for DDMTree {
+    ghost is_default = { λ t. counts_given t ≡ zero_counts };
+
+    // No counts: what a caller is told of a refused call.
+    fn default() -> DDMTree {
         DDMTree {
             levels: 0,
             rows: [0; MOST_LEVELS],
