@@ -1,5 +1,5 @@
 -- What a bisection keeps: no number below `low` passes, and `high` does where it is below the bound. Assumes nothing.
--- Holds: kept-first, kept-high, kept-low, kept-least
+-- Holds: Kept, kept-first, kept-high, kept-low, kept-least
 use Rattle.std.proofs.Common.{◌≡◌, sym, ℕ, ◌+◌, ◌≤◌, ◌<◌, Bool, true, false}
 use mathlib.Core.Logic.{⊎_elim}
 use native.Mathlib.Omega.{arith}
