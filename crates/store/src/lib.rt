@@ -12,7 +12,6 @@ ghost use Rattle.store.specs.Limits.{Limited};
 ghost use Rattle.store.specs.Outcome.{store_report, Stored};
 
 use config::DDMParams;
-use packed::Packed;
 use points::Points;
 use refusal::Refusal;
 use tree_answer::{DDMTree, PackedTree};
@@ -59,17 +58,7 @@ fn store_sound(
         coordinates,
         dimensions,
     } = points;
-    let tree = PackedTree {
-        counts,
-        level_points: tree.level_points,
-        leaves: Packed {
-            internals: tree.internals,
-            domains: tree.domains,
-            boxes: tree.boxes,
-            borrowed: tree.borrowed,
-            dimensions,
-        },
-    };
+    let tree = PackedTree::of(counts, tree, dimensions);
     let n = coordinates.len() / dimensions;
     let neighbours = params.overlap_knn as usize;
     let Some(passed) = list_levels::check_lists(tree, n, neighbours) else {
