@@ -13,13 +13,13 @@ ghost use Rattle.stored.specs.Sound.{same};
 ghost use Rattle.stored.specs.Outcome.{same_settings_lem, same_points_lem};
 ghost use Rattle.stored.specs.Stored.{head_size, points_in, buildable};
 ghost use Rattle.tree_tests.specs.Whole.{points_whole, front_whole};
-ghost use Rattle.settings_record.specs.Reading.{settings_are};
+ghost use Rattle.config.specs.Params.{settings_are};
 ghost use Rattle.file_front.specs.Fronts.{points_at, head_taken};
 ghost use Rattle.file_front.specs.Reading.{FrontRead};
 
 use bytes_in::marks;
+use config::Settings;
 use points::Points;
-use settings_record::Settings;
 
 // The head's bytes: the settings record's, and the point count's.
 pub const HEAD: usize = settings_record::SIZE + bytes_in::NUMBER;
