@@ -6,6 +6,7 @@ ghost use Rattle.std.specs.Prelude.{Bool, ℕ, ◌≤◌, length};
 ghost use Rattle.marks.specs.Bits.{Marked};
 ghost use Rattle.file_domains.specs.Domains.{DomainPassed, DomainsPassed};
 
+use file_reader::FileReader;
 use file_rows::FileRows;
 use leaf_depths::LeafLevel;
 use row_sets::LevelRows;
@@ -36,7 +37,8 @@ pub fn check_domain(
         → DomainPassed bytes.now at dimensions level.coarse level.rows least remaining p q sets.new.left sets.new.listed result }
 {
     let floats = file_reader::record_floats(dimensions, level.coarse);
-    let f = file_reader::fetch_domain(bytes, at, bytes_in::FLOAT * floats)?;
+    let reader = FileReader { bytes, at };
+    let f = reader.domain(bytes_in::FLOAT * floats)?;
     if remaining < f.own {
         return None;
     }
