@@ -150,11 +150,7 @@ pub fn check_tree(bytes: &[u8], at: usize, dimensions: usize, n: usize, neighbou
 {
     let mut left = [0; WORDS];
     let mut listed = [0; WORDS];
-    marks::mark_below(&mut listed, n);
-    let mut sets = LevelRows {
-        left: &mut left,
-        listed: &mut listed,
-    };
+    let mut sets = LevelRows::below(n, &mut left, &mut listed);
     let Some(t) = check_levels(bytes, at, dimensions, n, &mut sets) else {
         return false;
     };

@@ -1,6 +1,6 @@
 -- Sets of rows as bits: no row, one row more, one less, and sets that agree. Assumes nothing.
 -- Holds: bit-tells, marked-within, marked-bit, unmarked-bit, marked-same, mark-adds, unmark-takes, held, bits-marked,
---   marked-held, unmark-none, asked-bit, asked-within, marked-none, marked-zeros
+--   marked-held, unmark-none, marked-none, marked-zeros
 use mathlib.Core.Path.{◌≡◌, refl, sym, ap, ◌∙◌}
 use mathlib.Core.Logic.{⊎_elim}
 use mathlib.Core.Bool.{Bool, true, false, not, ◌&&◌, ◌||◌, and-false}
@@ -120,13 +120,6 @@ unmark-none {ws} {p} m i none = marked-same m (λ j. p j && not (eqb j i)) (λ j
 
     there : (j : ℕ) → (j ≡ i → ⊥) → p j ≡ p j && not (eqb j i)
     there j n = sym (ap (λ (b : Bool). p j && not b) (ne_eqb j i n) ∙ and-true (p j))
-
--- a row that is asked for and in the set has bit 1, and lies in the words
-pub asked-bit : (ws : List ℕ) (i : ℕ) (r : Bool) → ((p : ℕ → Bool) → Marked ws p → r ≡ p i) → r ≡ true → bit_at ws i ≡ 1
-asked-bit ws i r f e = marked-bit (bits-marked ws) i (sym (f (held ws) (bits-marked ws)) ∙ e)
-
-pub asked-within : (ws : List ℕ) (i : ℕ) (r : Bool) → ((p : ℕ → Bool) → Marked ws p → r ≡ p i) → r ≡ true → i < 64 * length ws
-asked-within ws i r f e = marked-within (bits-marked ws) i (sym (f (held ws) (bits-marked ws)) ∙ e)
 
 -- ---- no row
 none-bit : (i : ℕ) → 0 / 2 ^ (i % 64) % 2 ≡ 0

@@ -95,7 +95,7 @@ and-rest x k h g =
     let own : bit_and (2 ^ k) x ≡ x / 2 ^ k % 2 * 2 ^ k = and_comm (2 ^ k) x ∙ and_pow x k in
     let rest : bit_and (2 ^ 64 - 1 - 2 ^ k) x + bit_and (2 ^ k) x ≡ x = and-not 64 (2 ^ k) x (pow-lt h) g in
     let same : bit_and x (2 ^ 64 - 1 - 1 * 2 ^ k % 2 ^ 64) ≡ bit_and (2 ^ 64 - 1 - 2 ^ k) x =
-        ap (λ (y : ℕ). bit_and x (2 ^ 64 - 1 - y)) (one_shl k h) ∙ and_comm x (2 ^ 64 - 1 - 2 ^ k) in
+    ap (λ (y : ℕ). bit_and x (2 ^ 64 - 1 - y)) (one_shl k h) ∙ and_comm x (2 ^ 64 - 1 - 2 ^ k) in
     ap₂ (λ (a b : ℕ). a + b) same (sym own) ∙ rest
 
 -- it takes the power of a bit that is 1 away, and leaves x as it is where the bit is 0

@@ -1,20 +1,19 @@
 -- A domain's own rows taken out of two sets, its borrowed rows asked for, and the own rows put back: one law for each way out. Assumes nothing.
 -- Holds: bit_in, inside-sets, sets-inside, own-fail, own-markable, borrowed-fail, rows-good
-use mathlib.Core.Path.{◌≡◌, refl, sym, ap, subst, ◌∙◌}
-use mathlib.Core.Bool.{Bool, true, false, not, ◌&&◌, ◌||◌, and-false}
+use mathlib.Core.Path.{◌≡◌, refl, sym, ◌∙◌}
+use mathlib.Core.Bool.{Bool, true, false, ◌||◌, and-false}
 use Prim.Native.Nat.{ℕ, ◌*◌, ◌<◌}
 use native.Mathlib.Omega.{arith}
 use mathlib.Core.List.{List}
-use lib.Dec.{eqb}
-use lib.ListN.{length, replicate, length-replicate}
+use lib.ListN.{length}
 use borrow.Author.Tests.{eq-eqb}
 use Rattle.lists.specs.Lists.{member}
-use Rattle.lists.proofs.Tests.{clash, and-of, and-fst, and-snd}
+use Rattle.lists.proofs.Tests.{clash, and-of}
 use Rattle.lists.proofs.All.{all-of}
 use Rattle.tree_tests.specs.InTurn.{without, in_order_lem}
 use Rattle.tree_tests.proofs.Rows.{in-order-ascends, in-order-in}
 use Rattle.marks.specs.Bits.{bit_at, Marked}
-use Rattle.marks.proofs.Marks.{marked-bit, marked-within, held, bits-marked, marked-held, marked-zeros}
+use Rattle.marks.proofs.Marks.{marked-bit, marked-within, held, bits-marked, marked-held}
 use Rattle.row_sets.specs.Markable.{Markable}
 use Rattle.row_sets.proofs.PutBack.{taken-markable, put_back}
 use Rattle.row_sets.specs.Tested.{LeftIsListed, RowsPassed}

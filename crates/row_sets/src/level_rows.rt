@@ -2,7 +2,7 @@
 // has them.
 #![tactic(auto)]
 
-ghost use Rattle.std.specs.Prelude.{◌≡◌, Bool, true, ℕ, length};
+ghost use Rattle.std.specs.Prelude.{◌≡◌, Bool, true, false, ℕ, ◌*◌, ◌≤◌, ltb, length};
 ghost use Rattle.tree_tests.specs.InTurn.{among, in_order_lem};
 ghost use Rattle.marks.specs.Bits.{Marked};
 ghost use Rattle.row_sets.specs.Tested.{LeftIsListed, RowsPassed};
@@ -18,6 +18,15 @@ pub struct LevelRows<'a> {
 }
 
 impl<'a> LevelRows<'a> {
+    // The rows below n as those listed, in words that mark none yet; none is left.
+    pub fn below(n: usize, left: &'a mut [usize], listed: &'a mut [usize]) -> LevelRows<'a>
+        requires { (length left.old ≡ length listed.old) × Marked listed.old (λ i. false) × (n ≤ 64 * length listed.old) }
+        ensures { Marked result.listed.now (λ i. ltb i n) }
+    {
+        marks::mark_below(listed, n);
+        LevelRows { left, listed }
+    }
+
     // Whether a domain's own rows ascend and are left, and its borrowed rows ascend and are listed rows of others; takes the own rows
     // out of those left.
     pub fn rows_pass<O: Rows, B: Rows>(&mut self, own: &O, borrowed: &B) -> bool

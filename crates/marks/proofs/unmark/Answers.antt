@@ -1,5 +1,5 @@
 -- `marks::unmark` meets its contract. Assumes nothing.
-use mathlib.Core.Path.{◌≡◌, sym, ap, ◌∙◌}
+use mathlib.Core.Path.{◌≡◌, ap}
 use mathlib.Core.Logic.{⊎_elim}
 use Prim.Native.Nat.{ℕ, ◌/◌, ◌%◌, ◌^◌, ◌<◌}
 use native.Mathlib.Omega.{arith}
@@ -28,8 +28,8 @@ returns-then-i-words-clause-set c = let i = c.args.i in
     λ p m. ⊎_elim
     (λ (there : bit_at ws i ≡ 1). rw (and-takes word (i % 64) k fits there) (unmark-takes m i (omega arith) there))
     (λ (none : bit_at ws i ≡ 1 → ⊥).
-      let zero : word / 2 ^ (i % 64) % 2 ≡ 0 = omega (arith, none) in
-      rw (and-keeps word (i % 64) k fits zero, set-get_or ws (i / 64) 0) (unmark-none m i none))
+    let zero : word / 2 ^ (i % 64) % 2 ≡ 0 = omega (arith, none) in
+    rw (and-keeps word (i % 64) k fits zero, set-get_or ws (i / 64) 0) (unmark-none m i none))
     (same_or (bit_at ws i) 1)
 
 pub returns-else-i-words-clause-taken : goal.returns-else-i-words-clause-taken
