@@ -7,6 +7,7 @@ ghost use Rattle.marks.specs.Bits.{Marked};
 ghost use Rattle.row_sets.specs.Tested.{LeftIsListed};
 ghost use Rattle.file_domains.specs.Domains.{DomainPassed, DomainsPassed};
 
+use file_reader::FileReader;
 use file_rows::FileRows;
 use leaf_depths::LeafLevel;
 use leaf_tests::LeavesPassed;
@@ -34,7 +35,8 @@ pub fn check_domain(
         → DomainPassed bytes.now at dimensions level.coarse level.rows before.least before.remaining p q sets.new.left.now sets.new.listed.now result }
 {
     let floats = file_reader::record_floats(dimensions, level.coarse);
-    let f = file_reader::fetch_domain(bytes, at, bytes_in::FLOAT * floats)?;
+    let reader = FileReader { bytes, at };
+    let f = reader.domain(bytes_in::FLOAT * floats)?;
     if before.remaining < f.own {
         return None;
     }

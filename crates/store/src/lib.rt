@@ -12,7 +12,6 @@ ghost use Rattle.store.specs.Limits.{Limited};
 ghost use Rattle.store.specs.Outcome.{store_report, Stored};
 
 use config::DDMParams;
-use packed::Packed;
 use points::Points;
 use refusal::Refusal;
 use tree_answer::{DDMTree, PackedTree};
@@ -55,22 +54,9 @@ fn store_sound(
     ensures { Stored (settings_of_lem points.entry.dimensions params) points.entry.coordinates.now (counts_given counts)
         (lists_read tree.entry) file.old file.new (store_report result) }
 {
-    let Points {
-        coordinates,
-        dimensions,
-    } = points;
-    let tree = PackedTree {
-        counts,
-        level_points: tree.level_points,
-        leaves: Packed {
-            internals: tree.internals,
-            domains: tree.domains,
-            boxes: tree.boxes,
-            borrowed: tree.borrowed,
-            dimensions,
-        },
-    };
-    let n = coordinates.len() / dimensions;
+    let dimensions = points.dimensions;
+    let tree = PackedTree::of(counts, tree, dimensions);
+    let n = points.count();
     let neighbours = params.overlap_knn as usize;
     let Some(passed) = list_levels::check_lists(tree, n, neighbours) else {
         return Err(Refusal::NoSoundTree);
@@ -86,7 +72,7 @@ fn store_sound(
     if file.len() < size {
         return Err(Refusal::ShortList);
     }
-    Ok(store_bytes::put_file(coordinates, params, tree, file))
+    Ok(store_bytes::put_file(points, params, tree, file))
 }
 
 // Writes the file of the tree that stands in the lists with these counts, over these points and settings. The bytes go to the front of the
