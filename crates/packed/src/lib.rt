@@ -145,7 +145,7 @@ pub fn put_borrowed(domains: &mut [usize], k: usize, start: usize, count: usize)
     requires { row_numbers * (k + 1) ≤ length domains.old }
     ensures { domains.new ≡ put_borrowed_lem domains.old k start count }
 {
-    stretches::put_pair(domains, ROW_NUMBERS * k + BORROWED_START, start, count);
+    stretches::put_values(domains, ROW_NUMBERS * k + BORROWED_START, &[start, count]);
 }
 
 // Writes the domain row number k.
@@ -153,10 +153,14 @@ pub fn put_row(domains: &mut [usize], k: usize, row: DomainRow)
     requires { row_numbers * (k + 1) ≤ length domains.old }
     ensures { domains.new ≡ put_row_lem domains.old k (plain_row row) }
 {
-    let at = ROW_NUMBERS * k;
-    stretches::put_pair(domains, at, row.internal_start, row.internal_count);
-    put_borrowed(domains, k, row.borrowed_start, row.borrowed_count);
-    domains[at + DEPTH] = row.depth;
+    let numbers = [
+        row.internal_start,
+        row.internal_count,
+        row.borrowed_start,
+        row.borrowed_count,
+        row.depth,
+    ];
+    stretches::put_values(domains, ROW_NUMBERS * k, &numbers);
 }
 
 // Writes the domain row number k of a leaf that borrows nothing yet: start and count of its own rows, and its depth.
