@@ -1,8 +1,10 @@
 // The points of a build, as one value: their coordinates and the number of axes; and their coordinates on one axis.
 #![tactic(auto)]
 
-ghost use Rattle.std.specs.Prelude.{◌≡◌, ◌+◌, ◌*◌, ◌<◌, length};
+ghost use Rattle.std.specs.Prelude.{◌≡◌, ◌+◌, ◌*◌, ◌<◌, ◌≤◌, length};
+ghost use Rattle.lists.specs.Lists.{part};
 ghost use Rattle.definition.specs.Points.{coordinate};
+ghost use Rattle.definition.specs.Tree.{point_count};
 ghost use Rattle.points.specs.Columns.{HasRow, value_of};
 
 // The points as they are lent: the coordinates of the first one, then those of the second, and so on, `dimensions` of them for each. They are
@@ -25,6 +27,24 @@ pub struct Column<'a> {
 }
 
 impl<'a> Points<'a> {
+    // How many points there are.
+    pub fn count(self) -> usize
+        requires { 1 ≤ self.dimensions }
+        ensures { result ≡ point_count self.entry.dimensions self.entry.coordinates.now }
+    {
+        self.coordinates.len() / self.dimensions
+    }
+
+    // The coordinates of a row.
+    pub fn point(self, row: usize) -> &'a [f64]
+        requires { row * self.dimensions + self.dimensions ≤ length self.coordinates.now }
+        ensures coordinates { result.now ≡ part self.entry.coordinates.now (row * self.entry.dimensions) self.entry.dimensions }
+        ensures number { length result.now ≡ self.entry.dimensions }
+    {
+        let start = row * self.dimensions;
+        &self.coordinates[start..start + self.dimensions]
+    }
+
     // The coordinate of a row on one axis.
     pub fn coordinate(self, row: usize, axis: usize) -> f64
         requires { row * self.dimensions + axis < length self.coordinates.now }

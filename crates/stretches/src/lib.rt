@@ -4,6 +4,15 @@
 ghost use Rattle.std.specs.Prelude.{◌≡◌, [], ◌∷◌, ◌+◌, ◌≤◌, length};
 ghost use Rattle.lists.specs.Lists.{put, part, from};
 
+// Writes the values to a list, from `at` on. A list with a place, and no slice to write to: the callers' contracts speak of the whole list,
+// and the step from the part that is lent to its list stands here once.
+pub fn put_values<T: Copy>(list: &mut [T], at: usize, values: &[T])
+    requires { at + length values.now ≤ length list.old }
+    ensures { list.new ≡ put list.old at values.now }
+{
+    list[at..at + values.len()].copy_from_slice(values);
+}
+
 // Copies the `count` rows, or other values, from `start` on to `out`, from `at` on. Two lists with a start each, and no slices: the callers'
 // contracts speak of the whole lists, and the step from the part that is lent to its list stands here once.
 pub fn copy_rows<T: Copy>(rows: &[T], start: usize, count: usize, out: &mut [T], at: usize)

@@ -1,10 +1,11 @@
 -- The lists that a caller lends, as the definition has them, and that the same ones are lent on. Definitions only.
-use Rattle.std.specs.Prelude.{◌≡◌, length}
+use Rattle.std.specs.Prelude.{◌≡◌, ℕ, length, replicate, Float}
 use Rattle.definition.specs.Outcome as outcome
 use Rattle.definition.specs.DepthFirst.{RecordLists}
 use Rattle.tree_lists.specs.declared.TreeLists.{TreeLists}
 use Rattle.tree_lists.specs.declared.LeafLists.{LeafLists}
 use Rattle.tree_lists.specs.declared.TreeRead.{TreeRead}
+use Rattle.tree_lists.specs.declared.TreeArrays.{TreeArrays}
 use Rattle.tree_lists.specs.declared.Room.{Room}
 use Rattle.tree_lists.specs.declared.Records.{Records}
 
@@ -28,6 +29,22 @@ lists_read l =
       domains = l.domains.now;
       boxes = l.boxes.now;
       borrowed = l.borrowed.now;
+    }
+
+-- the lists that arrays hold
+abbrev pub arrays_held : {P D B O : ℕ} → TreeArrays P D B O → outcome.TreeLists
+arrays_held a =
+    record { level_points = a.level_points; internals = a.internals; domains = a.domains; boxes = a.boxes; borrowed = a.borrowed }
+
+-- lists of these lengths that hold this number and this float everywhere
+abbrev pub all_filled : ℕ → ℕ → ℕ → ℕ → ℕ → Float → outcome.TreeLists
+all_filled p d b o n x =
+    record {
+      level_points = replicate p n;
+      internals = replicate p n;
+      domains = replicate d n;
+      boxes = replicate b x;
+      borrowed = replicate o n;
     }
 
 -- the two lists of the records

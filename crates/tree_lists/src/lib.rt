@@ -1,11 +1,11 @@
 // The lists that a caller lends to a build, as one value each: the five lists of its tree, its working room, and the two lists of its records;
-// the five lists of a tree that is only read; and where the cut of a level writes to them.
+// the five lists of a tree that is only read; where the cut of a level writes to them; and arrays that the five lists are lent of.
 // Lists, room and records stay three values: the loader and the writer lend no room, and only one engine writes records.
 // They are lent on by `&mut`, and a function that takes one promises that it still holds the caller's lists (`SameLists` and the like).
 #![tactic(auto)]
 
 ghost use Rattle.std.specs.Prelude.{◌≡◌};
-ghost use Rattle.tree_lists.specs.Lent.{lists_in, lists_read};
+ghost use Rattle.tree_lists.specs.Lent.{lists_in, lists_read, arrays_held, all_filled};
 
 // The five lists of a tree.
 #[derive(Drop)]
@@ -72,4 +72,50 @@ pub struct Room<'a> {
 pub struct Records<'a> {
     pub cuts: &'a mut [usize],
     pub planes: &'a mut [f64],
+}
+
+// Arrays for the five lists of a tree: the level points and the internals have P entries each, the domain rows D, the boxes B, and the
+// borrowed rows O.
+#[derive(Drop)]
+pub struct TreeArrays<const P: usize, const D: usize, const B: usize, const O: usize> {
+    level_points: [usize; P],
+    internals: [usize; P],
+    domains: [usize; D],
+    boxes: [f64; B],
+    borrowed: [usize; O],
+}
+
+impl<const P: usize, const D: usize, const B: usize, const O: usize> TreeArrays<P, D, B, O> {
+    // Arrays that hold this number and this float everywhere.
+    pub fn filled(n: usize, x: f64) -> TreeArrays<P, D, B, O>
+        ensures { arrays_held result ≡ all_filled P D B O n x }
+    {
+        TreeArrays {
+            level_points: [n; P],
+            internals: [n; P],
+            domains: [n; D],
+            boxes: [x; B],
+            borrowed: [n; O],
+        }
+    }
+
+    // Lends them as one value.
+    pub fn lend(&mut self) -> TreeLists<'_>
+        ensures { lists_in result ≡ arrays_held self.old }
+    {
+        let TreeArrays {
+            level_points,
+            internals,
+            domains,
+            boxes,
+            borrowed,
+        } = self;
+        TreeLists {
+            level_points,
+            internals,
+            domains,
+            boxes,
+            borrowed,
+        }
+    }
 }
