@@ -3,7 +3,7 @@ use mathlib.Core.Path.{◌≡◌, ◌∙◌}
 use native.Mathlib.Omega.{arith}
 use borrow.Author.Rules.{rules}
 use Rattle.table_checks.specs.Tables.{wells_in}
-use Rattle.slots.specs.Slots.{told}
+use Rattle.refusal.specs.Refusals.{answer_of}
 use Rattle.slots.proofs.Told.{add-short, add-long}
 use Rattle.ddm_c.proofs.ddm_add.Goals as goal
 
@@ -16,5 +16,5 @@ returns c = let P = c.args in
     let w = q.ensures.outcome in
     let flags : _ ≡ q.new.wells.flags.now = search rules in
     let coordinates : _ ≡ q.new.wells.coordinates.now = search rules in
-    add-long P.dimensions P.head.now P.flags.now P.coordinates.now P.point.now P.res.now _ _ _ (told c.of-told.result)
-    (wells_in q.new.head q.new.wells) (omega arith) c.put_pair.ensures (c.of-told.ensures ∙ w.answers) w.table flags coordinates
+    add-long P.dimensions P.head.now P.flags.now P.coordinates.now P.point.now P.res.now _ _ _ (answer_of (λ x. x) 0 q.result)
+    (wells_in q.new.head q.new.wells) (omega arith) c.put_placed.ensures.slot w.answers w.table flags coordinates
