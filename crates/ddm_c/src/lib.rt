@@ -101,8 +101,10 @@ pub extern "C" fn ddm_sample(
     };
     let mut room = Room { floats, wholes };
     let answer = sampling::farthest_point_sampling(points, wanted, seed, out, &mut room);
-    slots::put_value(cover, answer.map(|sampled| sampled.cover));
-    slots::put_placed(res, answer.map(|sampled| sampled.rows))
+    let told = Report::of(answer);
+    cover[0] = told.value.cover;
+    stretches::put_values(res, 0, &[told.place, told.value.rows]);
+    told.number
 }
 
 // The test of a domain row's stretch against the length of its list: 12 where start plus count ends past it.
@@ -336,6 +338,7 @@ pub extern "C" fn ddm_add(
     if res.len() < slots::PAIR {
         return Refusal::ShortList.number();
     }
+    // C's head is two numbers: taken in here, and given back below
     let mut counters = Head {
         slots: head[0],
         live: head[1],
@@ -362,6 +365,7 @@ pub extern "C" fn ddm_retire(
 ) -> usize
     ensures { RetireTold dimensions head.old head.new flags.old flags.new coordinates.now slot result }
 {
+    // C's head is two numbers: taken in here, and given back below
     let mut counters = Head {
         slots: head[0],
         live: head[1],

@@ -1,7 +1,6 @@
 -- A call by the length of its slot: a short one is refused before anything else, and any other gets what the call answers.
 -- Assumes nothing.
 -- Holds: slot-short, slot-long, slot-written, room-short, room-long, number-long, part-four, slot_counts, slot_read
-use Rattle.std.specs.Prelude.{Result, Ok, Err}
 use mathlib.Core.Path.{◌≡◌, refl, ap, ◌∙◌}
 use mathlib.Core.List.{List, [], ◌∷◌, ◌++◌}
 use Prim.Native.Nat.{ℕ, suc, ◌+◌, ◌≤◌, ◌<◌}
@@ -9,11 +8,9 @@ use native.Mathlib.Omega.{arith}
 use lib.ListN.{length, get_or}
 use borrow.Author.Tests.{lt-ltb, le-ltb}
 use Rattle.lists.specs.Lists.{put, part}
-use Rattle.lists.proofs.Put.{put-zero, put-next-at, part-whole, part-cons, part-nil}
+use Rattle.lists.proofs.Put.{put-zero, put-next-at, part-cons, part-nil}
 use Rattle.definition.specs.Refusals.{Verdict}
 use Rattle.definition.specs.Outcome.{Answer, written, RoomAfter}
-use Rattle.refusal.specs.declared.Refusal.{Refusal}
-use Rattle.refusal.specs.Refusals.{answer_of}
 use Rattle.slots.specs.Slots.{unless_short, number_after, slot_after, slot_first, counts_in}
 
 module _ {B : Type 0} (n : ℕ) (slot : List B) where

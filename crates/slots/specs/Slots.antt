@@ -5,6 +5,7 @@ use Rattle.definition.specs.Packed.{Counts, BuildSizes, most_levels}
 use Rattle.definition.specs.Refusals.{Verdict, refused}
 use Rattle.definition.specs.Table.{Head, Table}
 use Rattle.definition.specs.Outcome.{Answer, Shared, Sampled, written}
+use Rattle.build_sizes.specs.Sizes.{lengths_of}
 use Rattle.refusal.specs.declared.Refusal.{Refusal}
 use Rattle.refusal.specs.declared.Report.{Report}
 use Rattle.refusal.specs.Reports.{Reports}
@@ -51,10 +52,6 @@ abbrev pub placed_slot : Answer ℕ → List ℕ
 placed_slot a = a.place ∷ a.value ∷ []
 
 -- the lengths that a build is to be lent, in the order of its lists
-abbrev pub lengths_of : BuildSizes → List ℕ
-lengths_of b =
-    b.level_points ∷ b.internals ∷ b.domains ∷ b.boxes ∷ b.borrowed ∷ b.floats ∷ b.wholes ∷ []
-
 abbrev pub sizes_slot : Answer BuildSizes → List ℕ
 sizes_slot a = lengths_of a.value
 

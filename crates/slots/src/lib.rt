@@ -26,7 +26,9 @@ pub fn version() -> usize
 // How many entries a slot has: of a pair, as a place and a value; of the lengths of a build's lists; and of a tree, which are its place, its levels,
 // and the rows and the domains of each level.
 pub const PAIR: usize = 2;
+
 pub const SIZES: usize = 7;
+
 pub const TREE: usize = 10;
 
 // The value that a call answers, to the front of a slot: a zero where the call is refused. What it returns is the refusal's number.
@@ -57,17 +59,7 @@ pub fn put_sizes(res: &mut [usize], answer: Result<BuildSizes, Refusal>) -> usiz
     ensures number { result ≡ (sizes_report answer).number }
 {
     let told = Report::of(answer);
-    let sizes = told.value;
-    let seven = [
-        sizes.level_points,
-        sizes.internals,
-        sizes.domains,
-        sizes.boxes,
-        sizes.borrowed,
-        sizes.floats,
-        sizes.wholes,
-    ];
-    stretches::put_values(res, 0, &seven);
+    stretches::put_values(res, 0, &told.value.lengths());
     told.number
 }
 

@@ -1,5 +1,5 @@
 -- `ddm_c::ddm_level_size` meets its contract. Assumes nothing.
-use mathlib.Core.Path.{refl, ◌∙◌}
+use mathlib.Core.Path.{◌∙◌}
 use native.Mathlib.Omega.{arith}
 use lib.ListN.{length}
 use Prim.Native.Nat.{◌≤◌, ◌<◌}
