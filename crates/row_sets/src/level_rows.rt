@@ -9,7 +9,7 @@ ghost use Rattle.row_sets.specs.Tested.{LeftIsListed, RowsPassed};
 
 use crate::Rows;
 
-// Two lists of as many words, lent by the caller.
+// The two sets are lists of as many words, lent by the caller.
 #[derive(Drop)]
 pub struct LevelRows<'a> {
     pub left: &'a mut [usize],
