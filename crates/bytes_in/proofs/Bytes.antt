@@ -1,5 +1,5 @@
 -- Numbers and marks of bytes: a field by its parts, and when a record stands whole. Assumes nothing.
--- Holds: byte-is, field-add, from_four, from_eight, chunk-long, chunk-field, record-room
+-- Holds: byte-is, field-add, four_bytes, eight_bytes, chunk-long, chunk-field, record-room
 use mathlib.Core.Path.{◌≡◌, refl, ap, ◌∙◌}
 use mathlib.Core.Bool.{true}
 use Prim.Native.Nat.{ℕ, zero, suc, ◌+◌, ◌-◌, ◌*◌, ◌^◌, ◌≤◌, ◌<◌}
@@ -39,8 +39,8 @@ pub field-add : (i k at : ℕ) (bs : List ℕ) → field (i + k) at bs ≡ field
 field-add i k at bs = little-add i k (drop at bs) ∙ ap (λ (l : List ℕ). little i (drop at bs) + 256 ^ i * little k l) (drop-drop i at bs)
 
 -- of four bytes, and of eight
-pub from_four : (bs : List ℕ) → length bs ≡ 4 → from_le_bytes w32 bs ≡ field 4 0 bs
-from_four bs h =
+pub four_bytes : (bs : List ℕ) → length bs ≡ 4 → from_le_bytes w32 bs ≡ field 4 0 bs
+four_bytes bs h =
     omega (
       arith,
       byte-is bs 0 (omega arith),
@@ -52,8 +52,8 @@ from_four bs h =
       field-add 3 1 0 bs,
     )
 
-pub from_eight : (bs : List ℕ) → length bs ≡ 8 → from_le_bytes w64 bs ≡ field 8 0 bs
-from_eight bs h =
+pub eight_bytes : (bs : List ℕ) → length bs ≡ 8 → from_le_bytes w64 bs ≡ field 8 0 bs
+eight_bytes bs h =
     omega (
       arith,
       byte-is bs 0 (omega arith),

@@ -34,6 +34,9 @@ const INFINITY: u64 = 0x7ff0_0000_0000_0000;
 
 // ---- one field
 
+// The bytes and a place here, and no slice that begins there: the definition reads `field k at input`, and that so many bytes are left would be
+// asked of the slice too. settings_record reads its fields in the same way.
+
 // The number that one byte stands for.
 pub fn byte_at(input: &[u8], at: usize) -> usize
     requires { at < length input.now }

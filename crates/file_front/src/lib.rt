@@ -33,7 +33,7 @@ pub struct Front {
 }
 
 // Where the record of row i begins; where n of them end.
-fn place_of(dimensions: usize, i: usize) -> usize
+fn row_place(dimensions: usize, i: usize) -> usize
     requires { (dimensions ≤ 3) × (i < 2 ^ 32) }
     ensures { result ≡ point_place dimensions i }
 {
@@ -49,7 +49,7 @@ pub fn points_pass(bytes: &[u8], n: usize, dimensions: usize) -> bool
 {
     let size = bytes_in::point_size(dimensions);
     for i in 0..n {
-        let at = place_of(dimensions, i);
+        let at = row_place(dimensions, i);
         if !bytes_in::record_at(bytes, at, size, marks::FILE_POINT) {
             return false;
         }
@@ -65,9 +65,8 @@ fn head_passes(settings: Settings, n: usize) -> bool
     requires { n < 2 ^ 32 }
     ensures { result ≡ head_taken (settings_are settings) n }
 {
-    let Settings { dimensions, params } = settings;
-    build_checks::settings_fault(dimensions, params).is_ok()
-        && build_checks::points_fault(n * dimensions, dimensions, params).is_ok()
+    build_checks::settings_fault(settings).is_ok()
+        && build_checks::points_fault(n * settings.dimensions, settings).is_ok()
 }
 
 // Tests the head and the points of a file: each record stands whole at its place, and the build takes what stands in them.
@@ -90,7 +89,7 @@ pub fn check_front(bytes: &[u8]) -> Option<Front>
     if !points_pass(bytes, n, dimensions) {
         return None;
     }
-    let next = place_of(dimensions, n);
+    let next = row_place(dimensions, n);
     Some(Front { settings, n, next })
 }
 
@@ -123,7 +122,7 @@ pub fn same_points(points: Points<'_>, bytes: &[u8]) -> bool
         return false;
     }
     for i in 0..n {
-        let at = place_of(points.dimensions, i);
+        let at = row_place(points.dimensions, i);
         if !floats_are(points.point(i), bytes, at + bytes_in::MARK) {
             return false;
         }

@@ -36,8 +36,8 @@ points_pass-requires c = let bs = c.args.bytes.now in
     let axes = head-axes (settings_are c.settings_of-settings.result) c.number_at-n.result (sym c.head_passes.ensures ∙ c.if-not-head_passes.false) in
     (head-inside bs stands, axes.1, c.number_at-n.ensures.1)
 
-pub place_of-next-requires : goal.place_of-next-requires
-place_of-next-requires c =
+pub row_place-next-requires : goal.row_place-next-requires
+row_place-next-requires c =
     let axes = head-axes (settings_are c.settings_of-settings.result) c.number_at-n.result (sym c.head_passes.ensures ∙ c.if-not-head_passes.false) in
     (axes.1, c.number_at-n.ensures.1)
 
@@ -58,4 +58,4 @@ returns c = let bs = c.args.bytes.now in
     let n = c.number_at-n in
     let takes = sym c.head_passes.ensures ∙ c.if-not-head_passes.false in
     let good = points-decide bs stands fits (settings_are settings.result) n.result settings.ensures n.ensures.0 takes true (sym c.if-not-points_pass.false ∙ c.points_pass.ensures) in
-    record { good = good; read = front_read settings.result n.result c.place_of-next.result bs settings.ensures n.ensures.0 c.place_of-next.ensures good }
+    record { good = good; read = front_read settings.result n.result c.row_place-next.result bs settings.ensures n.ensures.0 c.row_place-next.ensures good }

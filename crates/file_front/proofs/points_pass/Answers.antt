@@ -8,23 +8,23 @@ pub loop-i-init : goal.loop-i-init
 loop-i-init c = passing-start _ _ (search rules)
 
 pub record_at-requires : goal.record_at-requires
-record_at-requires c = (omega (arith, c.loop-i.invariant.inside, c.place_of-at.ensures), search rules)
+record_at-requires c = (omega (arith, c.loop-i.invariant.inside, c.row_place-at.ensures), search rules)
 
 pub returns-then-not-record_at : goal.returns-then-not-record_at
-returns-then-not-record_at c = let at = c.place_of-at in
+returns-then-not-record_at c = let at = c.row_place-at in
     let size = c.point_size-size in
     let stands = c.record_at in
     passing-broken c.loop-i.invariant at.result at.ensures size.result size.ensures stands.result stands.ensures _ (search rules) c.if-not-record_at.true
 
 pub returns-then-not-finite_at : goal.returns-then-not-finite_at
-returns-then-not-finite_at c = let at = c.place_of-at in
+returns-then-not-finite_at c = let at = c.row_place-at in
     let size = c.point_size-size in
     let stands = c.record_at in
     let known = c.finite_at in
     passing-bad c.loop-i.invariant at.result at.ensures size.result size.ensures stands.result stands.ensures c.if-not-record_at.false known.result known.ensures _ (search rules) c.if-not-finite_at.true
 
 pub loop-i-preserved : goal.loop-i-preserved
-loop-i-preserved c = let at = c.place_of-at in
+loop-i-preserved c = let at = c.row_place-at in
     let size = c.point_size-size in
     let stands = c.record_at in
     let known = c.finite_at in

@@ -23,16 +23,16 @@ pub point-requires : goal.point-requires
 point-requires c = comparing-listed c.loop-i.invariant (search rules)
 
 pub floats_are-requires : goal.floats_are-requires
-floats_are-requires c = rw (c.point.ensures.number, c.place_of-at.ensures) (omega (arith, comparing-inside c.loop-i.invariant (search rules)))
+floats_are-requires c = rw (c.point.ensures.number, c.row_place-at.ensures) (omega (arith, comparing-inside c.loop-i.invariant (search rules)))
 
 pub returns-then-not-floats_are : goal.returns-then-not-floats_are
 returns-then-not-floats_are c =
-    let told = rw (c.point.ensures.number, c.point.ensures.coordinates, c.place_of-at.ensures) at c.floats_are.ensures in
+    let told = rw (c.point.ensures.number, c.point.ensures.coordinates, c.row_place-at.ensures) at c.floats_are.ensures in
     comparing-found c.loop-i.invariant (search rules) c.floats_are.result told c.if-not-floats_are.true
 
 pub loop-i-preserved : goal.loop-i-preserved
 loop-i-preserved c =
-    let told = rw (c.point.ensures.number, c.point.ensures.coordinates, c.place_of-at.ensures) at c.floats_are.ensures in
+    let told = rw (c.point.ensures.number, c.point.ensures.coordinates, c.row_place-at.ensures) at c.floats_are.ensures in
     comparing-next c.loop-i.invariant (search rules) c.floats_are.result told c.if-not-floats_are.false
 
 pub returns : goal.returns
