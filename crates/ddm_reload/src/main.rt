@@ -10,7 +10,7 @@ ghost use Rattle.program_input.specs.Input.{Stopped, MayBe};
 ghost use Rattle.ddm_reload.specs.Output.{ReloadedFrom};
 
 use job_room::{STREAM, TEXT};
-use program_input::{Front, Input};
+use program_input::{Failure, Front, Input};
 use std::io;
 use std::io::{Read, Write};
 use std::process::ExitCode;
@@ -69,38 +69,38 @@ fn write_reply<W: Write>(
     out.write_all(text)
 }
 
-// Why nothing was printed, or not all.
-#[derive(Clone, Copy)]
-enum Failure {
-    Job(io::Error),
-    Tree(io::Error),
-    Output(io::Error),
-}
-
 // Reads the stream and the file that the arguments name, and writes what is printed for them.
-fn print_reloaded<R: Env + Files + Alloc, W: Write>(rt: &R, out: &mut W) -> Result<(), Failure> {
+fn print_reloaded<R: Env + Files + Alloc, W: Write>(
+    rt: &R,
+    out: &mut W,
+) -> Result<(), Failure<'static>> {
     let mut stream = [0u8; STREAM];
-    let front = read_argument(rt, 1, &mut stream).map_err(Failure::Job)?;
+    let front = read_argument(rt, 1, &mut stream).map_err(|error| Failure {
+        what: "job stream",
+        error,
+    })?;
     let job = Input {
         bytes: &stream,
         front,
     };
     let mut file = program_input::room::<FILE>();
-    let front = read_argument(rt, 2, &mut file).map_err(Failure::Tree)?;
+    let front = read_argument(rt, 2, &mut file).map_err(|error| Failure {
+        what: "stored tree",
+        error,
+    })?;
     let tree = Input {
         bytes: &file,
         front,
     };
     let mut text = program_input::room::<TEXT>();
     let count = reply_to(job, tree, &mut text);
-    write_reply(out, job, tree, &text[..count]).map_err(Failure::Output)
+    write_reply(out, job, tree, &text[..count]).map_err(|error| Failure {
+        what: "standard output",
+        error,
+    })
 }
 
 fn main(rt: HostRuntime) -> ExitCode {
-    match print_reloaded(&rt, &mut rt.stdout()) {
-        Ok(()) => ExitCode::SUCCESS,
-        Err(Failure::Job(e)) => program_input::fail(&rt, "job stream", e),
-        Err(Failure::Tree(e)) => program_input::fail(&rt, "stored tree", e),
-        Err(Failure::Output(e)) => program_input::fail(&rt, "standard output", e),
-    }
+    let done = print_reloaded(&rt, &mut rt.stdout());
+    program_input::end(&rt, done)
 }
