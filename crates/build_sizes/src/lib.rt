@@ -13,7 +13,7 @@ use rows::{MOST_NEIGHBOURS, MOST_POINTS};
 use tree_lists::{Room, TreeLists};
 
 // The lengths of the five lists, and of the two lists of working room.
-#[derive(Clone, Copy)]
+#[derive(Clone, Copy, Default)]
 pub struct BuildSizes {
     pub level_points: usize,
     pub internals: usize,

@@ -1,11 +1,28 @@
 // The settings of a build (config.rs of the Rust), by value.
 #![tactic(auto)]
 
-// How the coarse threshold is set.
+ghost use Rattle.std.specs.Prelude.{◌≡◌};
+ghost use Rattle.definition.specs.Levels.{policy_from};
+ghost use Rattle.config.specs.Params.{threshold_policy};
+
+// How the coarse threshold is set. It is an enum of its own, and no `Option<u32>`: document 01 and the Rust name its two cases, and the first of
+// them sets a threshold too, by the number of points.
 #[derive(Clone, Copy)]
 pub enum SizePolicy {
     Auto,
     Fixed(u32),
+}
+
+impl SizePolicy {
+    // The policy that stands for a number, with its threshold: 0 is Auto, any other number Fixed.
+    pub fn of(kind: usize, threshold: u32) -> SizePolicy
+        ensures { threshold_policy result ≡ policy_from kind threshold }
+    {
+        match kind {
+            0 => SizePolicy::Auto,
+            _ => SizePolicy::Fixed(threshold),
+        }
+    }
 }
 
 // Leaf threshold, neighbour count, factor and coarse threshold.
@@ -15,4 +32,11 @@ pub struct DDMParams {
     pub overlap_knn: u32,
     pub coarse_reduction_factor: u32,
     pub coarse_threshold: SizePolicy,
+}
+
+// The number of axes, and the settings of the build on them.
+#[derive(Clone, Copy)]
+pub struct Settings {
+    pub dimensions: usize,
+    pub params: DDMParams,
 }

@@ -1,3 +1,3 @@
 -- Laws of distances and places, which their proofs cite.
-mod Turns
+pub mod Turns
 mod Firsts

@@ -1,5 +1,5 @@
 // Squared distance and distance, with one fixed sequence of roundings for any number of axes.
-ghost use Rattle.std.specs.Prelude.{◌≡◌, ◌+◌, ◌≤◌, length};
+ghost use Rattle.std.specs.Prelude.{◌≡◌, length};
 ghost use Rattle.definition.specs.Points.{point_at, distance_sq_lem, rows_sq, rows_apart};
 ghost use Rattle.rows.specs.Rows.{Inside};
 
@@ -13,14 +13,14 @@ pub struct LocalIdx(pub usize);
 #[derive(Clone, Copy)]
 pub struct GlobalIdx(pub usize);
 
-// The squared distance of the point whose coordinates start at `a` in `p` and the one at `b` in `q`.
-pub fn distance_sq_at(p: &[f64], a: usize, q: &[f64], b: usize, dimensions: usize) -> f64
-    requires { (a + dimensions ≤ length p.now) × (b + dimensions ≤ length q.now) }
-    ensures { result ≡ distance_sq_lem dimensions (point_at p.now a) (point_at q.now b) }
+// The squared distance of two points, of as many coordinates each.
+pub fn distance_sq_between(p: &[f64], q: &[f64]) -> f64
+    requires { length p.now ≡ length q.now }
+    ensures { result ≡ distance_sq_lem (length p.now) (point_at p.now 0) (point_at q.now 0) }
 {
     let mut sum = 0.0;
-    for k in 0..dimensions {
-        let d = p[a + k] - q[b + k];
+    for k in 0..p.len() {
+        let d = p[k] - q[k];
         sum += d * d;
     }
     sum
@@ -31,13 +31,7 @@ pub fn distance_sq(points: Points<'_>, i: GlobalIdx, j: GlobalIdx) -> f64
     requires { Inside points.dimensions points.coordinates.now i.0 × Inside points.dimensions points.coordinates.now j.0 }
     ensures { result ≡ rows_sq points.entry.dimensions points.entry.coordinates.now i.0 j.0 }
 {
-    distance_sq_at(
-        points.coordinates,
-        i.0 * points.dimensions,
-        points.coordinates,
-        j.0 * points.dimensions,
-        points.dimensions,
-    )
+    distance_sq_between(points.point(i.0), points.point(j.0))
 }
 
 // The distance of two rows.

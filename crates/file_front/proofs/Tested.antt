@@ -23,8 +23,8 @@ use Rattle.stored.specs.Stored.{head_size, count_in, points_in, levels_place, bu
 use Rattle.tree_tests.specs.Whole.{points_whole, front_whole}
 use Rattle.stored_laws.proofs.FrontAgain.{point-stands, points-are, count_is}
 use Rattle.stored_laws.proofs.ReadBack.{buildable-passed}
-use Rattle.settings_record.specs.declared.Settings as read
-use Rattle.settings_record.specs.Reading.{settings_are}
+use Rattle.config.specs.declared.Settings as read
+use Rattle.config.specs.Params.{settings_are}
 use Rattle.file_front.specs.Reading.{FrontRead}
 use Rattle.file_front.specs.Fronts.{point_place, points_at, head_taken}
 use Rattle.file_front.proofs.Points.{whole-inside, bad, row_whole}

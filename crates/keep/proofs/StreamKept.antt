@@ -1,12 +1,11 @@
 -- From the reader's answer to what is kept of a stream. Assumes nothing.
 -- Holds: broken-answer, broken-output, whole-answer, whole-output
 use mathlib.Core.Path.{◌≡◌, sym, ap, ◌∙◌}
-use Prim.Native.Nat.{ℕ, ◌*◌, ◌≤◌}
+use Prim.Native.Nat.{ℕ, ◌≤◌}
 use mathlib.Core.List.{List}
-use lib.ListN.{length, take}
-use lib.Ieee.{Float}
+use lib.ListN.{length}
 use Rattle.definition.specs.Outcome.{Answer}
-use Rattle.formats.specs.Stream.{job, job_in}
+use Rattle.formats.specs.Stream.{job_in}
 use Rattle.stored.specs.Programs.{Kept, nothing, kept_job, kept}
 use Rattle.reload_laws.specs.Sizes.{most_file_bytes}
 use Rattle.std.specs.Prelude.{Result, Ok, Err}

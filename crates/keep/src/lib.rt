@@ -8,7 +8,7 @@ ghost use Rattle.reload_laws.specs.Sizes.{most_file_bytes};
 ghost use Rattle.stream_reader.specs.Reading.{job_settings, job_is};
 ghost use Rattle.keep.specs.Keeping.{keep_answer, keep_output, keep_report};
 
-use job_room::{JobLists, JobRoom};
+use job_room::JobRoom;
 use refusal::Refusal;
 use stream_reader::Job;
 
@@ -22,7 +22,7 @@ fn keep_job(job: Job<'_>, file: &mut [u8]) -> Result<usize, Refusal>
     ensures output { file.new ≡ keep_output (kept_job (job_is job.entry)) file.old }
 {
     let Job { points, params } = job;
-    let mut lists = JobLists::zeros();
+    let mut lists = job_room::zero_lists();
     let mut lists = lists.lend();
     let mut room = JobRoom::zeros();
     let mut room = room.lend();

@@ -9,8 +9,7 @@ ghost use Rattle.bytes_out.specs.Writing.{Appends};
 ghost use Rattle.job_room.specs.Printing.{print_answer_lem, print_output, printed_answer};
 
 use bytes_out::Writer;
-use job_room::{JobLists, JobRoom};
-use packed::Packed;
+use job_room::JobRoom;
 use refusal::Refusal;
 use stream_reader::Job;
 use tree_answer::PackedTree;
@@ -20,24 +19,13 @@ fn write_job(job: Job<'_>, out: &mut Writer<'_>)
     requires { JobLimits (job_settings job) job.points.coordinates.now × (out.old.at + most_bytes ≤ length out.old.bytes.now) }
     ensures { Appends out.old out.new (job_text (job_is job.entry)) }
 {
-    let mut lists = JobLists::zeros();
+    let mut lists = job_room::zero_lists();
     let mut lists = lists.lend();
     let mut room = JobRoom::zeros();
     let mut room = room.lend();
     match ddm::build(job.points, job.params, &mut lists, &mut room) {
-        Ok(tree) => {
-            let lists = lists.read();
-            let tree = PackedTree {
-                counts: tree,
-                level_points: lists.level_points,
-                leaves: Packed {
-                    internals: lists.internals,
-                    domains: lists.domains,
-                    boxes: lists.boxes,
-                    borrowed: lists.borrowed,
-                    dimensions: job.points.dimensions,
-                },
-            };
+        Ok(counts) => {
+            let tree = PackedTree::of(counts, lists.read(), job.points.dimensions);
             print_tree::write_tree(tree, out);
         }
         Err(refusal) => print_texts::write_refusal(refusal, out),

@@ -1,2 +1,3 @@
 -- Laws of refusals and answers.
 pub mod Answers
+pub mod Told

@@ -1,2 +1,3 @@
 -- What the contracts of calls that can be refused cite.
 pub mod Refusals
+pub mod Reports

@@ -3,6 +3,7 @@
 
 ghost use Rattle.std.specs.Prelude.{◌≡◌};
 ghost use Rattle.refusal.specs.Refusals.{refusal_number, refusal_place};
+ghost use Rattle.refusal.specs.Reports.{Reports};
 
 // The refusals of all calls, in the order of their numbers.
 #[derive(Clone, Copy)]
@@ -64,7 +65,7 @@ impl Refusal {
         }
     }
 
-    // Its place: 0 where it names none.
+    // Its place: 0 where it names none, as document 01 and the slots of C have it, so it is no Option.
     pub fn place(self) -> usize
         ensures { result ≡ refusal_place self }
     {
@@ -72,6 +73,34 @@ impl Refusal {
             Refusal::NotFinite(position) => position,
             Refusal::BrokenRecord(start) => start,
             _ => 0,
+        }
+    }
+}
+
+// What is told of an answer: the refusal's number, 0 for none, its place, and the value, which is the type's zero where the call is refused.
+#[derive(Clone, Copy)]
+pub struct Report<T> {
+    pub number: usize,
+    pub place: usize,
+    pub value: T,
+}
+
+impl<T: Default> Report<T> {
+    // What is told of this answer.
+    pub fn of(answer: Result<T, Refusal>) -> Report<T>
+        ensures { Reports T.is_default answer result }
+    {
+        match answer {
+            Ok(value) => Report {
+                number: 0,
+                place: 0,
+                value,
+            },
+            Err(refusal) => Report {
+                number: refusal.number(),
+                place: refusal.place(),
+                value: T::default(),
+            },
         }
     }
 }

@@ -1,9 +1,9 @@
 -- From the file's length and the reader's answer to what is printed. Assumes nothing.
 -- Holds: too_long, not-too-long, loaded-room, broken-reloaded, whole-reloaded
 use mathlib.Core.Path.{◌≡◌, ap}
-use Prim.Native.Nat.{ℕ, ◌+◌, ◌*◌, ◌≤◌, ◌<◌}
+use Prim.Native.Nat.{ℕ, ◌+◌, ◌≤◌, ◌<◌}
 use mathlib.Core.List.{List}
-use lib.ListN.{length, take}
+use lib.ListN.{length}
 use lib.Ieee.{Float}
 use borrow.Author.Tests.{le-ltb, lt-ltb}
 use Rattle.definition.specs.Tree as tree

@@ -11,8 +11,6 @@ ghost use Rattle.job_room.specs.Printing.{print_answer_lem, print_output, printe
 ghost use Rattle.reload.specs.Loading.{loaded_text};
 
 use bytes_out::Writer;
-use job_room::JobLists;
-use packed::Packed;
 use refusal::Refusal;
 use stream_reader::Job;
 use tree_answer::PackedTree;
@@ -25,22 +23,11 @@ fn write_loaded(job: Job<'_>, file: &[u8], out: &mut Writer<'_>)
     requires { JobLimits (job_settings job) job.points.coordinates.now × Takes out.old (loaded_text (job_settings job) job.points.coordinates.now file.now) }
     ensures { Appends out.old out.new (loaded_text (job_settings job.entry) job.entry.points.coordinates.now file.now) }
 {
-    let mut lists = JobLists::zeros();
+    let mut lists = job_room::zero_lists();
     let mut lists = lists.lend();
     match load::load_tree(job.points, job.params, file, &mut lists) {
-        Ok(tree) => {
-            let lists = lists.read();
-            let tree = PackedTree {
-                counts: tree,
-                level_points: lists.level_points,
-                leaves: Packed {
-                    internals: lists.internals,
-                    domains: lists.domains,
-                    boxes: lists.boxes,
-                    borrowed: lists.borrowed,
-                    dimensions: job.points.dimensions,
-                },
-            };
+        Ok(counts) => {
+            let tree = PackedTree::of(counts, lists.read(), job.points.dimensions);
             print_tree::write_tree(tree, out);
         }
         Err(refusal) => print_texts::write_refusal(refusal, out),

@@ -16,7 +16,7 @@ use rows::MOST_POINTS;
 use tree_lists::Room;
 
 // The count of rows written, and their cover.
-#[derive(Clone, Copy)]
+#[derive(Clone, Copy, Default)]
 pub struct Sampled {
     pub rows: usize,
     pub cover: f64,

@@ -1,18 +1,19 @@
 -- The seed: the centroid of the rows, and the first row nearest to it, found by few roots. Assumes nothing.
--- Holds: Summed, summed-none, summed-more, summed-all, from_center, center-square, center-good, Nearest, nearest-start,
---   nearest-far, nearest-tie, nearest-less, nearest-end
+-- Holds: Summed, summed-more, summed-all, from_center, center-square, center-good, Nearest, infinity, nearest-start, nearest-far,
+--   nearest-tie, nearest-less, nearest-end
 use mathlib.Core.Path.{◌≡◌, refl, sym, ap, ◌∙◌}
-use mathlib.Core.Bool.{true, false}
+use mathlib.Core.Bool.{true, false, true≢false}
 use mathlib.Core.List.{List}
-use Prim.Native.Nat.{ℕ, zero, suc, ◌+◌, ◌*◌, ◌≤◌, ◌<◌}
+use Prim.Native.Nat.{ℕ, zero, suc, ◌+◌, ◌-◌, ◌*◌, ◌≤◌, ◌<◌}
 use native.Mathlib.Nat.{zero-add, le_trans}
 use native.Mathlib.Numerals.{add-one}
 use native.Mathlib.Omega.{arith}
 use borrow.Author.Count.{below_none, below_more}
 use lib.Dec.{lit≤}
 use lib.ListN.{length, get_or, drop, take}
-use lib.Seq.{drop-cons, drop-length}
-use lib.Ieee.{Float, nan, lt}
+use lib.Seq.{drop-cons, drop-length, get_or-take}
+use Rattle.lists.specs.Lists.{part}
+use lib.Ieee.{Float, nan, inf, fin, binary64, lt, of_bits}
 use Rattle.lists.proofs.All.{all-of}
 use Rattle.lists.proofs.Members.{split_at, each-before, each-behind}
 use Rattle.definition.specs.Number.{plus_zero, plus, over, square_root_lem}
@@ -21,8 +22,10 @@ use Rattle.definition.specs.Points.{point_at, coordinate, column, distance_sq_le
 use Rattle.definition.specs.Sampling.{sum_from, centroid, from_centroid, seed_of}
 use Rattle.root_laws.specs.Sorts.{good}
 use Rattle.root_laws.proofs.Order.{lt_irrefl, lt-asym, le-le, lt-le}
-use Rattle.root_laws.proofs.Values.{root-good, root-order}
+use Rattle.root_laws.proofs.Values.{root-good, root-order, root-inf}
+use Rattle.root_laws.proofs.Operations.{inf-good}
 use Rattle.definition_laws.proofs.Finite.{centroid-sq-good}
+use Rattle.distances.proofs.Turns.{distance-same, at-part}
 use Rattle.rows.specs.Rows.{GoodRows}
 use Rattle.rows.proofs.Good.{good-at, good-mem}
 use Rattle.definition_laws.proofs.Choice.{nearest-is}
@@ -33,9 +36,6 @@ module _ (d : ℕ) (cs : List Float) (rows : List ℕ) (a : ℕ) where
   -- s is the sum of the coordinates before row i
   pub record Summed (s : Float) (i : ℕ) : Type 0 where
     pub rest : sum_from s (column d cs (drop i rows) a) ≡ sum_from plus_zero (column d cs rows a)
-
-  pub summed-none : Summed plus_zero 0
-  summed-none = record { rest = refl }
 
   pub summed-more : (s : Float) (i : ℕ) → i < length rows → Summed s i → Summed (plus s (coordinate d cs (get_or rows i 0) a)) (i + 1)
   unfolding sum_from
@@ -55,21 +55,20 @@ module _ (d : ℕ) (cs : List Float) (rows : List ℕ) (a : ℕ) where
 
 -- ---- the squared distance from a list that holds the centroid
 
-distance-same : (d : ℕ) (p p' q : ℕ → Float) → ((a : ℕ) → a < d → p a ≡ p' a) → distance_sq_lem d p q ≡ distance_sq_lem d p' q
-unfolding distance_sq_lem
-distance-same zero p p' q h = refl
-distance-same (suc d) p p' q h = rw (distance-same d p p' q (λ a b. h a (omega arith)), h d (omega arith))
-
 -- the squared distance of the row at place i to the centroid
 unfoldable pub from_center : ℕ → List Float → List ℕ → ℕ → Float
 from_center d cs rows i = distance_sq_lem d (centroid d cs rows) (coordinate d cs (get_or rows i 0))
 
-pub center-square : (d : ℕ) (cs : List Float) (rows : List ℕ) (center : List Float) (i : ℕ) (s : Float)
-    → ((a : ℕ) → a < d → get_or center a nan ≡ centroid d cs rows a)
-    → s ≡ distance_sq_lem d (point_at center 0) (point_at cs (get_or rows i 0 * d)) → s ≡ from_center d cs rows i
+pub center-square : (d : ℕ) (cs : List Float) (rows : List ℕ) (center p q : List Float) (i : ℕ) (s : Float)
+    → ((a : ℕ) → a < d → get_or center a nan ≡ centroid d cs rows a) → p ≡ take d center → length p ≡ d → q ≡ part cs (get_or rows i 0 * d) d
+    → s ≡ distance_sq_lem (length p) (point_at p 0) (point_at q 0) → s ≡ from_center d cs rows i
 unfolding from_center
-center-square d cs rows center i s h e =
-    e ∙ distance-same d (point_at center 0) (centroid d cs rows) (coordinate d cs (get_or rows i 0)) (λ a b. ap (λ (k : ℕ). get_or center k nan) (zero-add a) ∙ h a b)
+center-square d cs rows center p q i s h e n f r =
+    r
+    ∙ rw n
+    (distance-same d _ _ _ _
+    (λ a b. ap (λ (k : ℕ). get_or p k nan) (zero-add a) ∙ ap (λ (l : List Float). get_or l a nan) e ∙ get_or-take d center a nan b ∙ h a b)
+    (at-part cs q (get_or rows i 0 * d) d f))
 
 pub center-good : (d : ℕ) (cs : List Float) (rows : List ℕ) → GoodRows d cs rows → 0 < length rows → (i : ℕ) → i < length rows
     → good (from_center d cs rows i) ≡ true
@@ -78,31 +77,54 @@ center-good d cs rows g p i h =
     centroid-sq-good d cs rows (λ j m. (good-mem rows g j m).finite_row) p (le_trans g.few (lit≤ tt)) (get_or rows i 0) (good-at rows g i h).finite_row
 
 -- ---- the scan: `best` is the first nearest of the places below i, `near` its distance, and no square from `low` up has a
--- lesser root
+-- lesser root. Before the first place, both values are infinite.
 pub record Nearest (v : ℕ → Float) (best : ℕ) (near low : Float) (i : ℕ) : Type 0 where
-  pub inside : best < i
+  pub inside : best ≤ i - 1
   pub good-near : good near ≡ true
-  pub here : near ≡ square_root_lem (v best)
+  pub begun : i ≡ 0 → (near ≡ inf false) × (low ≡ inf false)
+  pub here : 0 < i → near ≡ square_root_lem (v best)
   pub least : (j : ℕ) → j < i → lt (square_root_lem (v j)) near ≡ false
   pub first : (j : ℕ) → j < best → lt near (square_root_lem (v j)) ≡ true
   pub high : (x : Float) → good x ≡ true → lt x low ≡ false → lt (square_root_lem x) near ≡ false
 
+-- what `f64::INFINITY` is
+abbrev pub infinity : Float
+infinity = of_bits binary64 0x7ff0000000000000
+
+-- what is not below infinity
+infinite : (x : Float) → good x ≡ true → lt x (inf false) ≡ false → x ≡ inf false
+unfolding lt
+infinite nan g h = absurd (true≢false (sym g))
+infinite (inf true) g h = absurd (true≢false (sym g))
+infinite (inf false) g h = refl
+infinite (fin s m e) g h = absurd (true≢false h)
+
 module _ (v : ℕ → Float) where
-  pub nearest-start : (low near : Float) → good (v 0) ≡ true → low ≡ v 0 → near ≡ square_root_lem low → Nearest v 0 near low 1
-  nearest-start low near g e r =
-      let q : near ≡ square_root_lem (v 0) = r ∙ ap square_root_lem e in
+  pub nearest-start : Nearest v 0 infinity infinity 0
+  unfolding lt of_bits
+  nearest-start =
       record {
         inside = omega arith;
-        good-near = rw q (root-good (v 0) g);
-        here = q;
-        least = below_more (λ j. lt (square_root_lem (v j)) near ≡ false) 0 (below_none _) (rw q (lt_irrefl (square_root_lem (v 0)) (root-good (v 0) g)));
+        good-near = inf-good;
+        begun = λ e. (refl, refl);
+        here = λ h. absurd (omega (arith, h));
+        least = below_none _;
         first = below_none _;
-        high = λ x gx l. rw q (root-order (v 0) x g gx (rw e at l));
+        high = λ x gx l. ap (λ (y : Float). lt (square_root_lem y) (inf false)) (infinite x gx l) ∙ ap (λ (y : Float). lt y (inf false)) root-inf;
       }
+
+  -- the distance, where that of the first place is also known to be infinite
+  here-or : (best : ℕ) (near low : Float) (i : ℕ) → Nearest v best near low i → (i ≡ 0 → near ≡ square_root_lem (v best)) → near ≡ square_root_lem (v best)
+  here-or best near low zero s h = h refl
+  here-or best near low (suc i) s h = s.here (omega arith)
 
   module _ (best : ℕ) (near low : Float) (i : ℕ) (x : Float) (s : Nearest v best near low i) (e : x ≡ v i) (g : (j : ℕ) → j ≤ i → good (v j) ≡ true) where
     gi : good (v i) ≡ true
     gi = g i (omega arith)
+
+    -- at the first place, `best` is that place
+    only : i ≡ 0 → i ≡ best
+    only z = omega (arith, z, s.inside)
 
     -- the square is not less than all before it
     pub nearest-far : lt x low ≡ false → Nearest v best near low (i + 1)
@@ -110,7 +132,13 @@ module _ (v : ℕ → Float) where
         record {
           inside = omega (arith, s.inside);
           good-near = s.good-near;
-          here = s.here;
+          begun = λ z. absurd (omega (arith, z));
+          here = λ h.
+              here-or best near low i s
+              (λ z.
+              let (n, w) = s.begun z in
+              let t : v i ≡ inf false = infinite (v i) gi (rw (← e, ← w) l) in
+              n ∙ sym (root-inf) ∙ ap square_root_lem (sym t ∙ ap v (only z)));
           least = below_more (λ j. lt (square_root_lem (v j)) near ≡ false) i s.least (s.high (v i) gi (rw e at l));
           first = s.first;
           high = s.high;
@@ -124,7 +152,13 @@ module _ (v : ℕ → Float) where
         record {
           inside = omega (arith, s.inside);
           good-near = s.good-near;
-          here = s.here;
+          begun = λ z. absurd (omega (arith, z));
+          here = λ h.
+              here-or best near low i s
+              (λ z.
+              let n = (s.begun z).0 in
+              let t : square_root_lem (v i) ≡ inf false = infinite (square_root_lem (v i)) (root-good (v i) gi) (rw (← n) k) in
+              n ∙ sym t ∙ ap (λ (y : ℕ). square_root_lem (v y)) (only z));
           least = below_more (λ j. lt (square_root_lem (v j)) near ≡ false) i s.least k;
           first = s.first;
           high = λ y gy h.
@@ -142,7 +176,8 @@ module _ (v : ℕ → Float) where
         record {
           inside = omega arith;
           good-near = gr;
-          here = w;
+          begun = λ z. absurd (omega (arith, z));
+          here = λ h. w;
           least =
               below_more (λ j. lt (square_root_lem (v j)) r ≡ false) i
               (λ j h. lt-asym r (square_root_lem (v j)) gr (root-good (v j) (g j (omega arith))) (less j h))
@@ -153,16 +188,17 @@ module _ (v : ℕ → Float) where
 
 -- the place of the seed
 pub nearest-end : (d : ℕ) (cs : List Float) (rows : List ℕ) (best : ℕ) (near low : Float) (i : ℕ)
-    → Nearest (from_center d cs rows) best near low i → i ≡ length rows → (best < length rows) × (get_or rows best 0 ≡ seed_of d cs rows)
+    → Nearest (from_center d cs rows) best near low i → i ≡ length rows → 0 < length rows → (best < length rows) × (get_or rows best 0 ≡ seed_of d cs rows)
 unfolding seed_of from_centroid distance from_center
-nearest-end d cs rows best near low i s e =
+nearest-end d cs rows best near low i s e p =
     let h : best < length rows = omega (arith, s.inside) in
+    let here = s.here (omega arith) in
     let f = from_centroid d cs rows in (
       h,
       sym
           (ap (λ (l : List ℕ). nearest_row (keyed f l)) (split_at rows best 0 h)
           ∙ nearest-is f (take best rows) (get_or rows best 0) (drop (suc best) rows)
-          (all-of _ (take best rows) (each-before rows best 0 h (λ y. lt (f (get_or rows best 0)) (f y) ≡ true) (λ j b. rw (← s.here) (s.first j b))))
+          (all-of _ (take best rows) (each-before rows best 0 h (λ y. lt (f (get_or rows best 0)) (f y) ≡ true) (λ j b. rw (← here) (s.first j b))))
           (all-of _ (drop (suc best) rows)
-          (each-behind rows best 0 h (λ y. lt (f y) (f (get_or rows best 0)) ≡ false) (λ j b k. rw (← s.here) (s.least j (omega arith)))))),
+          (each-behind rows best 0 h (λ y. lt (f y) (f (get_or rows best 0)) ≡ false) (λ j b k. rw (← here) (s.least j (omega arith)))))),
     )

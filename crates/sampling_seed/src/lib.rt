@@ -40,25 +40,12 @@ pub fn sampling_seed(points: Points<'_>, rows: &[usize]) -> LocalIdx
     ensures { (result.0 < length rows.now) × (get_or rows.now result.0 0 ≡ seed_of points.entry.dimensions points.entry.coordinates.now rows.now) }
 {
     let center = get_centroid(points, rows);
-    let first = rows[0];
+    let center = &center[..points.dimensions];
     let mut best = 0;
-    let mut low = distances::distance_sq_at(
-        &center,
-        0,
-        points.coordinates,
-        first * points.dimensions,
-        points.dimensions,
-    );
-    let mut near = root::root(low);
-    for i in 1..rows.len() {
-        let row = rows[i];
-        let square = distances::distance_sq_at(
-            &center,
-            0,
-            points.coordinates,
-            row * points.dimensions,
-            points.dimensions,
-        );
+    let mut low = f64::INFINITY;
+    let mut near = f64::INFINITY;
+    for (i, &row) in rows.iter().enumerate() {
+        let square = distances::distance_sq_between(center, points.point(row));
         if square < low {
             low = square;
             let apart = root::root(square);

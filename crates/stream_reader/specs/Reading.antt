@@ -2,13 +2,12 @@
 use Rattle.std.specs.Prelude.{ℕ, ◌*◌, ◌≤◌, List, take, Float, Result, Ok, Err}
 use Rattle.definition.specs.Tree as tree
 use Rattle.definition.specs.Tree.{point_count}
-use Rattle.config.specs.Params.{settings_of_lem}
+use Rattle.config.specs.Params.{settings_of_lem, settings_are}
+use Rattle.config.specs.declared.Settings.{Settings}
 use Rattle.formats.specs.Stream as stream
 use Rattle.formats.specs.Stream.{job, broken, stream_points}
 use Rattle.refusal.specs.declared.Refusal.{Refusal}
 use Rattle.refusal.specs.Refusals.{as_refusal}
-use Rattle.settings_record.specs.declared.Settings.{Settings}
-use Rattle.settings_record.specs.Reading.{settings_are}
 use Rattle.stream_reader.specs.declared.Job.{Job}
 
 -- what the point records came to, the coordinates being at the front of cs

@@ -4,13 +4,13 @@
 ghost use Rattle.std.specs.Prelude.{◌≡◌, ◌&&◌, ◌*◌, ◌≤◌, [], length, IfOk};
 ghost use Rattle.formats.specs.Bytes.{whole};
 ghost use Rattle.formats.specs.Stream.{settings_mark, settings_size, policy_fits_lem, stream_points, read_points as points_from, job_in};
-ghost use Rattle.settings_record.specs.Reading.{settings_are};
+ghost use Rattle.config.specs.Params.{settings_are};
 ghost use Rattle.stream_reader.specs.Reading.{points_of, job_of, Within};
 
-use config::DDMParams;
+use bytes_in::marks;
+use config::{DDMParams, Settings};
 use points::Points;
 use refusal::Refusal;
-use settings_record::Settings;
 
 // The most points, and the most neighbours, that a stream may have.
 pub const MOST_POINTS: usize = 32;
@@ -28,7 +28,7 @@ pub struct Job<'a> {
 fn settings_whole(input: &[u8]) -> bool
     ensures { result ≡ whole settings_mark settings_size input.now && policy_fits_lem input.now }
 {
-    bytes_in::record_at(input, 0, settings_record::SIZE, b'S', b'T')
+    bytes_in::record_at(input, 0, settings_record::SIZE, marks::SETTINGS)
         && settings_record::policy_fits(input)
 }
 
@@ -44,9 +44,9 @@ fn read_points(
     ensures few { IfOk result (λ n. n ≤ stream_points) }
 {
     let d = settings.dimensions;
-    let size = bytes_in::MARK + bytes_in::FLOAT * d;
+    let size = bytes_in::point_size(d);
     for (n, record) in records.chunks(size).enumerate() {
-        if !bytes_in::record_at(record, 0, size, b'P', b'T') {
+        if !bytes_in::record_at(record, 0, size, marks::POINT) {
             return Err(Refusal::BrokenRecord(settings_record::SIZE + n * size));
         }
         if n == MOST_POINTS {

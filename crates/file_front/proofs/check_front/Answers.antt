@@ -8,7 +8,7 @@ use Rattle.formats.specs.Bytes.{whole}
 use Rattle.formats.specs.Stream.{policy_fits_lem}
 use Rattle.stored.specs.File.{head_mark}
 use Rattle.stored.specs.Stored.{head_size}
-use Rattle.settings_record.specs.Reading.{settings_are}
+use Rattle.config.specs.Params.{settings_are}
 use Rattle.file_front.proofs.Takes.{head-axes}
 use Rattle.file_front.proofs.Tested.{head-broken, head-inside, policy-broken, head-refused, points-decide, front_read}
 use Rattle.file_front.proofs.check_front.Goals as goal

@@ -13,7 +13,7 @@ pub write_refusal-requires : goal.write_refusal-requires
 write_refusal-requires c = let start = c in
     let s = job_settings start.args.job in
     let cs = start.args.job.points.coordinates.now in
-    let lent = lent-sizes (lists_in c.lend-lists.result) c.lend-room.result.floats.now c.lend-room.result.wholes.now (c.lend-lists.ensures ∙ c.zeros-lists.ensures) (c.lend-room.ensures.floats ∙ c.zeros-room.ensures.floats) (c.lend-room.ensures.wholes ∙ c.zeros-room.ensures.wholes) in
+    let lent = lent-sizes (lists_in c.lend-lists.result) c.lend-room.result.floats.now c.lend-room.result.wholes.now (c.lend-lists.ensures ∙ c.zero_lists-lists.ensures) (c.lend-room.ensures.floats ∙ c.zeros-room.ensures.floats) (c.lend-room.ensures.wholes ∙ c.zeros-room.ensures.wholes) in
     let w = c.in-Err.ensures.built in
     takes_as (job-refused s cs (lists_in start.lend-lists.result) _ _ start.requires.0 lent _ w.answers (refusal-numbered _)) (room_for s cs start.requires.0 start.requires.1)
 
@@ -21,7 +21,7 @@ pub returns-in-Err : goal.returns-in-Err
 returns-in-Err c = let start = c in
     let s = job_settings start.args.job in
     let cs = start.args.job.points.coordinates.now in
-    let lent = lent-sizes (lists_in c.lend-lists.result) c.lend-room.result.floats.now c.lend-room.result.wholes.now (c.lend-lists.ensures ∙ c.zeros-lists.ensures) (c.lend-room.ensures.floats ∙ c.zeros-room.ensures.floats) (c.lend-room.ensures.wholes ∙ c.zeros-room.ensures.wholes) in
+    let lent = lent-sizes (lists_in c.lend-lists.result) c.lend-room.result.floats.now c.lend-room.result.wholes.now (c.lend-lists.ensures ∙ c.zero_lists-lists.ensures) (c.lend-room.ensures.floats ∙ c.zeros-room.ensures.floats) (c.lend-room.ensures.wholes ∙ c.zeros-room.ensures.wholes) in
     let w = c.in-Err.ensures.built in
     spelt_as (sym (job-refused s cs (lists_in start.lend-lists.result) _ _ start.requires.0 lent _ w.answers (refusal-numbered _))) c.write_refusal.ensures
 
@@ -29,18 +29,18 @@ pub write_tree-requires : goal.write_tree-requires
 write_tree-requires c = let start = c in
     let s = job_settings start.args.job in
     let cs = start.args.job.points.coordinates.now in
-    let lent = lent-sizes (lists_in c.lend-lists.result) c.lend-room.result.floats.now c.lend-room.result.wholes.now (c.lend-lists.ensures ∙ c.zeros-lists.ensures) (c.lend-room.ensures.floats ∙ c.zeros-room.ensures.floats) (c.lend-room.ensures.wholes ∙ c.zeros-room.ensures.wholes) in
+    let lent = lent-sizes (lists_in c.lend-lists.result) c.lend-room.result.floats.now c.lend-room.result.wholes.now (c.lend-lists.ensures ∙ c.zero_lists-lists.ensures) (c.lend-room.ensures.floats ∙ c.zeros-room.ensures.floats) (c.lend-room.ensures.wholes ∙ c.zeros-room.ensures.wholes) in
     let w = c.in-Ok.ensures.built in
-    record {
-      stands = tree-ready s cs (lists_in start.lend-lists.result) _ _ start.requires.0 lent _ w.answers (omega arith) _ (start.read-lists.ensures ∙ w.lists);
+    rw c.of-tree.ensures record {
+      stands = tree-ready s cs (lists_in start.lend-lists.result) _ _ start.requires.0 lent _ w.answers (omega arith) _ (c.read.ensures ∙ w.lists);
       room_for = takes_as
-          (job-tree s cs (lists_in start.lend-lists.result) _ _ start.requires.0 lent _ w.answers (omega arith) _ (start.read-lists.ensures ∙ w.lists)) (room_for s cs start.requires.0 start.requires.1);
+          (job-tree s cs (lists_in start.lend-lists.result) _ _ start.requires.0 lent _ w.answers (omega arith) _ (c.read.ensures ∙ w.lists)) (room_for s cs start.requires.0 start.requires.1);
     }
 
 pub returns-in-Ok : goal.returns-in-Ok
 returns-in-Ok c = let start = c in
     let s = job_settings start.args.job in
     let cs = start.args.job.points.coordinates.now in
-    let lent = lent-sizes (lists_in c.lend-lists.result) c.lend-room.result.floats.now c.lend-room.result.wholes.now (c.lend-lists.ensures ∙ c.zeros-lists.ensures) (c.lend-room.ensures.floats ∙ c.zeros-room.ensures.floats) (c.lend-room.ensures.wholes ∙ c.zeros-room.ensures.wholes) in
+    let lent = lent-sizes (lists_in c.lend-lists.result) c.lend-room.result.floats.now c.lend-room.result.wholes.now (c.lend-lists.ensures ∙ c.zero_lists-lists.ensures) (c.lend-room.ensures.floats ∙ c.zeros-room.ensures.floats) (c.lend-room.ensures.wholes ∙ c.zeros-room.ensures.wholes) in
     let w = c.in-Ok.ensures.built in
-    spelt_as (sym (job-tree s cs (lists_in start.lend-lists.result) _ _ start.requires.0 lent _ w.answers (omega arith) _ (start.read-lists.ensures ∙ w.lists))) c.write_tree.ensures
+    spelt_as (sym (job-tree s cs (lists_in start.lend-lists.result) _ _ start.requires.0 lent _ w.answers (omega arith) _ (c.read.ensures ∙ w.lists))) (rw c.of-tree.ensures at c.write_tree.ensures)

@@ -1,10 +1,8 @@
 -- `stream_reader::read_job` meets its contract. Assumes nothing.
 use Rattle.std.proofs.lemmas.Result.{err_from_is_err_and}
 use Rattle.stream_reader.proofs.Records.{job-broken, job-low, job-high, job-right, held-broken, held-over, held-within}
-use Rattle.stream_reader.specs.Reading.{job_of}
-use Rattle.settings_record.specs.Reading.{settings_are}
+use Rattle.config.specs.Params.{settings_are}
 use Rattle.formats.specs.Stream.{Job, settings_size, stream_points, read_points, held, job_in}
-use Rattle.refusal.specs.Refusals.{as_refusal}
 use mathlib.Core.List.{List, []}
 use lib.ListN.{length, drop, take, length-drop}
 use lib.Seq.{take_all}

@@ -1,13 +1,13 @@
 -- `stream_reader::read_points` meets its contract. Assumes nothing.
 use Rattle.stream_reader.proofs.Records.{Reading, begun, spot, place_fits, reading-cut, reading-full, reading-more, reading-counted, reading-done}
-use Rattle.settings_record.specs.Reading.{settings_are}
+use Rattle.config.specs.Params.{settings_are}
 use Rattle.std.specs.Slice.Iter.{chunks_rest, chunks_size}
 use Rattle.std.specs.Iterator.Adapters.{enumerate_source, enumerate_count}
 use Rattle.bytes_in.proofs.Bytes.{record-room}
 use Rattle.bytes_in.proofs.Fields.{lent_many, floats-back}
 use Rattle.formats.specs.Stream.{point_mark, point_size_lem, stream_points, job}
 use lib.ListN.{length, take}
-use mathlib.Core.Path.{◌≡◌, refl, sym, ap, subst, ◌∙◌}
+use mathlib.Core.Path.{◌≡◌, refl, sym, ap, ◌∙◌}
 use Prim.Native.Nat.{ℕ, ◌+◌, ◌*◌, ◌/◌, min, ◌≤◌}
 use borrow.Author.Rules.{rules}
 use native.Mathlib.Omega.{arith}
@@ -17,11 +17,10 @@ pub loop-n-init : goal.loop-n-init
 loop-n-init c =
     let a = c.args in
     let it : c.into_iter-n-iterator.result ≡ c.enumerate-n-items.result = c.into_iter-n-iterator.ensures.into_iter_gives in
-    let source = ap enumerate_source it ∙ c.enumerate-n-items.ensures.source in
-    (
+    let source = ap enumerate_source it ∙ c.enumerate-n-items.ensures.source in (
       search rules,
       search rules,
-      ap chunks_size source ∙ c.chunks.ensures.size,
+      ap chunks_size source ∙ c.chunks.ensures.size ∙ c.point_size-size.ensures,
       rw (ap chunks_rest source ∙ c.chunks.ensures.rest, ap enumerate_count it ∙ c.enumerate-n-items.ensures.count)
           (begun (settings_are a.settings) a.records.now a.coordinates.now c.requires.room),
       refl,
@@ -32,23 +31,23 @@ state : (c : goal.Then-not-record_at) → Reading (settings_are c.args.settings)
 state c = rw c.in-Some.ensures.steps.1 c.loop-n.invariant.3
 
 pub overflow_mul-result : goal.overflow_mul-result
-overflow_mul-result c = omega (arith, place_fits c.in-Some.n c.args.settings.dimensions (state c).few c.requires.axes.1)
+overflow_mul-result c = rw c.point_size-size.ensures (omega (arith, place_fits c.in-Some.n c.args.settings.dimensions (state c).few c.requires.axes.1))
 
 pub overflow_add-result : goal.overflow_add-result
-overflow_add-result c = omega (arith, place_fits c.in-Some.n c.args.settings.dimensions (state c).few c.requires.axes.1)
+overflow_add-result c = rw c.point_size-size.ensures (omega (arith, place_fits c.in-Some.n c.args.settings.dimensions (state c).few c.requires.axes.1))
 
 pub returns-then-not-record_at-clause-same : goal.returns-then-not-record_at-clause-same
 returns-then-not-record_at-clause-same c =
     let next = c.in-Some.ensures.steps.0 in
-    reading-cut (state c) _ _ next.1.0 (next.1.1 ∙ ap (λ (k : ℕ). min k (length (chunks_rest (enumerate_source c.loop-n.n-iterator)))) c.loop-n.invariant.2) next.1.2
-    (sym c.record_at.ensures ∙ c.if-not-record_at.true)
+    rw c.point_size-size.ensures (reading-cut (state c) _ _ next.1.0 (next.1.1 ∙ ap (λ (k : ℕ). min k (length (chunks_rest (enumerate_source c.loop-n.n-iterator)))) c.loop-n.invariant.2) next.1.2
+    (rw c.point_size-size.ensures at (sym c.record_at.ensures ∙ c.if-not-record_at.true)))
 
 pub returns-then-n-eq-MOST_POINTS-clause-same : goal.returns-then-n-eq-MOST_POINTS-clause-same
 returns-then-n-eq-MOST_POINTS-clause-same c =
     let next = c.in-Some.ensures.steps.0 in
     let r : Reading (settings_are c.args.settings) c.args.records.now (chunks_rest (enumerate_source c.loop-n.n-iterator)) c.loop-n.coordinates c.in-Some.n = rw c.in-Some.ensures.steps.1 c.loop-n.invariant.3 in
     reading-full r _ _ next.1.0 (next.1.1 ∙ ap (λ (k : ℕ). min k (length (chunks_rest (enumerate_source c.loop-n.n-iterator)))) c.loop-n.invariant.2) next.1.2
-    (sym c.record_at.ensures ∙ c.if-not-record_at.false) c.if-n-eq-MOST_POINTS.true
+    (rw c.point_size-size.ensures at (sym c.record_at.ensures ∙ c.if-not-record_at.false)) c.if-n-eq-MOST_POINTS.true
 
 -- a whole record, and place for its point
 module _ (c : goal.Else-n-eq-MOST_POINTS) where
@@ -75,7 +74,7 @@ read_fields-requires c =
     let d = c.args.settings.dimensions in
     let r : Reading (settings_are c.args.settings) c.args.records.now (chunks_rest (enumerate_source c.loop-n.n-iterator)) c.loop-n.coordinates c.in-Some.n = rw c.in-Some.ensures.steps.1 c.loop-n.invariant.3 in
     let fits = spot c.in-Some.n d (omega (arith, r.few, c.if-n-eq-MOST_POINTS.false)) c.requires.axes.1 in
-    let long = record-room point_mark (point_size_lem d) 0 c.in-Some.record.now (omega arith) (sym c.record_at.ensures ∙ c.if-not-record_at.false) in
+    let long = record-room point_mark (point_size_lem d) 0 c.in-Some.record.now (omega arith) (rw c.point_size-size.ensures at (sym c.record_at.ensures ∙ c.if-not-record_at.false)) in
     omega (arith, lent_many c.loop-n.coordinates (c.in-Some.n * d) d (omega (arith, fits, r.room)))
 
 pub loop-n-preserved : goal.loop-n-preserved
@@ -83,14 +82,13 @@ loop-n-preserved c =
     let d = c.args.settings.dimensions in
     let next = c.in-Some.ensures.steps.0 in
     let r : Reading (settings_are c.args.settings) c.args.records.now (chunks_rest (enumerate_source c.loop-n.n-iterator)) c.loop-n.coordinates c.in-Some.n = rw c.in-Some.ensures.steps.1 c.loop-n.invariant.3 in
-    let fits = spot c.in-Some.n d (omega (arith, r.few, c.if-n-eq-MOST_POINTS.false)) c.requires.axes.1 in
-    (
+    let fits = spot c.in-Some.n d (omega (arith, r.few, c.if-n-eq-MOST_POINTS.false)) c.requires.axes.1 in (
       search rules,
       search rules,
       next.0 ∙ c.loop-n.invariant.2,
       rw (c.in-Some.ensures.steps.2, sym c.in-Some.ensures.steps.1)
           (reading-more r _ _ next.1.0 (next.1.1 ∙ ap (λ (k : ℕ). min k (length (chunks_rest (enumerate_source c.loop-n.n-iterator)))) c.loop-n.invariant.2) next.1.2
-          c.requires.axes.1 (sym c.record_at.ensures ∙ c.if-not-record_at.false) c.if-n-eq-MOST_POINTS.false _
+          c.requires.axes.1 (rw c.point_size-size.ensures at (sym c.record_at.ensures ∙ c.if-not-record_at.false)) c.if-n-eq-MOST_POINTS.false _
           (floats-back (c.in-Some.n * d) d _ _ c.loop-n.coordinates (omega (arith, fits, r.room)) c.read_fields.ensures) (search rules)),
       search rules,
     )
@@ -105,8 +103,8 @@ module _ (c : goal.In-None) where
 
 pub returns-clause-same : goal.returns-clause-same
 returns-clause-same c =
-    ap (λ (k : ℕ). job (settings_are c.args.settings) (take (k * c.args.settings.dimensions) c.loop-n.coordinates)) (counted c)
-    ∙ reading-done (after c) c.in-None.ensures.steps.0.1.0
+    rw c.point_size-size.ensures (ap (λ (k : ℕ). job (settings_are c.args.settings) (take (k * c.args.settings.dimensions) c.loop-n.coordinates)) (counted c)
+    ∙ reading-done (after c) c.in-None.ensures.steps.0.1.0)
 
 pub returns-clause-few : goal.returns-clause-few
-returns-clause-few c = omega (arith, counted c, (after c).few)
+returns-clause-few c = rw c.point_size-size.ensures (omega (arith, counted c, (after c).few))

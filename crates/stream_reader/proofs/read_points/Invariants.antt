@@ -1,5 +1,5 @@
 use Rattle.stream_reader.proofs.Records.{Reading}
-use Rattle.settings_record.specs.Reading.{settings_are}
+use Rattle.config.specs.Params.{settings_are}
 use Rattle.std.specs.Slice.Iter.{chunks_rest, chunks_size}
 use Rattle.std.specs.Iterator.Adapters.{enumerate_source, enumerate_count}
 use Rattle.formats.specs.Stream.{point_size_lem}

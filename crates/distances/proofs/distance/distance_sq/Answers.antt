@@ -1,11 +1,10 @@
 -- `distances::distance_sq` meets its contract. Assumes nothing.
-use native.Mathlib.Omega.{arith}
-use Rattle.definition.specs.Points.{rows_sq}
+use mathlib.Core.Path.{◌∙◌}
+use Rattle.distances.proofs.Turns.{rows-square}
 use Rattle.distances.proofs.distance.distance_sq.Goals as goal
 
-pub distance_sq_at-requires : goal.distance_sq_at-requires
-distance_sq_at-requires c = (omega arith, omega arith)
-
 pub returns : goal.returns
-unfolding rows_sq
-returns c = c.distance_sq_at.ensures
+returns c = let p = c.args.points in
+    let i = c.point.ensures in
+    let j = c.point-2.ensures in
+    c.distance_sq_between.ensures ∙ rows-square p.dimensions p.coordinates.now _ _ _ _ i.coordinates i.number j.coordinates

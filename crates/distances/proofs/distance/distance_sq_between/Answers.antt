@@ -1,16 +1,17 @@
--- `distances::distance_sq_at` meets its contract. The invariant: the sum is that of the axes passed. Assumes nothing.
+-- `distances::distance_sq_between` meets its contract. The invariant: the sum is that of the axes passed. Assumes nothing.
 use mathlib.Core.Path.{refl}
 use native.Mathlib.Omega.{arith}
 use Rattle.definition.specs.Points.{distance_sq_lem}
 use Rattle.distances.proofs.Turns.{distance-more, distance-all}
-use Rattle.distances.proofs.distance.distance_sq_at.Goals as goal
+use Rattle.distances.proofs.distance.distance_sq_between.Goals as goal
 
 pub loop-k-init : goal.loop-k-init
 unfolding distance_sq_lem
 loop-k-init c = refl
 
 pub loop-k-preserved : goal.loop-k-preserved
-loop-k-preserved c = distance-more _ _ _ _ c.loop-k.invariant
+loop-k-preserved c = let a = c.args in
+    distance-more a.p.now a.q.now _ _ c.loop-k.invariant
 
 pub returns : goal.returns
 returns c = let l = c.loop-k in

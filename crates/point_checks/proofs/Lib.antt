@@ -1,0 +1,2 @@
+-- The laws of the tests.
+pub mod Laws

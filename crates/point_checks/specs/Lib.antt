@@ -1,0 +1,2 @@
+-- What the contracts of the tests cite beside the definition.
+pub mod Tests
