@@ -29,7 +29,8 @@ pub fn bounds_before(dimensions: usize, k: usize) -> usize
     box_width(dimensions) * k
 }
 
-// The bounds on up to three axes; those past the dimension are not used.
+// The bounds on up to three axes; those past the dimension are not used. Arrays of three beside the dimension, and no slices: a box is
+// handed on by value while the list that it was read from is written, and the library has no heap for a list of its own.
 #[derive(Clone, Copy)]
 pub struct Extents {
     pub lower: [f64; 3],

@@ -80,7 +80,9 @@ impl<'a> Packed<'a> {
 
 // The leaves of one level, as they stand in the lent lists: the leaves' own rows, and the domain rows, of which those of the level are the
 // `count` from number `first` on. They are passed by value, as `leaves: LevelLeaves<'_>`: a contract reads their own rows, leaf by leaf, by
-// `own_of leaves` in a `requires`, and `own_of leaves.entry` in an `ensures`.
+// `own_of leaves` in a `requires`, and `own_of leaves.entry` in an `ensures`. The whole list of domain rows with `first` and `count`, and no part
+// of it: the rows are written by their number in the whole list (`put_borrowed`), so that reader and writer speak of one number, and of a
+// part their count would be a quotient by ROW_NUMBERS.
 #[derive(Clone, Copy)]
 pub struct LevelLeaves<'a> {
     pub internals: &'a [usize],
