@@ -1,7 +1,6 @@
 -- `load::load_file` meets its contract: each way out has its law. Assumes nothing.
 use mathlib.Core.Path.{◌≡◌, refl, sym, ap, ◌∙◌}
 use mathlib.Core.Bool.{true, false}
-use native.Mathlib.Omega.{arith}
 use Rattle.definition.specs.Packed.{Counts}
 use Rattle.stored.specs.Stored.{well_formed}
 use Rattle.stored.specs.Outcome.{same_settings_lem, same_points_lem}
