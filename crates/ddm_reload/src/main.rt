@@ -28,11 +28,16 @@ fn read_opened<F: Read + Drop>(opened: io::Result<F>, input: &mut [u8]) -> io::R
     program_input::read_input(&mut file, input)
 }
 
-// Reads the file that the argument number i names.
-fn read_argument<R: Env + Files + Alloc>(rt: &R, i: usize, input: &mut [u8]) -> io::Result<Front>
+// Reads the file that the argument number i names, which holds `what`.
+fn read_argument<R: Env + Files + Alloc>(
+    rt: &R,
+    i: usize,
+    what: &'static str,
+    input: &mut [u8],
+) -> Result<Front, Failure<'static>>
     ensures { IfOk result (λ front. Stopped (length input.new) front) }
 {
-    read_opened(program_input::open_argument(rt, i), input)
+    read_opened(program_input::open_argument(rt, i), input).map_err(|error| Failure { what, error })
 }
 
 // What is printed for the bytes of a stream and of a file, at the front of `text`.
@@ -62,11 +67,14 @@ fn write_reply<W: Write>(
     job: Input<'_>,
     tree: Input<'_>,
     text: &[u8],
-) -> io::Result<()>
+) -> Result<(), Failure<'static>>
     requires { ReloadedFrom job.front job.bytes.now tree.front tree.bytes.now text.now }
     ensures { OnOk result (Appends (W.contents out.old) (W.contents out.new) text.now) }
 {
-    out.write_all(text)
+    out.write_all(text).map_err(|error| Failure {
+        what: "standard output",
+        error,
+    })
 }
 
 // Reads the stream and the file that the arguments name, and writes what is printed for them.
@@ -75,29 +83,20 @@ fn print_reloaded<R: Env + Files + Alloc, W: Write>(
     out: &mut W,
 ) -> Result<(), Failure<'static>> {
     let mut stream = [0u8; STREAM];
-    let front = read_argument(rt, 1, &mut stream).map_err(|error| Failure {
-        what: "job stream",
-        error,
-    })?;
+    let front = read_argument(rt, 1, "job stream", &mut stream)?;
     let job = Input {
         bytes: &stream,
         front,
     };
     let mut file = program_input::room::<FILE>();
-    let front = read_argument(rt, 2, &mut file).map_err(|error| Failure {
-        what: "stored tree",
-        error,
-    })?;
+    let front = read_argument(rt, 2, "stored tree", &mut file)?;
     let tree = Input {
         bytes: &file,
         front,
     };
     let mut text = program_input::room::<TEXT>();
     let count = reply_to(job, tree, &mut text);
-    write_reply(out, job, tree, &text[..count]).map_err(|error| Failure {
-        what: "standard output",
-        error,
-    })
+    write_reply(out, job, tree, &text[..count])
 }
 
 fn main(rt: HostRuntime) -> ExitCode {

@@ -39,7 +39,9 @@ fn put_front(points: Points<'_>, params: DDMParams, out: &mut Writer<'_>)
     put_points(points, n, out);
 }
 
-// The domains of m domain rows from the row number j on. The flag, here and below, is the definition's own: `domain_records` takes it too.
+// The domains of m domain rows from the row number j on. The flag, here and below, is the definition's own: `domain_records` takes it too. That
+// each of these rows lies within the lists is asked here and in print_tree, and is no type's promise: the rows are those that the tree's counts
+// name, and counts and lists are lent apart.
 fn put_domains(tree: Packed<'_>, j: usize, m: usize, coarse: bool, out: &mut Writer<'_>)
     requires by_index { (i : ℕ) → i < m → RowFits (packed_of tree) (j + i) }
     requires room_for { Takes out.old (domain_records coarse (read_leaves (packed_of tree) j m)) }
