@@ -1,5 +1,4 @@
 -- The level record at a place of a file: one law for each way out, and that its rows lie within the file. Assumes nothing.
--- Holds: no-level, is-level, head-within
 use Rattle.std.specs.Prelude.{Some, None}
 use mathlib.Core.Path.{◌≡◌, sym}
 use mathlib.Core.Bool.{true, false, ◌&&◌}
