@@ -66,7 +66,8 @@ pub fn level_at(bytes: &[u8], at: usize) -> Option<LevelHead>
 // definition speaks of the bytes from a place on.
 
 // Whether the level at a place stands there whole, has at least `least` and fewer than `below` rows, and passes against the listed rows of
-// the level above. Where it does, its rows are the listed ones.
+// the level above. Where it does, its rows are the listed ones. What list_levels does alike are the calls of `narrow` and of `check_domains`: there
+// the counts are given, and stand in no record.
 pub fn check_level(
     bytes: &[u8],
     at: usize,
