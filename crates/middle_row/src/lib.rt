@@ -16,13 +16,9 @@ fn count_before(column: Column<'_>, rows: &[usize], p: usize) -> usize
     requires { FiniteIn column rows.now × HasRow column p }
     ensures { result ≡ count (side_in column.entry p true) rows.now }
 {
-    let mut n = 0;
-    for &r in rows {
-        if argsort::comes_before(column, r, p) {
-            n += 1;
-        }
-    }
-    n
+    rows.iter()
+        .filter(|&&r| argsort::comes_before(column, r, p))
+        .count()
 }
 
 // Moves the rows that pass a test to the front, in their order. The answer is how many they are.
@@ -32,6 +28,7 @@ fn keep_front<F: Fn(usize) -> bool>(rows: &mut [usize], passes: F) -> usize
     ensures rows { (t : ℕ → Bool) → Tells F.Fn passes t → rows.new ≡ put rows.old 0 (keep t rows.old) }
 {
     let mut n = 0;
+    // by the index: what an iterator lends of the rows can't be written beside it, and `retain` is a `Vec`'s
     for t in 0..rows.len() {
         let r = rows[t];
         if passes(r) {
