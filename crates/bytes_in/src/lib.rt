@@ -6,8 +6,12 @@ ghost use Rattle.std.specs.Float.Ieee.{of_bits, is_nan};
 ghost use Rattle.std.specs.Float.{binary64};
 ghost use Rattle.std.specs.Float.Ieee.Scale.{finite};
 ghost use Rattle.lists.specs.Lists.{any_of, from};
-ghost use Rattle.formats.specs.Bytes.{field, number_at, numbers_at, number_size, float_at, floats_at, float_size, mark_of, mark_size, whole};
+ghost use Rattle.formats.specs.Bytes.{field, number_at, numbers_at, number_size, float_at, floats_at, float_size, mark_size, whole};
+ghost use Rattle.formats.specs.Stream.{point_size_lem};
 ghost use Rattle.bytes_in.specs.Each.{numbers-each, floats-each};
+ghost use Rattle.bytes_in.specs.Marks.{mark_read};
+
+pub mod marks;
 
 // The bytes of a record's mark, of a number, and of a float.
 pub const MARK: usize = 2;
@@ -15,6 +19,13 @@ pub const MARK: usize = 2;
 pub const NUMBER: usize = 4;
 
 pub const FLOAT: usize = 8;
+
+// How a level's and a domain's record begin: the mark, and two counts, where each count begins, and how many bytes they are.
+pub const FIRST_COUNT: usize = MARK;
+
+pub const SECOND_COUNT: usize = FIRST_COUNT + NUMBER;
+
+pub const COUNTS: usize = SECOND_COUNT + NUMBER;
 
 // The bit of a float's sign, and infinity's bits.
 const SIGN: u64 = 0x8000_0000_0000_0000;
@@ -76,12 +87,20 @@ pub fn float_at(input: &[u8], at: usize) -> f64
     float_of(bits_at(input, at))
 }
 
-// Whether a record that begins with these two bytes and has `size` bytes in all stands whole at `at`.
-pub fn record_at(input: &[u8], at: usize, size: usize, a: u8, b: u8) -> bool
+// Whether a record that begins with this mark and has `size` bytes in all stands whole at `at`.
+pub fn record_at(input: &[u8], at: usize, size: usize, mark: [u8; MARK]) -> bool
     requires { (at ≤ length input.now) × (mark_size ≤ size) }
-    ensures { result ≡ whole (mark_of a b) size (drop at input.now) }
+    ensures { result ≡ whole (mark_read mark) size (drop at input.now) }
 {
-    size <= input.len() - at && input[at] == a && input[at + 1] == b
+    size <= input.len() - at && input[at] == mark[0] && input[at + 1] == mark[1]
+}
+
+// The bytes of a point's record on so many axes: the mark's, and a float for each axis.
+pub fn point_size(dimensions: usize) -> usize
+    requires { dimensions ≤ 3 }
+    ensures { result ≡ point_size_lem dimensions }
+{
+    MARK + FLOAT * dimensions
 }
 
 // ---- fields one after the other

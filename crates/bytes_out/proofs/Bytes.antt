@@ -1,13 +1,15 @@
--- The bytes of a number and of a float: how many, and as the library has them. Assumes nothing.
--- Holds: length-bytes, le-bytes, number-spelt, float-spelt
+-- The bytes of a number, a float and a mark: how many, and as the library has them. Assumes nothing.
+-- Holds: length-bytes, le-bytes, number-spelt, float-spelt, mark-spelt
 use mathlib.Core.Path.{◌≡◌, refl, ap, ap₂, ◌∙◌}
 use Prim.Native.Nat.{ℕ, zero, suc, ◌/◌, ◌%◌, ◌^◌}
 use native.Mathlib.Nat.{pow-zero, pow-succ', mul_comm, div-one, div-div-eq-div-mul}
-use mathlib.Core.List.{List, ◌∷◌}
+use native.Mathlib.Omega.{arith}
+use mathlib.Core.List.{List, [], ◌∷◌}
 use lib.ListN.{length, take}
 use lib.Ieee.{Float, to_bits, binary64}
 use Rattle.std.specs.Int.{w64, byte_at, bytes_low_first, to_le_bytes}
-use Rattle.formats.specs.Bytes.{bytes_of, number_bytes, float_bytes}
+use Rattle.formats.specs.Bytes.{bytes_of, number_bytes, float_bytes, mark_bytes}
+use Rattle.bytes_in.specs.Marks.{mark_read}
 
 pub length-bytes : (k n : ℕ) → length (bytes_of k n) ≡ k
 unfolding bytes_of
@@ -35,3 +37,9 @@ number-spelt n ys e = ap (take 4) e ∙ le-bytes 4 n
 
 pub float-spelt : (x : Float) (b : ℕ) (ys : List ℕ) → b ≡ to_bits binary64 x → ys ≡ to_le_bytes w64 b → ys ≡ float_bytes x
 float-spelt x b ys h e = e ∙ le-bytes 8 b ∙ ap (bytes_of 8) h
+
+pub mark-spelt : (mark : List ℕ) → length mark ≡ 2 → mark ≡ mark_bytes (mark_read mark)
+mark-spelt [] e = absurd (omega (arith, e))
+mark-spelt (a ∷ []) e = absurd (omega (arith, e))
+mark-spelt (a ∷ b ∷ []) e = refl
+mark-spelt (a ∷ b ∷ c ∷ rest) e = absurd (omega (arith, e))

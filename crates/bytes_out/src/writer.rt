@@ -2,10 +2,12 @@
 
 ghost use Rattle.std.specs.Prelude.{[], ◌∷◌, map};
 ghost use Rattle.lists.specs.Lists.{joined};
-ghost use Rattle.formats.specs.Bytes.{bytes_of, mark_of, mark_bytes};
+ghost use Rattle.formats.specs.Bytes.{bytes_of, mark_bytes};
+ghost use Rattle.bytes_in.specs.Marks.{mark_read};
 ghost use Rattle.bytes_out.specs.Writing.{Takes, Appends};
 
 use crate::Field;
+use bytes_in::MARK;
 
 #[derive(Drop)]
 pub struct Writer<'a> {
@@ -42,12 +44,11 @@ impl Writer<'_> {
     }
 
     // Appends a record's mark.
-    pub fn mark(&mut self, a: u8, b: u8)
-        requires { Takes self.old (mark_bytes (mark_of a b)) }
-        ensures { Appends self.old self.new (mark_bytes (mark_of a b)) }
+    pub fn mark(&mut self, mark: [u8; MARK])
+        requires { Takes self.old (mark_bytes (mark_read mark)) }
+        ensures { Appends self.old self.new (mark_bytes (mark_read mark)) }
     {
-        self.byte(a);
-        self.byte(b);
+        self.text(&mark);
     }
 
     // Appends a number or a float.

@@ -8,7 +8,7 @@ ghost use Rattle.definition.specs.Tree.{point_count};
 ghost use Rattle.definition.specs.Tree as tree;
 ghost use Rattle.definition.specs.Refusals.{most_points};
 ghost use Rattle.formats.specs.Bytes.{float_size, floats_bytes};
-ghost use Rattle.formats.specs.Stream.{settings_in, point_size_lem};
+ghost use Rattle.formats.specs.Stream.{settings_in};
 ghost use Rattle.stored.specs.Sound.{same};
 ghost use Rattle.stored.specs.Outcome.{same_settings_lem, same_points_lem};
 ghost use Rattle.stored.specs.Stored.{head_size, points_in, buildable};
@@ -17,6 +17,7 @@ ghost use Rattle.settings_record.specs.Reading.{settings_are};
 ghost use Rattle.file_front.specs.Fronts.{points_at, head_taken};
 ghost use Rattle.file_front.specs.Reading.{FrontRead};
 
+use bytes_in::marks;
 use points::Points;
 use settings_record::Settings;
 
@@ -33,23 +34,15 @@ pub struct Front {
 
 // ---- tested
 
-// The bytes of a point's record on this many axes.
-fn point_size(dimensions: usize) -> usize
-    requires { dimensions ≤ 3 }
-    ensures { result ≡ point_size_lem dimensions }
-{
-    bytes_in::MARK + bytes_in::FLOAT * dimensions
-}
-
 // Whether each of n point records after the head stands whole and has finite coordinates.
 pub fn points_pass(bytes: &[u8], n: usize, dimensions: usize) -> bool
     requires { (head_size ≤ length bytes.now) × (dimensions ≤ 3) × (n < 2 ^ 32) }
     ensures { result ≡ points_whole dimensions n (drop head_size bytes.now) && not (any_of (λ x. not (finite x)) (points_at dimensions n bytes.now)) }
 {
-    let size = point_size(dimensions);
+    let size = bytes_in::point_size(dimensions);
     let mut at = HEAD;
     for _i in 0..n {
-        if !bytes_in::record_at(bytes, at, size, 0x54, 0x50) {
+        if !bytes_in::record_at(bytes, at, size, marks::FILE_POINT) {
             return false;
         }
         if !bytes_in::finite_at(bytes, at + bytes_in::MARK, dimensions) {
@@ -75,7 +68,7 @@ pub fn check_front(bytes: &[u8]) -> Option<Front>
     ensures good { is_some result ≡ front_whole bytes.now && buildable (settings_in bytes.now) (points_in bytes.now) }
     ensures read { IfSome result (λ front. FrontRead front bytes.now) }
 {
-    if !bytes_in::record_at(bytes, 0, HEAD, 0x54, 0x48) {
+    if !bytes_in::record_at(bytes, 0, HEAD, marks::HEAD) {
         return None;
     }
     if !settings_record::policy_fits(bytes) {
@@ -90,7 +83,7 @@ pub fn check_front(bytes: &[u8]) -> Option<Front>
     if !points_pass(bytes, n, dimensions) {
         return None;
     }
-    let next = HEAD + n * point_size(dimensions);
+    let next = HEAD + n * bytes_in::point_size(dimensions);
     Some(Front { settings, n, next })
 }
 
@@ -122,7 +115,7 @@ pub fn same_points(points: Points<'_>, bytes: &[u8]) -> bool
     if points.coordinates.len() / points.dimensions != n {
         return false;
     }
-    let size = point_size(points.dimensions);
+    let size = bytes_in::point_size(points.dimensions);
     let mut at = HEAD;
     for i in 0..n {
         let start = i * points.dimensions;

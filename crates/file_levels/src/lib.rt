@@ -12,17 +12,11 @@ ghost use Rattle.tree_tests.specs.Whole.{levels_whole};
 ghost use Rattle.marks.specs.Bits.{Marked};
 ghost use Rattle.file_levels.specs.Levels.{IsHead, LevelPassedIs, TreePassedIs};
 
+use bytes_in::{COUNTS, FIRST_COUNT, SECOND_COUNT, marks};
 use file_rows::FileRows;
 use leaf_depths::LeafLevel;
 use row_sets::LevelRows;
 use tree_answer::MOST_LEVELS;
-
-// Where a level's two counts begin, and where they end.
-const ROWS: usize = bytes_in::MARK;
-
-const DOMAINS: usize = ROWS + bytes_in::NUMBER;
-
-const COUNTS: usize = DOMAINS + bytes_in::NUMBER;
 
 // A whole level record: its counts, and where its rows and its domains begin.
 #[derive(Clone, Copy)]
@@ -54,11 +48,11 @@ pub fn level_at(bytes: &[u8], at: usize) -> Option<LevelHead>
     requires { at ≤ length bytes.now }
     ensures { IsHead (drop at bytes.now) at result }
 {
-    if !bytes_in::record_at(bytes, at, COUNTS, 0x54, 0x4c) {
+    if !bytes_in::record_at(bytes, at, COUNTS, marks::LEVEL) {
         return None;
     }
-    let rows = bytes_in::number_at(bytes, at + ROWS);
-    let domains = bytes_in::number_at(bytes, at + DOMAINS);
+    let rows = bytes_in::number_at(bytes, at + FIRST_COUNT);
+    let domains = bytes_in::number_at(bytes, at + SECOND_COUNT);
     let size = COUNTS + bytes_in::NUMBER * rows;
     if bytes.len() - at < size {
         return None;

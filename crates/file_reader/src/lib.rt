@@ -8,12 +8,7 @@ ghost use Rattle.stored.specs.File.{domain_mark};
 ghost use Rattle.stored.specs.Stored.{counts_size};
 ghost use Rattle.file_reader.specs.Fetch.{record_floats_lem, IsFetched};
 
-// Where a domain's two counts begin, and where they end.
-const OWN: usize = bytes_in::MARK;
-
-const BORROWED: usize = OWN + bytes_in::NUMBER;
-
-const COUNTS: usize = BORROWED + bytes_in::NUMBER;
+use bytes_in::{COUNTS, FIRST_COUNT, SECOND_COUNT, marks};
 
 // A position in the bytes of a stored tree.
 #[derive(Clone, Copy)]
@@ -51,7 +46,7 @@ pub fn record_floats(dimensions: usize, coarse: bool) -> usize
 fn counts_stand(bytes: &[u8], at: usize) -> bool
     ensures { result ≡ whole domain_mark counts_size (drop at bytes.now) }
 {
-    at <= bytes.len() && bytes_in::record_at(bytes, at, COUNTS, 0x54, 0x44)
+    at <= bytes.len() && bytes_in::record_at(bytes, at, COUNTS, marks::DOMAIN)
 }
 
 // The domain record at a position, where one stands there whole; its floats have `tail` bytes, and its depth ends it.
@@ -61,8 +56,8 @@ fn domain_at(bytes: &[u8], at: usize, tail: usize) -> Option<Fetched>
     if !counts_stand(bytes, at) {
         return None;
     }
-    let own = bytes_in::number_at(bytes, at + OWN);
-    let borrowed = bytes_in::number_at(bytes, at + BORROWED);
+    let own = bytes_in::number_at(bytes, at + FIRST_COUNT);
+    let borrowed = bytes_in::number_at(bytes, at + SECOND_COUNT);
     let place = COUNTS + bytes_in::NUMBER * (own + borrowed);
     let left = bytes.len() - at;
     if left < place + bytes_in::NUMBER || left - place - bytes_in::NUMBER < tail {

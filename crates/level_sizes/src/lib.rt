@@ -45,25 +45,14 @@ pub fn get_num_level_reductions(n: usize, c: u32, f: u32) -> u32
     4
 }
 
-// The least m with m^r at least c * a^(r-1), by halving: no root is taken, so nothing is rounded. The three numbers stay side by side, here
+// The least m with m^r at least c * a^(r-1): no root is taken, so nothing is rounded. The three numbers stay side by side, here
 // and below, as document 01's formula has them, and what holds of them is asked of each.
 fn exact_size(a: usize, c: usize, r: u32) -> usize
     requires { (a ≤ most_points) × (c < a) × (1 ≤ r) × (r ≤ 3) }
     ensures { result ≡ exact_size_lem a c r }
 {
     let goal = c * a.pow(r - 1);
-    let mut lo = 0;
-    let mut hi = a;
-    // a bisection: no counted loop
-    while lo < hi {
-        let mid = lo + (hi - lo) / 2;
-        if goal <= mid.pow(r) {
-            hi = mid;
-        } else {
-            lo = mid + 1;
-        }
-    }
-    lo
+    bisection::least_passing(a, |m| goal <= m.pow(r))
 }
 
 // The size of the next level, of a active rows at the threshold c with r reductions left. The size is at least c, so only the

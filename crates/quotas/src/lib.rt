@@ -56,6 +56,7 @@ impl Terms {
         ensures { result ≡ remainders_above (capacities sizes.now self.first) self.rest t }
     {
         let mut many = 0;
+        // tried as filter and count: a product asks that its size is within the limit, and a chain does not carry that from the list to its items
         for &w in sizes {
             if t < self.product(w) % self.pool {
                 many += 1;
@@ -64,23 +65,12 @@ impl Terms {
         many
     }
 
-    // The least t with at most `left` remainders above it, by halving; none is above the divisor.
+    // The least t with at most `left` remainders above it; none is above the divisor.
     fn cut(self, sizes: &[usize], left: usize) -> usize
         requires { Sharing sizes.now self.first self.rest self.pool }
         ensures { (remainders_above (capacities sizes.now self.first) self.rest result ≤ left) × ((s : ℕ) → s < result → left < remainders_above (capacities sizes.now self.first) self.rest s) }
     {
-        let mut lo = 0;
-        let mut hi = self.pool;
-        // a bisection: no counted loop
-        while lo < hi {
-            let mid = lo + (hi - lo) / 2;
-            if self.count_above(sizes, mid) <= left {
-                hi = mid;
-            } else {
-                lo = mid + 1;
-            }
-        }
-        lo
+        bisection::least_passing(self.pool, |t| self.count_above(sizes, t) <= left)
     }
 
     // Writes each leaf's quota over its size: its first seats, its share rounded down, and its leftover seat by the cut, which

@@ -10,9 +10,9 @@ use Rattle.formats.specs.Stream.{point_size_lem}
 use Rattle.store.specs.Limits.{Limited}
 
 module _ {d n levels rows domains borrowed : ℕ} (h : Limited d n levels rows domains borrowed) where
-  -- the bytes of the points
-  pub points-most : n * point_size_lem d ≤ most_points * point_size_lem 3
-  points-most = let a : point_size_lem d ≤ point_size_lem 3 = omega (arith, h.axes) in mul-le-mul h.points a
+  -- the bytes of the points, of w each
+  pub points-most : (w : ℕ) → w ≡ point_size_lem d → n * w ≤ most_points * point_size_lem 3
+  points-most w e = let a : w ≤ point_size_lem 3 = omega (arith, h.axes) in mul-le-mul h.points a
 
   -- the bytes of the boxes, of w bounds each
   pub boxes-most : (w : ℕ) → w ≡ box_width_lem d → float_size * w * (domains - 1) ≤ float_size * box_width_lem 3 * (6 * most_points)

@@ -12,14 +12,10 @@ ghost use Rattle.store.specs.Limits.{Limited};
 ghost use Rattle.store.specs.Outcome.{store_report, Stored};
 
 use config::DDMParams;
-use packed::Packed;
 use points::Points;
 use refusal::Refusal;
 use tree_answer::{DDMTree, PackedTree};
 use tree_lists::TreeRead;
-
-// A level's or a domain's bytes before its rows: the mark's, and two counts.
-const COUNTS: usize = bytes_in::MARK + 2 * bytes_in::NUMBER;
 
 // A domain's bytes after its rows and its box: the cover's, and the depth's.
 const END: usize = bytes_in::FLOAT + bytes_in::NUMBER;
@@ -37,10 +33,9 @@ fn file_size(
     requires { Limited dimensions n levels rows domains borrowed }
     ensures { result ≡ file_size_lem dimensions n levels rows domains borrowed }
 {
-    let point = bytes_in::MARK + bytes_in::FLOAT * dimensions;
     let bounds = bytes_in::FLOAT * boxes::box_width(dimensions);
-    let front = file_front::HEAD + n * point;
-    let counts = COUNTS * (levels + domains);
+    let front = file_front::HEAD + n * bytes_in::point_size(dimensions);
+    let counts = bytes_in::COUNTS * (levels + domains);
     let numbers = bytes_in::NUMBER * (2 * rows + borrowed);
     let ends = END * domains;
     front + counts + numbers + ends + bounds * (domains - 1)
@@ -63,17 +58,7 @@ fn store_sound(
         coordinates,
         dimensions,
     } = points;
-    let tree = PackedTree {
-        counts,
-        level_points: tree.level_points,
-        leaves: Packed {
-            internals: tree.internals,
-            domains: tree.domains,
-            boxes: tree.boxes,
-            borrowed: tree.borrowed,
-            dimensions,
-        },
-    };
+    let tree = PackedTree::of(counts, tree, dimensions);
     let n = coordinates.len() / dimensions;
     let neighbours = params.overlap_knn as usize;
     let Some(passed) = list_levels::check_lists(tree, n, neighbours) else {

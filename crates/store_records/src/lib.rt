@@ -2,7 +2,8 @@
 #![tactic(auto)]
 
 ghost use Rattle.std.specs.Prelude.{◌+◌, ◌*◌, ◌≤◌, length};
-ghost use Rattle.formats.specs.Bytes.{mark_of, floats_bytes};
+ghost use Rattle.formats.specs.Bytes.{floats_bytes};
+ghost use Rattle.bytes_in.specs.Marks.{mark_read};
 ghost use Rattle.config.specs.Params.{settings_of_lem};
 ghost use Rattle.bytes_out.specs.Writing.{Takes, Appends};
 ghost use Rattle.packed.specs.Reading.{RowFits, read_leaf};
@@ -10,30 +11,20 @@ ghost use Rattle.packed.specs.View.{packed_of};
 ghost use Rattle.stored.specs.File.{head_bytes_lem, point_bytes};
 ghost use Rattle.store_records.specs.Records.{counts_bytes, level_record, bounds_given, domain_record};
 
+use bytes_in::{MARK, marks};
 use bytes_out::Writer;
 use config::DDMParams;
 use packed::Packed;
 use points::Points;
 
-// The first byte of every mark, and the second one of the head's, a point's, a level's and a domain's.
-const TREE: u8 = b'T';
-
-const HEAD: u8 = b'H';
-
-const POINT: u8 = b'P';
-
-const LEVEL: u8 = b'L';
-
-const DOMAIN: u8 = b'D';
-
 // ---- parts of records
 
-// The mark of a kind of record, and two counts.
-fn put_counts(kind: u8, first: usize, second: usize, out: &mut Writer<'_>)
-    requires { Takes out.old (counts_bytes (mark_of 0x54 kind) first second) }
-    ensures { Appends out.old out.new (counts_bytes (mark_of 0x54 kind) first second) }
+// The mark of a record, and two counts.
+fn put_counts(mark: [u8; MARK], first: usize, second: usize, out: &mut Writer<'_>)
+    requires { Takes out.old (counts_bytes (mark_read mark) first second) }
+    ensures { Appends out.old out.new (counts_bytes (mark_read mark) first second) }
 {
-    out.mark(TREE, kind);
+    out.mark(mark);
     out.field(first);
     out.field(second);
 }
@@ -57,7 +48,7 @@ pub fn put_head(dimensions: usize, params: DDMParams, n: usize, out: &mut Writer
     requires { Takes out.old (head_bytes_lem (settings_of_lem dimensions params) n) }
     ensures { Appends out.old out.new (head_bytes_lem (settings_of_lem dimensions params) n) }
 {
-    out.mark(TREE, HEAD);
+    out.mark(marks::HEAD);
     settings_record::put_settings(dimensions, params, out);
     out.field(n);
 }
@@ -68,7 +59,7 @@ pub fn put_point(points: Points<'_>, i: usize, out: &mut Writer<'_>)
     requires room_for { Takes out.old (point_bytes points.dimensions points.coordinates.now i) }
     ensures { Appends out.old out.new (point_bytes points.entry.dimensions points.entry.coordinates.now i) }
 {
-    out.mark(TREE, POINT);
+    out.mark(marks::FILE_POINT);
     let start = i * points.dimensions;
     out.fields(&points.coordinates[start..start + points.dimensions]);
 }
@@ -78,7 +69,7 @@ pub fn put_level(rows: &[usize], domain_count: usize, out: &mut Writer<'_>)
     requires { Takes out.old (level_record rows.now domain_count) }
     ensures { Appends out.old out.new (level_record rows.now domain_count) }
 {
-    put_counts(LEVEL, rows.len(), domain_count, out);
+    put_counts(marks::LEVEL, rows.len(), domain_count, out);
     out.fields(rows);
 }
 
@@ -89,7 +80,7 @@ pub fn put_domain(tree: Packed<'_>, j: usize, coarse: bool, out: &mut Writer<'_>
     ensures { Appends out.old out.new (domain_record coarse (read_leaf (packed_of tree.entry) j)) }
 {
     let leaf = tree.leaf(j);
-    put_counts(DOMAIN, leaf.own.len(), leaf.borrowed.len(), out);
+    put_counts(marks::DOMAIN, leaf.own.len(), leaf.borrowed.len(), out);
     out.fields(leaf.own);
     out.fields(leaf.borrowed);
     put_bounds(coarse, leaf.bounds, out);

@@ -6,6 +6,7 @@ ghost use Rattle.formats.specs.Bytes.{whole};
 ghost use Rattle.formats.specs.Stream.{settings_mark, settings_size, policy_fits_lem, stream_points, job_in};
 ghost use Rattle.stream_reader.specs.Reading.{job_of, Within};
 
+use bytes_in::marks;
 use refusal::Refusal;
 use settings_record::Settings;
 
@@ -25,7 +26,7 @@ pub struct Job {
 fn settings_whole(input: &[u8]) -> bool
     ensures { result ≡ whole settings_mark settings_size input.now && policy_fits_lem input.now }
 {
-    bytes_in::record_at(input, 0, settings_record::SIZE, b'S', b'T')
+    bytes_in::record_at(input, 0, settings_record::SIZE, marks::SETTINGS)
         && settings_record::policy_fits(input)
 }
 
@@ -48,7 +49,7 @@ pub fn read_job(input: &[u8], points: &mut [f64]) -> Result<Job, Refusal>
     let mut n = 0;
     // the place of the next record goes on with the number of points, up to the input's end: no counted loop
     while at < input.len() {
-        if !bytes_in::record_at(input, at, size, b'P', b'T') {
+        if !bytes_in::record_at(input, at, size, marks::POINT) {
             return Err(Refusal::BrokenRecord(at));
         }
         if n == MOST_POINTS {

@@ -2,7 +2,9 @@
 use Rattle.std.specs.Prelude.{ℕ, List, Float, Result}
 use Rattle.definition.specs.Packed.{Counts}
 use Rattle.definition.specs.Outcome.{Answer, TreeLists, zero_counts}
+use Rattle.tree_lists.specs.declared.TreeRead.{TreeRead}
 use Rattle.tree_answer.specs.declared.DDMTree.{DDMTree}
+use Rattle.tree_answer.specs.declared.PackedTree.{PackedTree}
 use Rattle.refusal.specs.declared.Refusal.{Refusal}
 use Rattle.refusal.specs.Refusals.{answer_of}
 
@@ -18,3 +20,12 @@ tree_answer_lem = answer_of counts_given zero_counts
 abbrev pub lists_of : List ℕ → List ℕ → List ℕ → List Float → List ℕ → TreeLists
 lists_of level_points internals domains boxes borrowed =
     record { level_points = level_points; internals = internals; domains = domains; boxes = boxes; borrowed = borrowed }
+
+-- a tree by its counts, the lists that hold it, and its axes
+abbrev pub packed_tree : DDMTree → TreeRead → ℕ → PackedTree
+packed_tree counts lists d =
+    record {
+      counts = counts;
+      level_points = lists.level_points;
+      leaves = record { internals = lists.internals; domains = lists.domains; boxes = lists.boxes; borrowed = lists.borrowed; dimensions = d };
+    }

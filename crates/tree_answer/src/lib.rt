@@ -3,9 +3,10 @@
 
 ghost use Rattle.std.specs.Prelude.{◌≡◌};
 ghost use Rattle.definition.specs.Outcome.{zero_counts};
-ghost use Rattle.tree_answer.specs.Answers.{counts_given};
+ghost use Rattle.tree_answer.specs.Answers.{counts_given, packed_tree};
 
 use packed::Packed;
+use tree_lists::TreeRead;
 
 // The most levels that a tree has: three fine ones and the coarse one.
 pub const MOST_LEVELS: usize = 4;
@@ -48,4 +49,23 @@ pub struct PackedTree<'a> {
     pub counts: DDMTree,
     pub level_points: &'a [usize],
     pub leaves: Packed<'a>,
+}
+
+impl<'a> PackedTree<'a> {
+    // The tree with these counts in the lists of a tree on so many axes.
+    pub fn of(counts: DDMTree, lists: TreeRead<'a>, dimensions: usize) -> PackedTree<'a>
+        ensures { result ≡ packed_tree counts lists.entry dimensions }
+    {
+        PackedTree {
+            counts,
+            level_points: lists.level_points,
+            leaves: Packed {
+                internals: lists.internals,
+                domains: lists.domains,
+                boxes: lists.boxes,
+                borrowed: lists.borrowed,
+                dimensions,
+            },
+        }
+    }
 }

@@ -1,0 +1,2 @@
+-- What the contract cites.
+pub mod Tests
