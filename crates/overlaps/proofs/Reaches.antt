@@ -1,5 +1,4 @@
 -- The first number of a list, from an index on, that is no less than a limit. Assumes nothing.
--- Holds: reached
 use Rattle.std.proofs.Common.{◌≡◌, refl, ap, ◌∙◌, ℕ, ◌+◌, ◌-◌, ◌<◌, ◌≤◌, Bool, true, false, not, cond, List, length, get_or, take, drop, length-drop, Option, Some, None, position, nat_lt, nat_le, arith}
 use Rattle.std.specs.List.{position_or_len}
 use Rattle.std.specs.Option.{unwrap_or}
