@@ -30,7 +30,7 @@ use Rattle.sort.specs.Heap.{Sorted}
 use Rattle.packed.specs.Reading.{own_start, own_count, own_at, read_own}
 use Rattle.packed.proofs.OwnRows.{read_length, read_at}
 use Rattle.coarse_points.specs.Sent.{sent_rows, sent_covers, counts_at, sent_at, covers_at, SendsUp, LeafFits, LeavesFit}
-use Rattle.coarse_points.proofs.Sending.{sent-next, sent-zip, sent-many, sent-times, sorted-next, up-many}
+use Rattle.coarse_points.proofs.Sending.{sent-next, sent-zip, sent-many, sent-times, sorted-next}
 use Rattle.coarse_points.proofs.Covering.{covers-zip}
 
 module _ (d : ℕ) (cs : List Float) (active I D : List ℕ) (first m : ℕ) (s : SendsUp d cs active I D first m) where
@@ -120,9 +120,6 @@ module _ (d : ℕ) (cs : List Float) (active I D : List ℕ) (first m : ℕ) (s 
     as-defined : sent ≡ joined (zip_with (sent_by d cs) own ws)
     as-defined = sent-zip d cs I D first wholes m ws many read
 
-    pub sent-size : length (sent_at d cs I D first wholes m) ≡ size
-    sent-size = sent-many d cs I D first wholes m ∙ sum
-
     sent-some : (r : ℕ) → times r sent ≤ times r active
     sent-some r =
         let w : (i : ℕ) → i < length own → get_or ws i 0 ≤ get_or (map length own) i 0 = λ i l. rw sizes-read (fair.within i) in
@@ -131,9 +128,6 @@ module _ (d : ℕ) (cs : List Float) (active I D : List ℕ) (first m : ℕ) (s 
     up_is : keep (λ i. member i sent) active ≡ sent_rows d cs active own size
     unfolding sent_rows next_active
     up_is = rw (as-defined, sizes-read, quotas-held counts size seats)
-
-    pub up-size : length (sent_rows d cs active (read_own I D first m) size) ≡ size
-    up-size = ap length (sym up_is) ∙ up-many active s.leaves.ascends sent sent-some ∙ sent-size
 
     pub sorted-up : (ys : List ℕ) → Sorted (λ x y. x ≤ y) ys → Same ys (sent_at d cs I D first wholes m) → ys ≡ sent_rows d cs active (read_own I D first m) size
     sorted-up ys o h = sorted-next active s.leaves.ascends sent sent-some ys o h ∙ up_is
