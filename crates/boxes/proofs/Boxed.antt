@@ -1,14 +1,14 @@
 -- Boxes by value as lists. Assumes nothing.
--- Holds: box_with, lower-changed, upper-changed, box_read, box-written, Filled, filled_none, filled_more, filled-all
+-- Holds: box_with, lower-changed, upper-changed, box_read, both-back, box-written, Filled, filled_none, filled_more, filled-all
 use mathlib.Core.Path.{◌≡◌, refl, ap, ap₂, subst, ◌∙◌}
-use mathlib.Core.List.{List, ◌++◌, map}
-use Prim.Native.Nat.{ℕ, ◌+◌, ◌≤◌, ◌<◌}
+use mathlib.Core.List.{List, ◌++◌, map, append-nil}
+use Prim.Native.Nat.{ℕ, ◌+◌, ◌-◌, ◌≤◌, ◌<◌}
 use native.Mathlib.Omega.{arith}
-use lib.ListN.{length, set, take, length-set}
-use lib.Seq.{length-take-le}
+use lib.ListN.{length, set, take, drop, length-set, length-append, length-drop, take-append-drop, drop_of_length-le}
+use lib.Seq.{length-take-le, take_all, take_at, drop_at}
 use lib.Ieee.{Float}
-use Rattle.lists.specs.Lists.{part, put, from}
-use Rattle.lists.proofs.Put.{part-append, put-next-at}
+use borrow.Rule.Slice.PartMut.{put_mid}
+use Rattle.lists.specs.Lists.{from}
 use Rattle.lists.proofs.Take.{set_front, set-second}
 use Rattle.lists.proofs.From.{fill_more}
 use Rattle.definition.specs.Points.{box_width_lem, lower_bound_lem, upper_bound_lem, extents}
@@ -29,21 +29,34 @@ module _ (l u : List Float) (d axis : ℕ) (v : Float) (e : length l ≡ 3) (h :
   unfolding floats_of
   upper-changed = set-second l u d axis v (omega arith) h
 
-double : (d : ℕ) → d + d ≡ box_width_lem d
-double d = omega arith
-
--- a box read, and one written
-pub box_read : (s l u : List Float) (at d : ℕ) → take d l ≡ part s at d → take d u ≡ part s (at + d) d → floats_of (box_with l u d) ≡ part s at (box_width_lem d)
+-- a box read: p and q came to the front of its bounds l and u, which were whatever they were
+pub box_read : (s p q l u : List Float) (d : ℕ) → length s ≡ box_width_lem d → p ≡ take d s → q ≡ take (length s - d) (drop d s) → floats_of (box_with (p ++ l) (q ++ u) d) ≡ s
 unfolding floats_of
-box_read s l u at d e f = rw (e, f) (part-append s at d d ∙ ap (part s at) (double d))
+box_read s p q l u d e ep eq =
+    let rest : q ≡ drop d s = eq ∙ take_all (length s - d) (drop d s) (simp length-drop (omega arith)) in
+    rw (
+      take_at p l d (ap length ep ∙ length-take-le d s (omega arith)),
+      take_at q u d (ap length rest ∙ length-drop d s ∙ omega arith),
+      ep,
+      rest,
+    )
+    (take-append-drop d s)
 
-pub box-written : (s m o : List Float) (b : Extents) (at : ℕ) → length b.lower ≡ 3 → b.dimensions ≤ 3 → at ≤ length s
-    → m ≡ put s at (take b.dimensions b.lower) → o ≡ put m (at + b.dimensions) (take b.dimensions b.upper) → o ≡ put s at (floats_of b)
+-- a list that was lent in two parts, of which the first came back as f and the second as g
+pub both-back : (s f g : List Float) (n : ℕ) → length f ≡ n → length s ≡ n + length g → put_mid n (length (f ++ drop n s) - n) (f ++ drop n s) g ≡ f ++ g
+both-back s f g n e h =
+    rw (take_at f (drop n s) n e, drop_at f (drop n s) n e, drop_of_length-le (drop n s) {i = length (f ++ drop n s) - n} (simp (length-append, length-drop) (omega (arith, e))), append-nil g)
+
+-- a box written: its lower bounds and then its upper ones
+pub box-written : (s f g : List Float) (b : Extents) → length b.lower ≡ 3 → length b.upper ≡ 3 → b.dimensions ≤ 3 → length s ≡ box_width_lem b.dimensions
+    → f ≡ take b.dimensions b.lower → g ≡ take b.dimensions b.upper
+    → put_mid b.dimensions (length (f ++ drop b.dimensions s) - b.dimensions) (f ++ drop b.dimensions s) g ≡ floats_of b
 unfolding floats_of
-box-written s m o b at e h k p q =
+box-written s f g b l u h e ef eg =
     let d = b.dimensions in
-    q ∙ rw p
-    (put-next-at s at (take d b.lower) (take d b.upper) (at + d) k (ap (λ (n : ℕ). at + n) (length-take-le d b.lower (omega arith))))
+    let nf : length f ≡ d = ap length ef ∙ length-take-le d b.lower (omega arith) in
+    let ng : length g ≡ d = ap length eg ∙ length-take-le d b.upper (omega arith) in
+    both-back s f g d nf (omega arith) ∙ ap₂ (λ (x y : List Float). x ++ y) ef eg
 
 -- ---- the extents, filled axis by axis: the loop's invariant, with its turn and its end
 pub record Filled (cs : List Float) (d : ℕ) (rows : List ℕ) (l u : List Float) (a : ℕ) : Type 0 where

@@ -29,7 +29,8 @@ pub fn bounds_before(dimensions: usize, k: usize) -> usize
     box_width(dimensions) * k
 }
 
-// The bounds on up to three axes; those past the dimension are not used.
+// The bounds on up to three axes; those past the dimension are not used. Arrays of three beside the dimension, and no slices: a box is
+// handed on by value while the list that it was read from is written, and the library has no heap for a list of its own.
 #[derive(Clone, Copy)]
 pub struct Extents {
     pub lower: [f64; 3],
@@ -38,58 +39,55 @@ pub struct Extents {
 }
 
 impl Extents {
-    // The box with another lower bound on one axis.
-    pub fn with_lower(mut self, axis: usize, v: f64) -> Extents
+    // The boxes of the two halves of a domain, cut by a plane on this axis. Each is the domain's box with one bound changed: on the left the
+    // upper one, on the right the lower one.
+    pub fn halves(self, axis: usize, plane: f64) -> (Extents, Extents)
         requires { (axis < self.dimensions) × (self.dimensions ≤ 3) }
-        ensures { (result.dimensions ≡ self.dimensions) × (floats_of result ≡ set (floats_of self) axis v) }
+        ensures left { (result.0.dimensions ≡ self.dimensions) × (floats_of result.0 ≡ set (floats_of self) (self.dimensions + axis) plane) }
+        ensures right { (result.1.dimensions ≡ self.dimensions) × (floats_of result.1 ≡ set (floats_of self) axis plane) }
     {
-        self.lower[axis] = v;
-        self
-    }
-
-    // The box with another upper bound on one axis.
-    pub fn with_upper(mut self, axis: usize, v: f64) -> Extents
-        requires { (axis < self.dimensions) × (self.dimensions ≤ 3) }
-        ensures { (result.dimensions ≡ self.dimensions) × (floats_of result ≡ set (floats_of self) (self.dimensions + axis) v) }
-    {
-        self.upper[axis] = v;
-        self
+        let mut left = self;
+        left.upper[axis] = plane;
+        let mut right = self;
+        right.lower[axis] = plane;
+        (left, right)
     }
 }
 
-// The box that stands in the list from `at` on.
-pub fn read_box(list: &[f64], at: usize, dimensions: usize) -> Extents
-    requires { (at + box_width_lem dimensions ≤ length list.now) × (dimensions ≤ 3) }
-    ensures { (result.dimensions ≡ dimensions) × (floats_of result ≡ part list.now at (box_width_lem dimensions)) }
+// The box of these bounds.
+pub fn read_box(bounds: &[f64], dimensions: usize) -> Extents
+    requires { (length bounds.now ≡ box_width_lem dimensions) × (dimensions ≤ 3) }
+    ensures { (result.dimensions ≡ dimensions) × (floats_of result ≡ bounds.now) }
 {
-    let mut b = Extents {
-        lower: [0.0; 3],
-        upper: [0.0; 3],
+    let mut lower = [0.0; 3];
+    let mut upper = [0.0; 3];
+    lower[..dimensions].copy_from_slice(&bounds[..dimensions]);
+    upper[..dimensions].copy_from_slice(&bounds[dimensions..]);
+    Extents {
+        lower,
+        upper,
         dimensions,
-    };
-    stretches::copy_rows(list, at, dimensions, &mut b.lower, 0);
-    stretches::copy_rows(list, at + dimensions, dimensions, &mut b.upper, 0);
-    b
+    }
 }
 
-// Writes the box to the list from `at` on.
-pub fn write_box(b: Extents, out: &mut [f64], at: usize)
-    requires { (at + box_width_lem b.dimensions ≤ length out.old) × (b.dimensions ≤ 3) }
-    ensures { out.new ≡ put out.old at (floats_of b) }
+// Writes the box to the bounds.
+pub fn write_box(b: Extents, bounds: &mut [f64])
+    requires { (length bounds.old ≡ box_width_lem b.dimensions) × (b.dimensions ≤ 3) }
+    ensures { bounds.new ≡ floats_of b }
 {
-    stretches::copy_rows(&b.lower, 0, b.dimensions, out, at);
-    stretches::copy_rows(&b.upper, 0, b.dimensions, out, at + b.dimensions);
+    bounds[..b.dimensions].copy_from_slice(&b.lower[..b.dimensions]);
+    bounds[b.dimensions..].copy_from_slice(&b.upper[..b.dimensions]);
 }
 
-// Writes the boxes of the two halves of a domain to a list, from `at` on. Each is the domain's box with one bound changed: on the
-// left the upper one, on the right the lower one.
-pub fn write_halves(whole: Extents, axis: usize, plane: f64, out: &mut [f64], at: usize)
-    requires { (axis < whole.dimensions) × (whole.dimensions ≤ 3) × (at + 2 * box_width_lem whole.dimensions ≤ length out.old) }
-    ensures { out.new ≡ put out.old at (set (floats_of whole) (whole.dimensions + axis) plane ++ set (floats_of whole) axis plane) }
+// Writes the boxes of the two halves of a domain to the bounds, left before right.
+pub fn write_halves(whole: Extents, axis: usize, plane: f64, bounds: &mut [f64])
+    requires { (axis < whole.dimensions) × (whole.dimensions ≤ 3) × (length bounds.old ≡ 2 * box_width_lem whole.dimensions) }
+    ensures { bounds.new ≡ set (floats_of whole) (whole.dimensions + axis) plane ++ set (floats_of whole) axis plane }
 {
-    let right = at + box_width(whole.dimensions);
-    write_box(whole.with_upper(axis, plane), out, at);
-    write_box(whole.with_lower(axis, plane), out, right);
+    let (left, right) = whole.halves(axis, plane);
+    let width = box_width(whole.dimensions);
+    write_box(left, &mut bounds[..width]);
+    write_box(right, &mut bounds[width..]);
 }
 
 // Writes `count` zeros to the box list, from `at` on: the box of a domain that has none. A place and a count, and no slice: the callers'

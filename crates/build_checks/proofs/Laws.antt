@@ -1,41 +1,30 @@
 -- The tests of a build, group by group. Assumes nothing.
--- Holds: and_then, verdict-append, build-groups, reductions-many, checked-reductions, bad-test, fault-first, fault-second,
---   tests-stop, tests-pass, tests-short, tests-last
+-- Holds: build-groups, reductions-many, checked-reductions, points-groups, nine-met, nine-passed, short-pairs, tests-stop, tests-pass,
+--   tests-short, tests-last, checks-stop, checks-short, checks-last, same-tests, and those of point_checks that are passed on
+pub use Rattle.point_checks.proofs.Laws.{and_then, verdict-append, fault-first, fault-second, bad-test}
 use mathlib.Core.Path.{◌≡◌, refl, sym, ap, ◌∙◌}
-use mathlib.Core.Bool.{Bool, true, false, not, ◌||◌, cond}
+use mathlib.Core.Bool.{Bool, true, false, not, ◌&&◌, ◌||◌}
 use mathlib.Core.List.{List, [], ◌∷◌, ◌++◌}
-use Prim.Native.Nat.{ℕ, suc, ◌+◌, ◌*◌, ◌^◌, ◌≤◌, ◌<◌}
+use Prim.Native.Nat.{ℕ, ◌*◌, ◌^◌, ◌/◌, ◌%◌, ◌≤◌, ◌<◌}
 use native.Mathlib.Omega.{arith}
 use native.Mathlib.Nat.{mul-le-mul_left, le_trans, pow-le-pow_right}
 use borrow.Author.Tests.{lt-ltb, le-ltb, leb-true, leb-false}
-use lib.Dec.{leb, ltb}
-use lib.ListN.{length}
+use lib.Dec.{leb, ltb, eqb}
 use lib.Ieee.{Float}
-use lib.Ieee.Scale.{finite}
-use Rattle.lists.specs.Lists.{any_of, least}
+use Rattle.std.specs.List.{list_any, zip}
+use Rattle.lists.specs.Lists.{least}
 use Rattle.lists.proofs.Least.{least-before, least-holds}
-use Rattle.definition.specs.Levels.{reductions}
-use Rattle.definition.specs.Tree.{Settings, point_count}
+use Rattle.std.proofs.lemmas.Bool.Decides.{nat_tests}
+use Rattle.definition.specs.Levels.{reductions, threshold}
+use Rattle.definition.specs.Tree.{Settings, most_fine, point_count}
 use Rattle.definition.specs.Packed.{BuildSizes, build_stated}
 use Rattle.definition.specs.Refusals as definition
-use Rattle.definition.specs.Refusals.{Test, Verdict, accepted, refused, on, verdict, first_bad, not_finite_lem, coordinates_missing, settings_tests, points_tests, build_tests, build_verdict, build_short}
+use Rattle.definition.specs.Refusals.{Test, Verdict, accepted, refused, on, verdict, most_points, not_finite_lem, coordinates_missing, settings_tests, points_tests, build_tests, build_verdict, build_short}
+use Rattle.build_sizes.specs.Sizes.{lengths_of}
+use Rattle.point_checks.specs.Tests.{count_tests}
+use Rattle.build_checks.specs.Checked.{Checks}
 
 -- ---- groups of tests
-
--- the first verdict, or the second where the first is accepted
-abbrev pub and_then : Verdict → Verdict → Verdict
-and_then accepted v = v
-and_then (refused r) v = refused r
-
-pub verdict-append : (ts us : List Test) → verdict (ts ++ us) ≡ and_then (verdict ts) (verdict us)
-unfolding verdict
-verdict-append [] us = refl
-verdict-append (t ∷ ts) us = go t.holds (verdict-append ts us)
-  where
-    go : (b : Bool) → verdict (ts ++ us) ≡ and_then (verdict ts) (verdict us)
-        → cond b (refused t.refusal) (verdict (ts ++ us)) ≡ and_then (cond b (refused t.refusal) (verdict ts)) (verdict us)
-    go true e = refl
-    go false e = e
 
 -- the build's tests are the settings', the points', and 11 and 10
 pub build-groups : (s : Settings) (cs : List Float) (lent : BuildSizes)
@@ -62,36 +51,49 @@ checked-reductions n c f p h =
     le_trans (leb-true n (c * f ^ k) (least-holds (λ k. leb n (c * f ^ k)) 4 (omega arith)))
     (mul-le-mul_left c (pow-le-pow_right p h))
 
--- ---- the coordinates
-bad-from : (i : ℕ) (cs : List Float) → (i ≤ first_bad i cs) × (first_bad i cs ≤ i + length cs)
-unfolding first_bad
-bad-from i [] = (omega arith, omega arith)
-bad-from i (x ∷ xs) = go (finite x) (bad-from (suc i) xs)
-  where
-    go : (b : Bool) → (suc i ≤ first_bad (suc i) xs) × (first_bad (suc i) xs ≤ suc i + length xs)
-        → (i ≤ cond b (first_bad (suc i) xs) i) × (cond b (first_bad (suc i) xs) i ≤ i + length (x ∷ xs))
-    go true h = (omega arith, omega arith)
-    go false h = (omega arith, omega arith)
+-- there are none exactly where there is no coordinate
+none-there : (count d : ℕ) → 1 ≤ d → eqb count 0 ≡ eqb (count / d) 0 && not (not (eqb (count % d) 0))
+none-there count d h = grind (arith, nat_tests)
 
--- some coordinate is not finite exactly where the first such position is inside the list
-pub bad-test : (i : ℕ) (cs : List Float) → any_of (λ x. not (finite x)) cs ≡ ltb (first_bad i cs) (i + length cs)
-unfolding first_bad any_of
-bad-test i [] = sym (le-ltb i (i + 0) (omega arith))
-bad-test i (x ∷ xs) = go (finite x) (bad-test (suc i) xs)
-  where
-    go : (b : Bool) → any_of (λ x. not (finite x)) xs ≡ ltb (first_bad (suc i) xs) (suc i + length xs)
-        → (not b || any_of (λ x. not (finite x)) xs) ≡ ltb (cond b (first_bad (suc i) xs) i) (i + length (x ∷ xs))
-    go true e = let m : suc i + length xs ≡ i + length (x ∷ xs) = omega arith in e ∙ ap (λ (k : ℕ). ltb (first_bad (suc i) xs) k) m
-    go false e = sym (lt-ltb i (i + length (x ∷ xs)) (omega arith))
+-- the points' tests are those of their number, and 9
+pub points-groups : (s : Settings) (count : ℕ) → 1 ≤ s.dimension
+    → count_tests count s.dimension ++ on (ltb (threshold s.policy (count / s.dimension) * s.factor ^ most_fine) (count / s.dimension)) 9 ∷ []
+    ≡ points_tests s (count / s.dimension) (not (eqb (count % s.dimension) 0))
+points-groups s count h =
+    ap (λ (b : Bool). on b 6 ∷ on (not (eqb (count % s.dimension) 0)) 7 ∷ on (ltb most_points (count / s.dimension)) 8
+    ∷ on (ltb (threshold s.policy (count / s.dimension) * s.factor ^ most_fine) (count / s.dimension)) 9 ∷ [])
+    (none-there count s.dimension h)
+
+-- 9 alone, by the number of reductions
+module _ (s : Settings) (n : ℕ) where
+  pub nine-met : 3 < reductions n (threshold s.policy n) s.factor → refused (record { number = 9; place = 0 }) ≡ verdict (on (ltb (threshold s.policy n * s.factor ^ most_fine) n) 9 ∷ [])
+  unfolding verdict
+  nine-met h = rw (lt-ltb (threshold s.policy n * s.factor ^ most_fine) n (reductions-many n (threshold s.policy n) s.factor h))
+
+  pub nine-passed : 1 ≤ s.factor → reductions n (threshold s.policy n) s.factor ≤ 3 → accepted ≡ verdict (on (ltb (threshold s.policy n * s.factor ^ most_fine) n) 9 ∷ [])
+  unfolding verdict
+  nine-passed f h = rw (le-ltb (threshold s.policy n * s.factor ^ most_fine) n (checked-reductions n (threshold s.policy n) s.factor f h))
+
+-- ---- the lists
+-- the same answers, in the order in which they are asked
+in-turn : (a b c d e f g : Bool) → a || (b || (c || (d || (e || (f || (g || false)))))) ≡ a || b || c || d || e || f || g
+in-turn true b c d e f g = refl
+in-turn false true c d e f g = refl
+in-turn false false true d e f g = refl
+in-turn false false false true e f g = refl
+in-turn false false false false true f g = refl
+in-turn false false false false false true g = refl
+in-turn false false false false false false true = refl
+in-turn false false false false false false false = refl
+
+-- some list is short where one length of a pair is below the other
+pub short-pairs : (lent stated : BuildSizes) → list_any (λ p. ltb p.0 p.1) (zip (lengths_of lent) (lengths_of stated)) ≡ build_short lent stated
+unfolding build_short
+short-pairs lent stated =
+    in-turn (ltb lent.level_points stated.level_points) (ltb lent.internals stated.internals) (ltb lent.domains stated.domains)
+    (ltb lent.boxes stated.boxes) (ltb lent.borrowed stated.borrowed) (ltb lent.floats stated.floats) (ltb lent.wholes stated.wholes)
 
 -- ---- the whole verdict from what the groups came to
--- two groups: the first refuses, or the second decides
-module _ (ts us : List Test) where
-  pub fault-first : (r : definition.Refusal) → refused r ≡ verdict ts → refused r ≡ verdict (ts ++ us)
-  fault-first r e = ap (λ (u : Verdict). and_then u (verdict us)) e ∙ sym (verdict-append ts us)
-
-  pub fault-second : accepted ≡ verdict ts → verdict us ≡ verdict (ts ++ us)
-  fault-second e = ap (λ (u : Verdict). and_then u (verdict us)) e ∙ sym (verdict-append ts us)
 
 -- a build over n rows: 1 to 9 refuse, or 11 and the test of the coordinates decide
 module _ (s : Settings) (n : ℕ) (missing lacking : Bool) (judged : Test) where
@@ -114,3 +116,29 @@ module _ (s : Settings) (n : ℕ) (missing lacking : Bool) (judged : Test) where
       → verdict (judged ∷ []) ≡ verdict (build_tests s n missing lacking judged)
   unfolding verdict
   tests-last e long = ap (λ (b : Bool). verdict (on b 11 ∷ judged ∷ [])) (sym long) ∙ tests-pass e
+
+-- ---- over all points, with any answer to whether a list is short
+never : {P : Type 0} (r : definition.Refusal) (v : Verdict) → refused r ≡ v → accepted ≡ v → P
+never r v e f = let z : ◌≡◌ {A = ℕ} 0 1 = cc in absurd (omega arith)
+
+module _ (answers : ℕ → Bool → Type 0) (s : Settings) (cs : List Float) where
+  pub checks-stop : (r : definition.Refusal) → refused r ≡ verdict (settings_tests s ++ points_tests s (point_count s.dimension cs) (coordinates_missing s.dimension cs)) → Checks answers s cs (refused r)
+  checks-stop r e = (false, λ f. never r _ e f, tests-stop s _ _ _ _ r e)
+
+  module _ (e : accepted ≡ verdict (settings_tests s ++ points_tests s (point_count s.dimension cs) (coordinates_missing s.dimension cs))) where
+    pub checks-short : answers (point_count s.dimension cs) true → Checks answers s cs (refused (record { number = 11; place = 0 }))
+    checks-short h = (true, λ f. h, tests-short s _ _ _ _ e refl)
+
+    pub checks-last : answers (point_count s.dimension cs) false → (v : Verdict) → v ≡ verdict (not_finite_lem cs ∷ []) → Checks answers s cs v
+    checks-last h v f = (false, λ g. h, f ∙ tests-last s _ _ _ _ e refl)
+
+-- where 1 to 9 refuse, the answer does not matter
+pub same-tests : (s : Settings) (n : ℕ) (missing short lacking : Bool) (judged : Test)
+    → (accepted ≡ verdict (settings_tests s ++ points_tests s n missing) → short ≡ lacking)
+    → verdict (build_tests s n missing short judged) ≡ verdict (build_tests s n missing lacking judged)
+same-tests s n missing short lacking judged f = go (verdict (settings_tests s ++ points_tests s n missing)) refl
+  where
+    go : (v : Verdict) → v ≡ verdict (settings_tests s ++ points_tests s n missing)
+        → verdict (build_tests s n missing short judged) ≡ verdict (build_tests s n missing lacking judged)
+    go accepted e = ap (λ (b : Bool). verdict (build_tests s n missing b judged)) (f e)
+    go (refused r) e = sym (tests-stop s n missing short judged r e) ∙ tests-stop s n missing lacking judged r e

@@ -1,18 +1,19 @@
 // The refusals of a build, tried in document 01's order before anything is written.
 #![tactic(auto)]
 
-ghost use Rattle.std.specs.Prelude.{◌≡◌, not, [], ◌∷◌, ◌++◌, ◌/◌, ◌%◌, ◌≤◌, eqb, OnOk};
+ghost use Rattle.std.specs.Prelude.{◌≡◌, ℕ, not, ◌++◌, ◌/◌, ◌%◌, ◌≤◌, eqb, IfOk, OnOk};
 ghost use Rattle.definition.specs.Packed.{build_stated};
-ghost use Rattle.definition.specs.Refusals.{most_points, most_neighbours, verdict, settings_tests, points_tests, not_finite_lem, zero_threshold_lem, build_short, build_verdict};
-ghost use Rattle.config.specs.Params.{threshold_policy, settings_of_lem};
+ghost use Rattle.definition.specs.Refusals.{most_points, most_neighbours, verdict, settings_tests, points_tests, zero_threshold_lem, build_short, build_verdict};
+ghost use Rattle.config.specs.Params.{threshold_policy, settings_of_lem, settings_are};
 ghost use Rattle.build_sizes.specs.Sizes.{sizes_of};
 ghost use Rattle.refusal.specs.Refusals.{verdict_of};
+ghost use Rattle.build_checks.specs.Checked.{Checks};
 
 use build_sizes::BuildSizes;
-use config::{DDMParams, SizePolicy};
+use config::{DDMParams, Settings, SizePolicy};
 use points::Points;
 use refusal::Refusal;
-use rows::{MOST_NEIGHBOURS, MOST_POINTS};
+use rows::MOST_NEIGHBOURS;
 
 // Whether the coarse threshold is fixed at 0.
 fn zero_threshold(policy: SizePolicy) -> bool
@@ -23,13 +24,12 @@ fn zero_threshold(policy: SizePolicy) -> bool
 
 // The settings: the first of 1 to 5 whose condition is met.
 #[tactic(auto, unfolding(definition::specs::Refusals::verdict))]
-pub fn settings_fault(dimensions: usize, params: DDMParams) -> Result<(), Refusal>
-    ensures number { verdict_of result ≡ verdict (settings_tests (settings_of_lem dimensions params)) }
-    ensures fine { OnOk result ((1 ≤ dimensions) × (dimensions ≤ 3) × (2 ≤ params.coarse_reduction_factor) × (params.overlap_knn ≤ 64)) }
+pub fn settings_fault(settings: Settings) -> Result<(), Refusal>
+    ensures number { verdict_of result ≡ verdict (settings_tests (settings_are settings)) }
+    ensures fine { OnOk result ((1 ≤ settings.dimensions) × (settings.dimensions ≤ 3) × (2 ≤ settings.params.coarse_reduction_factor) × (settings.params.overlap_knn ≤ most_neighbours)) }
 {
-    if dimensions < 1 || 3 < dimensions {
-        return Err(Refusal::WrongDimension);
-    }
+    point_checks::check_dimension(settings.dimensions)?;
+    let params = settings.params;
     if params.leaf_threshold == 0 {
         return Err(Refusal::ZeroLeafThreshold);
     }
@@ -45,74 +45,68 @@ pub fn settings_fault(dimensions: usize, params: DDMParams) -> Result<(), Refusa
     Ok(())
 }
 
-// The points, of `count` coordinates: the first of 6 to 9 whose condition is met.
-#[tactic(auto, unfolding(definition::specs::Refusals::verdict))]
-pub fn points_fault(count: usize, dimensions: usize, params: DDMParams) -> Result<(), Refusal>
-    requires { (1 ≤ dimensions) × (2 ≤ params.coarse_reduction_factor) }
-    ensures number { verdict_of result ≡ verdict (points_tests (settings_of_lem dimensions params) (count / dimensions) (not (eqb (count % dimensions) 0))) }
-    ensures fine { OnOk result (count / dimensions ≤ most_points) }
+// The points, of `count` coordinates: the first of 6 to 9 whose condition is met; or how many points there are.
+pub fn points_fault(count: usize, settings: Settings) -> Result<usize, Refusal>
+    requires { (1 ≤ settings.dimensions) × (2 ≤ settings.params.coarse_reduction_factor) }
+    ensures number { verdict_of result ≡ verdict (points_tests (settings_are settings) (count / settings.dimensions) (not (eqb (count % settings.dimensions) 0))) }
+    ensures fine { IfOk result (λ n. (n ≡ count / settings.dimensions) × (n ≤ most_points)) }
 {
-    if count == 0 {
-        return Err(Refusal::NoPoints);
-    }
-    if count % dimensions != 0 {
-        return Err(Refusal::MissingCoordinate);
-    }
-    let n = count / dimensions;
-    if MOST_POINTS < n {
-        return Err(Refusal::ManyPoints);
-    }
+    let params = settings.params;
+    let n = point_checks::check_count(count, settings.dimensions)?;
     let c = level_sizes::resolved_coarse_threshold(params.coarse_threshold, n);
     if 3 < level_sizes::get_num_level_reductions(n, c, params.coarse_reduction_factor) {
         return Err(Refusal::WrongReductions);
     }
-    Ok(())
+    Ok(n)
 }
 
-// Settings and points, of `count` coordinates: the first of 1 to 9 whose condition is met.
-pub fn first_fault(count: usize, dimensions: usize, params: DDMParams) -> Result<(), Refusal>
-    ensures number { verdict_of result ≡ verdict (settings_tests (settings_of_lem dimensions params) ++ points_tests (settings_of_lem dimensions params) (count / dimensions) (not (eqb (count % dimensions) 0))) }
-    ensures fine { OnOk result ((1 ≤ dimensions) × (dimensions ≤ 3) × (count / dimensions ≤ most_points) × (params.overlap_knn ≤ most_neighbours)) }
+// Settings and points, of `count` coordinates: the first of 1 to 9 whose condition is met; or how many points there are.
+pub fn first_fault(count: usize, settings: Settings) -> Result<usize, Refusal>
+    ensures number { verdict_of result ≡ verdict (settings_tests (settings_are settings) ++ points_tests (settings_are settings) (count / settings.dimensions) (not (eqb (count % settings.dimensions) 0))) }
+    ensures fine { IfOk result (λ n. (n ≡ count / settings.dimensions) × (n ≤ most_points) × (1 ≤ settings.dimensions) × (settings.dimensions ≤ 3) × (settings.params.overlap_knn ≤ most_neighbours)) }
 {
-    settings_fault(dimensions, params)?;
-    points_fault(count, dimensions, params)
+    settings_fault(settings)?;
+    points_fault(count, settings)
 }
 
 // Whether one of the lists is shorter than n points on `dimensions` axes with this neighbour count ask for.
-#[tactic(auto, unfolding(definition::specs::Refusals::build_short))]
 pub fn is_short(lent: BuildSizes, dimensions: usize, n: usize, neighbours: usize) -> bool
     requires { (dimensions ≤ 3) × (n ≤ most_points) × (neighbours ≤ most_neighbours) }
     ensures { result ≡ build_short (sizes_of lent) (build_stated dimensions n neighbours) }
 {
-    let stated = build_sizes::stated_sizes(dimensions, n, neighbours);
-    lent.level_points < stated.level_points
-        || lent.internals < stated.internals
-        || lent.domains < stated.domains
-        || lent.boxes < stated.boxes
-        || lent.borrowed < stated.borrowed
-        || lent.floats < stated.floats
-        || lent.wholes < stated.wholes
+    let lengths = lent.lengths();
+    let stated = build_sizes::stated_sizes(dimensions, n, neighbours).lengths();
+    lengths
+        .iter()
+        .zip(stated.iter())
+        .any(|(has, asked)| has < asked)
 }
 
-// The last test of the points: the first coordinate that is not finite, refused with 10.
-pub fn last_check(points: Points<'_>) -> Result<(), Refusal>
-    ensures { verdict_of result ≡ verdict (not_finite_lem points.entry.coordinates.now ∷ []) }
+// The tests of a build over all points: `short` answers whether a lent list is shorter than so many points ask for.
+pub fn check_points<F: FnOnce(usize) -> bool>(
+    points: Points<'_>,
+    params: DDMParams,
+    short: F,
+) -> Result<(), Refusal>
+    requires { (n : ℕ) → points.dimensions ≤ 3 → n ≤ most_points → params.overlap_knn ≤ most_neighbours → F.pre short n }
+    ensures { Checks (F.post short) (settings_of_lem points.entry.dimensions params) points.entry.coordinates.now (verdict_of result) }
 {
-    match finite::first_not_finite(points.coordinates) {
-        Some(position) => Err(Refusal::NotFinite(position)),
-        None => Ok(()),
+    let Points {
+        coordinates,
+        dimensions,
+    } = points;
+    let n = first_fault(coordinates.len(), Settings { dimensions, params })?;
+    if short(n) {
+        return Err(Refusal::ShortList);
     }
+    point_checks::check_finite(coordinates)
 }
 
 // The tests of a build over all points, with lists of these lengths.
 pub fn check_build(points: Points<'_>, params: DDMParams, lent: BuildSizes) -> Result<(), Refusal>
     ensures { verdict_of result ≡ build_verdict (settings_of_lem points.entry.dimensions params) points.entry.coordinates.now (sizes_of lent) }
 {
-    let count = points.coordinates.len();
-    first_fault(count, points.dimensions, params)?;
-    let n = count / points.dimensions;
-    if is_short(lent, points.dimensions, n, params.overlap_knn as usize) {
-        return Err(Refusal::ShortList);
-    }
-    last_check(points)
+    check_points(points, params, |n| {
+        is_short(lent, points.dimensions, n, params.overlap_knn as usize)
+    })
 }

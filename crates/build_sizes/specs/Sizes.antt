@@ -1,5 +1,5 @@
 -- The code's lengths and answers as those of the definition. Definitions only.
-use Rattle.std.specs.Prelude.{Result}
+use Rattle.std.specs.Prelude.{ℕ, List, [], ◌∷◌, Result}
 use Rattle.definition.specs.Packed.{BuildSizes}
 use Rattle.definition.specs.Outcome.{Answer, zero_sizes}
 use Rattle.build_sizes.specs.declared.BuildSizes.{BuildSizes as Lengths}
@@ -18,6 +18,10 @@ sizes_of l =
       floats = l.floats;
       wholes = l.wholes;
     }
+
+-- the lengths one after the other
+abbrev pub lengths_of : BuildSizes → List ℕ
+lengths_of b = b.level_points ∷ b.internals ∷ b.domains ∷ b.boxes ∷ b.borrowed ∷ b.floats ∷ b.wholes ∷ []
 
 -- the answer: the lengths, which are 0 for a refusal
 abbrev pub sizes_report : Result Lengths Refusal → Answer BuildSizes

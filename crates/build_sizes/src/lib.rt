@@ -6,7 +6,7 @@ ghost use Rattle.definition.specs.Packed.{build_stated};
 ghost use Rattle.definition.specs.Refusals.{most_points, most_neighbours};
 ghost use Rattle.definition.specs.Outcome.{lent_sizes, sizes_answer};
 ghost use Rattle.tree_lists.specs.Lent.{lists_in};
-ghost use Rattle.build_sizes.specs.Sizes.{sizes_of, sizes_report};
+ghost use Rattle.build_sizes.specs.Sizes.{sizes_of, lengths_of, sizes_report};
 
 use refusal::Refusal;
 use rows::{MOST_NEIGHBOURS, MOST_POINTS};
@@ -39,6 +39,21 @@ impl BuildSizes {
             wholes: room.wholes.len(),
         }
     }
+
+    // The lengths one after the other: the order in which they are compared, told and printed.
+    pub fn lengths(self) -> [usize; 7]
+        ensures { result ≡ lengths_of (sizes_of self) }
+    {
+        [
+            self.level_points,
+            self.internals,
+            self.domains,
+            self.boxes,
+            self.borrowed,
+            self.floats,
+            self.wholes,
+        ]
+    }
 }
 
 // The lengths for n points on `dimensions` axes with this neighbour count: three numbers, as the public call is asked with them.
@@ -46,16 +61,15 @@ pub fn stated_sizes(dimensions: usize, n: usize, neighbours: usize) -> BuildSize
     requires { (dimensions ≤ 3) × (n ≤ most_points) × (neighbours ≤ most_neighbours) }
     ensures { sizes_of result ≡ build_stated dimensions n neighbours }
 {
-    let rows = 6 * n + 1;
-    let taken = neighbours + 1;
+    let rows = rows::most_domains(n);
     BuildSizes {
         level_points: 4 * n,
         internals: 4 * n,
         domains: packed::ROW_NUMBERS * rows,
         boxes: packed::floats_before(dimensions, rows),
-        borrowed: 6 * n * taken,
+        borrowed: rows::most_borrowed(n, neighbours),
         floats: 32 * n,
-        wholes: 32 * n + 8 * n * taken,
+        wholes: 32 * n + 8 * n * (neighbours + 1),
     }
 }
 
@@ -64,9 +78,7 @@ pub fn stated_sizes(dimensions: usize, n: usize, neighbours: usize) -> BuildSize
 pub fn build_sizes(n: usize, dimensions: usize, neighbours: u32) -> Result<BuildSizes, Refusal>
     ensures { sizes_report result ≡ sizes_answer dimensions n neighbours }
 {
-    if dimensions < 1 || 3 < dimensions {
-        return Err(Refusal::WrongDimension);
-    }
+    point_checks::check_dimension(dimensions)?;
     if MOST_NEIGHBOURS < neighbours {
         return Err(Refusal::ManyNeighbours);
     }

@@ -34,6 +34,9 @@ const INFINITY: u64 = 0x7ff0_0000_0000_0000;
 
 // ---- one field
 
+// The bytes and a place here, and no slice that begins there: the definition reads `field k at input`, and that so many bytes are left would be
+// asked of the slice too. settings_record reads its fields in the same way.
+
 // The number that one byte stands for.
 pub fn byte_at(input: &[u8], at: usize) -> usize
     requires { at < length input.now }
@@ -47,7 +50,7 @@ pub fn number_at(input: &[u8], at: usize) -> usize
     requires { at + number_size ≤ length input.now }
     ensures { (result ≡ number_at at input.now) × (result < 2 ^ 32) }
 {
-    u32::from_le_bytes([input[at], input[at + 1], input[at + 2], input[at + 3]]) as usize
+    u32::from_le_bytes(*input[at..].first_chunk().unwrap()) as usize
 }
 
 // The bits in the eight bytes from `at` on, the lowest byte first.
@@ -55,9 +58,7 @@ pub fn bits_at(input: &[u8], at: usize) -> u64
     requires { at + float_size ≤ length input.now }
     ensures { result ≡ field float_size at input.now }
 {
-    let low = number_at(input, at);
-    let high = number_at(input, at + NUMBER);
-    (low + 0x1_0000_0000 * high) as u64
+    u64::from_le_bytes(*input[at..].first_chunk().unwrap())
 }
 
 // Whether these are the bits of not-a-number: above infinity's, the sign apart. `f64::is_nan` has no say here: `from_bits` takes no

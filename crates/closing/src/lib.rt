@@ -7,15 +7,15 @@ ghost use Rattle.definition.specs.Table.{flagged};
 ghost use Rattle.definition.specs.Closing.{close_verdict};
 ghost use Rattle.refusal.specs.Refusals.{verdict_of};
 ghost use Rattle.table_checks.specs.Tables.{table_in, wells_in, SameWells};
-ghost use Rattle.table_edits.specs.Edits.{edit_answer, table_after};
-ghost use Rattle.closing.specs.Outcome.{Closed};
+ghost use Rattle.table_edits.specs.Edits.{table_after};
+ghost use Rattle.closing.specs.Outcome.{Closed, count_answer};
 ghost use Rattle.closing.specs.Passed.{live_below_lem, live_parts, renames};
 
 use refusal::Refusal;
 use table_checks::{Head, Table, Wells};
-use table_edits::Edited;
 
-// One slot of the pass: its new slot is noted, and a live one moves down to slot `to`. Returns where the next live one goes.
+// One slot of the pass: its new slot is noted, and a live one moves down to slot `to`. Returns where the next live one goes. A retired one
+// gets the slot count for a new slot, and no None: the rename list is of plain numbers, and the definition writes it so.
 fn move_slot(
     slot: usize,
     to: usize,
@@ -65,10 +65,7 @@ fn move_down(slots: usize, wells: &mut Wells<'_>, rename: &mut [usize])
 fn close_fault(table: Table<'_>, rename: &[usize]) -> Result<(), Refusal>
     ensures { verdict_of result ≡ close_verdict table.entry.points.dimensions (table_in table.entry) (length rename.now) }
 {
-    let dimensions = table.points.dimensions;
-    if dimensions < 1 || 3 < dimensions {
-        return Err(Refusal::WrongDimension);
-    }
+    point_checks::check_dimension(table.points.dimensions)?;
     if rename.len() < table.head.slots {
         return Err(Refusal::ShortList);
     }
@@ -76,10 +73,10 @@ fn close_fault(table: Table<'_>, rename: &[usize]) -> Result<(), Refusal>
     Ok(())
 }
 
-// Closes the gaps of the table: 1, 11 and 27 are tried before anything is written. The answer's slot is the new slot count.
-pub fn closed(head: Head, wells: &mut Wells<'_>, rename: &mut [usize]) -> Result<Edited, Refusal>
+// Closes the gaps of the table, and answers the head after it: 1, 11 and 27 are tried before anything is written.
+pub fn closed(head: Head, wells: &mut Wells<'_>, rename: &mut [usize]) -> Result<Head, Refusal>
     ensures same { SameWells wells.old wells.new }
-    ensures outcome { Closed wells.old.dimensions (wells_in head wells.old) (table_after head wells.new.flags.now wells.new.coordinates.now result) rename.old rename.new (edit_answer result) }
+    ensures outcome { Closed wells.old.dimensions (wells_in head wells.old) (table_after (λ h. h) head wells.new.flags.now wells.new.coordinates.now result) rename.old rename.new (count_answer result) }
 {
     let Head { slots, live } = head;
     let dimensions = wells.dimensions;
@@ -88,8 +85,5 @@ pub fn closed(head: Head, wells: &mut Wells<'_>, rename: &mut [usize]) -> Result
     let gone = slots - live;
     wells.flags[live..slots].fill(0);
     boxes::put_zeros(wells.coordinates, live * dimensions, gone * dimensions);
-    Ok(Edited {
-        slot: live,
-        head: Head { slots: live, live },
-    })
+    Ok(Head { slots: live, live })
 }

@@ -13,10 +13,11 @@ fn put_cover(boxes: &mut [f64], dimensions: usize, start: usize, l: usize, cover
     requires { (dimensions ≤ 3) × (start + row_floats_lem dimensions * (l + 1) ≤ length boxes.old) }
     ensures { boxes.new ≡ put boxes.old (start + row_floats_lem dimensions * l) (part boxes.old (start + box_width_lem dimensions * l) (box_width_lem dimensions) ++ cover ∷ []) }
 {
+    let width = boxes::box_width(dimensions);
     let from = start + boxes::bounds_before(dimensions, l);
     let to = start + packed::floats_before(dimensions, l);
-    boxes::write_box(boxes::read_box(boxes, from, dimensions), boxes, to);
-    boxes[to + boxes::box_width(dimensions)] = cover;
+    boxes.copy_within(from..from + width, to);
+    boxes[to + width] = cover;
 }
 
 // The boxes of as many leaves as there are covers stand packed where the floats of the domain row number `first` start. Each is put to the

@@ -55,7 +55,8 @@ fn put_leaf(
     let entry = base + node::ENTRY * leaves;
     lists.wholes[entry..entry + node::ENTRY].copy_from_slice(&[depth, count, place]);
     let at = boxes::bounds_before(whole.dimensions, leaves);
-    boxes::write_box(whole, lists.floats, at);
+    let width = boxes::box_width(whole.dimensions);
+    boxes::write_box(whole, &mut lists.floats[at..at + width]);
     node::write_node(lists.cuts, lists.planes, place, Node::Leaf(0));
     Next {
         place: place + 1,

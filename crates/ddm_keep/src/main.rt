@@ -14,7 +14,7 @@ ghost use Rattle.ddm_keep.specs.Output.{KeptFor, FileFor, RefusalFor, RefusalAdd
 
 use bytes_out::Writer;
 use job_room::STREAM;
-use program_input::Input;
+use program_input::{Failure, Input};
 use refusal::Refusal;
 use std::io;
 use std::io::{Read, Write};
@@ -70,43 +70,40 @@ fn write_refusal<W: Write>(errors: &mut W, input: Input<'_>, refusal: Refusal) -
     write_text(errors, input, &line[..count])
 }
 
-// Why the file or the refusal was not written, or not all of it.
-#[derive(Clone, Copy)]
-enum Failure {
-    Input(io::Error),
-    Errors(io::Error),
-    Output(io::Error),
-}
-
 // Reads a stream and writes the file of its tree, or its refusal to `errors`. Where the bytes of each side are known, what is kept of the
 // reader's bytes says which of the two writers has more, and what.
 fn keep_stream<R: Read, W: Write, E: Write>(
     reader: &mut R,
     out: &mut W,
     errors: &mut E,
-) -> Result<(), Failure>
+) -> Result<(), Failure<'static>>
     ensures { OnOk result (IfSome (R.remaining reader.old) (λ stream. KeptIn (kept stream)
         (W.contents out.old) (W.contents out.new) (E.contents errors.old) (E.contents errors.new))) }
 {
     let mut bytes = [0u8; STREAM];
     let mut file = [0u8; keep::MOST_FILE_BYTES];
-    let front = program_input::read_input(reader, &mut bytes).map_err(Failure::Input)?;
+    let front = program_input::read_input(reader, &mut bytes).map_err(|error| Failure {
+        what: "standard input",
+        error,
+    })?;
     let input = Input {
         bytes: &bytes,
         front,
     };
     let reply = reply_to(input, &mut file);
     match reply {
-        Ok(count) => write_file(out, input, &file[..count]).map_err(Failure::Output),
-        Err(refusal) => write_refusal(errors, input, refusal).map_err(Failure::Errors),
+        Ok(count) => write_file(out, input, &file[..count]).map_err(|error| Failure {
+            what: "standard output",
+            error,
+        }),
+        Err(refusal) => write_refusal(errors, input, refusal).map_err(|error| Failure {
+            what: "standard error",
+            error,
+        }),
     }
 }
 
 fn main(rt: HostRuntime) -> ExitCode {
-    match keep_stream(&mut rt.stdin(), &mut rt.stdout(), &mut rt.stderr()) {
-        Ok(()) => ExitCode::SUCCESS,
-        Err(Failure::Input(e)) => program_input::fail(&rt, "standard input", e),
-        Err(Failure::Errors(e)) => program_input::fail(&rt, "standard error", e),
-        Err(Failure::Output(e)) => program_input::fail(&rt, "standard output", e),
-    }
+    let done = keep_stream(&mut rt.stdin(), &mut rt.stdout(), &mut rt.stderr());
+    program_input::end(&rt, done)
 }

@@ -25,6 +25,8 @@ module _ (job : Front) (stream : List ℕ) (job-stopped : Stopped (length stream
 
 -- ---- a value that went through `map_err` is the value before
 pub ok-through : {A E F : Type 0} (r : Result A E) (m : Result A F) (P : A → Type 0) (Q : E → Type 0) → IfOk r P → MatchResult r (λ x. m ≡ Ok x) Q
-    → is_ok m ≡ is_ok r → (x : A) → m ≡ Ok x → P x
-ok-through (Ok y) m P Q h cases variant x e = let f : y ≡ x = cc in subst P f h
-ok-through (Err z) m P Q h cases variant x e = absurd (true≢false (rw e at variant))
+    → is_ok m ≡ is_ok r → IfOk m P
+ok-through (Ok y) (Ok x) P Q h cases variant = let f : y ≡ x = cc in subst P f h
+ok-through (Ok y) (Err w) P Q h cases variant = tt
+ok-through (Err z) (Ok x) P Q h cases variant = absurd (true≢false variant)
+ok-through (Err z) (Err w) P Q h cases variant = tt

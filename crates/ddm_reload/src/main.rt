@@ -10,7 +10,7 @@ ghost use Rattle.program_input.specs.Input.{Stopped, MayBe};
 ghost use Rattle.ddm_reload.specs.Output.{ReloadedFrom};
 
 use job_room::{STREAM, TEXT};
-use program_input::{Front, Input};
+use program_input::{Failure, Front, Input};
 use std::io;
 use std::io::{Read, Write};
 use std::process::ExitCode;
@@ -28,11 +28,16 @@ fn read_opened<F: Read + Drop>(opened: io::Result<F>, input: &mut [u8]) -> io::R
     program_input::read_input(&mut file, input)
 }
 
-// Reads the file that the argument number i names.
-fn read_argument<R: Env + Files + Alloc>(rt: &R, i: usize, input: &mut [u8]) -> io::Result<Front>
+// Reads the file that the argument number i names, which holds `what`.
+fn read_argument<R: Env + Files + Alloc>(
+    rt: &R,
+    i: usize,
+    what: &'static str,
+    input: &mut [u8],
+) -> Result<Front, Failure<'static>>
     ensures { IfOk result (λ front. Stopped (length input.new) front) }
 {
-    read_opened(program_input::open_argument(rt, i), input)
+    read_opened(program_input::open_argument(rt, i), input).map_err(|error| Failure { what, error })
 }
 
 // What is printed for the bytes of a stream and of a file, at the front of `text`.
@@ -62,45 +67,39 @@ fn write_reply<W: Write>(
     job: Input<'_>,
     tree: Input<'_>,
     text: &[u8],
-) -> io::Result<()>
+) -> Result<(), Failure<'static>>
     requires { ReloadedFrom job.front job.bytes.now tree.front tree.bytes.now text.now }
     ensures { OnOk result (Appends (W.contents out.old) (W.contents out.new) text.now) }
 {
-    out.write_all(text)
-}
-
-// Why nothing was printed, or not all.
-#[derive(Clone, Copy)]
-enum Failure {
-    Job(io::Error),
-    Tree(io::Error),
-    Output(io::Error),
+    out.write_all(text).map_err(|error| Failure {
+        what: "standard output",
+        error,
+    })
 }
 
 // Reads the stream and the file that the arguments name, and writes what is printed for them.
-fn print_reloaded<R: Env + Files + Alloc, W: Write>(rt: &R, out: &mut W) -> Result<(), Failure> {
+fn print_reloaded<R: Env + Files + Alloc, W: Write>(
+    rt: &R,
+    out: &mut W,
+) -> Result<(), Failure<'static>> {
     let mut stream = [0u8; STREAM];
-    let front = read_argument(rt, 1, &mut stream).map_err(Failure::Job)?;
+    let front = read_argument(rt, 1, "job stream", &mut stream)?;
     let job = Input {
         bytes: &stream,
         front,
     };
     let mut file = program_input::room::<FILE>();
-    let front = read_argument(rt, 2, &mut file).map_err(Failure::Tree)?;
+    let front = read_argument(rt, 2, "stored tree", &mut file)?;
     let tree = Input {
         bytes: &file,
         front,
     };
     let mut text = program_input::room::<TEXT>();
     let count = reply_to(job, tree, &mut text);
-    write_reply(out, job, tree, &text[..count]).map_err(Failure::Output)
+    write_reply(out, job, tree, &text[..count])
 }
 
 fn main(rt: HostRuntime) -> ExitCode {
-    match print_reloaded(&rt, &mut rt.stdout()) {
-        Ok(()) => ExitCode::SUCCESS,
-        Err(Failure::Job(e)) => program_input::fail(&rt, "job stream", e),
-        Err(Failure::Tree(e)) => program_input::fail(&rt, "stored tree", e),
-        Err(Failure::Output(e)) => program_input::fail(&rt, "standard output", e),
-    }
+    let done = print_reloaded(&rt, &mut rt.stdout());
+    program_input::end(&rt, done)
 }

@@ -9,7 +9,7 @@ ghost use Rattle.program_input.specs.Input.{Stopped};
 ghost use Rattle.ddm_tree.specs.Output.{PrintoutFor};
 
 use job_room::{STREAM, TEXT};
-use program_input::Input;
+use program_input::{Failure, Input};
 use std::io;
 use std::io::{Read, Write};
 use std::process::ExitCode;
@@ -41,33 +41,29 @@ fn write_reply<W: Write>(out: &mut W, input: Input<'_>, text: &[u8]) -> io::Resu
     out.write_all(text)
 }
 
-// Why nothing was printed, or not all.
-#[derive(Clone, Copy)]
-enum Failure {
-    Input(io::Error),
-    Output(io::Error),
-}
-
 // Reads a stream and writes its printout. Where the bytes of both sides are known, the printout of the reader's bytes is added to the writer's.
-fn print_stream<R: Read, W: Write>(reader: &mut R, out: &mut W) -> Result<(), Failure>
+fn print_stream<R: Read, W: Write>(reader: &mut R, out: &mut W) -> Result<(), Failure<'static>>
     ensures { OnOk result (IfSome (R.remaining reader.old)
         (λ stream. Appends (W.contents out.old) (W.contents out.new) (printout stream))) }
 {
     let mut bytes = [0u8; STREAM];
     let mut text = program_input::room::<TEXT>();
-    let front = program_input::read_input(reader, &mut bytes).map_err(Failure::Input)?;
+    let front = program_input::read_input(reader, &mut bytes).map_err(|error| Failure {
+        what: "standard input",
+        error,
+    })?;
     let input = Input {
         bytes: &bytes,
         front,
     };
     let count = reply_to(input, &mut text);
-    write_reply(out, input, &text[..count]).map_err(Failure::Output)
+    write_reply(out, input, &text[..count]).map_err(|error| Failure {
+        what: "standard output",
+        error,
+    })
 }
 
 fn main(rt: HostRuntime) -> ExitCode {
-    match print_stream(&mut rt.stdin(), &mut rt.stdout()) {
-        Ok(()) => ExitCode::SUCCESS,
-        Err(Failure::Input(e)) => program_input::fail(&rt, "standard input", e),
-        Err(Failure::Output(e)) => program_input::fail(&rt, "standard output", e),
-    }
+    let done = print_stream(&mut rt.stdin(), &mut rt.stdout());
+    program_input::end(&rt, done)
 }

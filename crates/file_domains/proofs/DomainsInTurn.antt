@@ -1,5 +1,5 @@
 -- Domain records tested one after the other: those before i passed, and the rest decides. Assumes nothing.
--- Holds: and-apart, Tested, tested-start, tested-bad, tested-enough, tested-fits, tested-next, tested-left, tested-end
+-- Holds: and-apart, Tested, tested-start, tested-bad, tested-fits, tested-next, tested-left, tested-end
 use Rattle.std.specs.Prelude.{Option, Some, None, is_some}
 use mathlib.Core.Path.{◌≡◌, refl, sym, ap, ap₂, ◌∙◌}
 use mathlib.Core.Bool.{Bool, true, false, ◌&&◌, and-false}
@@ -18,11 +18,14 @@ use Rattle.stored.specs.Stored.{counts_size, leaf_in, leaf_size, leaves_at_lem, 
 use Rattle.tree_tests.specs.InTurn.{without, fitted, leaf_passes, leaves_pass}
 use Rattle.tree_tests.specs.Whole.{leaves_whole}
 use Rattle.tree_tests.proofs.Leaves.{leaves-pass-same}
+use Rattle.tree_tests.proofs.Sets.{without_in}
 use Rattle.marks.specs.Bits.{Marked}
 use Rattle.marks.proofs.Marks.{held, bits-marked, marked-held}
+use Rattle.row_sets.specs.Tested.{LeftIsListed}
+use Rattle.row_sets.proofs.RowTests.{inside-sets, sets-inside}
 use Rattle.file_domains.specs.declared.Passed.{Passed}
 use Rattle.file_domains.specs.Domains.{DomainHere, DomainPassed, DomainsPassed, borrowed_rows, last_depth}
-use Rattle.file_domains.proofs.OneDomain.{own-enough, domain-room}
+use Rattle.file_domains.proofs.OneDomain.{domain-room}
 
 -- ---- the tests of m records from the front of bytes on
 abbrev answer : ℕ → Bool → ℕ → (ℕ → Bool) → (ℕ → Bool) → ℕ → ℕ → ℕ → List ℕ → Bool
@@ -70,6 +73,7 @@ depth-none e d coarse bs = refl
 -- ---- the loop
 pub record Tested (file : List ℕ) (at m d : ℕ) (coarse : Bool) (rows : ℕ) (old-left old-listed left listed : List ℕ) (next remaining borrowed least i : ℕ) : Type 0 where
   pub within : next ≤ length file
+  pub kept : LeftIsListed left listed
   pub room : at + counts_size * i + number_size * borrowed ≤ next
   pub listed_set : (q : ℕ → Bool) → Marked old-listed q → Marked listed q
   pub after : after_leaves d coarse (m - i) (drop next file) ≡ after_leaves d coarse m (drop at file)
@@ -78,12 +82,13 @@ pub record Tested (file : List ℕ) (at m d : ℕ) (coarse : Bool) (rows : ℕ) 
   pub rest : (p q : ℕ → Bool) → Marked old-left p → Marked old-listed q
       → answer d coarse rows q (held left) remaining least (m - i) (drop next file) ≡ answer d coarse rows q p rows 0 m (drop at file)
 
-pub tested-start : (file : List ℕ) (at m d : ℕ) (coarse : Bool) (rows : ℕ) (left listed : List ℕ) → at ≤ length file
+pub tested-start : (file : List ℕ) (at m d : ℕ) (coarse : Bool) (rows : ℕ) (left listed : List ℕ) → at ≤ length file → LeftIsListed left listed
     → Tested file at m d coarse rows left listed left listed at rows 0 0 0
-tested-start file at m d coarse rows left listed h =
+tested-start file at m d coarse rows left listed h kept =
     let z : m - 0 ≡ m = omega arith in
     record {
       within = h;
+      kept = kept;
       room = omega arith;
       listed_set = λ q n. n;
       after = ap (λ (k : ℕ). after_leaves d coarse k (drop at file)) z;
@@ -126,37 +131,38 @@ module _ (file : List ℕ) (at m d : ℕ) (coarse : Bool) (rows : ℕ) (old-left
 
     -- it does
     module _ (f : Passed) (g : o ≡ Some f) where
-      domain : (q : ℕ → Bool) → Marked listed q → DomainHere file next d coarse (held left) q new-left new-listed f
+      domain : (q : ℕ → Bool) → Marked listed q → DomainHere file next d coarse remaining (held left) q new-left new-listed f
       domain q b = (rw g at (said (held left) q (bits-marked left) b)).passed
 
-      abbrev one : DomainHere file next d coarse (held left) (held listed) new-left new-listed f
+      abbrev one : DomainHere file next d coarse remaining (held left) (held listed) new-left new-listed f
       one = domain (held listed) (bits-marked listed)
 
       after-it : drop (leaf_size d coarse here) here ≡ drop f.next file
       after-it = drop-drop (leaf_size d coarse here) next file ∙ ap (λ (k : ℕ). drop k file) (sym one.next)
 
-      now-left : (q : ℕ → Bool) → behind q ≡ answer d coarse rows q (held new-left) (remaining - f.own) f.depth (m - (i + 1)) (drop f.next file)
+      now-left : (q : ℕ → Bool) → behind q ≡ answer d coarse rows q (held new-left) f.leaves.remaining f.leaves.least (m - (i + 1)) (drop f.next file)
       now-left q =
           let p = without (leaf_in d coarse here).own (held left) in
+          let left-over : remaining - length (leaf_in d coarse here).own ≡ f.leaves.remaining = omega (arith, one.own) in
           ap (λ (bs : List ℕ). answer d coarse rows q p (remaining - length (leaf_in d coarse here).own) (leaf_in d coarse here).depth (m - (i + 1)) bs) after-it
-          ∙ ap₂ (λ (k e : ℕ). answer d coarse rows q p (remaining - k) e (m - (i + 1)) (drop f.next file)) (sym one.own) (sym one.depth)
+          ∙ ap₂ (λ (k e : ℕ). answer d coarse rows q p k e (m - (i + 1)) (drop f.next file)) left-over (sym one.depth)
           ∙ ap (λ (x : Bool). leaves_whole d coarse (m - (i + 1)) (drop f.next file) && x)
-          (leaves-pass-same (fitted d coarse rows) q q (λ j. refl) (leaves_at_lem d coarse (m - (i + 1)) (drop f.next file)) p (held new-left) (remaining - f.own) f.depth
+          (leaves-pass-same (fitted d coarse rows) q q (λ j. refl) (leaves_at_lem d coarse (m - (i + 1)) (drop f.next file)) p (held new-left) f.leaves.remaining f.leaves.least
           (λ j. sym (marked-held one.left_set j)))
 
-      -- as many rows as it has are left, and it lies in the file with its borrowed rows and those before
-      pub tested-enough : f.own ≤ remaining
-      tested-enough = own-enough file next d coarse rows least remaining (held left) (held listed) new-left new-listed f (rw g at (said (held left) (held listed) (bits-marked left) (bits-marked listed)))
-
+      -- it lies in the file with its borrowed rows and those before
       pub tested-fits : borrowed + f.borrowed ≤ length file
-      tested-fits = omega (arith, s.room, one.within, domain-room file next d coarse (held left) (held listed) new-left new-listed f one)
+      tested-fits = omega (arith, s.room, one.within, domain-room file next d coarse remaining (held left) (held listed) new-left new-listed f one)
 
-      pub tested-next : Tested file at m d coarse rows old-left old-listed new-left new-listed f.next (remaining - f.own) (borrowed + f.borrowed) f.depth (i + 1)
+      pub tested-next : length new-left ≡ length new-listed
+          → Tested file at m d coarse rows old-left old-listed new-left new-listed f.next f.leaves.remaining (borrowed + f.borrowed) f.leaves.least (i + 1)
       unfolding after_leaves
-      tested-next =
+      tested-next long =
           record {
             within = one.within;
-            room = omega (arith, s.room, domain-room file next d coarse (held left) (held listed) new-left new-listed f one);
+            kept = sets-inside long one.left_set one.listed_set
+                (λ x e. inside-sets s.kept (bits-marked left) (bits-marked listed) x (without_in (leaf_in d coarse here).own (held left) x e));
+            room = omega (arith, s.room, domain-room file next d coarse remaining (held left) (held listed) new-left new-listed f one);
             listed_set = λ q b. (domain q (s.listed_set q b)).listed_set;
             after = ap (λ (bs : List ℕ). after_leaves d coarse (m - (i + 1)) bs) (sym after-it) ∙ sym (ap (λ (k : ℕ). after_leaves d coarse k here) one_less) ∙ s.after;
             borrowed-all =
@@ -185,7 +191,7 @@ module _ (file : List ℕ) (at m d : ℕ) (coarse : Bool) (rows : ℕ) (old-left
 
     -- none is
     pub tested-end : i ≤ m → remaining ≡ 0 → (p q : ℕ → Bool) → Marked old-left p → Marked old-listed q
-        → Whole p q listed (Some (record { next = next; own = rows; borrowed = borrowed; depth = least }))
+        → Whole p q listed (Some (record { next = next; borrowed = borrowed; leaves = record { remaining = remaining; least = least } }))
     unfolding after_leaves leaves_at_lem
     tested-end l z p q a b =
         let e : i ≡ m = omega arith in
@@ -196,7 +202,7 @@ module _ (file : List ℕ) (at m d : ℕ) (coarse : Bool) (rows : ℕ) (old-left
                 after = sym (ap (λ (k : ℕ). after_leaves d coarse k here) none_left) ∙ s.after;
                 within = s.within;
                 past = omega (arith, e, s.room);
-                own = refl;
+                own = z;
                 borrowed = omega (arith, s.borrowed-all, ap (λ (k : ℕ). length (borrowed_rows (leaves_at_lem d coarse k here))) none_left ∙ borrowed-none d coarse here);
                 depth = sym (ap (λ (k : ℕ). last_depth least (leaves_at_lem d coarse k here)) none_left ∙ depth-none least d coarse here) ∙ s.depth-last;
                 listed_set = s.listed_set q b;

@@ -1,17 +1,17 @@
 -- One domain record tested: one law for each way out. Assumes nothing.
--- Holds: no_record, too_many, bad-depth, bad-rows, bad-box, domain-good, own-enough, domain-room
+-- Holds: no_record, too_many, bad-leaf, bad-box, domain-good, domain-room
 use Rattle.std.specs.Prelude.{Option, Some, None, is_some}
-use mathlib.Core.Path.{◌≡◌, sym, ap, ◌∙◌}
-use mathlib.Core.Bool.{Bool, true, false, not, ◌&&◌, and-false, and_assoc}
+use mathlib.Core.Path.{◌≡◌, refl, sym, ap, ◌∙◌}
+use mathlib.Core.Bool.{Bool, true, false, not, ◌&&◌, and-true, and-false, and_assoc}
 use Prim.Native.Nat.{ℕ, ◌+◌, ◌*◌, ◌≤◌, ◌<◌}
 use native.Mathlib.Omega.{arith}
 use mathlib.Core.List.{List, map}
 use lib.Dec.{leb}
 use lib.ListN.{length, drop, replicate}
 use lib.Ieee.{Float, is_nan, binary64, to_bits}
-use borrow.Author.Tests.{leb-true, le-leb, lt-leb, eq-eqb}
+use borrow.Author.Tests.{le-leb, lt-leb, eq-eqb}
 use Rattle.lists.specs.Lists.{any_of, from}
-use Rattle.lists.proofs.Tests.{and-of, and-snd, or-false, three-pass}
+use Rattle.lists.proofs.Tests.{and-of, or-false}
 use Rattle.definition.specs.Number.{plus_zero}
 use Rattle.definition.specs.Points.{box_width_lem}
 use Rattle.definition.specs.Tree.{Leaf}
@@ -28,7 +28,8 @@ use Rattle.file_reader.specs.Fetch.{record_floats_lem, Parts, IsFetched}
 use Rattle.file_reader.proofs.Fetches.{number-here, parts_within}
 use Rattle.file_reader.proofs.LastFloats.{depth-place, leaf-size, fine-floats}
 use Rattle.file_domains.specs.declared.Passed.{Passed}
-use Rattle.row_sets.specs.Tested.{RowsPassed}
+use Rattle.leaf_tests.specs.declared.LeavesPassed.{LeavesPassed}
+use Rattle.leaf_tests.specs.Passed.{LeafPassed}
 use Rattle.file_domains.specs.Domains.{DomainPassed, DomainHere}
 use Rattle.bytes_in.proofs.Fields.{length-floats-at, numbers-here, floats-here}
 
@@ -38,6 +39,11 @@ leaf-tests : (box : Leaf → Bool) (q p : ℕ → Bool) (k : ℕ) (f : Leaf)
 unfolding leaf_passes
 leaf-tests box q p k f =
     ap (λ (b : Bool). b && box f) (and_assoc (leb (length f.own) k) (in_order_lem 0 p f.own) (in_order_lem 0 (without f.own q) f.borrowed))
+
+box-last : (rows box depth : Bool) → rows && (box && depth) ≡ (rows && depth) && box
+box-last false box depth = refl
+box-last true true depth = sym (and-true depth)
+box-last true false depth = sym (and-false depth)
 
 -- the box that stands in bytes has two bounds on each axis, and the coarse one's are +0, so that only the record's floats are to be tested
 box-tests : (d : ℕ) (coarse : Bool) (bs : List ℕ)
@@ -68,15 +74,15 @@ module _ (file : List ℕ) (at d : ℕ) (coarse : Bool) (floats : ℕ) (e : floa
   stands-is : (r : Option Fetched) → IsFetched here at (float_size * floats) r → is_some r ≡ stands
   stands-is r fetched = fetched.stands ∙ ap (λ (k : ℕ). whole domain_mark k here) size_is
 
-  module _ (a least remaining : ℕ) (p q : ℕ → Bool) (left listed : List ℕ) where
+  module _ (a : ℕ) (before : LeavesPassed) (p q : ℕ → Bool) (left listed : List ℕ) where
     abbrev Is : Option Passed → Type 0
-    Is r = DomainPassed file at d coarse a least remaining p q left listed r
+    Is r = DomainPassed file at d coarse a before.least before.remaining p q left listed r
 
     abbrev fit : Leaf → Bool
-    fit = fitted d coarse a least
+    fit = fitted d coarse a before.least
 
     abbrev passes : Bool
-    passes = leaf_passes fit q p remaining leaf
+    passes = leaf_passes fit q p before.remaining leaf
 
     refused : stands && passes ≡ false → Is None
     refused g = record { tests = sym g; passed = tt }
@@ -101,10 +107,10 @@ module _ (file : List ℕ) (at d : ℕ) (coarse : Bool) (floats : ℕ) (e : floa
       failed g = refused (rw g (and-false stands))
 
       -- fewer rows are left than it has
-      pub too_many : remaining < f.own → Is None
+      pub too_many : before.remaining < f.own → Is None
       too_many h =
-          let g : leb (length leaf.own) remaining ≡ false = lt-leb (length leaf.own) remaining (omega (arith, own-length)) in
-          failed (leaf-tests fit q p remaining leaf ∙ rw g)
+          let g : leb (length leaf.own) before.remaining ≡ false = lt-leb (length leaf.own) before.remaining (omega (arith, own-length)) in
+          failed (leaf-tests fit q p before.remaining leaf ∙ rw g)
 
       depth-here : number_at f.depth_at file ≡ leaf.depth
       unfolding leaf_in
@@ -120,74 +126,62 @@ module _ (file : List ℕ) (at d : ℕ) (coarse : Bool) (floats : ℕ) (e : floa
       unfolding leaf_in
       borrowed-here = rw (parts.borrowed, parts.borrowed_at) (numbers-here at file (second_count here) (borrowed_place here))
 
-      module _ (enough : f.own ≤ remaining) (depth : ℕ) (read : depth ≡ number_at f.depth_at file) (dp : Bool) (tested : dp ≡ depth_passes_lem coarse a least f.own depth) where
-        depth_is : dp ≡ depth_passes_lem coarse a least (length leaf.own) leaf.depth
-        depth_is = rw (own-length, ← depth-here, ← read) tested
+      module _ (enough : f.own ≤ before.remaining) (depth : ℕ) (read : depth ≡ number_at f.depth_at file) (o : Option LeavesPassed)
+          (told : LeafPassed coarse a (numbers_at f.own f.own_at file) (numbers_at f.borrowed f.borrowed_at file) depth before p q left listed o) where
+        abbrev deep : Bool
+        deep = depth_passes_lem coarse a before.least (length leaf.own) leaf.depth
 
-        -- its depth does not pass
-        pub bad-depth : dp ≡ false → Is None
-        bad-depth b =
-            let z : fit leaf ≡ false = rw (← depth_is, b) (and-false (boxed d coarse leaf)) in
-            failed (leaf-tests fit q p remaining leaf ∙ rw z (and-false (leb (length leaf.own) remaining && (in_order_lem 0 p leaf.own && in_order_lem 0 (without leaf.own q) leaf.borrowed))))
+        abbrev rows : Bool
+        rows = in_order_lem 0 p leaf.own && in_order_lem 0 (without leaf.own q) leaf.borrowed
 
-        module _ (good-depth : dp ≡ true) (rp : Bool) (told : RowsPassed (numbers_at f.own f.own_at file) (numbers_at f.borrowed f.borrowed_at file) p q left listed rp) where
-          rows : RowsPassed leaf.own leaf.borrowed p q left listed rp
-          rows = rw (own-here, borrowed-here) at told
+        leaf-told : LeafPassed coarse a leaf.own leaf.borrowed leaf.depth before p q left listed o
+        leaf-told = rw (own-here, borrowed-here, read ∙ depth-here) at told
 
-          enough-is : leb (length leaf.own) remaining ≡ true
-          enough-is = le-leb (length leaf.own) remaining (omega (arith, own-length))
+        leaf-is : passes ≡ is_some o && boxed d coarse leaf
+        leaf-is =
+            let enough-is : leb (length leaf.own) before.remaining ≡ true = le-leb (length leaf.own) before.remaining (omega (arith, own-length)) in
+            leaf-tests fit q p before.remaining leaf ∙ rw enough-is (box-last rows (boxed d coarse leaf) deep)
+            ∙ ap (λ (b : Bool). b && boxed d coarse leaf) (sym leaf-told.tests)
 
-          leaf-is : passes ≡ rp && fit leaf
-          leaf-is = leaf-tests fit q p remaining leaf ∙ rw (enough-is, ← rows.tests)
+        -- its rows or its depth do not pass
+        pub bad-leaf : o ≡ None → Is None
+        bad-leaf b = failed (leaf-is ∙ ap (λ (b : Bool). b && boxed d coarse leaf) (ap is_some b))
 
-          -- its rows do not pass
-          pub bad-rows : rp ≡ false → Is None
-          bad-rows b = failed (leaf-is ∙ rw b)
+        module _ (leaves : LeavesPassed) (good : o ≡ Some leaves) (bp : Bool) (asked : bp ≡ not (any_of is_nan (floats_at floats f.bounds_at file))) where
+          box-is : bp ≡ boxed d coarse leaf
+          box-is =
+              asked
+              ∙ ap (λ (xs : List Float). not (any_of is_nan xs))
+              (rw (e, parts.bounds_at) (floats-here at file (record_floats_lem d coarse) (bounds_place here)))
+              ∙ sym (box-tests d coarse here)
 
-          module _ (good-rows : rp ≡ true) (bp : Bool) (asked : bp ≡ not (any_of is_nan (floats_at floats f.bounds_at file))) where
-            box-is : bp ≡ boxed d coarse leaf
-            box-is =
-                asked
-                ∙ ap (λ (xs : List Float). not (any_of is_nan xs))
-                (rw (e, parts.bounds_at) (floats-here at file (record_floats_lem d coarse) (bounds_place here)))
-                ∙ sym (box-tests d coarse here)
+          -- its box or its cover does not
+          pub bad-box : bp ≡ false → Is None
+          bad-box b = failed (leaf-is ∙ ap (λ (x : Bool). is_some o && x) (sym box-is ∙ b) ∙ and-false (is_some o))
 
-            -- its box or its cover does not
-            pub bad-box : bp ≡ false → Is None
-            bad-box b = failed (leaf-is ∙ rw (← box-is, b) (and-false rp))
+          -- it passes
+          pub domain-good : bp ≡ true → Is (Some (record { next = f.next; borrowed = f.borrowed; leaves = leaves }))
+          domain-good b =
+              let k = parts_within file at (float_size * floats) f fetched in
+              let t = rw good at leaf-told in
+              record {
+                tests = sym (and-of (sym (stands-is (Some f) fetched)) (leaf-is ∙ and-of (ap is_some good) (sym box-is ∙ b)));
+                passed =
+                    record {
+                      next = omega (arith, parts.next, size_is);
+                      within = omega arith;
+                      borrowed = sym borrowed-length;
+                      own = omega (arith, t.remaining, own-length);
+                      depth = t.depth_last;
+                      left_set = t.left_set refl;
+                      listed_set = t.listed_set refl;
+                    };
+              }
 
-            -- it passes
-            pub domain-good : bp ≡ true → Is (Some (record { next = f.next; own = f.own; borrowed = f.borrowed; depth = depth }))
-            domain-good b =
-                let k = parts_within file at (float_size * floats) f fetched in
-                record {
-                  tests = sym (and-of (sym (stands-is (Some f) fetched)) (leaf-is ∙ and-of good-rows (and-of (sym box-is ∙ b) (sym depth_is ∙ good-depth))));
-                  passed =
-                      record {
-                        next = omega (arith, parts.next, size_is);
-                        within = omega arith;
-                        own = sym own-length;
-                        borrowed = sym borrowed-length;
-                        depth = read ∙ depth-here;
-                        left_set = rows.left_set good-rows;
-                        listed_set = rows.listed_set good-rows;
-                      };
-                }
-
--- ---- a domain that passes: its own rows are left, and it takes the bytes of its counts and of its rows
-pub own-enough : (file : List ℕ) (at d : ℕ) (coarse : Bool) (a least remaining : ℕ) (p q : ℕ → Bool) (left listed : List ℕ) (r : Passed)
-    → DomainPassed file at d coarse a least remaining p q left listed (Some r) → r.own ≤ remaining
-own-enough file at d coarse a least remaining p q left listed r s =
-    let here = drop at file in
-    let f = leaf_in d coarse here in
-    let rows = in_order_lem 0 p f.own && in_order_lem 0 (without f.own q) f.borrowed in
-    let t = and-snd (whole domain_mark (leaf_size d coarse here) here) (leaf_passes (fitted d coarse a least) q p remaining f) (sym s.tests) in
-    let k = (three-pass (leb (length f.own) remaining) rows (fitted d coarse a least f) (sym (leaf-tests (fitted d coarse a least) q p remaining f) ∙ t)).0 in
-    omega (arith, leb-true (length f.own) remaining k, s.passed.own)
-
-pub domain-room : (file : List ℕ) (at d : ℕ) (coarse : Bool) (p q : ℕ → Bool) (left listed : List ℕ) (r : Passed)
-    → DomainHere file at d coarse p q left listed r → at + counts_size + number_size * r.borrowed ≤ r.next
+-- ---- a domain that passes takes the bytes of its counts and of its rows
+pub domain-room : (file : List ℕ) (at d : ℕ) (coarse : Bool) (remaining : ℕ) (p q : ℕ → Bool) (left listed : List ℕ) (r : Passed)
+    → DomainHere file at d coarse remaining p q left listed r → at + counts_size + number_size * r.borrowed ≤ r.next
 unfolding leaf_size leaf_in
-domain-room file at d coarse p q left listed r h =
+domain-room file at d coarse remaining p q left listed r h =
     let here = drop at file in
     omega (arith, h.next, h.borrowed, length_rows (second_count here) (borrowed_place here) here)

@@ -4,44 +4,40 @@
 
 ghost use Rattle.std.specs.Prelude.{Bool, ℕ, ◌≤◌, length};
 ghost use Rattle.marks.specs.Bits.{Marked};
+ghost use Rattle.row_sets.specs.Tested.{LeftIsListed};
 ghost use Rattle.file_domains.specs.Domains.{DomainPassed, DomainsPassed};
 
+use file_reader::FileReader;
 use file_rows::FileRows;
 use leaf_depths::LeafLevel;
+use leaf_tests::LeavesPassed;
 use row_sets::LevelRows;
 
-// Records that pass: where what comes after them starts, how many internal and borrowed rows they have, and the depth of the last one.
+// Records that pass: where what comes after them starts, how many borrowed rows they have, and how far the leaves of their level have passed.
 #[derive(Clone, Copy)]
 pub struct Passed {
     pub next: usize,
-    pub own: usize,
     pub borrowed: usize,
-    pub depth: usize,
+    pub leaves: LeavesPassed,
 }
 
-// Whether the domain record at a place stands there whole and passes; `remaining` rows of the level are left, and the domain before is at
-// depth `least`. Takes its own rows out of those left. Place, depth and rows left stay three parameters: one value, answered anew as in
-// list_domains, would keep a sum of borrowed rows too, and this function would have to ask for the bound of it.
+// Whether the domain record at a place stands there whole and passes behind those that have. Takes its own rows out of those left.
 pub fn check_domain(
     bytes: &[u8],
     at: usize,
     dimensions: usize,
     level: LeafLevel,
-    least: usize,
-    remaining: usize,
-    sets: &mut LevelRows,
+    before: LeavesPassed,
+    sets: &mut LevelRows<'_>,
 ) -> Option<Passed>
-    requires { (dimensions ≤ 3) × (at ≤ length bytes.now) }
-    ensures { (p q : ℕ → Bool) → Marked sets.old.left p → Marked sets.old.listed q
-        → DomainPassed bytes.now at dimensions level.coarse level.rows least remaining p q sets.new.left sets.new.listed result }
+    requires { (dimensions ≤ 3) × (at ≤ length bytes.now) × LeftIsListed sets.old.left.now sets.old.listed.now }
+    ensures { (p q : ℕ → Bool) → Marked sets.old.left.now p → Marked sets.old.listed.now q
+        → DomainPassed bytes.now at dimensions level.coarse level.rows before.least before.remaining p q sets.new.left.now sets.new.listed.now result }
 {
     let floats = file_reader::record_floats(dimensions, level.coarse);
-    let f = file_reader::fetch_domain(bytes, at, bytes_in::FLOAT * floats)?;
-    if remaining < f.own {
-        return None;
-    }
-    let depth = bytes_in::number_at(bytes, f.depth_at);
-    if !level.depth_passes(least, f.own, depth) {
+    let reader = FileReader { bytes, at };
+    let f = reader.domain(bytes_in::FLOAT * floats)?;
+    if before.remaining < f.own {
         return None;
     }
     let own = FileRows {
@@ -54,17 +50,15 @@ pub fn check_domain(
         at: f.borrowed_at,
         count: f.borrowed,
     };
-    if !sets.rows_pass(&own, &borrowed) {
-        return None;
-    }
+    let depth = bytes_in::number_at(bytes, f.depth_at);
+    let leaves = leaf_tests::check_leaf(level, before, &own, &borrowed, depth, sets)?;
     if !bytes_in::no_nan_at(bytes, f.bounds_at, floats) {
         return None;
     }
     Some(Passed {
         next: f.next,
-        own: f.own,
         borrowed: f.borrowed,
-        depth,
+        leaves,
     })
 }
 
@@ -75,30 +69,30 @@ pub fn check_domains(
     m: usize,
     dimensions: usize,
     level: LeafLevel,
-    sets: &mut LevelRows,
+    sets: &mut LevelRows<'_>,
 ) -> Option<Passed>
-    requires { (dimensions ≤ 3) × (at ≤ length bytes.now) }
-    ensures { (p q : ℕ → Bool) → Marked sets.old.left p → Marked sets.old.listed q
-        → DomainsPassed bytes.now at m dimensions level.coarse level.rows p q sets.new.listed result }
+    requires { (dimensions ≤ 3) × (at ≤ length bytes.now) × LeftIsListed sets.old.left.now sets.old.listed.now }
+    ensures { (p q : ℕ → Bool) → Marked sets.old.left.now p → Marked sets.old.listed.now q
+        → DomainsPassed bytes.now at m dimensions level.coarse level.rows p q sets.new.listed.now result }
 {
     let mut next = at;
-    let mut remaining = level.rows;
     let mut borrowed = 0;
-    let mut least = 0;
+    let mut leaves = LeavesPassed {
+        remaining: level.rows,
+        least: 0,
+    };
     for _i in 0..m {
-        let f = check_domain(bytes, next, dimensions, level, least, remaining, sets)?;
+        let f = check_domain(bytes, next, dimensions, level, leaves, sets)?;
         next = f.next;
-        remaining -= f.own;
         borrowed += f.borrowed;
-        least = f.depth;
+        leaves = f.leaves;
     }
-    if remaining != 0 {
+    if leaves.remaining != 0 {
         return None;
     }
     Some(Passed {
         next,
-        own: level.rows,
         borrowed,
-        depth: least,
+        leaves,
     })
 }

@@ -69,25 +69,26 @@ module _ (d : ℕ) (bs : List ℕ) where
 
 -- ---- one row after the other
 
--- before row i, whose record begins at `at`: the rows before it pass
-pub record Passing (d : ℕ) (bs : List ℕ) (at i : ℕ) : Type 0 where
-  pub place : at ≡ point_place d i
-  pub inside : at ≤ length bs
+-- before row i: the rows before it pass
+pub record Passing (d : ℕ) (bs : List ℕ) (i : ℕ) : Type 0 where
+  pub inside : point_place d i ≤ length bs
   pub pass : any_of (row_fails d bs) (from 0 i) ≡ false
 
 -- what the rows come to
 abbrev pub AllPass : ℕ → List ℕ → ℕ → Bool → Type 0
 AllPass d bs n r = r ≡ points_whole d n (drop head_size bs) && not (any_of bad (points_at d n bs))
 
-pub passing-start : (d : ℕ) (bs : List ℕ) → head_size ≤ length bs → Passing d bs head_size 0
-passing-start d bs h = record { place = omega (arith, zero-mul (point_size_lem d)); inside = h; pass = none-tested (row_fails d bs) }
+pub passing-start : (d : ℕ) (bs : List ℕ) → head_size ≤ length bs → Passing d bs 0
+passing-start d bs h = record { inside = omega (arith, zero-mul (point_size_lem d), h); pass = none-tested (row_fails d bs) }
 
-pub passing-end : {d at i : ℕ} {bs : List ℕ} → Passing d bs at i → (n : ℕ) → i ≡ n → AllPass d bs n true
-passing-end {d} {at} {i} {bs} s n e = sym (points-pass d bs n ∙ ap not (ap (λ (k : ℕ). any_of (row_fails d bs) (from 0 k)) (sym e) ∙ s.pass))
+pub passing-end : {d i : ℕ} {bs : List ℕ} → Passing d bs i → (n : ℕ) → i ≡ n → AllPass d bs n true
+passing-end {d} {i} {bs} s n e = sym (points-pass d bs n ∙ ap not (ap (λ (k : ℕ). any_of (row_fails d bs) (from 0 k)) (sym e) ∙ s.pass))
 
-module _ {d at i : ℕ} {bs : List ℕ} (s : Passing d bs at i) (size : ℕ) (e : size ≡ point_size_lem d) (stands : Bool) (f : stands ≡ whole file_point_mark size (drop at bs)) where
+-- the record of row i begins at `at`
+module _ {d i : ℕ} {bs : List ℕ} (s : Passing d bs i) (at : ℕ) (place : at ≡ point_place d i) (size : ℕ) (e : size ≡ point_size_lem d) (stands : Bool)
+    (f : stands ≡ whole file_point_mark size (drop at bs)) where
   stands-is : stands ≡ row_whole d bs i
-  stands-is = f ∙ rw (e, s.place)
+  stands-is = f ∙ rw (e, place)
 
   found : (n : ℕ) → i < n → row_fails d bs i ≡ true → AllPass d bs n false
   found n h g = sym (points-pass d bs n ∙ ap not (one_found (row_fails d bs) n i h g))
@@ -98,19 +99,18 @@ module _ {d at i : ℕ} {bs : List ℕ} (s : Passing d bs at i) (size : ℕ) (e 
   module _ (t : stands ≡ true) where
     -- the record ends inside the bytes
     pub passing-inside : at + size ≤ length bs
-    passing-inside = whole-inside file_point_mark size at bs s.inside (sym f ∙ t)
+    passing-inside = whole-inside file_point_mark size at bs (omega (arith, s.inside, place)) (sym f ∙ t)
 
     module _ (known : Bool) (g : known ≡ not (any_of bad (floats_at d (at + mark_size) bs))) where
       known_is : known ≡ row_finite d bs i
-      known_is = g ∙ rw s.place
+      known_is = g ∙ rw place
 
       pub passing-bad : (n : ℕ) → i < n → known ≡ false → AllPass d bs n false
       passing-bad n h k = found n h (ap₂ (λ (a b : Bool). not (a && b)) (sym stands-is ∙ t) (sym known_is ∙ k))
 
-      pub passing-next : known ≡ true → Passing d bs (at + size) (i + 1)
+      pub passing-next : known ≡ true → Passing d bs (i + 1)
       passing-next k =
           record {
-            place = omega (arith, s.place, e, suc-mul i (point_size_lem d));
-            inside = passing-inside;
+            inside = omega (arith, passing-inside, place, e, suc-mul i (point_size_lem d));
             pass = none_more (row_fails d bs) i s.pass (ap₂ (λ (a b : Bool). not (a && b)) (sym stands-is ∙ t) (sym known_is ∙ k));
           }

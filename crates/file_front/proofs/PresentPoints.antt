@@ -4,7 +4,7 @@
 use mathlib.Core.Path.{◌≡◌, sym, ap, subst, ◌∙◌}
 use mathlib.Core.Bool.{Bool, true, false, not, ◌&&◌}
 use Prim.Native.Nat.{ℕ, suc, ◌+◌, ◌*◌, ◌/◌, ◌^◌, ◌≤◌, ◌<◌}
-use native.Mathlib.Nat.{suc-mul, zero-mul, mul-le-mul_right, div-mul-le_self}
+use native.Mathlib.Nat.{suc-mul, mul-le-mul_right, div-mul-le_self}
 use native.Mathlib.Omega.{arith}
 use mathlib.Core.List.{List}
 use lib.ListN.{length, get_or, drop}
@@ -63,23 +63,22 @@ module _ (d : ℕ) (cs : List Float) (bs : List ℕ) (front : front_whole bs ≡
 
 -- ---- one row after the other
 
--- before row i of the n rows that both have, whose record begins at `at`: the rows before it agree
-pub record Comparing (d : ℕ) (cs : List Float) (bs : List ℕ) (n at i : ℕ) : Type 0 where
+-- before row i of the n rows that both have: the rows before it agree
+pub record Comparing (d : ℕ) (cs : List Float) (bs : List ℕ) (n i : ℕ) : Type 0 where
   pub front : front_whole bs ≡ true
   pub axes : (settings_in bs).dimension ≡ d
   pub bytes : (k : ℕ) → get_or bs k 0 < 256
   pub few : point_count d cs < 2 ^ 32
   pub mine : point_count d cs ≡ n
   pub its : n ≡ count_in bs
-  pub place : at ≡ point_place d i
   pub agree : any_of (row_differs d cs bs) (from 0 i) ≡ false
 
 pub comparing-start : {d n : ℕ} {cs : List Float} {bs : List ℕ} → front_whole bs ≡ true → (settings_in bs).dimension ≡ d → ((k : ℕ) → get_or bs k 0 < 256) → point_count d cs < 2 ^ 32
-    → point_count d cs ≡ n → n ≡ count_in bs → Comparing d cs bs n head_size 0
+    → point_count d cs ≡ n → n ≡ count_in bs → Comparing d cs bs n 0
 comparing-start {d} {n} {cs} {bs} front axes bytes few mine its =
-    record { front = front; axes = axes; bytes = bytes; few = few; mine = mine; its = its; place = omega (arith, zero-mul (point_size_lem d)); agree = none-tested (row_differs d cs bs) }
+    record { front = front; axes = axes; bytes = bytes; few = few; mine = mine; its = its; agree = none-tested (row_differs d cs bs) }
 
-module _ {d n at i : ℕ} {cs : List Float} {bs : List ℕ} (t : Comparing d cs bs n at i) where
+module _ {d n i : ℕ} {cs : List Float} {bs : List ℕ} (t : Comparing d cs bs n i) where
   stand : points_whole d n (drop head_size bs) ≡ true
   stand = rw (← t.axes, t.its) (front-parts bs t.front).1
 
@@ -99,23 +98,19 @@ module _ {d n at i : ℕ} {cs : List Float} {bs : List ℕ} (t : Comparing d cs 
         let h : suc i ≤ length cs / d = omega (arith, t.mine) in
         omega (arith, suc-mul i d, mul-le-mul_right d h, div-mul-le_self (length cs) d)
 
-    pub comparing-inside : at + point_size_lem d ≤ length bs
-    comparing-inside = omega (arith, t.place, place_inside (suc i) l, suc-mul i (point_size_lem d))
+    pub comparing-inside : point_place d i + point_size_lem d ≤ length bs
+    comparing-inside = omega (arith, place_inside (suc i) l, suc-mul i (point_size_lem d))
 
     -- its floats decide
-    module _ (r : Bool) (e : r ≡ same (floats_bytes (part cs (i * d) d)) (part bs (at + mark_size) (float_size * d))) where
+    module _ (r : Bool) (e : r ≡ same (floats_bytes (part cs (i * d) d)) (part bs (point_place d i + mark_size) (float_size * d))) where
       told : row_differs d cs bs i ≡ not r
-      told =
-          ap not
-          (sym
-          (e ∙ ap (λ (k : ℕ). same (floats_bytes (part cs (i * d) d)) (part bs (k + mark_size) (float_size * d))) t.place
-          ∙ row_same d cs bs i comparing-listed (omega (arith, t.place, comparing-inside)) (row-stands d n bs stand i l)))
+      told = ap not (sym (e ∙ row_same d cs bs i comparing-listed (omega (arith, comparing-inside)) (row-stands d n bs stand i l)))
 
       pub comparing-found : r ≡ false → SaysSame d cs bs false
       comparing-found f = said true (one_found (row_differs d cs bs) n i l (told ∙ ap not f))
 
-      pub comparing-next : r ≡ true → (size : ℕ) → size ≡ point_size_lem d → Comparing d cs bs n (at + size) (i + 1)
-      comparing-next f size z =
+      pub comparing-next : r ≡ true → Comparing d cs bs n (i + 1)
+      comparing-next f =
           record {
             front = t.front;
             axes = t.axes;
@@ -123,6 +118,5 @@ module _ {d n at i : ℕ} {cs : List Float} {bs : List ℕ} (t : Comparing d cs 
             few = t.few;
             mine = t.mine;
             its = t.its;
-            place = omega (arith, t.place, suc-mul i (point_size_lem d));
             agree = none_more (row_differs d cs bs) i t.agree (told ∙ ap not f);
           }

@@ -60,7 +60,7 @@ module _ {A : Type 0} (s : Settings) (n : ℕ) (r : Result A Refusal) (e : verdi
       sym (ap (λ (b : Bool). b && taken (verdict (points_tests s n false))) out)
 
   -- the points' tests see n points of d coordinates
-  pub head_is : is_ok r ≡ true → (j : Result A Refusal) (d : ℕ) → 1 ≤ d → verdict_of j ≡ verdict (points_tests s (n * d / d) (not (eqb (n * d % d) 0))) → is_ok j ≡ head_taken s n
+  pub head_is : {B : Type 0} → is_ok r ≡ true → (j : Result B Refusal) (d : ℕ) → 1 ≤ d → verdict_of j ≡ verdict (points_tests s (n * d / d) (not (eqb (n * d % d) 0))) → is_ok j ≡ head_taken s n
   unfolding head_taken
   head_is h j d f q =
       let fine : taken (verdict (settings_tests s)) ≡ true = sym (ok-taken r (verdict (settings_tests s)) e) ∙ h in

@@ -3,7 +3,7 @@
 --   front-facts, front_read
 use mathlib.Core.Path.{◌≡◌, sym, ap, ap₂, ◌∙◌}
 use mathlib.Core.Bool.{Bool, true, false, not, ◌&&◌, and-false}
-use Prim.Native.Nat.{ℕ, zero, suc, ◌+◌, ◌*◌, ◌≤◌, ◌<◌}
+use Prim.Native.Nat.{ℕ, zero, suc, ◌*◌, ◌≤◌, ◌<◌}
 use native.Mathlib.Nat.{zero-mul, suc-mul}
 use native.Mathlib.Omega.{arith}
 use mathlib.Core.List.{List}
@@ -23,8 +23,8 @@ use Rattle.stored.specs.Stored.{head_size, count_in, points_in, levels_place, bu
 use Rattle.tree_tests.specs.Whole.{points_whole, front_whole}
 use Rattle.stored_laws.proofs.FrontAgain.{point-stands, points-are, count_is}
 use Rattle.stored_laws.proofs.ReadBack.{buildable-passed}
-use Rattle.settings_record.specs.declared.Settings as read
-use Rattle.settings_record.specs.Reading.{settings_are}
+use Rattle.config.specs.declared.Settings as read
+use Rattle.config.specs.Params.{settings_are}
 use Rattle.file_front.specs.Reading.{FrontRead}
 use Rattle.file_front.specs.Fronts.{point_place, points_at, head_taken}
 use Rattle.file_front.proofs.Points.{whole-inside, bad, row_whole}
@@ -117,12 +117,12 @@ front-facts bs h =
     }
 
 -- what was read: settings, a count and the size of a point's record
-pub front_read : (settings : read.Settings) (m size : ℕ) (bs : List ℕ) → settings_are settings ≡ settings_in bs → m ≡ count_in bs → size ≡ point_size_lem settings.dimensions → FrontIs bs true
-    → FrontRead (record { settings = settings; n = m; next = head_size + m * size }) bs
-front_read settings m size bs e k z h =
+pub front_read : (settings : read.Settings) (m next : ℕ) (bs : List ℕ) → settings_are settings ≡ settings_in bs → m ≡ count_in bs → next ≡ point_place settings.dimensions m → FrontIs bs true
+    → FrontRead (record { settings = settings; n = m; next = next }) bs
+front_read settings m next bs e k z h =
     let has = front-facts bs h in
     let axes : settings.dimensions ≡ (settings_in bs).dimension = ap (λ (s : Settings). s.dimension) e in
-    let place : head_size + m * size ≡ levels_place bs = ap₂ (λ (i j : ℕ). head_size + i * j) k (z ∙ ap point_size_lem axes) in
+    let place : next ≡ levels_place bs = z ∙ ap₂ point_place axes k in
     record {
       settings = e;
       count = k;

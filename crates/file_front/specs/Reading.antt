@@ -3,7 +3,7 @@ use Rattle.std.specs.Prelude.{◌≡◌, ℕ, ◌≤◌, List, length}
 use Rattle.definition.specs.Refusals.{most_points, most_neighbours}
 use Rattle.formats.specs.Stream.{settings_in}
 use Rattle.stored.specs.Stored.{count_in, levels_place}
-use Rattle.settings_record.specs.Reading.{settings_are}
+use Rattle.config.specs.Params.{settings_are}
 use Rattle.file_front.specs.declared.Front.{Front}
 
 pub record FrontRead (r : Front) (bs : List ℕ) : Type 0 where

@@ -13,13 +13,13 @@ ghost use Rattle.stored.specs.Sound.{same};
 ghost use Rattle.stored.specs.Outcome.{same_settings_lem, same_points_lem};
 ghost use Rattle.stored.specs.Stored.{head_size, points_in, buildable};
 ghost use Rattle.tree_tests.specs.Whole.{points_whole, front_whole};
-ghost use Rattle.settings_record.specs.Reading.{settings_are};
-ghost use Rattle.file_front.specs.Fronts.{points_at, head_taken};
+ghost use Rattle.config.specs.Params.{settings_are};
+ghost use Rattle.file_front.specs.Fronts.{point_place, points_at, head_taken};
 ghost use Rattle.file_front.specs.Reading.{FrontRead};
 
 use bytes_in::marks;
+use config::Settings;
 use points::Points;
-use settings_record::Settings;
 
 // The head's bytes: the settings record's, and the point count's.
 pub const HEAD: usize = settings_record::SIZE + bytes_in::NUMBER;
@@ -32,6 +32,14 @@ pub struct Front {
     pub next: usize,
 }
 
+// Where the record of row i begins; where n of them end.
+fn row_place(dimensions: usize, i: usize) -> usize
+    requires { (dimensions ≤ 3) × (i < 2 ^ 32) }
+    ensures { result ≡ point_place dimensions i }
+{
+    HEAD + i * bytes_in::point_size(dimensions)
+}
+
 // ---- tested
 
 // Whether each of n point records after the head stands whole and has finite coordinates.
@@ -40,15 +48,14 @@ pub fn points_pass(bytes: &[u8], n: usize, dimensions: usize) -> bool
     ensures { result ≡ points_whole dimensions n (drop head_size bytes.now) && not (any_of (λ x. not (finite x)) (points_at dimensions n bytes.now)) }
 {
     let size = bytes_in::point_size(dimensions);
-    let mut at = HEAD;
-    for _i in 0..n {
+    for i in 0..n {
+        let at = row_place(dimensions, i);
         if !bytes_in::record_at(bytes, at, size, marks::FILE_POINT) {
             return false;
         }
         if !bytes_in::finite_at(bytes, at + bytes_in::MARK, dimensions) {
             return false;
         }
-        at += size;
     }
     true
 }
@@ -58,9 +65,8 @@ fn head_passes(settings: Settings, n: usize) -> bool
     requires { n < 2 ^ 32 }
     ensures { result ≡ head_taken (settings_are settings) n }
 {
-    let Settings { dimensions, params } = settings;
-    build_checks::settings_fault(dimensions, params).is_ok()
-        && build_checks::points_fault(n * dimensions, dimensions, params).is_ok()
+    build_checks::settings_fault(settings).is_ok()
+        && build_checks::points_fault(n * settings.dimensions, settings).is_ok()
 }
 
 // Tests the head and the points of a file: each record stands whole at its place, and the build takes what stands in them.
@@ -83,7 +89,7 @@ pub fn check_front(bytes: &[u8]) -> Option<Front>
     if !points_pass(bytes, n, dimensions) {
         return None;
     }
-    let next = HEAD + n * bytes_in::point_size(dimensions);
+    let next = row_place(dimensions, n);
     Some(Front { settings, n, next })
 }
 
@@ -112,18 +118,14 @@ pub fn same_points(points: Points<'_>, bytes: &[u8]) -> bool
         → result ≡ same_points_lem s points.entry.coordinates.now bytes.now }
 {
     let n = bytes_in::number_at(bytes, settings_record::SIZE);
-    if points.coordinates.len() / points.dimensions != n {
+    if points.count() != n {
         return false;
     }
-    let size = bytes_in::point_size(points.dimensions);
-    let mut at = HEAD;
     for i in 0..n {
-        let start = i * points.dimensions;
-        let row = &points.coordinates[start..start + points.dimensions];
-        if !floats_are(row, bytes, at + bytes_in::MARK) {
+        let at = row_place(points.dimensions, i);
+        if !floats_are(points.point(i), bytes, at + bytes_in::MARK) {
             return false;
         }
-        at += size;
     }
     true
 }

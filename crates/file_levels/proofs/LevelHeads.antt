@@ -1,26 +1,20 @@
 -- The level record at a place of a file: one law for each way out, and that its rows lie within the file. Assumes nothing.
--- Holds: head-room, no-level, short-level, is-level, head-within
+-- Holds: no-level, is-level, head-within
 use Rattle.std.specs.Prelude.{Some, None}
 use mathlib.Core.Path.{◌≡◌, sym}
 use mathlib.Core.Bool.{true, false, ◌&&◌}
-use Prim.Native.Nat.{ℕ, ◌+◌, ◌*◌, ◌≤◌, ◌<◌}
+use Prim.Native.Nat.{ℕ, ◌+◌, ◌*◌, ◌≤◌}
 use native.Mathlib.Omega.{arith}
 use mathlib.Core.List.{List}
 use lib.Dec.{leb}
 use lib.ListN.{length, drop, length-drop}
-use borrow.Author.Tests.{leb-true, le-leb, lt-leb}
+use borrow.Author.Tests.{leb-true, le-leb}
 use Rattle.lists.proofs.Tests.{clash, and-of, and-fst, and-snd, fails}
 use Rattle.formats.specs.Bytes.{number_size, marked_by, whole}
 use Rattle.stored.specs.File.{level_mark}
 use Rattle.stored.specs.Stored.{counts_size, domains_place}
 use Rattle.file_levels.specs.declared.LevelHead.{LevelHead}
 use Rattle.file_levels.specs.Levels.{HeadHere, IsHead}
-
--- where the mark and the counts stand, they lie in the file
-pub head-room : (at : ℕ) (file : List ℕ) → whole level_mark counts_size (drop at file) ≡ true → at + counts_size ≤ length file
-head-room at file e =
-    let here = drop at file in
-    omega (arith, leb-true counts_size (length here) (and-fst (leb counts_size (length here)) (marked_by level_mark here) e), length-drop at file)
 
 module _ (bs : List ℕ) (at : ℕ) where
   -- ---- no whole record
@@ -32,9 +26,6 @@ module _ (bs : List ℕ) (at : ℕ) where
       let long = leb-true (domains_place bs) (length bs) (and-fst (leb (domains_place bs) (length bs)) (marked_by level_mark bs) t) in
       let counts-fit : leb counts_size (length bs) ≡ true = le-leb counts_size (length bs) (omega arith) in
       clash (and-of counts-fit (and-snd (leb (domains_place bs) (length bs)) (marked_by level_mark bs) t)) f))
-
-  pub short-level : length bs < domains_place bs → IsHead bs at None
-  short-level h = is_none (rw (lt-leb (domains_place bs) (length bs) h))
 
   -- ---- a whole record
   pub is-level : (r : LevelHead) → whole level_mark counts_size bs ≡ true → domains_place bs ≤ length bs → HeadHere bs at r → IsHead bs at (Some r)

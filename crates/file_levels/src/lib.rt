@@ -15,7 +15,7 @@ ghost use Rattle.file_levels.specs.Levels.{IsHead, LevelPassedIs, TreePassedIs};
 use bytes_in::{COUNTS, FIRST_COUNT, SECOND_COUNT, marks};
 use file_rows::FileRows;
 use leaf_depths::LeafLevel;
-use row_sets::LevelRows;
+use row_sets::{LevelRows, WORDS};
 use tree_answer::MOST_LEVELS;
 
 // A whole level record: its counts, and where its rows and its domains begin.
@@ -76,11 +76,11 @@ pub fn check_level(
     dimensions: usize,
     least: usize,
     below: usize,
-    sets: &mut LevelRows,
+    sets: &mut LevelRows<'_>,
 ) -> Option<LevelPassed>
     requires { (dimensions ≤ 3) × (at ≤ length bytes.now) }
-    ensures { (p : ℕ → Bool) → Marked sets.old.listed p
-        → LevelPassedIs bytes.now at dimensions least below p sets.new.listed result }
+    ensures { (p : ℕ → Bool) → Marked sets.old.listed.now p
+        → LevelPassedIs bytes.now at dimensions least below p sets.new.listed.now result }
 {
     let h = level_at(bytes, at)?;
     if h.rows < least || below <= h.rows {
@@ -114,9 +114,9 @@ pub fn check_levels(
     at: usize,
     dimensions: usize,
     n: usize,
-    sets: &mut LevelRows,
+    sets: &mut LevelRows<'_>,
 ) -> Option<TreePassed>
-    requires { (dimensions ≤ 3) × (n ≤ most_points) × (at ≤ length bytes.now) × Marked sets.old.listed (λ i. ltb i n) }
+    requires { (dimensions ≤ 3) × (n ≤ most_points) × (at ≤ length bytes.now) × Marked sets.old.listed.now (λ i. ltb i n) }
     ensures { TreePassedIs bytes.now at dimensions n result }
 {
     let mut place = at;
@@ -148,9 +148,11 @@ pub fn check_tree(bytes: &[u8], at: usize, dimensions: usize, n: usize, neighbou
     ensures { (s : Settings) → s.dimension ≡ dimensions → s.neighbours ≡ neighbours
         → result ≡ levels_whole dimensions most_levels (drop at bytes.now) && sound s n (levels_at dimensions most_levels (drop at bytes.now)) }
 {
-    let mut sets = LevelRows::below(n);
+    let mut left = [0; WORDS];
+    let mut listed = [0; WORDS];
+    let mut sets = LevelRows::below(n, &mut left, &mut listed);
     let Some(t) = check_levels(bytes, at, dimensions, n, &mut sets) else {
         return false;
     };
-    t.domains <= 6 * n + 1 && t.borrowed <= 6 * n * (neighbours + 1)
+    t.domains <= rows::most_domains(n) && t.borrowed <= rows::most_borrowed(n, neighbours)
 }

@@ -1,8 +1,8 @@
 -- The domain record at a place of a file: one law for each way out, and that its parts lie within the file. Assumes nothing.
--- Holds: no-counts, counts-room, number-here, not-marked, too_short, is_whole, parts_within
+-- Holds: counts-room, number-here, too_short, is_whole, parts_within
 use Rattle.std.specs.Prelude.{Some, None}
 use mathlib.Core.Path.{◌≡◌, sym, ap}
-use mathlib.Core.Bool.{true, false, ◌&&◌}
+use mathlib.Core.Bool.{true, false}
 use Prim.Native.Nat.{ℕ, ◌+◌, ◌*◌, ◌≤◌, ◌<◌}
 use native.Mathlib.Omega.{arith}
 use mathlib.Core.List.{List}
@@ -10,7 +10,7 @@ use lib.Dec.{leb}
 use lib.ListN.{length, drop, length-drop}
 use lib.Seq.{drop-drop}
 use borrow.Author.Tests.{leb-true, le-leb, lt-leb}
-use Rattle.lists.proofs.Tests.{clash, and-of, and-fst, and-snd, fails}
+use Rattle.lists.proofs.Tests.{and-of, and-fst, and-snd}
 use Rattle.formats.specs.Bytes.{little, number_size, number_at, marked_by, whole}
 use Rattle.stored.specs.File.{domain_mark}
 use Rattle.stored.specs.Stored.{counts_size, bounds_place}
@@ -21,9 +21,6 @@ use Rattle.file_reader.specs.Fetch.{Parts, IsFetched}
 module _ (at : ℕ) (file : List ℕ) where
   abbrev here : List ℕ
   here = drop at file
-
-  pub no-counts : length file < at + counts_size → false ≡ whole domain_mark counts_size here
-  no-counts h = rw (lt-leb counts_size (length here) (omega (arith, length-drop at file)))
 
   pub counts-room : whole domain_mark counts_size here ≡ true → at + counts_size ≤ length file
   counts-room e = omega (arith, leb-true counts_size (length here) (and-fst (leb counts_size (length here)) (marked_by domain_mark here) e), length-drop at file)
@@ -36,12 +33,6 @@ module _ (at : ℕ) (file : List ℕ) where
 module _ (bs : List ℕ) (at tail : ℕ) where
   is-nothing : whole domain_mark (bounds_place bs + tail + number_size) bs ≡ false → IsFetched bs at tail None
   is-nothing f = record { stands = sym f; parts = tt }
-
-  pub not-marked : whole domain_mark counts_size bs ≡ false → IsFetched bs at tail None
-  not-marked f = is-nothing (fails (leb (bounds_place bs + tail + number_size) (length bs) && marked_by domain_mark bs) (λ t.
-      let long = leb-true (bounds_place bs + tail + number_size) (length bs) (and-fst (leb (bounds_place bs + tail + number_size) (length bs)) (marked_by domain_mark bs) t) in
-      let counts-fit : leb counts_size (length bs) ≡ true = le-leb counts_size (length bs) (omega arith) in
-      clash (and-of counts-fit (and-snd (leb (bounds_place bs + tail + number_size) (length bs)) (marked_by domain_mark bs) t)) f))
 
   pub too_short : length bs < bounds_place bs + tail + number_size → IsFetched bs at tail None
   too_short h = is-nothing (rw (lt-leb (bounds_place bs + tail + number_size) (length bs) h))

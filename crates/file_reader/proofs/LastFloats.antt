@@ -1,10 +1,10 @@
 -- The floats of a domain's record: how many, where its depth stands behind them, the bytes up to its end, and the leaf's box and cover in
 -- them. Assumes nothing.
--- Holds: record-few, depth-place, leaf-size, fine-floats, coarse-floats
+-- Holds: depth-place, leaf-size, fine-floats, coarse-floats
 use mathlib.Core.Path.{◌≡◌, refl, sym, ap}
 use mathlib.Core.Bool.{Bool, true, false}
 use mathlib.Core.List.{List, ◌++◌}
-use Prim.Native.Nat.{ℕ, ◌+◌, ◌*◌, ◌≤◌}
+use Prim.Native.Nat.{ℕ, ◌+◌, ◌*◌}
 use native.Mathlib.Omega.{arith}
 use lib.ListN.{replicate}
 use Rattle.lists.specs.Lists.{from}
@@ -15,11 +15,6 @@ use Rattle.definition.specs.Packed.{row_floats_lem, leaf_floats}
 use Rattle.formats.specs.Bytes.{number_size, float_size, float_at, floats_at}
 use Rattle.stored.specs.Stored.{bounds_place, depth_place, leaf_in, leaf_size}
 use Rattle.file_reader.specs.Fetch.{record_floats_lem}
-
--- no more than a domain row has
-pub record-few : (d : ℕ) (coarse : Bool) → record_floats_lem d coarse ≤ row_floats_lem d
-record-few d true = omega arith
-record-few d false = omega arith
 
 pub depth-place : (d : ℕ) (coarse : Bool) (bs : List ℕ) → depth_place d coarse bs ≡ bounds_place bs + float_size * record_floats_lem d coarse
 depth-place d true bs = omega arith

@@ -49,50 +49,30 @@ fn counts_stand(bytes: &[u8], at: usize) -> bool
     at <= bytes.len() && bytes_in::record_at(bytes, at, COUNTS, marks::DOMAIN)
 }
 
-// The domain record at a position, where one stands there whole; its floats have `tail` bytes, and its depth ends it.
-fn domain_at(bytes: &[u8], at: usize, tail: usize) -> Option<Fetched>
-    ensures { IsFetched (drop at bytes.now) at tail result }
-{
-    if !counts_stand(bytes, at) {
-        return None;
-    }
-    let own = bytes_in::number_at(bytes, at + FIRST_COUNT);
-    let borrowed = bytes_in::number_at(bytes, at + SECOND_COUNT);
-    let place = COUNTS + bytes_in::NUMBER * (own + borrowed);
-    let left = bytes.len() - at;
-    if left < place + bytes_in::NUMBER || left - place - bytes_in::NUMBER < tail {
-        return None;
-    }
-    Some(Fetched {
-        own,
-        borrowed,
-        own_at: at + COUNTS,
-        borrowed_at: at + COUNTS + bytes_in::NUMBER * own,
-        bounds_at: at + place,
-        depth_at: at + place + tail,
-        next: at + place + tail + bytes_in::NUMBER,
-    })
-}
-
-impl<'a> FileReader<'a> {
-    // A reader at a position of the bytes.
-    pub fn new(bytes: &'a [u8], at: usize) -> FileReader<'a>
-        ensures { (result.bytes ≡ bytes.entry) × (result.at ≡ at) }
-    {
-        FileReader { bytes, at }
-    }
-
-    // The domain record at the reader's position, where one stands there whole; its floats have `tail` bytes.
+impl FileReader<'_> {
+    // The domain record at the reader's position, where one stands there whole; its floats have `tail` bytes, and its depth ends it.
     pub fn domain(self, tail: usize) -> Option<Fetched>
         ensures { IsFetched (drop self.entry.at self.entry.bytes.now) self.entry.at tail result }
     {
-        domain_at(self.bytes, self.at, tail)
+        let FileReader { bytes, at } = self;
+        if !counts_stand(bytes, at) {
+            return None;
+        }
+        let own = bytes_in::number_at(bytes, at + FIRST_COUNT);
+        let borrowed = bytes_in::number_at(bytes, at + SECOND_COUNT);
+        let place = COUNTS + bytes_in::NUMBER * (own + borrowed);
+        let left = bytes.len() - at;
+        if left < place + bytes_in::NUMBER || left - place - bytes_in::NUMBER < tail {
+            return None;
+        }
+        Some(Fetched {
+            own,
+            borrowed,
+            own_at: at + COUNTS,
+            borrowed_at: at + COUNTS + bytes_in::NUMBER * own,
+            bounds_at: at + place,
+            depth_at: at + place + tail,
+            next: at + place + tail + bytes_in::NUMBER,
+        })
     }
-}
-
-// The domain record at a position, where one stands there whole, by a reader on the caller's bytes; its floats have `tail` bytes.
-pub fn fetch_domain(bytes: &[u8], at: usize, tail: usize) -> Option<Fetched>
-    ensures { IsFetched (drop at bytes.now) at tail result }
-{
-    FileReader::new(bytes, at).domain(tail)
 }

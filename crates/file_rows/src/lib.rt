@@ -6,7 +6,8 @@ ghost use Rattle.formats.specs.Bytes.{number_size, numbers_at};
 
 use row_sets::Rows;
 
-// So many rows from a place of the bytes on.
+// So many rows from a place of the bytes on. Bytes, place and count are three values: the rows in bytes are no slice of rows, and the definition
+// reads `numbers_at count at bytes`.
 #[derive(Clone, Copy)]
 pub struct FileRows<'a> {
     pub bytes: &'a [u8],

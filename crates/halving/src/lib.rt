@@ -56,6 +56,7 @@ pub fn halves(column: Column<'_>, rows: &mut [usize], room: &mut [usize]) -> usi
 {
     let m = middle_of(column, rows, room);
     let lo = part_rows(column, m, rows, room);
-    stretches::copy_rows(room, 0, rows.len() - lo, rows, lo);
+    let others = rows.len() - lo;
+    rows[lo..].copy_from_slice(&room[..others]);
     m
 }

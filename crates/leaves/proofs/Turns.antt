@@ -104,9 +104,9 @@ box-right : (d : ℕ) (cs : List Float) (q : Domain) → (right_of d cs q).box �
 unfolding right_of
 box-right d cs q = refl
 
--- the same where q is the domain that stands first
+-- the same where q is the domain that stands first, and its stretch was read as s, c and e
 pub record Front (d : ℕ) (cs : List Float) (leaf : ℕ) (active O₀ : List ℕ) (B₀ : List Float) (w₀ : List ℕ) (floats₀ : List Float) (at₀ k₀ : ℕ)
-    (rows w O : List ℕ) (floats B : List Float) (head tail done k : ℕ) : Type 0 where
+    (rows w O : List ℕ) (floats B : List Float) (head tail done k s c e : ℕ) : Type 0 where
   pub run : Run d cs leaf active O₀ B₀ w₀ floats₀ at₀ k₀ rows w O floats B head tail done k
   pub more : head < tail
   pub q : Domain
@@ -116,35 +116,28 @@ pub record Front (d : ℕ) (cs : List Float) (leaf : ℕ) (active O₀ : List �
       rows (room_in (length active) w) (packed_in (length active) w) O (q ∷ rest) head tail done k
   pub boxes :
       Boxes (kind d cs run.pos leaf run.lp) domain_box (box_width_lem d) (put B₀ (box_width_lem d * k₀) (joined (map domain_box (leaves_from d cs leaf (root_domain d cs active ∷ []))))) floats B (q ∷ rest) head tail k
+  pub read : (s ≡ head_start (length active) w head) × (c ≡ head_count (length active) w head) × (e ≡ head_depth (length active) w head)
 
 module _ {d : ℕ} {cs : List Float} {leaf : ℕ} {active O₀ : List ℕ} {B₀ : List Float} {w₀ : List ℕ} {floats₀ : List Float} {at₀ k₀ : ℕ}
     {rows w O : List ℕ} {floats B : List Float} {head tail done k : ℕ} where
   -- as long as the loop goes on, a domain waits
-  pub front : Run d cs leaf active O₀ B₀ w₀ floats₀ at₀ k₀ rows w O floats B head tail done k → head < tail
-      → Front d cs leaf active O₀ B₀ w₀ floats₀ at₀ k₀ rows w O floats B head tail done k
-  front x h = go x.qs x.inv x.boxes
+  pub front : {s c e : ℕ} → Run d cs leaf active O₀ B₀ w₀ floats₀ at₀ k₀ rows w O floats B head tail done k → head < tail
+      → (s ≡ head_start (length active) w head) × (c ≡ head_count (length active) w head) × (e ≡ head_depth (length active) w head)
+      → Front d cs leaf active O₀ B₀ w₀ floats₀ at₀ k₀ rows w O floats B head tail done k s c e
+  front {s} {c} {e} x h read = go x.qs x.inv x.boxes
     where
       go : (qs : List Domain)
           → Inv (kind d cs x.pos leaf x.lp) (length active) (root_domain d cs active) (packed_in (length active) w₀) O₀ at₀ k₀
           rows (room_in (length active) w) (packed_in (length active) w) O qs head tail done k
           → Boxes (kind d cs x.pos leaf x.lp) domain_box (box_width_lem d) (put B₀ (box_width_lem d * k₀) (joined (map domain_box (leaves_from d cs leaf (root_domain d cs active ∷ []))))) floats B qs head tail k
-          → Front d cs leaf active O₀ B₀ w₀ floats₀ at₀ k₀ rows w O floats B head tail done k
+          → Front d cs leaf active O₀ B₀ w₀ floats₀ at₀ k₀ rows w O floats B head tail done k s c e
       go [] inv b = absurd (inv-next inv h)
-      go (q ∷ qs) inv b = record { run = x; more = h; q = q; rest = qs; inv = inv; boxes = b }
+      go (q ∷ qs) inv b = record { run = x; more = h; q = q; rest = qs; inv = inv; boxes = b; read = read }
 
   -- ---- a turn
-  module _ (x : Front d cs leaf active O₀ B₀ w₀ floats₀ at₀ k₀ rows w O floats B head tail done k) where
+  module _ {s c e : ℕ} (x : Front d cs leaf active O₀ B₀ w₀ floats₀ at₀ k₀ rows w O floats B head tail done k s c e) where
     abbrev n : ℕ
     n = length active
-
-    abbrev s : ℕ
-    s = head_start n w head
-
-    abbrev c : ℕ
-    c = head_count n w head
-
-    abbrev e : ℕ
-    e = head_depth n w head
 
     abbrev q : Domain
     q = x.q
@@ -153,13 +146,13 @@ module _ {d : ℕ} {cs : List Float} {leaf : ℕ} {active O₀ : List ℕ} {B₀
     eight = x.run.fit-w
 
     e-s : get_or (room_in n w) (3 * head) 0 ≡ s
-    e-s = start-at n w eight head (omega (arith, x.more, x.inv.fits))
+    e-s = start-at n w eight head (omega (arith, x.more, x.inv.fits)) ∙ sym x.read.0
 
     e-c : get_or (room_in n w) (3 * head + 1) 0 ≡ c
-    e-c = view-count n w eight head (omega (arith, x.more, x.inv.fits))
+    e-c = view-count n w eight head (omega (arith, x.more, x.inv.fits)) ∙ sym x.read.1
 
     e-e : get_or (room_in n w) (3 * head + 2) 0 ≡ e
-    e-e = view-depth n w eight head (omega (arith, x.more, x.inv.fits))
+    e-e = view-depth n w eight head (omega (arith, x.more, x.inv.fits)) ∙ sym x.read.2
 
     inside : s + c ≤ n
     inside = omega (arith, turn_inside x.inv x.more e-s e-c e-e, x.run.same)

@@ -3,7 +3,7 @@
 #![tactic(auto)]
 
 ghost use Rattle.std.specs.Prelude.{◌≡◌, [], ◌∷◌, map, ◌+◌, ◌*◌, ◌^◌, ◌≤◌, ◌<◌, length};
-ghost use Rattle.lists.specs.Lists.{put, joined};
+ghost use Rattle.lists.specs.Lists.{put, part, joined};
 ghost use Rattle.lists.specs.Ascends.{All};
 ghost use Rattle.lists.specs.Found.{AsFoundFrom};
 ghost use Rattle.definition.specs.Packed.{row_numbers};
@@ -32,12 +32,21 @@ fn put_root(points: Points<'_>, rows: &[usize], room: &mut Room<'_>)
         count: n,
         depth: 0,
     };
-    queue::put_waiting(room.wholes, 2 * n, whole);
-    boxes::write_box(
-        extents::get_pointarray_extents(points, rows),
-        room.floats,
-        0,
-    );
+    let wholes: &mut [usize] = room.wholes;
+    let floats: &mut [f64] = room.floats;
+    queue::put_waiting(wholes, 2 * n, whole);
+    let extents = extents::get_pointarray_extents(points, rows);
+    let width = boxes::box_width(points.dimensions);
+    boxes::write_box(extents, &mut floats[..width]);
+}
+
+// Writes the packed leaves, one number a row behind the ordering's, to the place of the rows.
+fn take_packed(rows: &mut [usize], wholes: &[usize])
+    requires { 2 * length rows.old ≤ length wholes.now }
+    ensures { rows.new ≡ part wholes.now (length rows.old) (length rows.old) }
+{
+    let n = rows.len();
+    rows.copy_from_slice(&wholes[n..2 * n]);
 }
 
 // Cuts the rows into the leaves of a level, which stand in their place in the end, packed. The domain rows from the first on get start
@@ -78,33 +87,40 @@ fn cut_leaves(
     let mut k = first;
     // a queue that grows: no counted loop
     while head < tail {
-        let place = base + queue::WAITING * head;
-        let start = wholes[place];
-        let count = wholes[place + 1];
-        let depth = wholes[place + 2] + 1;
+        let mut stretch = queue::waiting_at(wholes, base + queue::WAITING * head);
+        stretch.depth += 1;
+        let Stretch { start, count, .. } = stretch;
         let end = start + count;
-        let whole = boxes::read_box(floats, stride * head, points.dimensions);
+        let at = stride * head;
+        let whole = boxes::read_box(&floats[at..at + stride], points.dimensions);
         let plane = cut::cut_stretch(points, &mut rows[start..end], &mut wholes[..count]);
-        let stretch = Stretch {
-            start,
-            count,
-            depth,
-        };
         head += 1;
         if leaf <= count / 2 {
             queue::put_halves(wholes, base + queue::WAITING * tail, stretch);
-            boxes::write_halves(whole, plane.axis, plane.value, floats, stride * tail);
+            let at = stride * tail;
+            boxes::write_halves(
+                whole,
+                plane.axis,
+                plane.value,
+                &mut floats[at..at + 2 * stride],
+            );
             tail += 2;
         } else {
-            stretches::copy_rows(rows, start, count, wholes, n + done);
+            stretches::put_values(wholes, n + done, &rows[start..end]);
             let start = from + done;
             queue::put_leaves(domains, k, Stretch { start, ..stretch });
-            boxes::write_halves(whole, plane.axis, plane.value, boxes, stride * k);
+            let at = stride * k;
+            boxes::write_halves(
+                whole,
+                plane.axis,
+                plane.value,
+                &mut boxes[at..at + 2 * stride],
+            );
             done += count;
             k += 2;
         }
     }
-    stretches::copy_rows(wholes, n, n, rows, 0);
+    take_packed(rows, wholes);
     k - first
 }
 

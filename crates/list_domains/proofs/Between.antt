@@ -9,12 +9,16 @@ use native.Mathlib.Nat.{add-zero, sub-zero, le_trans, mul-le-mul_left}
 use native.Mathlib.Omega.{arith}
 use borrow.Author.Tests.{eq-eqb, ne_eqb}
 use lib.Dec.{eqb}
+use lib.ListN.{length}
 use Rattle.lists.proofs.Tests.{clash}
 use Rattle.definition.specs.Packed.{row_floats_lem}
 use Rattle.packed.specs.Reading.{Packed, own_count, borrowed_count, depth_at, read_leaf}
 use Rattle.tree_tests.specs.InTurn.{without}
+use Rattle.tree_tests.proofs.Sets.{without_in}
 use Rattle.marks.specs.Bits.{Marked}
 use Rattle.marks.proofs.Marks.{held, bits-marked}
+use Rattle.row_sets.specs.Tested.{LeftIsListed}
+use Rattle.row_sets.proofs.RowTests.{inside-sets, sets-inside}
 use Rattle.list_domains.specs.InLists.{domain_passes, domains_pass, borrowed_end}
 use Rattle.list_domains.specs.Passed.{Ready, DomainPassed, DomainsPassed}
 use Rattle.list_domains.specs.declared.SoFar.{SoFar}
@@ -54,16 +58,18 @@ pub record Rest (coarse : Bool) (l : Packed) (most rows j a b k least m : ℕ) (
 
 pub record Between (coarse : Bool) (l : Packed) (most j a b k m : ℕ) (left₀ listed₀ left listed : List ℕ) (i a' b' k' least' : ℕ) : Type 0 where
   pub bound : i ≤ m
+  pub kept : LeftIsListed left listed
   pub ready : Ready l most (j + i) (m - i) a' b' k'
   pub rest : (p q : ℕ → Bool) → Marked left₀ p → Marked listed₀ q
       → Rest coarse l most k (j + i) a' b' k' least' (m - i) left listed (domains_pass coarse l most k q p j a b k 0 m) q
   pub end : borrowed_end l.domains j b m ≡ borrowed_end l.domains (j + i) b' (m - i)
 
 module _ {coarse : Bool} {l : Packed} {most j a b k m : ℕ} {left₀ listed₀ : List ℕ} where
-  pub between_start : Ready l most j m a b k → Between coarse l most j a b k m left₀ listed₀ left₀ listed₀ 0 a b k 0
-  between_start h =
+  pub between_start : Ready l most j m a b k → LeftIsListed left₀ listed₀ → Between coarse l most j a b k m left₀ listed₀ left₀ listed₀ 0 a b k 0
+  between_start h kept =
       record {
         bound = omega arith;
+        kept = kept;
         ready = rw (add-zero j, sub-zero m) h;
         rest = λ p q n o. rw (add-zero j, sub-zero m) (record { set = p; marked = n; as-was = o; same = refl });
         end = rw (add-zero j, sub-zero m);
@@ -128,10 +134,13 @@ module _ {coarse : Bool} {l : Packed} {most j a b k m : ℕ} {left₀ listed₀ 
           next : j + (i + 1) ≡ suc (j + i)
           next = omega arith
 
-          pub between_next : Between coarse l most j a b k m left₀ listed₀ left' listed' (i + 1) r.own_at r.borrowed_at r.remaining r.least
-          between_next =
+          pub between_next : length left' ≡ length listed'
+              → Between coarse l most j a b k m left₀ listed₀ left' listed' (i + 1) r.own_at r.borrowed_at r.leaves.remaining r.leaves.least
+          between_next long =
               record {
                 bound = omega arith;
+                kept = sets-inside long (d.left_out (held left) (bits-marked left) refl) (d.listed_as_was (held listed) (bits-marked listed) refl)
+                    (λ x e. inside-sets h.kept (bits-marked left) (bits-marked listed) x (without_in (read_leaf l (j + i)).own (held left) x e));
                 ready =
                     record {
                       axes = h.ready.axes;

@@ -1,15 +1,14 @@
 -- The tests of a domain row's floats come to those of the leaf's box and cover. Assumes nothing.
 use mathlib.Core.Path.{◌≡◌, refl, sym, ap, ◌∙◌}
 use mathlib.Core.Bool.{Bool, true, false, not, ◌&&◌, ◌||◌}
-use mathlib.Core.List.{List, [], ◌∷◌, ◌++◌, map, map-id}
-use Prim.Native.Nat.{ℕ, ◌<◌}
+use mathlib.Core.List.{List, [], ◌∷◌, ◌++◌, map}
+use Prim.Native.Nat.{ℕ}
 use borrow.Author.Tests.{eq-eqb}
-use lib.ListN.{length, get_or, replicate}
-use lib.Ieee.{Float, nan, binary64, to_bits, of_bits, is_nan}
+use lib.ListN.{length, replicate}
+use lib.Ieee.{Float, binary64, to_bits, of_bits, is_nan}
 use Rattle.lists.specs.Lists.{any_of}
 use Rattle.lists.proofs.Tests.{or-false}
 use Rattle.lists.proofs.Members.{any_append}
-use Rattle.lists.proofs.Map.{get_d-map-in}
 use Rattle.definition.specs.Number.{plus_zero}
 use Rattle.definition.specs.Points.{box_width_lem}
 use Rattle.definition.specs.Tree.{Leaf}
@@ -49,14 +48,3 @@ pub box-tests : (d : ℕ) (coarse : Bool) (f : Leaf) → length f.box ≡ box_wi
 unfolding no_box sound_box bound_fits_lem
 box-tests d true f e = rw (← e) (ap (λ (b : Bool). b && not (is_nan f.cover)) (all-zero f.box))
 box-tests d false f e = no-nan-behind f.box f.cover ∙ rw (eq-eqb (length f.box) (box_width_lem d) e)
-
--- ---- the tests of a row's floats, the bounds first: t is what they come to, and the cover is read at its place
-module _ (coarse : Bool) (xs : List Float) (t : Bool) (e : t ≡ all_of (bound_fits_lem coarse) xs) where
-  pub bounds-off : (x : Float) → t ≡ false → false ≡ floats_fit_lem coarse xs x
-  bounds-off x f = rw (← e, f)
-
-  pub bounds-on : (boxes : List Float) (i : ℕ) (r : Bool) → i < length boxes → t ≡ true → r ≡ bound_fits_lem false (get_or boxes i nan)
-      → r ≡ floats_fit_lem coarse xs (get_or boxes i plus_zero)
-  bounds-on boxes i r h f g =
-      let inside : get_or boxes i nan ≡ get_or boxes i plus_zero = ap (λ (l : List Float). get_or l i nan) (sym (map-id boxes)) ∙ get_d-map-in (λ x. x) boxes i plus_zero nan h in
-      rw (← e, f) (g ∙ ap (bound_fits_lem false) inside)

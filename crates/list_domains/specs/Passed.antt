@@ -23,8 +23,8 @@ pub record DomainPassed (coarse : Bool) (l : Packed) (most rows j a b k least : 
   pub passed : (p q : ℕ → Bool) → Marked left₀ p → Marked listed₀ q → is_some r ≡ domain_passes coarse l most rows q p j a b k least
   pub own : IfSome r (λ x. x.own_at ≡ a + own_count l.domains j)
   pub borrowed : IfSome r (λ x. x.borrowed_at ≡ b + borrowed_count l.domains j)
-  pub remaining : IfSome r (λ x. x.remaining ≡ k - own_count l.domains j)
-  pub depth : IfSome r (λ x. x.least ≡ depth_at l.domains j)
+  pub remaining : IfSome r (λ x. x.leaves.remaining ≡ k - own_count l.domains j)
+  pub depth : IfSome r (λ x. x.leaves.least ≡ depth_at l.domains j)
   pub left_out : (p : ℕ → Bool) → Marked left₀ p → is_some r ≡ true → Marked left (without (read_leaf l j).own p)
   pub listed_as_was : (q : ℕ → Bool) → Marked listed₀ q → is_some r ≡ true → Marked listed q
 

@@ -2,19 +2,18 @@
 // them that no leaf before has.
 #![tactic(auto)]
 
-ghost use Rattle.std.specs.Prelude.{◌≡◌, ◌+◌, ◌≤◌, ◌<◌, length, get_or};
-ghost use Rattle.lists.specs.Lists.{part};
-ghost use Rattle.definition.specs.Number.{plus_zero};
+ghost use Rattle.std.specs.Prelude.{◌≡◌, ◌≤◌};
 ghost use Rattle.packed.specs.View.{packed_of};
 ghost use Rattle.packed.specs.Rows.{plain_row};
 ghost use Rattle.stored.specs.Sound.{all_of};
+ghost use Rattle.row_sets.specs.Tested.{LeftIsListed};
 ghost use Rattle.list_domains.specs.Boxes.{bound_fits_lem, floats_fit_lem};
 ghost use Rattle.list_domains.specs.InLists.{stretches_fit_lem};
 ghost use Rattle.list_domains.specs.Passed.{Ready, DomainPassed, DomainsPassed};
 
 use leaf_depths::LeafLevel;
-use list_rows::ListRows;
-use packed::{DomainRow, Packed};
+use leaf_tests::LeavesPassed;
+use packed::{DomainRow, Leaf, Packed};
 use row_sets::LevelRows;
 
 // How many rows, domains and borrowed rows levels have in all: where those of the next level start.
@@ -25,17 +24,15 @@ pub struct ListsPassed {
     pub borrowed: usize,
 }
 
-// How far the leaves of a level have passed: where the own and the borrowed rows of the next one are to start, how many rows are left for those
-// to come, and the depth of the leaf before, or 0.
+// How far the leaves of a level have passed: where the own and the borrowed rows of the next one are to start, and what is left for it.
 #[derive(Clone, Copy)]
 pub struct SoFar {
     pub own_at: usize,
     pub borrowed_at: usize,
-    pub remaining: usize,
-    pub least: usize,
+    pub leaves: LeavesPassed,
 }
 
-// Whether one bound of a box may stand there. The coarse domain has no box, and +0 in its place.
+// Whether one bound of a box may stand there. The coarse domain has no box, and +0 in its place. The flag is that of `LeafLevel`, here and below.
 #[tactic(auto, unfolding(crate::specs::Boxes::bound_fits_lem))]
 fn bound_fits(x: f64, coarse: bool) -> bool
     ensures { result ≡ bound_fits_lem coarse x }
@@ -54,24 +51,23 @@ fn bounds_fit(bounds: &[f64], coarse: bool) -> bool
     bounds.iter().all(|&x| bound_fits(x, coarse))
 }
 
-// Whether the floats of a domain row may stand there: the bounds of its box, `width` in number, and the cover behind them, which may be
-// any value but not-a-number.
-fn floats_fit(boxes: &[f64], at: usize, width: usize, coarse: bool) -> bool
-    requires { at + width < length boxes.now }
-    ensures { result ≡ floats_fit_lem coarse (part boxes.now at width) (get_or boxes.now (at + width) plus_zero) }
+// Whether the floats of a leaf may stand there: the bounds of its box, and the cover, which may be any value but not-a-number.
+#[tactic(auto, unfolding(crate::specs::Boxes::bound_fits_lem))]
+fn floats_fit(leaf: Leaf<'_>, coarse: bool) -> bool
+    ensures { result ≡ floats_fit_lem coarse leaf.entry.bounds.now leaf.entry.cover }
 {
-    bounds_fit(&boxes[at..at + width], coarse) && bound_fits(boxes[at + width], false)
+    bounds_fit(leaf.bounds, coarse) && !leaf.cover.is_nan()
 }
 
 // Whether a domain row's stretches start where those before them end, and end inside what is left.
 #[tactic(auto, using(std::proofs::lemmas::Bool::Decides::nat_tests), unfolding(crate::specs::InLists::stretches_fit_lem))]
 fn stretches_fit(row: DomainRow, most: usize, so_far: SoFar) -> bool
     requires { so_far.borrowed_at ≤ most }
-    ensures { result ≡ stretches_fit_lem (plain_row row) most so_far.own_at so_far.borrowed_at so_far.remaining }
+    ensures { result ≡ stretches_fit_lem (plain_row row) most so_far.own_at so_far.borrowed_at so_far.leaves.remaining }
 {
     row.internal_start == so_far.own_at
         && row.borrowed_start == so_far.borrowed_at
-        && row.internal_count <= so_far.remaining
+        && row.internal_count <= so_far.leaves.remaining
         && row.borrowed_count <= most - so_far.borrowed_at
 }
 
@@ -82,44 +78,33 @@ pub fn check_domain(
     level: LeafLevel,
     borrowed_most: usize,
     so_far: SoFar,
-    sets: &mut LevelRows,
+    sets: &mut LevelRows<'_>,
 ) -> Option<SoFar>
-    requires { Ready (packed_of tree) borrowed_most j 1 so_far.own_at so_far.borrowed_at so_far.remaining }
-    ensures { DomainPassed level.coarse (packed_of tree.entry) borrowed_most level.rows j so_far.own_at so_far.borrowed_at so_far.remaining so_far.least
-        sets.old.left sets.old.listed sets.new.left sets.new.listed result }
+    requires ready { Ready (packed_of tree) borrowed_most j 1 so_far.own_at so_far.borrowed_at so_far.leaves.remaining }
+    requires kept { LeftIsListed sets.old.left.now sets.old.listed.now }
+    ensures { DomainPassed level.coarse (packed_of tree.entry) borrowed_most level.rows j so_far.own_at so_far.borrowed_at so_far.leaves.remaining
+        so_far.leaves.least sets.old.left.now sets.old.listed.now sets.new.left.now sets.new.listed.now result }
 {
     let row = packed::read_row(tree.domains, j);
     if !stretches_fit(row, borrowed_most, so_far) {
         return None;
     }
-    if !level.depth_passes(so_far.least, row.internal_count, row.depth) {
+    let leaf = tree.leaf(j);
+    if !floats_fit(leaf, level.coarse) {
         return None;
     }
-    let box_at = packed::floats_before(tree.dimensions, j);
-    if !floats_fit(
-        tree.boxes,
-        box_at,
-        boxes::box_width(tree.dimensions),
-        level.coarse,
-    ) {
-        return None;
-    }
-    let own_end = so_far.own_at + row.internal_count;
-    let own = ListRows {
-        list: &tree.internals[so_far.own_at..own_end],
-    };
-    let borrowed_end = so_far.borrowed_at + row.borrowed_count;
-    let borrowed = ListRows {
-        list: &tree.borrowed[so_far.borrowed_at..borrowed_end],
-    };
-    if !sets.rows_pass(&own, &borrowed) {
-        return None;
-    }
+    let leaves = leaf_tests::check_leaf(
+        level,
+        so_far.leaves,
+        &leaf.own,
+        &leaf.borrowed,
+        leaf.depth,
+        sets,
+    )?;
     Some(SoFar {
-        own_at: own_end,
-        borrowed_at: borrowed_end,
-        remaining: so_far.remaining - row.internal_count,
-        least: row.depth,
+        own_at: so_far.own_at + row.internal_count,
+        borrowed_at: so_far.borrowed_at + row.borrowed_count,
+        leaves,
     })
 }
 
@@ -131,22 +116,25 @@ pub fn check_domains(
     count: usize,
     level: LeafLevel,
     borrowed_most: usize,
-    sets: &mut LevelRows,
+    sets: &mut LevelRows<'_>,
 ) -> Option<usize>
-    requires { Ready (packed_of tree) borrowed_most before.domains count before.rows before.borrowed level.rows }
+    requires ready { Ready (packed_of tree) borrowed_most before.domains count before.rows before.borrowed level.rows }
+    requires kept { LeftIsListed sets.old.left.now sets.old.listed.now }
     ensures { DomainsPassed level.coarse (packed_of tree.entry) borrowed_most before.domains before.rows before.borrowed level.rows count
-        sets.old.left sets.old.listed sets.new.listed result }
+        sets.old.left.now sets.old.listed.now sets.new.listed.now result }
 {
     let mut so_far = SoFar {
         own_at: before.rows,
         borrowed_at: before.borrowed,
-        remaining: level.rows,
-        least: 0,
+        leaves: LeavesPassed {
+            remaining: level.rows,
+            least: 0,
+        },
     };
     for i in 0..count {
         so_far = check_domain(tree, before.domains + i, level, borrowed_most, so_far, sets)?;
     }
-    if so_far.remaining != 0 {
+    if so_far.leaves.remaining != 0 {
         return None;
     }
     Some(so_far.borrowed_at)

@@ -1,5 +1,5 @@
 -- One level more: its counts, the level itself, and the totals with it. Assumes nothing.
--- Holds: count-off, domains-off, rows-most, domains-most, level-ready, level-out, level-on
+-- Holds: domains-off, rows-most, domains-most, level-ready, level-out, level-on
 use Rattle.std.specs.Prelude.{Some, None}
 use mathlib.Core.Path.{◌≡◌, refl, sym, ◌∙◌}
 use mathlib.Core.Bool.{Bool, true, false, ◌&&◌, and-false}
@@ -34,9 +34,6 @@ no-level listed h =
 
 module _ (coarse : Bool) (l : Packed) (level_points : List ℕ) (n most t above rows m : ℕ) (done : ListsPassed) (listed₀ : List ℕ)
     (ready : NextReady l level_points n most above done) (x : Bool) (count : x ≡ count_fits_lem t n above rows) where
-  pub count-off : x ≡ false → (listed : List ℕ) → NextPassed coarse l level_points n most t above rows m done listed₀ listed None
-  count-off f listed = no-level listed (λ set k. rw (← count, f))
-
   module _ (y : Bool) (domains : y ≡ (one_only coarse m && leb m (most_rows n - done.domains))) where
     pub domains-off : y ≡ false → (listed : List ℕ) → NextPassed coarse l level_points n most t above rows m done listed₀ listed None
     domains-off f listed = no-level listed (λ set k. rw (← domains, f, and-false (count_fits_lem t n above rows)))

@@ -13,8 +13,7 @@ ghost use Rattle.list_levels.specs.Passed.{LevelReady, NextReady, LevelsReady, L
 
 use leaf_depths::LeafLevel;
 use list_domains::ListsPassed;
-use list_rows::ListRows;
-use row_sets::LevelRows;
+use row_sets::{LevelRows, WORDS};
 use tree_answer::{DDMTree, PackedTree};
 
 // Whether a level's rows are listed above, and its domain rows pass with these rows listed; where they do, where its borrowed rows end. They
@@ -25,15 +24,13 @@ pub fn check_level(
     count: usize,
     level: LeafLevel,
     borrowed_most: usize,
-    sets: &mut LevelRows,
+    sets: &mut LevelRows<'_>,
 ) -> Option<usize>
     requires { LevelReady (packed_of tree.leaves) tree.level_points.now borrowed_most before.domains count before.rows before.borrowed level.rows }
     ensures { LevelPassed level.coarse (packed_of tree.entry.leaves) tree.entry.level_points.now borrowed_most before.domains before.rows before.borrowed
-        level.rows count sets.old.listed sets.new.listed result }
+        level.rows count sets.old.listed.now sets.new.listed.now result }
 {
-    let points = ListRows {
-        list: &tree.level_points[before.rows..before.rows + level.rows],
-    };
+    let points = &tree.level_points[before.rows..before.rows + level.rows];
     if !sets.narrow(&points) {
         return None;
     }
@@ -51,7 +48,8 @@ fn count_fits(t: usize, n: usize, above: usize, rows: usize) -> bool
     }
 }
 
-// Whether a level may have so many domains: the coarse one just one, any other not one, and no more than there is room for.
+// Whether a level may have so many domains: the coarse one just one, any other not one, and no more than there is room for. The flag is that of
+// `LeafLevel`.
 fn domains_fit(coarse: bool, count: usize, room: usize) -> bool
     ensures { result ≡ (one_only coarse count && leb count room) }
 {
@@ -73,12 +71,12 @@ fn next_level(
     t: usize,
     above: usize,
     done: ListsPassed,
-    sets: &mut LevelRows,
+    sets: &mut LevelRows<'_>,
 ) -> Option<ListsPassed>
     requires ready { NextReady (packed_of tree.leaves) tree.level_points.now n borrowed_most above done }
     requires counted { t < 4 }
     ensures { NextPassed (eqb (t + 1) tree.entry.counts.levels) (packed_of tree.entry.leaves) tree.entry.level_points.now n borrowed_most t above
-        (get_or tree.entry.counts.rows t 0) (get_or tree.entry.counts.domains t 0) done sets.old.listed sets.new.listed result }
+        (get_or tree.entry.counts.rows t 0) (get_or tree.entry.counts.domains t 0) done sets.old.listed.now sets.new.listed.now result }
 {
     let level = LeafLevel {
         rows: tree.counts.rows[t],
@@ -88,7 +86,7 @@ fn next_level(
         return None;
     }
     let count = tree.counts.domains[t];
-    if !domains_fit(level.coarse, count, 6 * n + 1 - done.domains) {
+    if !domains_fit(level.coarse, count, rows::most_domains(n) - done.domains) {
         return None;
     }
     let borrowed = check_level(tree, done, count, level, borrowed_most, sets)?;
@@ -104,9 +102,9 @@ pub fn check_levels(
     tree: PackedTree<'_>,
     n: usize,
     borrowed_most: usize,
-    sets: &mut LevelRows,
+    sets: &mut LevelRows<'_>,
 ) -> Option<ListsPassed>
-    requires { LevelsReady (packed_of tree.leaves) tree.level_points.now (counts_given tree.counts) n borrowed_most sets.old.listed }
+    requires { LevelsReady (packed_of tree.leaves) tree.level_points.now (counts_given tree.counts) n borrowed_most sets.old.listed.now }
     ensures { LevelsPassed (packed_of tree.entry.leaves) tree.entry.level_points.now (counts_given tree.entry.counts) n borrowed_most result }
 {
     let mut done = ListsPassed {
@@ -146,7 +144,8 @@ pub fn check_lists(tree: PackedTree<'_>, n: usize, neighbours: usize) -> Option<
     if !counts_stand(tree.counts) {
         return None;
     }
-    let mut sets = LevelRows::below(n);
-    let borrowed_most = 6 * n * (neighbours + 1);
-    check_levels(tree, n, borrowed_most, &mut sets)
+    let mut left = [0; WORDS];
+    let mut listed = [0; WORDS];
+    let mut sets = LevelRows::below(n, &mut left, &mut listed);
+    check_levels(tree, n, rows::most_borrowed(n, neighbours), &mut sets)
 }

@@ -10,7 +10,7 @@ ghost use Rattle.tree_answer.specs.Answers.{tree_answer_lem};
 ghost use Rattle.tree_lists.specs.Lent.{lists_in, SameLists};
 ghost use Rattle.load.specs.Loading.{Loaded};
 
-use config::DDMParams;
+use config::{DDMParams, Settings};
 use file_front::Front;
 use points::Points;
 use refusal::Refusal;
@@ -45,13 +45,14 @@ fn load_file(
     let Some(place) = check_file(bytes) else {
         return Err(Refusal::NoSoundTree);
     };
-    if !settings_record::same_settings(points.dimensions, params, bytes) {
+    let dimensions = points.dimensions;
+    if !settings_record::same_settings(Settings { dimensions, params }, bytes) {
         return Err(Refusal::OtherSettings);
     }
     if !file_front::same_points(points, bytes) {
         return Err(Refusal::OtherPoints);
     }
-    Ok(load_lists::put_levels(bytes, place, points.dimensions, lists))
+    Ok(load_lists::put_levels(bytes, place, dimensions, lists))
 }
 
 // The load of a stored tree for the present points and settings. A refused call writes to no list. An accepted one writes the tree to

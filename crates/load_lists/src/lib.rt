@@ -15,6 +15,7 @@ ghost use Rattle.tree_lists.specs.Lent.{SameLists};
 ghost use Rattle.load_lists.specs.Places.{packed_in, floats_read, ahead, domain_at_lem, domains_at, level_at_lem, Room, Written, tree_from, CanHold};
 
 use file_levels::LevelHead;
+use file_reader::FileReader;
 use tree_answer::{DDMTree, MOST_LEVELS};
 use tree_lists::TreeLists;
 
@@ -75,7 +76,8 @@ fn put_domain(
         (packed_in lists.old dimensions) (packed_in lists.new dimensions) }
 {
     let floats = file_reader::record_floats(dimensions, coarse);
-    let found = file_reader::fetch_domain(bytes, c.at, bytes_in::FLOAT * floats).unwrap();
+    let reader = FileReader { bytes, at: c.at };
+    let found = reader.domain(bytes_in::FLOAT * floats).unwrap();
     let depth = bytes_in::number_at(bytes, found.depth_at);
     let own_end = c.own + found.own;
     let borrowed_end = c.borrowed + found.borrowed;

@@ -1,6 +1,6 @@
 -- Sets of rows as bits: no row, one row more, one less, and sets that agree. Assumes nothing.
 -- Holds: bit-tells, marked-within, marked-bit, unmarked-bit, marked-same, mark-adds, unmark-takes, held, bits-marked,
---   marked-held, asked-bit, asked-within, marked-none, marked-zeros
+--   marked-held, unmark-none, marked-none, marked-zeros
 use mathlib.Core.Path.{◌≡◌, refl, sym, ap, ◌∙◌}
 use mathlib.Core.Logic.{⊎_elim}
 use mathlib.Core.Bool.{Bool, true, false, not, ◌&&◌, ◌||◌, and-false}
@@ -108,12 +108,18 @@ bits-marked ws = record { bit = λ i h. one_of (bit_at ws i) (mod-lt (get_or ws 
 pub marked-held : {ws : List ℕ} {p : ℕ → Bool} → Marked ws p → (i : ℕ) → held ws i ≡ p i
 marked-held {ws} {p} m i = ⊎_elim (λ (h : 64 * length ws ≤ i). (bits-marked ws).beyond i h ∙ sym (m.beyond i h)) (λ (h : i < 64 * length ws). bit-tells m i h) (le-or-lt (64 * length ws) i)
 
--- a row that is asked for and in the set has bit 1, and lies in the words
-pub asked-bit : (ws : List ℕ) (i : ℕ) (r : Bool) → ((p : ℕ → Bool) → Marked ws p → r ≡ p i) → r ≡ true → bit_at ws i ≡ 1
-asked-bit ws i r f e = marked-bit (bits-marked ws) i (sym (f (held ws) (bits-marked ws)) ∙ e)
+-- a row without a mark is taken out of the set
+pub unmark-none : {ws : List ℕ} {p : ℕ → Bool} → Marked ws p → (i : ℕ) → (bit_at ws i ≡ 1 → ⊥) → Marked ws (λ j. p j && not (eqb j i))
+unmark-none {ws} {p} m i none = marked-same m (λ j. p j && not (eqb j i)) (λ j. ⊎_elim (here j) (there j) (same_or j i))
+  where
+    out : p i ≡ false
+    out = sym (marked-held m i) ∙ ne_eqb (bit_at ws i) 1 none
 
-pub asked-within : (ws : List ℕ) (i : ℕ) (r : Bool) → ((p : ℕ → Bool) → Marked ws p → r ≡ p i) → r ≡ true → i < 64 * length ws
-asked-within ws i r f e = marked-within (bits-marked ws) i (sym (f (held ws) (bits-marked ws)) ∙ e)
+    here : (j : ℕ) → j ≡ i → p j ≡ p j && not (eqb j i)
+    here j e = ap p e ∙ out ∙ sym (ap (λ (b : Bool). b && not (eqb j i)) (ap p e ∙ out))
+
+    there : (j : ℕ) → (j ≡ i → ⊥) → p j ≡ p j && not (eqb j i)
+    there j n = sym (ap (λ (b : Bool). p j && not b) (ne_eqb j i n) ∙ and-true (p j))
 
 -- ---- no row
 none-bit : (i : ℕ) → 0 / 2 ^ (i % 64) % 2 ≡ 0

@@ -1,6 +1,6 @@
 -- A bit of a number that is 0 becomes 1 by adding its power, one that is 1 becomes 0 by taking it away, and the other bits stay. Assumes nothing.
--- Holds: rest_lt, added, bit-set, bit-higher, bit-lower, other-bit, bit-there, bit-cleared, other-cleared, or-adds, and-takes
-use mathlib.Core.Path.{◌≡◌, sym, ap, subst, ◌∙◌}
+-- Holds: rest_lt, added, bit-set, bit-higher, bit-lower, other-bit, bit-there, bit-cleared, other-cleared, or-adds, and-rest, and-takes, and-keeps
+use mathlib.Core.Path.{◌≡◌, sym, ap, ap₂, subst, ◌∙◌}
 use Prim.Native.Nat.{ℕ, suc, ◌+◌, ◌-◌, ◌*◌, ◌/◌, ◌%◌, ◌^◌, ◌≤◌, ◌<◌}
 use native.Mathlib.Nat.{pow-succ', mul_comm, add-mul, zero-mul, one-mul, mul-le-mul_right, mod-lt}
 use native.Mathlib.Omega.{arith}
@@ -89,9 +89,18 @@ one_shl k h = shl_exact {a = 1} 1 k 64 (lit< tt) (omega arith) ∙ one-mul (2 ^ 
 pub or-adds : (x k : ℕ) → k < 64 → x / 2 ^ k % 2 ≡ 0 → bit_or x (1 * 2 ^ k % 2 ^ 64) ≡ x + 2 ^ k
 or-adds x k h clear = ap (λ (y : ℕ). bit_or x y) (one_shl k h) ∙ or_disjoint x (2 ^ k) (and_pow x k ∙ ap (λ (b : ℕ). b * 2 ^ k) clear ∙ zero-mul (2 ^ k))
 
--- `x & !(1 << k)` takes the power of a bit that is 1 away
-pub and-takes : (x k : ℕ) → k < 64 → x < 2 ^ 64 → x / 2 ^ k % 2 ≡ 1 → bit_and x (2 ^ 64 - 1 - 1 * 2 ^ k % 2 ^ 64) ≡ x - 2 ^ k
-and-takes x k h g there =
-    let own : bit_and (2 ^ k) x ≡ 2 ^ k = and_comm (2 ^ k) x ∙ and_pow x k ∙ ap (λ (b : ℕ). b * 2 ^ k) there ∙ one-mul (2 ^ k) in
+-- `x & !(1 << k)` is what is left of x without bit k
+and-rest : (x k : ℕ) → k < 64 → x < 2 ^ 64 → bit_and x (2 ^ 64 - 1 - 1 * 2 ^ k % 2 ^ 64) + x / 2 ^ k % 2 * 2 ^ k ≡ x
+and-rest x k h g =
+    let own : bit_and (2 ^ k) x ≡ x / 2 ^ k % 2 * 2 ^ k = and_comm (2 ^ k) x ∙ and_pow x k in
     let rest : bit_and (2 ^ 64 - 1 - 2 ^ k) x + bit_and (2 ^ k) x ≡ x = and-not 64 (2 ^ k) x (pow-lt h) g in
-    ap (λ (y : ℕ). bit_and x (2 ^ 64 - 1 - y)) (one_shl k h) ∙ and_comm x (2 ^ 64 - 1 - 2 ^ k) ∙ omega (arith, own, rest)
+    let same : bit_and x (2 ^ 64 - 1 - 1 * 2 ^ k % 2 ^ 64) ≡ bit_and (2 ^ 64 - 1 - 2 ^ k) x =
+    ap (λ (y : ℕ). bit_and x (2 ^ 64 - 1 - y)) (one_shl k h) ∙ and_comm x (2 ^ 64 - 1 - 2 ^ k) in
+    ap₂ (λ (a b : ℕ). a + b) same (sym own) ∙ rest
+
+-- it takes the power of a bit that is 1 away, and leaves x as it is where the bit is 0
+pub and-takes : (x k : ℕ) → k < 64 → x < 2 ^ 64 → x / 2 ^ k % 2 ≡ 1 → bit_and x (2 ^ 64 - 1 - 1 * 2 ^ k % 2 ^ 64) ≡ x - 2 ^ k
+and-takes x k h g there = omega (arith, and-rest x k h g, ap (λ (b : ℕ). b * 2 ^ k) there, one-mul (2 ^ k))
+
+pub and-keeps : (x k : ℕ) → k < 64 → x < 2 ^ 64 → x / 2 ^ k % 2 ≡ 0 → bit_and x (2 ^ 64 - 1 - 1 * 2 ^ k % 2 ^ 64) ≡ x
+and-keeps x k h g none = omega (arith, and-rest x k h g, ap (λ (b : ℕ). b * 2 ^ k) none, zero-mul (2 ^ k))

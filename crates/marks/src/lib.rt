@@ -26,13 +26,14 @@ pub fn mark(words: &mut [usize], i: usize)
     words[i / WORD] |= 1 << (i % WORD);
 }
 
-// Takes the mark of row i away.
+// Takes the mark of row i away; past the words no row has one.
 pub fn unmark(words: &mut [usize], i: usize)
-    requires { (i < 64 * length words.old) × (bit_at words.old i ≡ 1) }
-    ensures { (words.new ≡ unmarking words.old i)
-        × ((p : ℕ → Bool) → Marked words.old p → Marked words.new (λ j. p j && not (eqb j i))) }
+    ensures taken { bit_at words.old i ≡ 1 → words.new ≡ unmarking words.old i }
+    ensures set { (p : ℕ → Bool) → Marked words.old p → Marked words.new (λ j. p j && not (eqb j i)) }
 {
-    words[i / WORD] &= !(1 << (i % WORD));
+    if i / WORD < words.len() {
+        words[i / WORD] &= !(1 << (i % WORD));
+    }
 }
 
 // Takes the mark of every row away.

@@ -12,7 +12,8 @@ pub const LEAF: usize = 3;
 // The whole numbers of a leaf in the engine's table of leaves: its depth, its count of rows, and the place of its node.
 pub const ENTRY: usize = 3;
 
-// A cut, with its axis and the coordinate of its plane, or a leaf with its number.
+// A cut, with its axis and the coordinate of its plane, or a leaf with its number. An enum and no Option of a cut: a leaf is not the lack of
+// one, since it has a number of its own.
 #[derive(Clone, Copy)]
 pub enum Node {
     Cut { axis: usize, plane: f64 },
@@ -37,7 +38,8 @@ pub fn write_node(cuts: &mut [usize], planes: &mut [f64], at: usize, node: Node)
     }
 }
 
-// The node at a place of both lists.
+// The node at a place of both lists. Two slices: who reads a record holds its lists to read only, and `Records` of tree_lists holds them to
+// be written.
 pub fn node_at(cuts: &[usize], planes: &[f64], at: usize) -> Node
     requires { (at < length cuts.now) × (at < length planes.now) }
     ensures { as_node result ≡ node_of (get_or cuts.now at 0) (get_or planes.now at nan) }

@@ -80,7 +80,9 @@ impl<'a> Packed<'a> {
 
 // The leaves of one level, as they stand in the lent lists: the leaves' own rows, and the domain rows, of which those of the level are the
 // `count` from number `first` on. They are passed by value, as `leaves: LevelLeaves<'_>`: a contract reads their own rows, leaf by leaf, by
-// `own_of leaves` in a `requires`, and `own_of leaves.entry` in an `ensures`.
+// `own_of leaves` in a `requires`, and `own_of leaves.entry` in an `ensures`. The whole list of domain rows with `first` and `count`, and no part
+// of it: the rows are written by their number in the whole list (`put_borrowed`), so that reader and writer speak of one number, and of a
+// part their count would be a quotient by ROW_NUMBERS.
 #[derive(Clone, Copy)]
 pub struct LevelLeaves<'a> {
     pub internals: &'a [usize],
@@ -145,7 +147,7 @@ pub fn put_borrowed(domains: &mut [usize], k: usize, start: usize, count: usize)
     requires { row_numbers * (k + 1) ≤ length domains.old }
     ensures { domains.new ≡ put_borrowed_lem domains.old k start count }
 {
-    stretches::put_pair(domains, ROW_NUMBERS * k + BORROWED_START, start, count);
+    stretches::put_values(domains, ROW_NUMBERS * k + BORROWED_START, &[start, count]);
 }
 
 // Writes the domain row number k.
@@ -153,10 +155,14 @@ pub fn put_row(domains: &mut [usize], k: usize, row: DomainRow)
     requires { row_numbers * (k + 1) ≤ length domains.old }
     ensures { domains.new ≡ put_row_lem domains.old k (plain_row row) }
 {
-    let at = ROW_NUMBERS * k;
-    stretches::put_pair(domains, at, row.internal_start, row.internal_count);
-    put_borrowed(domains, k, row.borrowed_start, row.borrowed_count);
-    domains[at + DEPTH] = row.depth;
+    let numbers = [
+        row.internal_start,
+        row.internal_count,
+        row.borrowed_start,
+        row.borrowed_count,
+        row.depth,
+    ];
+    stretches::put_values(domains, ROW_NUMBERS * k, &numbers);
 }
 
 // Writes the domain row number k of a leaf that borrows nothing yet: start and count of its own rows, and its depth.

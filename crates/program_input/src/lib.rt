@@ -100,8 +100,20 @@ pub fn open_argument<R: Env + Files + Alloc>(rt: &R, i: usize) -> io::Result<R::
     }
 }
 
-// Says on standard error what failed, and why. The answer is the status that a program ends with then.
-pub fn fail<R: Eprint>(rt: &R, what: &str, error: io::Error) -> ExitCode {
-    let _ = eprintln!(rt; "{what}: {error}");
-    ExitCode::FAILURE
+// What failed of a program's input or output, and why.
+#[derive(Drop)]
+pub struct Failure<'a> {
+    pub what: &'a str,
+    pub error: io::Error,
+}
+
+// The status that a program ends with. What failed, and why, is said on standard error.
+pub fn end<R: Eprint>(rt: &R, done: Result<(), Failure<'_>>) -> ExitCode {
+    match done {
+        Ok(()) => ExitCode::SUCCESS,
+        Err(Failure { what, error }) => {
+            let _ = eprintln!(rt; "{what}: {error}");
+            ExitCode::FAILURE
+        }
+    }
 }

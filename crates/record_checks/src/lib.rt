@@ -49,20 +49,6 @@ pub fn record_short(lent: RecordSizes, n: usize) -> bool
     lent.cuts < stated || lent.planes < stated
 }
 
-// Whether one of the nine lists is shorter than n points on `dimensions` axes with this neighbour count ask for.
-fn any_short(
-    lent: BuildSizes,
-    record_lent: RecordSizes,
-    dimensions: usize,
-    n: usize,
-    neighbours: usize,
-) -> bool
-    requires { (dimensions ≤ 3) × (n ≤ most_points) × (neighbours ≤ most_neighbours) }
-    ensures { result ≡ (build_short (sizes_of lent) (build_stated dimensions n neighbours) || record_short_lem (record_sizes_of record_lent) n) }
-{
-    build_checks::is_short(lent, dimensions, n, neighbours) || record_short(record_lent, n)
-}
-
 // The tests of the build over all points, with lists of these lengths.
 pub fn check_depth_first(
     points: Points<'_>,
@@ -72,12 +58,8 @@ pub fn check_depth_first(
 ) -> Result<(), Refusal>
     ensures { verdict_of result ≡ depth_first_verdict (settings_of_lem points.entry.dimensions params) points.entry.coordinates.now (sizes_of lent) (record_sizes_of record_lent) }
 {
-    let count = points.coordinates.len();
-    build_checks::first_fault(count, points.dimensions, params)?;
-    let n = count / points.dimensions;
-    let neighbours = params.overlap_knn as usize;
-    if any_short(lent, record_lent, points.dimensions, n, neighbours) {
-        return Err(Refusal::ShortList);
-    }
-    build_checks::last_check(points)
+    build_checks::check_points(points, params, |n| {
+        build_checks::is_short(lent, points.dimensions, n, params.overlap_knn as usize)
+            || record_short(record_lent, n)
+    })
 }

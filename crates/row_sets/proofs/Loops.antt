@@ -1,9 +1,9 @@
--- Loops over rows: asked for, marked, and taken out of two sets, one after the other. The sets are words; what becomes of a set is in
+-- Loops over rows: asked for, marked, and their marks taken away, one after the other. The sets are words; what becomes of a set is in
 -- crate tree_tests. Assumes nothing.
--- Holds: Asking, asking-start, asking-end, asking-low, asking-out, asking-next, Marking, marking-start, marking-end,
---   marking-next, marking-within, marking-clear, Taking, taking-start, taking-end, taking-low, taking-out, taking-next
+-- Holds: Asking, asking-start, asking-end, asking-low, asking-out, asking-next, Marking, marking-start,
+--   marking-next, marking-within, marking-clear, Unmarking, unmarking-start, unmarking-next, unmarking-end
 use mathlib.Core.Path.{◌≡◌, refl, sym, ap, ◌∙◌}
-use mathlib.Core.Bool.{Bool, true, false, ◌||◌}
+use mathlib.Core.Bool.{Bool, true, false, not, ◌&&◌, ◌||◌}
 use Prim.Native.Nat.{ℕ, ◌+◌, ◌*◌, ◌≤◌, ◌<◌}
 use native.Mathlib.Omega.{arith}
 use mathlib.Core.List.{List, []}
@@ -14,12 +14,10 @@ use Rattle.lists.proofs.All.{all-at, all-mem}
 use Rattle.tree_tests.specs.InTurn.{without, in_order_lem}
 use Rattle.tree_tests.proofs.Sets.{without-nil, without_more, without_all}
 use Rattle.tree_tests.proofs.Checked.{Checked, check-start, check-step, check-low, check-out, check-end}
-use Rattle.tree_tests.proofs.Taken.{Taken, take-start, take_step, take-low, take_out, take-end}
-use Rattle.tree_tests.proofs.Marking.{Fresh, mark-fresh, mark-start, mark-step, mark-end}
+use Rattle.tree_tests.proofs.Marking.{Fresh, mark-fresh, mark-start, mark-step}
 use Rattle.marks.specs.Bits.{bit_at, Marked}
 use Rattle.marks.proofs.Marks.{marked-same, unmarked-bit, held, bits-marked}
 use Rattle.row_sets.specs.Markable.{Markable}
-use Rattle.row_sets.specs.Tested.{TakenOut}
 
 -- ---- a loop that asks for rows: the rows before i passed, and the rest decides
 pub record Asking (rows ws : List ℕ) (least i : ℕ) : Type 0 where
@@ -59,9 +57,6 @@ marking-start rows ws =
     }
 
 module _ {rows old ws : List ℕ} {i : ℕ} (s : Marking rows old ws i) where
-  pub marking-end : length rows ≤ i → (p : ℕ → Bool) → Marked old p → Marked ws (λ x. p x || member x rows)
-  marking-end h p m = marked-same (s.sets p m) (λ x. p x || member x rows) (mark-end rows i h p)
-
   module _ (row : ℕ) (h : i < length rows) (e : row ≡ get_or rows i 0) where
     pub marking-next : (new : List ℕ) → length new ≡ length ws → ((p : ℕ → Bool) → Marked ws p → Marked new (λ j. p j || eqb j row)) → Marking rows old new (i + 1)
     marking-next new l said =
@@ -85,49 +80,22 @@ module _ {rows old ws : List ℕ} {i : ℕ} (s : Marking rows old ws i) where
       pub marking-clear : bit_at ws row ≡ 0
       marking-clear = unmarked-bit (s.sets (held old) (bits-marked old)) row marking-within (mark-fresh fresh i row h e)
 
--- ---- a loop that takes rows out of two sets: those before i are out of both, and the rest decides
-pub record Taking (rows old-left old-listed left listed : List ℕ) (least i : ℕ) : Type 0 where
+-- ---- a loop that takes the marks of rows away: those before i are out of the set
+pub record Unmarking (rows old ws : List ℕ) (i : ℕ) : Type 0 where
   pub bound : i ≤ length rows
-  pub taken : (p : ℕ → Bool) → Marked old-left p → Taken p rows i least
-  pub left_set : (p : ℕ → Bool) → Marked old-left p → Marked left (without (take i rows) p)
-  pub listed_set : (q : ℕ → Bool) → Marked old-listed q → Marked listed (without (take i rows) q)
+  pub sets : (p : ℕ → Bool) → Marked old p → Marked ws (without (take i rows) p)
 
-pub taking-start : (rows left listed : List ℕ) → Taking rows left listed left listed 0 0
-taking-start rows left listed =
-    record {
-      bound = omega arith;
-      taken = λ p m. take-start p rows;
-      left_set = λ p m. marked-same m (without [] p) (λ x. sym (without-nil p x));
-      listed_set = λ q m. marked-same m (without [] q) (λ x. sym (without-nil q x));
-    }
+pub unmarking-start : (rows ws : List ℕ) → Unmarking rows ws ws 0
+unmarking-start rows ws = record { bound = omega arith; sets = λ p m. marked-same m (without [] p) (λ x. sym (without-nil p x)) }
 
-module _ {rows old-left old-listed left listed : List ℕ} {least i : ℕ} (s : Taking rows old-left old-listed left listed least i) where
-  pub taking-end : length rows ≤ i → (p q : ℕ → Bool) → Marked old-left p → Marked old-listed q
-      → (true ≡ in_order_lem 0 p rows) × (true ≡ true → Marked left (without rows p) × Marked listed (without rows q))
-  taking-end h p q m n = (
-    sym (take-end (s.taken p m) h),
-    λ _. (
-      marked-same (s.left_set p m) (without rows p) (without_all rows i h p),
-      marked-same (s.listed_set q n) (without rows q) (without_all rows i h q),
-    ),
-  )
+module _ {rows old ws : List ℕ} {i : ℕ} (s : Unmarking rows old ws i) where
+  pub unmarking-next : (row : ℕ) → i < length rows → row ≡ get_or rows i 0 → (new : List ℕ)
+      → ((p : ℕ → Bool) → Marked ws p → Marked new (λ j. p j && not (eqb j row))) → Unmarking rows old new (i + 1)
+  unmarking-next row h e new said =
+      record {
+        bound = omega arith;
+        sets = λ p m. marked-same (said (without (take i rows) p) (s.sets p m)) (without (take (i + 1) rows) p) (without_more rows i row h e p);
+      }
 
-  module _ (row : ℕ) (h : i < length rows) (e : row ≡ get_or rows i 0) where
-    pub taking-low : row < least → (p : ℕ → Bool) → Marked old-left p → false ≡ in_order_lem 0 p rows
-    taking-low l p m = sym (take-low (s.taken p m) row h e l)
-
-    module _ (l : least ≤ row) (new-left new-listed : List ℕ) (r : Bool) (said : (p q : ℕ → Bool) → Marked left p → Marked listed q → TakenOut p q row new-left new-listed r) where
-      told : (p : ℕ → Bool) → Marked old-left p → r ≡ without (take i rows) p row
-      told p m = (said (without (take i rows) p) (held listed) (s.left_set p m) (bits-marked listed)).was
-
-      pub taking-out : r ≡ false → (p : ℕ → Bool) → Marked old-left p → false ≡ in_order_lem 0 p rows
-      taking-out f p m = sym (take_out (s.taken p m) row h e l (sym (told p m) ∙ f))
-
-      pub taking-next : r ≡ true → Taking rows old-left old-listed new-left new-listed (row + 1) (i + 1)
-      taking-next t =
-          record {
-            bound = omega arith;
-            taken = λ p m. take_step (s.taken p m) row h e l (sym (told p m) ∙ t);
-            left_set = λ p m. marked-same ((said (without (take i rows) p) (held listed) (s.left_set p m) (bits-marked listed)).left_out t) (without (take (i + 1) rows) p) (without_more rows i row h e p);
-            listed_set = λ q m. marked-same ((said (held left) (without (take i rows) q) (bits-marked left) (s.listed_set q m)).listed_out t) (without (take (i + 1) rows) q) (without_more rows i row h e q);
-          }
+  pub unmarking-end : length rows ≤ i → (p : ℕ → Bool) → Marked old p → Marked ws (without rows p)
+  unmarking-end h p m = marked-same (s.sets p m) (without rows p) (without_all rows i h p)

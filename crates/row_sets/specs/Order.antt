@@ -1,7 +1,7 @@
 -- The order of rows. Definitions only.
-use Rattle.std.specs.Prelude.{ℕ, zero, suc}
+use Rattle.std.specs.Prelude.{ℕ, ◌+◌, Option, Some, None}
 
--- the least row that may stand at index i, where `last` stands before it
-unfoldable pub least_after : ℕ → ℕ → ℕ
-least_after zero last = 0
-least_after (suc i) last = suc last
+-- the least row that may stand behind the last one, if there is one
+unfoldable pub least_after : Option ℕ → ℕ
+least_after None = 0
+least_after (Some last) = last + 1

@@ -1,6 +1,5 @@
--- What two sets of rows keep, those left and those listed, what it is to take a row out of them, and what the test of a domain's rows says.
--- Definitions only.
-use Rattle.std.specs.Prelude.{◌≡◌, ℕ, Bool, true, false, not, ◌&&◌, List, eqb, length}
+-- What two sets of rows keep, those left and those listed, and what the test of a domain's rows says. Definitions only.
+use Rattle.std.specs.Prelude.{◌≡◌, ℕ, Bool, true, ◌&&◌, List, length}
 use Rattle.tree_tests.specs.InTurn.{without, in_order_lem}
 use Rattle.marks.specs.Bits.{bit_at, Marked}
 
@@ -8,14 +7,6 @@ use Rattle.marks.specs.Bits.{bit_at, Marked}
 pub record LeftIsListed (left listed : List ℕ) : Type 0 where
   pub same_length : length left ≡ length listed
   pub among : (i : ℕ) → bit_at left i ≡ 1 → bit_at listed i ≡ 1
-
--- Whether row i was left, in the set p; if so, it is out of p and q, and otherwise they are as they were.
-pub record TakenOut (p q : ℕ → Bool) (i : ℕ) (left listed : List ℕ) (r : Bool) : Type 0 where
-  pub was : r ≡ p i
-  pub left_out : r ≡ true → Marked left (λ j. p j && not (eqb j i))
-  pub listed_out : r ≡ true → Marked listed (λ j. q j && not (eqb j i))
-  pub left_as_was : r ≡ false → Marked left p
-  pub listed_as_was : r ≡ false → Marked listed q
 
 -- The rows of a domain, tested against what is left, p, and what is listed, q; where they pass, the own rows are out of p, and q is as it was.
 pub record RowsPassed (own borrowed : List ℕ) (p q : ℕ → Bool) (left listed : List ℕ) (r : Bool) : Type 0 where

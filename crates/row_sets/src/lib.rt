@@ -3,7 +3,7 @@
 
 ghost use Rattle.std.specs.Prelude.{◌≡◌, Bool, ◌||◌, ℕ, ◌<◌, List, leb, length, get_or};
 ghost use Rattle.lists.specs.Lists.{member};
-ghost use Rattle.tree_tests.specs.InTurn.{in_order_lem};
+ghost use Rattle.tree_tests.specs.InTurn.{without, in_order_lem};
 ghost use Rattle.marks.specs.Bits.{Marked};
 ghost use Rattle.row_sets.specs.Markable.{Markable};
 ghost use Rattle.row_sets.specs.Order.{least_after};
@@ -27,25 +27,28 @@ pub trait Rows {
         ensures { result ≡ get_or (rows self.now) i 0 };
 }
 
-// Whether a row may stand at index i, where `last` stands before it.
-#[tactic(auto, using(std::proofs::lemmas::Bool::Decides::nat_tests, crate::proofs::Order::first_follows, crate::proofs::Order::next_follows))]
-fn follows(i: usize, last: usize, row: usize) -> bool
-    ensures { result ≡ leb (least_after i last) row }
+// Whether a row may stand behind the last one, if there is one.
+#[tactic(auto, using(std::proofs::lemmas::Bool::Decides::nat_tests), unfolding(crate::specs::Order::least_after))]
+fn follows(last: Option<usize>, row: usize) -> bool
+    ensures { result ≡ leb (least_after last) row }
 {
-    i == 0 || last < row
+    match last {
+        None => true,
+        Some(last) => last < row,
+    }
 }
 
 // Whether the rows ascend and are all in the set.
 pub fn rows_marked<R: Rows>(rows: &R, words: &[usize]) -> bool
     ensures { (p : ℕ → Bool) → Marked words.now p → result ≡ in_order_lem 0 p (R.rows rows.now) }
 {
-    let mut last = 0;
+    let mut last = None;
     for i in 0..rows.count() {
         let row = rows.row(i);
-        if !follows(i, last, row) || !marks::is_marked(words, row) {
+        if !follows(last, row) || !marks::is_marked(words, row) {
             return false;
         }
-        last = row;
+        last = Some(row);
     }
     true
 }
@@ -58,5 +61,28 @@ pub fn mark_rows<R: Rows>(rows: &R, words: &mut [usize])
     for i in 0..rows.count() {
         let row = rows.row(i);
         marks::mark(words, row);
+    }
+}
+
+// Takes the marks of the rows away.
+pub fn unmark_rows<R: Rows>(rows: &R, words: &mut [usize])
+    ensures { (p : ℕ → Bool) → Marked words.old p → Marked words.new (without (R.rows rows.now) p) }
+{
+    for i in 0..rows.count() {
+        let row = rows.row(i);
+        marks::unmark(words, row);
+    }
+}
+
+// The rows of a list, or of a part of one.
+impl<'a> Rows for &'a [usize] {
+    ghost rows = { λ r. r.now };
+
+    fn count(&self) -> usize {
+        self.len()
+    }
+
+    fn row(&self, i: usize) -> usize {
+        self[i]
     }
 }

@@ -3,16 +3,15 @@
 
 ghost use Rattle.std.specs.Prelude.{◌≡◌, ◌++◌, ◌+◌, ◌-◌, ◌≤◌, ◌<◌, length};
 ghost use Rattle.lists.specs.Lists.{part};
-ghost use Rattle.definition.specs.Levels.{policy_from};
 ghost use Rattle.formats.specs.Bytes.{bytes_of, number_at, number_bytes, number_size};
 ghost use Rattle.formats.specs.Stream.{settings_size, policy_field, policy_fits_lem, settings_in, policy_bytes, settings_bytes};
 ghost use Rattle.stored.specs.Sound.{same};
 ghost use Rattle.stored.specs.Outcome.{same_settings_lem};
 ghost use Rattle.bytes_out.specs.Writing.{Takes, Appends};
-ghost use Rattle.config.specs.Params.{threshold_policy, settings_of_lem};
-ghost use Rattle.settings_record.specs.Reading.{settings_are};
+ghost use Rattle.config.specs.Params.{threshold_policy, settings_are};
 
 use bytes_out::Writer;
+pub use config::Settings;
 use config::{DDMParams, SizePolicy};
 
 // Where each field of the record begins, and where the record ends.
@@ -29,13 +28,6 @@ const POLICY: usize = FACTOR + bytes_in::NUMBER;
 const THRESHOLD: usize = POLICY + 1;
 
 pub const SIZE: usize = THRESHOLD + bytes_in::NUMBER;
-
-// The number of axes, and the settings of the build.
-#[derive(Clone, Copy)]
-pub struct Settings {
-    pub dimensions: usize,
-    pub params: DDMParams,
-}
 
 // A policy as the record has it: its number, and its threshold, which is 0 for Auto.
 #[derive(Clone, Copy)]
@@ -54,17 +46,6 @@ impl From<SizePolicy> for PolicyFields {
                 threshold: 0,
             },
             SizePolicy::Fixed(threshold) => PolicyFields { kind: 1, threshold },
-        }
-    }
-}
-
-impl From<PolicyFields> for SizePolicy {
-    ghost from_gives = { λ fields policy. threshold_policy policy ≡ policy_from fields.kind fields.threshold };
-
-    fn from(fields: PolicyFields) -> SizePolicy {
-        match fields.kind {
-            0 => SizePolicy::Auto,
-            _ => SizePolicy::Fixed(fields.threshold),
         }
     }
 }
@@ -99,15 +80,12 @@ pub fn settings_of(input: &[u8]) -> Settings
     requires { settings_size ≤ length input.now }
     ensures { settings_are result ≡ settings_in input.now }
 {
-    let fields = PolicyFields {
-        kind: bytes_in::byte_at(input, POLICY),
-        threshold: setting_at(input, THRESHOLD),
-    };
+    let kind = bytes_in::byte_at(input, POLICY);
     let params = DDMParams {
         leaf_threshold: setting_at(input, LEAF),
         overlap_knn: setting_at(input, NEIGHBOURS),
         coarse_reduction_factor: setting_at(input, FACTOR),
-        coarse_threshold: SizePolicy::from(fields),
+        coarse_threshold: SizePolicy::of(kind, setting_at(input, THRESHOLD)),
     };
     Settings {
         dimensions: bytes_in::byte_at(input, DIMENSION),
@@ -128,10 +106,11 @@ fn put_policy(policy: SizePolicy, out: &mut Writer<'_>)
 }
 
 // Appends the record's bytes after its mark.
-pub fn put_settings(dimensions: usize, params: DDMParams, out: &mut Writer<'_>)
-    requires { Takes out.old (settings_bytes (settings_of_lem dimensions params)) }
-    ensures { Appends out.old out.new (settings_bytes (settings_of_lem dimensions params)) }
+pub fn put_settings(settings: Settings, out: &mut Writer<'_>)
+    requires { Takes out.old (settings_bytes (settings_are settings)) }
+    ensures { Appends out.old out.new (settings_bytes (settings_are settings)) }
 {
+    let Settings { dimensions, params } = settings;
     out.low_byte(dimensions);
     out.field(params.leaf_threshold as usize);
     out.field(params.overlap_knn as usize);
@@ -167,10 +146,11 @@ fn policy_is(policy: SizePolicy, input: &[u8]) -> bool
 }
 
 // Whether a whole record has these settings, byte for byte.
-pub fn same_settings(dimensions: usize, params: DDMParams, input: &[u8]) -> bool
-    requires { (settings_size ≤ length input.now) × (dimensions < 256) }
-    ensures { result ≡ same_settings_lem (settings_of_lem dimensions params) input.now }
+pub fn same_settings(settings: Settings, input: &[u8]) -> bool
+    requires { (settings_size ≤ length input.now) × (settings.dimensions < 256) }
+    ensures { result ≡ same_settings_lem (settings_are settings) input.now }
 {
+    let Settings { dimensions, params } = settings;
     byte_is(dimensions, input, DIMENSION)
         && number_is(params.leaf_threshold, input, LEAF)
         && number_is(params.overlap_knn, input, NEIGHBOURS)

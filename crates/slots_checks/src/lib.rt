@@ -7,25 +7,25 @@ ghost use Rattle.definition.specs.Packed.{build_stated};
 ghost use Rattle.definition.specs.Refusals.{most_points, most_neighbours, verdict, settings_tests, points_tests, build_short};
 ghost use Rattle.definition.specs.Table.{flagged, coordinates_short};
 ghost use Rattle.definition.specs.Slots.{rows_not_finite, slots_verdict};
-ghost use Rattle.config.specs.Params.{settings_of_lem};
+ghost use Rattle.config.specs.Params.{settings_of_lem, settings_are};
 ghost use Rattle.build_sizes.specs.Sizes.{sizes_of};
 ghost use Rattle.refusal.specs.Refusals.{verdict_of};
 ghost use Rattle.table_checks.specs.Tables.{table_in};
 
 use build_sizes::BuildSizes;
-use config::DDMParams;
-use points::Points;
+use config::{DDMParams, Settings};
 use refusal::Refusal;
 use table_checks::Table;
 
 // Settings, and `live` rows of which none lacks a coordinate: the first of 1 to 9 whose condition is met.
-pub fn rows_fault(live: usize, dimensions: usize, params: DDMParams) -> Result<(), Refusal>
+pub fn rows_fault(live: usize, settings: Settings) -> Result<(), Refusal>
     requires { live ≤ most_points }
-    ensures number { verdict_of result ≡ verdict (settings_tests (settings_of_lem dimensions params) ++ points_tests (settings_of_lem dimensions params) live false) }
-    ensures fine { OnOk result ((1 ≤ dimensions) × (dimensions ≤ 3) × (params.overlap_knn ≤ most_neighbours)) }
+    ensures number { verdict_of result ≡ verdict (settings_tests (settings_are settings) ++ points_tests (settings_are settings) live false) }
+    ensures fine { OnOk result ((1 ≤ settings.dimensions) × (settings.dimensions ≤ 3) × (settings.params.overlap_knn ≤ most_neighbours)) }
 {
-    build_checks::settings_fault(dimensions, params)?;
-    build_checks::points_fault(live * dimensions, dimensions, params)
+    build_checks::settings_fault(settings)?;
+    build_checks::points_fault(live * settings.dimensions, settings)?;
+    Ok(())
 }
 
 // Whether a list is shorter than the live rows ask for, or the coordinates than the capacity does.
@@ -42,15 +42,11 @@ pub fn judge_slots(table: Table<'_>) -> Result<(), Refusal>
     requires { (table.head.slots ≤ length table.flags.now) × (table.head.slots * table.points.dimensions ≤ length table.points.coordinates.now) × (table.head.slots ≤ most_points) × (table.points.dimensions ≤ 3) }
     ensures { verdict_of result ≡ verdict (rows_not_finite table.entry.points.dimensions table.entry.points.coordinates.now (keep (flagged table.entry.flags.now) (from 0 table.entry.head.slots)) ∷ []) }
 {
-    let Points {
-        coordinates,
-        dimensions,
-    } = table.points;
+    let points = table.points;
     for (i, &flag) in table.flags[..table.head.slots].iter().enumerate() {
         if flag != 0 {
-            let at = i * dimensions;
-            if let Some(bad) = finite::first_not_finite(&coordinates[at..at + dimensions]) {
-                return Err(Refusal::NotFinite(at + bad));
+            if let Some(bad) = finite::first_not_finite(points.point(i)) {
+                return Err(Refusal::NotFinite(i * points.dimensions + bad));
             }
         }
     }
@@ -64,7 +60,8 @@ pub fn check_slots(table: Table<'_>, params: DDMParams, lent: BuildSizes) -> Res
     let Some(_) = table.sound() else {
         return Err(Refusal::UnsoundTable);
     };
-    rows_fault(table.head.live, table.points.dimensions, params)?;
+    let dimensions = table.points.dimensions;
+    rows_fault(table.head.live, Settings { dimensions, params })?;
     if any_short(table, lent, params.overlap_knn as usize) {
         return Err(Refusal::ShortList);
     }

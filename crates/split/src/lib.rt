@@ -43,8 +43,7 @@ pub fn split(
     let half = count / 2;
     let Next { place, leaves } = from;
     let at = cut_nodes::cut_node(points, rows, lists, place);
-    let left = whole.with_upper(at.axis, at.value);
-    let right = whole.with_lower(at.axis, at.value);
+    let (left, right) = whole.halves(at.axis, at.value);
     let below = depth + 1;
     let next = Next {
         place: place + 1,

@@ -54,12 +54,9 @@ fn store_sound(
     ensures { Stored (settings_of_lem points.entry.dimensions params) points.entry.coordinates.now (counts_given counts)
         (lists_read tree.entry) file.old file.new (store_report result) }
 {
-    let Points {
-        coordinates,
-        dimensions,
-    } = points;
+    let dimensions = points.dimensions;
     let tree = PackedTree::of(counts, tree, dimensions);
-    let n = coordinates.len() / dimensions;
+    let n = points.count();
     let neighbours = params.overlap_knn as usize;
     let Some(passed) = list_levels::check_lists(tree, n, neighbours) else {
         return Err(Refusal::NoSoundTree);
@@ -75,7 +72,7 @@ fn store_sound(
     if file.len() < size {
         return Err(Refusal::ShortList);
     }
-    Ok(store_bytes::put_file(coordinates, params, tree, file))
+    Ok(store_bytes::put_file(points, params, tree, file))
 }
 
 // Writes the file of the tree that stands in the lists with these counts, over these points and settings. The bytes go to the front of the

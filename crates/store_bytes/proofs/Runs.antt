@@ -36,8 +36,8 @@ module _ (coarse : Bool) (p : Packed) where
   level-run rows j m = rw (length-map-from (read_leaf p) j m)
 
 -- ---- the file
-pub file-run : (s : Settings) (cs : List Float) (c : Counts) (l : TreeLists)
-    → file_bytes s cs (tree_held s.dimension c l)
-    ≡ front_bytes_lem s cs ++ joined (tree_records (read_levels (packed l.internals l.domains l.boxes l.borrowed s.dimension) l.level_points c.rows c.domains c.levels))
+pub file-run : (s : Settings) (cs : List Float) (d : ℕ) (c : Counts) (l : TreeLists)
+    → file_bytes s cs (tree_held d c l)
+    ≡ front_bytes_lem s cs ++ joined (tree_records (read_levels (packed l.internals l.domains l.boxes l.borrowed d) l.level_points c.rows c.domains c.levels))
 unfolding file_bytes tree_held
-file-run s cs c l = refl
+file-run s cs d c l = refl

@@ -1,9 +1,7 @@
 -- Runs of records in a stored tree. Definitions only.
 use Rattle.std.specs.Prelude.{ℕ, Bool, List, ◌++◌, map, Float}
 use Rattle.lists.specs.Lists.{joined}
-use Rattle.definition.specs.Tree.{Leaf, Level}
-use Rattle.config.specs.declared.DDMParams.{DDMParams}
-use Rattle.config.specs.Params.{settings_of_lem}
+use Rattle.definition.specs.Tree.{Settings, Leaf, Level}
 use Rattle.packed.specs.Reading.{Packed, read_levels}
 use Rattle.tree_answer.specs.declared.DDMTree.{DDMTree}
 use Rattle.tree_answer.specs.Answers.{counts_given, lists_of}
@@ -26,8 +24,8 @@ level_records coarse l = level_bytes l ++ domain_records coarse l.leaves
 abbrev pub levels_in : DDMTree → List ℕ → Packed → List Level
 levels_in counts level_points p = read_levels p level_points counts.rows counts.domains counts.levels
 
--- the file of the tree that stands there
-abbrev pub file_of : DDMParams → List Float → DDMTree → List ℕ → Packed → List ℕ
-file_of params cs counts level_points p =
-    file_bytes (settings_of_lem p.dimension params) cs
+-- the file of the tree that stands there, for these settings and points
+abbrev pub file_of : Settings → List Float → DDMTree → List ℕ → Packed → List ℕ
+file_of s cs counts level_points p =
+    file_bytes s cs
     (tree_held p.dimension (counts_given counts) (lists_of level_points p.internals p.domains p.boxes p.borrowed))

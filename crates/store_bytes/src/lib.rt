@@ -11,7 +11,7 @@ ghost use Rattle.stored.specs.File.{point_bytes, front_bytes_lem, tree_records};
 ghost use Rattle.store_bytes.specs.Runs.{domain_records, level_of, level_records, levels_in, file_of};
 
 use bytes_out::Writer;
-use config::DDMParams;
+use config::{DDMParams, Settings};
 use packed::Packed;
 use points::Points;
 use tree_answer::PackedTree;
@@ -33,12 +33,15 @@ fn put_front(points: Points<'_>, params: DDMParams, out: &mut Writer<'_>)
     requires room_for { Takes out.old (front_bytes_lem (settings_of_lem points.dimensions params) points.coordinates.now) }
     ensures { Appends out.old out.new (front_bytes_lem (settings_of_lem points.entry.dimensions params) points.entry.coordinates.now) }
 {
-    let n = points.coordinates.len() / points.dimensions;
-    store_records::put_head(points.dimensions, params, n, out);
+    let n = points.count();
+    let dimensions = points.dimensions;
+    store_records::put_head(Settings { dimensions, params }, n, out);
     put_points(points, n, out);
 }
 
-// The domains of m domain rows from the row number j on. The flag, here and below, is the definition's own: `domain_records` takes it too.
+// The domains of m domain rows from the row number j on. The flag, here and below, is the definition's own: `domain_records` takes it too. That
+// each of these rows lies within the lists is asked here and in print_tree, and is no type's promise: the rows are those that the tree's counts
+// name, and counts and lists are lent apart.
 fn put_domains(tree: Packed<'_>, j: usize, m: usize, coarse: bool, out: &mut Writer<'_>)
     requires by_index { (i : ℕ) → i < m → RowFits (packed_of tree) (j + i) }
     requires room_for { Takes out.old (domain_records coarse (read_leaves (packed_of tree) j m)) }
@@ -86,17 +89,21 @@ fn put_levels(tree: PackedTree<'_>, out: &mut Writer<'_>)
 }
 
 // The whole file of the tree that stands in the lists with these counts. The answer is the number of its bytes.
-pub fn put_file(points: &[f64], params: DDMParams, tree: PackedTree<'_>, out: &mut [u8]) -> usize
-    requires le_dimensions { (1 ≤ tree.leaves.dimensions) × (tree.leaves.dimensions ≤ 3) }
+pub fn put_file(
+    points: Points<'_>,
+    params: DDMParams,
+    tree: PackedTree<'_>,
+    out: &mut [u8],
+) -> usize
+    requires le_dimensions { (1 ≤ points.dimensions) × (points.dimensions ≤ 3) }
     requires stands { Stands (packed_of tree.leaves) tree.level_points.now tree.counts.rows tree.counts.domains tree.counts.levels }
-    requires borrowed_in_bounds { length (file_of params points.now tree.counts tree.level_points.now (packed_of tree.leaves)) ≤ length out.old }
-    ensures answer { result ≡ length (file_of params points.now tree.entry.counts tree.entry.level_points.now (packed_of tree.entry.leaves)) }
-    ensures file { out.new ≡ put out.old 0 (file_of params points.now tree.entry.counts tree.entry.level_points.now (packed_of tree.entry.leaves)) }
+    requires borrowed_in_bounds { length (file_of (settings_of_lem points.dimensions params) points.coordinates.now tree.counts tree.level_points.now
+        (packed_of tree.leaves)) ≤ length out.old }
+    ensures answer { result ≡ length (file_of (settings_of_lem points.entry.dimensions params) points.entry.coordinates.now tree.entry.counts
+        tree.entry.level_points.now (packed_of tree.entry.leaves)) }
+    ensures file { out.new ≡ put out.old 0 (file_of (settings_of_lem points.entry.dimensions params) points.entry.coordinates.now tree.entry.counts
+        tree.entry.level_points.now (packed_of tree.entry.leaves)) }
 {
-    let points = Points {
-        coordinates: points,
-        dimensions: tree.leaves.dimensions,
-    };
     let mut writer = Writer { bytes: out, at: 0 };
     put_front(points, params, &mut writer);
     put_levels(tree, &mut writer);

@@ -1,5 +1,5 @@
 -- The records of a stored tree as the parts that the code writes one after the other. Assumes nothing.
--- Holds: lent, point-parts, domain-parts, no-bounds, all-bounds
+-- Holds: point-parts, domain-parts, no-bounds, all-bounds
 use mathlib.Core.Path.{◌≡◌, sym}
 use Prim.Native.Nat.{ℕ, ◌+◌, ◌-◌, ◌*◌, ◌≤◌}
 use mathlib.Core.Bool.{Bool, true, false}
@@ -16,18 +16,14 @@ use Rattle.formats.specs.Bytes.{mark_bytes, number_bytes, numbers_bytes, float_b
 use Rattle.stored.specs.File.{file_point_mark, domain_mark, point_bytes, domain_bytes}
 use Rattle.store_records.specs.Records.{counts_bytes, bounds_given, domain_record}
 
--- a stretch of a list, as the code lends it
-abbrev pub lent : {A : Type 0} → List A → ℕ → ℕ → List A
-lent l at n = take (at + n - at) (drop at l)
-
 -- ---- records
 pub point-parts : (d : ℕ) (cs : List Float) (i : ℕ) → i * d + d ≤ length cs
-    → point_bytes d cs i ≡ mark_bytes file_point_mark ++ joined (map float_bytes (lent cs (i * d) d))
+    → point_bytes d cs i ≡ mark_bytes file_point_mark ++ joined (map float_bytes (part cs (i * d) d))
 unfolding point_bytes floats_bytes
 point-parts d cs i h =
     let e : map (coordinate d cs i) (from 0 d) ≡ part cs (i * d) d =
     sym (list-below (coordinate d cs i) (part cs (i * d) d) d nan (length_part cs (i * d) d h) (λ a g. get_d_part cs (i * d) d a nan g)) in
-    rw (e, part-lent cs (i * d) d)
+    rw e
 
 -- a domain's record, by the leaf that was read
 cover_apart : (a b c d e f g h : List ℕ) → a ++ b ++ c ++ d ++ e ++ (f ++ g) ++ h ≡ a ++ b ++ c ++ d ++ e ++ f ++ g ++ h

@@ -4,7 +4,7 @@
 ghost use Rattle.std.specs.Prelude.{◌+◌, ◌*◌, ◌≤◌, length};
 ghost use Rattle.formats.specs.Bytes.{floats_bytes};
 ghost use Rattle.bytes_in.specs.Marks.{mark_read};
-ghost use Rattle.config.specs.Params.{settings_of_lem};
+ghost use Rattle.config.specs.Params.{settings_are};
 ghost use Rattle.bytes_out.specs.Writing.{Takes, Appends};
 ghost use Rattle.packed.specs.Reading.{RowFits, read_leaf};
 ghost use Rattle.packed.specs.View.{packed_of};
@@ -13,7 +13,7 @@ ghost use Rattle.store_records.specs.Records.{counts_bytes, level_record, bounds
 
 use bytes_in::{MARK, marks};
 use bytes_out::Writer;
-use config::DDMParams;
+use config::Settings;
 use packed::Packed;
 use points::Points;
 
@@ -44,12 +44,12 @@ fn put_bounds(coarse: bool, bounds: &[f64], out: &mut Writer<'_>)
 // ---- records
 
 // The head, which the bytes begin with: the settings, and the number of points.
-pub fn put_head(dimensions: usize, params: DDMParams, n: usize, out: &mut Writer<'_>)
-    requires { Takes out.old (head_bytes_lem (settings_of_lem dimensions params) n) }
-    ensures { Appends out.old out.new (head_bytes_lem (settings_of_lem dimensions params) n) }
+pub fn put_head(settings: Settings, n: usize, out: &mut Writer<'_>)
+    requires { Takes out.old (head_bytes_lem (settings_are settings) n) }
+    ensures { Appends out.old out.new (head_bytes_lem (settings_are settings) n) }
 {
     out.mark(marks::HEAD);
-    settings_record::put_settings(dimensions, params, out);
+    settings_record::put_settings(settings, out);
     out.field(n);
 }
 
@@ -60,8 +60,7 @@ pub fn put_point(points: Points<'_>, i: usize, out: &mut Writer<'_>)
     ensures { Appends out.old out.new (point_bytes points.entry.dimensions points.entry.coordinates.now i) }
 {
     out.mark(marks::FILE_POINT);
-    let start = i * points.dimensions;
-    out.fields(&points.coordinates[start..start + points.dimensions]);
+    out.fields(points.point(i));
 }
 
 // A level: its rows, and how many domains it has.

@@ -30,18 +30,16 @@ pub fn retire(
 ) -> Result<(), Refusal>
     ensures { Retired points.entry.dimensions (table_of head.old.slots head.old.live flags.old points.entry.coordinates.now) (table_of head.new.slots head.new.live flags.new points.entry.coordinates.now) slot (plain_answer result) }
 {
-    let edited = table_edits::retired(*head, flags, points, slot)?;
-    *head = edited.head;
+    *head = table_edits::retired(*head, flags, points, slot)?;
     Ok(())
 }
 
 // Closes the gaps of the table, and writes each slot's new one to the front of the rename list. The new slot count.
-// Like `add` but for its edit: one function that is passed the edit as a closure would be longer than the three lines of each.
+// Like `add` but for its edit: one function that is passed the edit as a closure would be longer than the two or three lines of each.
 pub fn close(head: &mut Head, wells: &mut Wells<'_>, rename: &mut [usize]) -> Result<usize, Refusal>
     ensures same { SameWells wells.old wells.new }
     ensures outcome { Closed wells.old.dimensions (wells_in head.old wells.old) (wells_in head.new wells.new) rename.old rename.new (slot_answer result) }
 {
-    let edited = closing::closed(*head, wells, rename)?;
-    *head = edited.head;
-    Ok(edited.slot)
+    *head = closing::closed(*head, wells, rename)?;
+    Ok(head.slots)
 }

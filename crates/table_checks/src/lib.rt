@@ -35,7 +35,8 @@ pub struct Wells<'a> {
     pub dimensions: usize,
 }
 
-// How many of the slots below the slot count are live, and the lowest that is not; the slot count where all are.
+// How many of the slots below the slot count are live, and the lowest that is not. Where all are, that is the slot count and no None: it is the
+// slot that an add takes next, as the definition has it (`next_slot`).
 #[derive(Clone, Copy)]
 pub struct Found {
     pub live: usize,

@@ -17,7 +17,7 @@ use Rattle.definition.specs.Refusals.{Refusal, Test, accepted, refused, on, verd
 use Rattle.definition.specs.Outcome.{number_of, place_of, value_of}
 use Rattle.definition.specs.Table.{Table, capacity, next_slot, full, table_tests, add_verdict, added, add_answer_lem, add_table}
 use Rattle.definition_laws.proofs.Accepted.{passes}
-use Rattle.build_checks.proofs.Laws.{fault-first, fault-second}
+use Rattle.point_checks.proofs.Laws.{fault-first, fault-second}
 use Rattle.table_checks.specs.Tables.{table_of}
 use Rattle.table_edits.specs.Edits.{Added}
 use Rattle.table_laws.proofs.Live.{next-high}

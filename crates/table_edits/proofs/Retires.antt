@@ -13,7 +13,7 @@ use Rattle.lists.proofs.From.{mem-from}
 use Rattle.definition.specs.Refusals.{Refusal, Test, accepted, refused, on, verdict}
 use Rattle.definition.specs.Outcome.{number_of, place_of, value_of}
 use Rattle.definition.specs.Table.{Table, flagged, live_slots_lem, table_tests, not_live_lem, retire_verdict, retired, retire_answer_lem, retire_table}
-use Rattle.build_checks.proofs.Laws.{fault-first, fault-second}
+use Rattle.point_checks.proofs.Laws.{fault-first, fault-second}
 use Rattle.table_checks.specs.Tables.{table_of}
 use Rattle.table_edits.specs.Edits.{Retired}
 use Rattle.table_edits.proofs.TableTests.{Editable, editable}

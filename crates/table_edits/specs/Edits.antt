@@ -8,18 +8,22 @@ use Rattle.table_checks.specs.declared.Head.{Head as Counters}
 use Rattle.table_checks.specs.Tables.{head_in}
 use Rattle.table_edits.specs.declared.Edited.{Edited}
 
--- number and place of a refusal, and the slot
+-- number and place of a refusal, and the slot that an add takes
 abbrev pub edit_answer : Result Edited Refusal → Answer ℕ
 edit_answer = answer_of (λ e. e.slot) 0
 
+-- number and place of a refusal alone: a retirement reports nothing but the head
+abbrev pub head_answer : Result Counters Refusal → Answer ℕ
+head_answer = answer_of (λ h. 0) 0
+
 -- the head after an edit: that of its answer, and after a refused one the given one
-abbrev pub head_after : Counters → Result Edited Refusal → Head
-head_after h (Ok e) = head_in e.head
-head_after h (Err r) = head_in h
+abbrev pub head_after : {A : Type 0} → (A → Counters) → Counters → Result A Refusal → Head
+head_after next h (Ok e) = head_in (next e)
+head_after next h (Err r) = head_in h
 
 -- the table after it
-abbrev pub table_after : Counters → List ℕ → List Float → Result Edited Refusal → Table
-table_after h flags coordinates r = record { head = head_after h r; flags = flags; coordinates = coordinates }
+abbrev pub table_after : {A : Type 0} → (A → Counters) → Counters → List ℕ → List Float → Result A Refusal → Table
+table_after next h flags coordinates r = record { head = head_after next h r; flags = flags; coordinates = coordinates }
 
 -- The complete outcome of a call: its answer, and the table after it, head, flags and coordinates.
 pub record Added (d : ℕ) (t t' : Table) (point : List Float) (answer : Answer ℕ) : Type 0 where

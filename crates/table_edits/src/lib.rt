@@ -6,13 +6,13 @@ ghost use Rattle.definition.specs.Refusals.{on, verdict, not_finite_lem};
 ghost use Rattle.definition.specs.Table.{next_slot, table_tests};
 ghost use Rattle.refusal.specs.Refusals.{verdict_of};
 ghost use Rattle.table_checks.specs.Tables.{head_in, table_of, table_in, wells_in, SameWells};
-ghost use Rattle.table_edits.specs.Edits.{edit_answer, table_after, Added, Retired};
+ghost use Rattle.table_edits.specs.Edits.{edit_answer, head_answer, table_after, Added, Retired};
 
 use points::Points;
 use refusal::Refusal;
 use table_checks::{Head, Table, Wells};
 
-// What an accepted edit answers: the slot that it names (0 for a retirement, which names none), and the head after it.
+// What an accepted add answers: the slot that it takes, and the head after it.
 #[derive(Clone, Copy)]
 pub struct Edited {
     pub slot: usize,
@@ -25,10 +25,7 @@ pub fn table_fault(table: Table<'_>) -> Result<usize, Refusal>
     ensures verdict { verdict_of result ≡ verdict (table_tests table.entry.points.dimensions (table_in table.entry)) }
     ensures next { IfOk result (λ next. next ≡ next_slot (head_in table.entry.head) table.entry.flags.now) }
 {
-    let dimensions = table.points.dimensions;
-    if dimensions < 1 || 3 < dimensions {
-        return Err(Refusal::WrongDimension);
-    }
+    point_checks::check_dimension(table.points.dimensions)?;
     if table.is_short() {
         return Err(Refusal::ShortList);
     }
@@ -43,16 +40,13 @@ fn point_fault(point: &[f64], dimensions: usize) -> Result<(), Refusal>
     if point.len() != dimensions {
         return Err(Refusal::MissingCoordinate);
     }
-    match finite::first_not_finite(point) {
-        Some(position) => Err(Refusal::NotFinite(position)),
-        None => Ok(()),
-    }
+    point_checks::check_finite(point)
 }
 
 // Adds a point to the table: 1, 11, 27, 7, 10 and 21 are tried before anything is written.
 pub fn added(head: Head, wells: &mut Wells<'_>, point: &[f64]) -> Result<Edited, Refusal>
     ensures same { SameWells wells.old wells.new }
-    ensures outcome { Added wells.old.dimensions (wells_in head wells.old) (table_after head wells.new.flags.now wells.new.coordinates.now result) point.now (edit_answer result) }
+    ensures outcome { Added wells.old.dimensions (wells_in head wells.old) (table_after (λ e. e.head) head wells.new.flags.now wells.new.coordinates.now result) point.now (edit_answer result) }
 {
     let Head { slots, live } = head;
     let dimensions = wells.dimensions;
@@ -64,7 +58,7 @@ pub fn added(head: Head, wells: &mut Wells<'_>, point: &[f64]) -> Result<Edited,
         return Err(Refusal::FullTable);
     }
     wells.flags[slot] = 1;
-    stretches::copy_rows(point, 0, dimensions, wells.coordinates, slot * dimensions);
+    stretches::put_values(wells.coordinates, slot * dimensions, point);
     Ok(Edited {
         slot,
         head: Head {
@@ -74,15 +68,15 @@ pub fn added(head: Head, wells: &mut Wells<'_>, point: &[f64]) -> Result<Edited,
     })
 }
 
-// Retires a slot of the table: 1, 11, 27 and 22 are tried before anything is written. It takes no `Wells`: the coordinates are only read, and
+// Retires a slot of the table, and answers the head after it: 1, 11, 27 and 22 are tried before anything is written. It takes no `Wells`: the coordinates are only read, and
 // a caller may have them by `&` alone.
 pub fn retired(
     head: Head,
     flags: &mut [u8],
     points: Points<'_>,
     slot: usize,
-) -> Result<Edited, Refusal>
-    ensures { Retired points.entry.dimensions (table_of head.slots head.live flags.old points.entry.coordinates.now) (table_after head flags.new points.entry.coordinates.now result) slot (edit_answer result) }
+) -> Result<Head, Refusal>
+    ensures { Retired points.entry.dimensions (table_of head.slots head.live flags.old points.entry.coordinates.now) (table_after (λ h. h) head flags.new points.entry.coordinates.now result) slot (head_answer result) }
 {
     let Head { slots, live } = head;
     table_fault(Table {
@@ -94,11 +88,8 @@ pub fn retired(
         return Err(Refusal::NoLiveSlot);
     }
     flags[slot] = 0;
-    Ok(Edited {
-        slot: 0,
-        head: Head {
-            slots,
-            live: live - 1,
-        },
+    Ok(Head {
+        slots,
+        live: live - 1,
     })
 }

@@ -4,7 +4,6 @@ pub mod AllPass
 pub mod Rows
 pub mod Sets
 pub mod Checked
-pub mod Taken
 pub mod Marking
 pub mod Partition
 pub mod Leaves

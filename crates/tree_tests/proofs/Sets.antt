@@ -1,5 +1,5 @@
 -- Sets of rows without the rows of a list: one row after the other taken out, and the rows put back. Assumes nothing.
--- Holds: without-nil, without_other, without-mem, without_in, without-inside, put_back, without_more, without_all
+-- Holds: without-nil, without-mem, without_in, put_back, without_more, without_all
 use mathlib.Core.Path.{◌≡◌, refl, sym, ◌∙◌}
 use Prim.Native.Nat.{ℕ, ◌+◌, ◌≤◌, ◌<◌}
 use mathlib.Core.Bool.{Bool, true, false, not, ◌&&◌, ◌||◌, and-true, and-false, or-false, or-true}
@@ -8,7 +8,7 @@ use lib.ListN.{length, get_or, take}
 use lib.Seq.{take_all}
 use lib.Dec.{eqb}
 use Rattle.lists.specs.Lists.{member}
-use Rattle.lists.proofs.Tests.{and-of, and-fst, and-snd}
+use Rattle.lists.proofs.Tests.{and-fst}
 use Rattle.lists.proofs.Members.{member-mem, mem-member, member-nil, member-more}
 use Rattle.tree_tests.specs.InTurn.{without}
 
@@ -16,21 +16,13 @@ use Rattle.tree_tests.specs.InTurn.{without}
 pub without-nil : (p : ℕ → Bool) (j : ℕ) → without [] p j ≡ p j
 without-nil p j = rw (member-nil j) (and-true (p j))
 
--- a row that is no member stays as it was
-pub without_other : (rows : List ℕ) (p : ℕ → Bool) (j : ℕ) → member j rows ≡ false → without rows p j ≡ p j
-without_other rows p j h = rw h (and-true (p j))
-
 -- none of the rows is left
 pub without-mem : (rows : List ℕ) (p : ℕ → Bool) (j : ℕ) → Memᴰ j rows → without rows p j ≡ false
 without-mem rows p j m = rw (mem-member rows j m) (and-false (p j))
 
--- what is left was in the set, and a set inside another one stays inside it
+-- what is left was in the set
 pub without_in : (rows : List ℕ) (p : ℕ → Bool) (j : ℕ) → without rows p j ≡ true → p j ≡ true
 without_in rows p j e = and-fst (p j) (not (member j rows)) e
-
-pub without-inside : (rows : List ℕ) (p q : ℕ → Bool) → ((j : ℕ) → p j ≡ true → q j ≡ true) → (j : ℕ) → without rows p j ≡ true → without rows q j ≡ true
-without-inside rows p q h j e =
-    and-of (h j (and-fst (p j) (not (member j rows)) e)) (and-snd (p j) (not (member j rows)) e)
 
 -- the rows that were taken out are put back
 pub put_back : (rows : List ℕ) (p : ℕ → Bool) → ((j : ℕ) → Memᴰ j rows → p j ≡ true) → (j : ℕ) → without rows p j || member j rows ≡ p j

@@ -1,12 +1,8 @@
 -- `boxes::write_box` meets its contract. Assumes nothing.
-use native.Mathlib.Omega.{arith}
-use Rattle.lists.specs.Lists.{part}
 use Rattle.boxes.proofs.Boxed.{box-written}
 use Rattle.boxes.proofs.write_box.Goals as goal
 
 pub returns : goal.returns
-unfolding part
-returns c = let s = c in
-    let b = s.args.b in
-    box-written s.args.out.now _ _ b s.args.at s.well_formed.0.1.1.0.1.0.1 s.requires.1 (omega (arith, s.requires.0))
-    c.copy_rows.ensures c.copy_rows-2.ensures
+returns c = let a = c.args in
+    let w = c.well_formed.0.1.1 in
+    box-written a.bounds.now _ _ a.b w.0.1.0.1 w.1.0.1.0.1 c.requires.1 c.requires.0 c.copy_from_slice.ensures.after c.copy_from_slice-2.ensures.after

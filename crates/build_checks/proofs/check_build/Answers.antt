@@ -1,23 +1,13 @@
 -- `build_checks::check_build` meets its contract. Assumes nothing.
-use mathlib.Core.Path.{sym, ◌∙◌}
-use Rattle.std.proofs.lemmas.Result.{err_from_is_err_and}
+use mathlib.Core.Path.{◌∙◌}
+use Rattle.std.proofs.Common.{rules}
 use Rattle.definition.specs.Refusals.{build_verdict}
 use Rattle.config.specs.Params.{settings_of_lem}
-use Rattle.build_checks.proofs.Laws.{tests-stop, tests-short, tests-last}
+use Rattle.build_checks.proofs.Laws.{same-tests}
 use Rattle.build_checks.proofs.check_build.Goals as goal
-
-pub returns-in_err-first_fault : goal.returns-in_err-first_fault
-unfolding build_verdict
-returns-in_err-first_fault c = let P = c.args in
-    let p = err_from_is_err_and c.from_residual.result c.from_residual.ensures.1 in
-    rw (p.1, p.2) (tests-stop (settings_of_lem P.points.dimensions P.params) _ _ _ _ _ c.in_err-first_fault.ensures.number)
-
-pub returns-then-is_short : goal.returns-then-is_short
-unfolding build_verdict
-returns-then-is_short c = let P = c.args in
-    tests-short (settings_of_lem P.points.dimensions P.params) _ _ _ _ c.in_ok-first_fault.ensures.number (sym c.is_short.ensures ∙ c.if-is_short.true)
 
 pub returns : goal.returns
 unfolding build_verdict
 returns c = let P = c.args in
-    c.last_check.ensures ∙ tests-last (settings_of_lem P.points.dimensions P.params) _ _ _ _ c.in_ok-first_fault.ensures.number (sym c.is_short.ensures ∙ c.if-is_short.false)
+    let t = c.check_points.ensures in
+    t.2 ∙ same-tests (settings_of_lem P.points.dimensions P.params) _ _ _ _ _ (λ e. let h = t.1 e in search rules)

@@ -2,15 +2,15 @@
 use mathlib.Core.Path.{◌∙◌}
 use Rattle.std.proofs.lemmas.Result.{err_from_is_err_and}
 use Rattle.definition.specs.Refusals.{settings_tests}
-use Rattle.config.specs.Params.{settings_of_lem}
+use Rattle.config.specs.Params.{settings_are}
 use Rattle.build_checks.proofs.Laws.{fault-first, fault-second}
 use Rattle.build_checks.proofs.first_fault.Goals as goal
 
 pub returns-in_err-settings_fault-clause-number : goal.returns-in_err-settings_fault-clause-number
-returns-in_err-settings_fault-clause-number c = let P = c.args in
+returns-in_err-settings_fault-clause-number c =
     let p = err_from_is_err_and c.from_residual.result c.from_residual.ensures.1 in
-    rw (p.1, p.2) (fault-first (settings_tests (settings_of_lem P.dimensions P.params)) _ _ c.in_err-settings_fault.ensures.number)
+    rw (p.1, p.2) (fault-first (settings_tests (settings_are c.args.settings)) _ _ c.in_err-settings_fault.ensures.number)
 
 pub returns-clause-number : goal.returns-clause-number
-returns-clause-number c = let P = c.args in
-    c.points_fault.ensures.number ∙ fault-second (settings_tests (settings_of_lem P.dimensions P.params)) _ c.in_ok-settings_fault.ensures.number
+returns-clause-number c =
+    c.points_fault.ensures.number ∙ fault-second (settings_tests (settings_are c.args.settings)) _ c.in_ok-settings_fault.ensures.number

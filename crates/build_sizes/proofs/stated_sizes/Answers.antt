@@ -1,9 +1,9 @@
 -- `build_sizes::stated_sizes` meets its contract: no product is too large for its type. Assumes nothing.
-use Prim.Native.Nat.{ℕ, ◌+◌, ◌*◌, ◌≤◌}
+use Prim.Native.Nat.{ℕ, ◌*◌, ◌≤◌}
 use native.Mathlib.Nat.{mul-le-mul}
 use native.Mathlib.Omega.{arith}
 use Rattle.definition.specs.Packed.{row_floats_lem, most_rows, build_stated}
-use Rattle.definition.specs.Refusals.{most_points, most_neighbours}
+use Rattle.definition.specs.Refusals.{most_points}
 use borrow.Author.Rules.{rules}
 use Rattle.build_sizes.proofs.stated_sizes.Goals as goal
 
@@ -13,20 +13,8 @@ product x y a b h k = mul-le-mul h k
 
 pub floats_before-requires : goal.floats_before-requires
 floats_before-requires c = let a = c.args in
-    (search rules, omega (arith, product (row_floats_lem a.dimensions) (most_rows a.n) (row_floats_lem 3) (most_rows most_points) (omega arith) (omega arith)))
-
-pub overflow_mul-result-5 : goal.overflow_mul-result-5
-overflow_mul-result-5 c = let a = c.args in
-    omega (arith, product (6 * a.n) (a.neighbours + 1) (6 * most_points) (most_neighbours + 1) (omega arith) (omega arith))
-
-pub overflow_mul-result-9 : goal.overflow_mul-result-9
-overflow_mul-result-9 c = let a = c.args in
-    omega (arith, product (8 * a.n) (a.neighbours + 1) (8 * most_points) (most_neighbours + 1) (omega arith) (omega arith))
-
-pub overflow_add-result : goal.overflow_add-result
-overflow_add-result c = let a = c.args in
-    omega (arith, product (8 * a.n) (a.neighbours + 1) (8 * most_points) (most_neighbours + 1) (omega arith) (omega arith))
+    (search rules, rw c.most_domains-rows.ensures (omega (arith, product (row_floats_lem a.dimensions) (most_rows a.n) (row_floats_lem 3) (most_rows most_points) (omega arith) (omega arith))))
 
 pub returns : goal.returns
 unfolding build_stated
-returns c = rw c.floats_before.ensures
+returns c = rw (c.floats_before.ensures, c.most_domains-rows.ensures, c.most_borrowed.ensures)

@@ -1,26 +1,23 @@
 -- `file_domains::check_domains` meets its contract: before record i those before it passed, and the rest decides. Assumes nothing.
 use native.Mathlib.Omega.{arith}
-use Rattle.file_domains.proofs.DomainsInTurn.{tested-start, tested-enough, tested-fits, tested-next, tested-bad, tested-left, tested-end}
+use Rattle.file_domains.proofs.DomainsInTurn.{tested-start, tested-fits, tested-next, tested-bad, tested-left, tested-end}
 use borrow.Author.Rules.{rules}
 use Rattle.file_domains.proofs.check_domains.Goals as goal
 
 pub loop-i-init : goal.loop-i-init
-loop-i-init c = tested-start _ _ _ _ _ _ _ _ c.requires.1
+loop-i-init c = tested-start _ _ _ _ _ _ _ _ c.requires.1 c.requires.2
 
 pub returns-in_err-f : goal.returns-in_err-f
 returns-in_err-f c = λ p q a b. rw c.from_residual.ensures (tested-bad _ _ _ _ _ _ _ _ _ _ _ _ _ _ _ c.loop-i.invariant (search rules) _ _ _ c.check_domain.ensures c.in_err-f.was p q a b)
-
-pub overflow_sub-remaining : goal.overflow_sub-remaining
-overflow_sub-remaining c = tested-enough _ _ _ _ _ _ _ _ _ _ _ _ _ _ _ c.loop-i.invariant (search rules) _ _ _ c.check_domain.ensures _ c.in_ok-f.was
 
 pub overflow_add-borrowed : goal.overflow_add-borrowed
 overflow_add-borrowed c = omega (arith, tested-fits _ _ _ _ _ _ _ _ _ _ _ _ _ _ _ c.loop-i.invariant (search rules) _ _ _ c.check_domain.ensures _ c.in_ok-f.was)
 
 pub loop-i-preserved : goal.loop-i-preserved
-loop-i-preserved c = tested-next _ _ _ _ _ _ _ _ _ _ _ _ _ _ _ c.loop-i.invariant (search rules) _ _ _ c.check_domain.ensures _ c.in_ok-f.was
+loop-i-preserved c = tested-next _ _ _ _ _ _ _ _ _ _ _ _ _ _ _ c.loop-i.invariant (search rules) _ _ _ c.check_domain.ensures _ c.in_ok-f.was c.check_domain.new.sets.same_length
 
-pub returns-then-remaining-ne0 : goal.returns-then-remaining-ne0
-returns-then-remaining-ne0 c = λ p q a b. tested-left _ _ _ _ _ _ _ _ _ _ _ _ _ _ _ c.loop-i.invariant (search rules) (search rules) p q a b
+pub returns-then-leaves-ne0 : goal.returns-then-leaves-ne0
+returns-then-leaves-ne0 c = λ p q a b. tested-left _ _ _ _ _ _ _ _ _ _ _ _ _ _ _ c.loop-i.invariant (search rules) (search rules) p q a b
 
 pub returns : goal.returns
 returns c = λ p q a b. tested-end _ _ _ _ _ _ _ _ _ _ _ _ _ _ _ c.loop-i.invariant (search rules) (search rules) (search rules) p q a b

@@ -1,14 +1,11 @@
 -- `file_front::check_front` meets its contract. Assumes nothing.
-use mathlib.Core.Path.{◌≡◌, sym, ap, ◌∙◌}
+use mathlib.Core.Path.{◌≡◌, sym, ◌∙◌}
 use mathlib.Core.Bool.{true, false}
-use Prim.Native.Nat.{ℕ, ◌*◌}
-use native.Mathlib.Nat.{mul-le-mul_left}
-use native.Mathlib.Omega.{arith}
 use Rattle.formats.specs.Bytes.{whole}
 use Rattle.formats.specs.Stream.{policy_fits_lem}
 use Rattle.stored.specs.File.{head_mark}
 use Rattle.stored.specs.Stored.{head_size}
-use Rattle.settings_record.specs.Reading.{settings_are}
+use Rattle.config.specs.Params.{settings_are}
 use Rattle.file_front.proofs.Takes.{head-axes}
 use Rattle.file_front.proofs.Tested.{head-broken, head-inside, policy-broken, head-refused, points-decide, front_read}
 use Rattle.file_front.proofs.check_front.Goals as goal
@@ -39,18 +36,10 @@ points_pass-requires c = let bs = c.args.bytes.now in
     let axes = head-axes (settings_are c.settings_of-settings.result) c.number_at-n.result (sym c.head_passes.ensures ∙ c.if-not-head_passes.false) in
     (head-inside bs stands, axes.1, c.number_at-n.ensures.1)
 
-pub point_size-requires : goal.point_size-requires
-point_size-requires c = (head-axes (settings_are c.settings_of-settings.result) c.number_at-n.result (sym c.head_passes.ensures ∙ c.if-not-head_passes.false)).1
-
-pub overflow_mul-next : goal.overflow_mul-next
-overflow_mul-next c = let axes = head-axes (settings_are c.settings_of-settings.result) c.number_at-n.result (sym c.head_passes.ensures ∙ c.if-not-head_passes.false) in
-    let n = c.number_at-n.result in
-    omega (arith, mul-le-mul_left n axes.1, ap (λ (k : ℕ). n * k) c.point_size.ensures)
-
-pub overflow_add-next : goal.overflow_add-next
-overflow_add-next c = let axes = head-axes (settings_are c.settings_of-settings.result) c.number_at-n.result (sym c.head_passes.ensures ∙ c.if-not-head_passes.false) in
-    let n = c.number_at-n.result in
-    omega (arith, mul-le-mul_left n axes.1, ap (λ (k : ℕ). n * k) c.point_size.ensures)
+pub row_place-next-requires : goal.row_place-next-requires
+row_place-next-requires c =
+    let axes = head-axes (settings_are c.settings_of-settings.result) c.number_at-n.result (sym c.head_passes.ensures ∙ c.if-not-head_passes.false) in
+    (axes.1, c.number_at-n.ensures.1)
 
 pub returns-then-not-points_pass-clause-good : goal.returns-then-not-points_pass-clause-good
 returns-then-not-points_pass-clause-good c = let bs = c.args.bytes.now in
@@ -69,4 +58,4 @@ returns c = let bs = c.args.bytes.now in
     let n = c.number_at-n in
     let takes = sym c.head_passes.ensures ∙ c.if-not-head_passes.false in
     let good = points-decide bs stands fits (settings_are settings.result) n.result settings.ensures n.ensures.0 takes true (sym c.if-not-points_pass.false ∙ c.points_pass.ensures) in
-    record { good = good; read = front_read settings.result n.result c.point_size.result bs settings.ensures n.ensures.0 c.point_size.ensures good }
+    record { good = good; read = front_read settings.result n.result c.row_place-next.result bs settings.ensures n.ensures.0 c.row_place-next.ensures good }

@@ -1,6 +1,6 @@
 -- `file_front::head_passes` meets its contract. Assumes nothing.
 use mathlib.Core.Path.{sym, ◌∙◌}
-use Rattle.settings_record.specs.Reading.{settings_are}
+use Rattle.config.specs.Params.{settings_are}
 use Rattle.file_front.proofs.Takes.{when_ok, settings-refused, head_is}
 use Rattle.file_front.proofs.head_passes.Goals as goal
 

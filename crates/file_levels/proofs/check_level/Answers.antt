@@ -1,4 +1,5 @@
 -- `file_levels::check_level` meets its contract: each way out has its law. Assumes nothing.
+use Rattle.row_sets.proofs.RowTests.{sets-inside}
 use Rattle.file_levels.proofs.LevelHeads.{head-within}
 use Rattle.file_levels.proofs.OneLevel.{no-level-record, too_few, too_many_rows, bad-level-rows, bad-domains, level-good}
 use Rattle.file_levels.proofs.check_level.Goals as goal
@@ -18,7 +19,8 @@ pub returns-then-not-narrow : goal.returns-then-not-narrow
 returns-then-not-narrow c = λ p m. bad-level-rows _ _ _ _ _ p _ _ c.in_ok-h.ensures c.if-h-least.false c.if-below-h.false _ (c.narrow.ensures.asked p m) c.if-not-narrow.true
 
 pub check_domains-requires : goal.check_domains-requires
-check_domains-requires c = (c.requires.0, (head-within _ _ _ c.in_ok-h.ensures).1)
+check_domains-requires c = let s = c.narrow.ensures.set c.if-not-narrow.false in
+    (c.requires.0, (head-within _ _ _ c.in_ok-h.ensures).1, sets-inside c.narrow.new.self.same_length s.0 s.1 (λ x e. e))
 
 pub returns-in_err-r : goal.returns-in_err-r
 returns-in_err-r c = let s = c.narrow.ensures.set c.if-not-narrow.false in

@@ -1,6 +1,12 @@
 -- `halving::halves` meets its contract. Assumes nothing.
-use mathlib.Core.Path.{◌∙◌}
+use mathlib.Core.Path.{◌≡◌, sym, ap, ◌∙◌}
+use Prim.Native.Nat.{◌-◌}
 use native.Mathlib.Omega.{arith}
+use borrow.Author.Rules.{rules}
+use lib.ListN.{length, drop, length-drop}
+use lib.Seq.{length-take-le}
+use Rattle.lists.specs.Lists.{put, part}
+use Rattle.lists.proofs.Put.{mid_back}
 use Rattle.rows.proofs.Good.{good-finite}
 use Rattle.halving.proofs.Cutting.{middle-inside, low-most, rows_cut}
 use Rattle.halving.proofs.halves.Goals as goal
@@ -13,24 +19,53 @@ part_rows-lo-requires c = let p = c.requires in
     let m = c.middle_of-m in
     (m.auto.room ∙ p.3, good-finite _ p.2 _ p.0, middle-inside m.ensures p.0 p.2)
 
-pub overflow_sub-rows : goal.overflow_sub-rows
-overflow_sub-rows c = let f = c.part_rows-lo in
-    omega (arith, low-most c.middle_of-m.ensures f.ensures.number, f.auto.rows)
+pub overflow_sub-others : goal.overflow_sub-others
+overflow_sub-others c = let f = c.part_rows-lo in
+    let h = low-most c.middle_of-m.ensures f.ensures.number in
+    omega (arith, h, f.auto.rows)
 
-pub copy_rows-requires : goal.copy_rows-requires
-copy_rows-requires c = let p = c.requires in
-    let m = c.middle_of-m in
+pub offset_bounds-rows-lo : goal.offset_bounds-rows-lo
+offset_bounds-rows-lo c = let f = c.part_rows-lo in
+    let h = low-most c.middle_of-m.ensures f.ensures.number in
+    search rules
+
+pub slice_bounds-copy_from_slice-count : goal.slice_bounds-copy_from_slice-count
+slice_bounds-copy_from_slice-count c = let f = c.part_rows-lo in
+    let h = low-most c.middle_of-m.ensures f.ensures.number in
+    omega (arith, h, f.auto.rows)
+
+pub slice_bounds-copy_from_slice-start : goal.slice_bounds-copy_from_slice-start
+slice_bounds-copy_from_slice-start c = let f = c.part_rows-lo in
+    let h = low-most c.middle_of-m.ensures f.ensures.number in
+    omega (arith, h, f.auto.rows)
+
+pub slice_bounds-copy_from_slice-end : goal.slice_bounds-copy_from_slice-end
+slice_bounds-copy_from_slice-end c = let p = c.requires in
     let f = c.part_rows-lo in
-    let h = low-most m.ensures f.ensures.number in
-    (omega (arith, p.3, m.auto.room, f.auto.rows, f.auto.room), omega (arith, f.auto.rows))
+    omega (arith, p.3, c.middle_of-m.auto.room, f.auto.rows, f.auto.room)
+
+pub copy_from_slice-requires : goal.copy_from_slice-requires
+copy_from_slice-requires c = let p = c.requires in
+    let f = c.part_rows-lo in
+    let h = low-most c.middle_of-m.ensures f.ensures.number in
+    let n = length f.new.rows - f.result in
+    length-take-le n (drop f.result f.new.rows) (simp length-drop (omega arith))
+    ∙ sym (length-take-le n f.new.room (omega (arith, p.3, c.middle_of-m.auto.room, f.auto.rows, f.auto.room)))
 
 pub returns : goal.returns
+unfolding part
 returns c = let p = c.requires in
     let m = c.middle_of-m in
     let f = c.part_rows-lo in
     let e = f.ensures in
-    let k = m.auto.room in record {
-      rows = rows_cut m.ensures p.0 p.2 _ (k ∙ p.3) e.number e.rows e.room c.copy_rows.ensures;
+    let k = m.auto.room in
+    let h = low-most m.ensures e.number in
+    let n = length f.new.rows - f.result in
+    let back = c.copy_from_slice in
+    let long : length back.new.self ≡ n = back.auto.self ∙ length-take-le n (drop f.result f.new.rows) (simp length-drop (omega arith)) in
+    let copied = mid_back f.new.rows f.result n back.new.self long ∙ ap (put f.new.rows f.result) back.ensures.after in
+    record {
+      rows = rows_cut m.ensures p.0 p.2 _ (k ∙ p.3) e.number e.rows e.room copied;
       room = f.auto.room ∙ k;
       row = m.ensures;
     }

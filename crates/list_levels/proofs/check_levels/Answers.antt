@@ -10,11 +10,11 @@ loop-t-init c = between_start c.requires
 pub returns-in_err-done : goal.returns-in_err-done
 returns-in_err-done c =
     rw c.from_residual.ensures
-    (between-out c.requires c.loop-t.invariant c.loop-t-test.true c.next_level.new.sets.listed _ _ refl refl c.in_err-done.ensures)
+    (between-out c.requires c.loop-t.invariant c.loop-t-test.true c.next_level.new.sets.listed.now _ _ refl refl c.in_err-done.ensures)
 
 pub loop-t-preserved : goal.loop-t-preserved
 loop-t-preserved c =
-    between_next c.requires c.loop-t.invariant c.loop-t-test.true c.next_level.new.sets.listed _ _ refl refl _ c.in_ok-done.ensures
+    between_next c.requires c.loop-t.invariant c.loop-t-test.true c.next_level.new.sets.listed.now _ _ refl refl _ c.in_ok-done.ensures
 
 pub returns : goal.returns
 returns c = between-end c.requires c.loop-t.invariant (omega arith)

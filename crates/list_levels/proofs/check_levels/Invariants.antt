@@ -4,4 +4,4 @@ use Rattle.list_levels.proofs.BetweenLevels.{BetweenLevels}
 use Rattle.list_levels.proofs.check_levels.Given as goal
 
 abbrev pub invariant-loop-t : goal.invariant-loop-t
-invariant-loop-t l = BetweenLevels (packed_of l.tree.leaves) l.tree.level_points.now (counts_given l.tree.counts) l.n l.borrowed_most l.sets.listed l.t l.above l.done
+invariant-loop-t l = BetweenLevels (packed_of l.tree.leaves) l.tree.level_points.now (counts_given l.tree.counts) l.n l.borrowed_most l.sets.listed.now l.t l.above l.done

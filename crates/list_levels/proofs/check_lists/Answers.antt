@@ -1,5 +1,7 @@
 -- `list_levels::check_lists` meets its contract. Assumes nothing.
+use native.Mathlib.Omega.{arith}
 use borrow.Author.Rules.{rules}
+use Rattle.marks.proofs.Marks.{marked-zeros}
 use Rattle.tree_answer.specs.Answers.{counts_given, lists_of}
 use Rattle.list_levels.proofs.WholeTree.{tree-out, tree-tell, levels-ready}
 use Rattle.list_levels.proofs.check_lists.Goals as goal
@@ -9,15 +11,15 @@ returns-then-not-counts_stand c = λ s e f.
     tree-out _ _ _ (counts_given c.args.tree.counts) _ (search rules) (search rules) c.requires.3 _ c.counts_stand.ensures s e f c.if-not-counts_stand.true
 
 pub below-sets-requires : goal.below-sets-requires
-below-sets-requires c = search rules
+below-sets-requires c = (search rules, marked-zeros 16384, omega (arith, c.requires.1))
 
 pub check_levels-requires : goal.check_levels-requires
 check_levels-requires c = let a = c.args in let t = a.tree.leaves in
     let l = lists_of a.tree.level_points.now t.internals.now t.domains.now t.boxes.now t.borrowed.now in
-    levels-ready t.dimensions a.n a.neighbours (counts_given a.tree.counts) l c.requires.0 c.requires.1 c.requires.3 (search rules) (search rules) _
-    c.counts_stand.ensures c.if-not-counts_stand.false _ c.below-sets.ensures
+    rw c.most_borrowed.ensures (levels-ready t.dimensions a.n a.neighbours (counts_given a.tree.counts) l c.requires.0 c.requires.1 c.requires.3 (search rules) (search rules) _
+    c.counts_stand.ensures c.if-not-counts_stand.false _ c.below-sets.ensures)
 
 pub returns : goal.returns
 returns c = λ s e f. let a = c.args in let t = a.tree.leaves in
     let l = lists_of a.tree.level_points.now t.internals.now t.domains.now t.boxes.now t.borrowed.now in
-    tree-tell t.dimensions a.n a.neighbours (counts_given a.tree.counts) l (search rules) (search rules) c.requires.3 _ c.counts_stand.ensures s e f c.if-not-counts_stand.false _ c.check_levels.ensures
+    tree-tell t.dimensions a.n a.neighbours (counts_given a.tree.counts) l (search rules) (search rules) c.requires.3 _ c.counts_stand.ensures s e f c.if-not-counts_stand.false _ (rw c.most_borrowed.ensures at c.check_levels.ensures)

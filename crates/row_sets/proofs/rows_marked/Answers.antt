@@ -3,7 +3,7 @@ use Prim.Native.Nat.{◌<◌}
 use native.Mathlib.Omega.{arith}
 use lib.ListN.{length}
 use Rattle.row_sets.specs.Order.{least_after}
-use Rattle.row_sets.proofs.Order.{asking-after, too-low, not_low}
+use Rattle.row_sets.proofs.Order.{too-low, not_low}
 use Rattle.row_sets.proofs.Loops.{asking-start, asking-low, asking-out, asking-next, asking-end}
 use Rattle.row_sets.proofs.rows_marked.Goals as goal
 use Rattle.row_sets.proofs.rows_marked.Goals.{then-not-follows-via-then-not-follows, then-not-follows-via-else-not-follows+then-not-is_marked}
@@ -22,10 +22,11 @@ returns-then-not-follows g c =
     ]
 
 pub loop-i-preserved : goal.loop-i-preserved
+unfolding least_after
 loop-i-preserved g c =
     let here : c.loop-i.i < length (g.R.Rows.rows c.args.rows.now) = omega arith in
     let up = not_low _ _ _ c.follows.ensures c.if-not-follows.false in
-    asking-after _ _ (asking-next c.loop-i.invariant _ here c.row-row.ensures _ c.is_marked.ensures up c.if-not-is_marked.false)
+    asking-next c.loop-i.invariant _ here c.row-row.ensures _ c.is_marked.ensures up c.if-not-is_marked.false
 
 pub returns : goal.returns
 returns g c = asking-end c.loop-i.invariant (omega arith)

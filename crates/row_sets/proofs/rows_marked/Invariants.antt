@@ -3,4 +3,4 @@ use Rattle.row_sets.proofs.Loops.{Asking}
 use Rattle.row_sets.proofs.rows_marked.Given as goal
 
 abbrev pub invariant-loop-i : goal.invariant-loop-i
-invariant-loop-i g l = Asking (g.R.Rows.rows l.rows) l.words (least_after l.i l.last) l.i
+invariant-loop-i g l = Asking (g.R.Rows.rows l.rows) l.words (least_after l.last) l.i

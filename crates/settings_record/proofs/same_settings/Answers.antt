@@ -1,6 +1,6 @@
 -- `settings_record::same_settings` meets its contract: field by field, up to the first that differs. Assumes nothing.
 use Rattle.settings_record.proofs.Compared.{met, unmet, settings-same}
-use Rattle.config.specs.Params.{settings_of_lem}
+use Rattle.config.specs.Params.{settings_are}
 use Rattle.lists.specs.Lists.{part}
 use Rattle.formats.specs.Bytes.{bytes_of}
 use Rattle.stored.specs.Sound.{same}
@@ -11,7 +11,7 @@ use Rattle.settings_record.proofs.same_settings.Goals.{then-byte_is, else-byte_i
 
 pub returns-then-number_is-3 : goal.returns-then-number_is-3
 returns-then-number_is-3 c =
-    let s = settings_of_lem c.args.dimensions c.args.params in
+    let s = settings_are c.args.settings in
     let bs = c.args.input.now in
     let d = same (bytes_of 1 s.dimension) (part bs 2 1) in
     let l = same (bytes_of 4 s.leaf) (part bs 3 4) in
@@ -33,7 +33,7 @@ returns-then-number_is-3 c =
 
 pub returns-else-number_is-3 : goal.returns-else-number_is-3
 returns-else-number_is-3 c =
-    let s = settings_of_lem c.args.dimensions c.args.params in
+    let s = settings_are c.args.settings in
     let bs = c.args.input.now in
     let d = same (bytes_of 1 s.dimension) (part bs 2 1) in
     let l = same (bytes_of 4 s.leaf) (part bs 3 4) in

@@ -5,11 +5,11 @@ use Rattle.settings_record.proofs.settings_of.Goals as goal
 pub returns : goal.returns
 unfolding settings_in
 returns c = rw (
-  c.byte_at-2.ensures.0,
-  c.setting_at-2.ensures,
-  c.setting_at-3.ensures,
-  c.setting_at-4.ensures,
-  c.from.ensures,
   c.byte_at.ensures.0,
   c.setting_at.ensures,
+  c.setting_at-2.ensures,
+  c.setting_at-3.ensures,
+  c.of.ensures,
+  c.byte_at-kind.ensures.0,
+  c.setting_at-4.ensures,
 )

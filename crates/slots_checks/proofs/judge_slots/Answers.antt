@@ -5,7 +5,7 @@ use Prim.Native.Nat.{ℕ, ◌+◌, ◌*◌, ◌<◌}
 use native.Mathlib.Omega.{arith}
 use lib.ListN.{length, take, get_or}
 use Rattle.std.proofs.lemmas.List.{get_or-take, length-take-le}
-use Rattle.lists.proofs.Put.{part-lent, length_part}
+use Rattle.lists.proofs.Put.{length_part}
 use Rattle.definition.specs.Refusals.{refused}
 use Rattle.definition.specs.Table.{flagged}
 use Rattle.slots_checks.proofs.Judged.{flag-live, flag-retired, none_first, none-same, none_more, judged-none, judged-here}
@@ -25,7 +25,7 @@ returns-in-Some c = let P = c.args in
     let below : i < P.table.head.slots = omega arith in
     let live = flag-live P.table.flags.now i (λ z. c.if-flag-ne0.true (get_or-take P.table.head.slots P.table.flags.now i 0 below ∙ z)) in
     let inside = slot-inside i P.table.head.slots d below in
-    let at = rw (part-lent cs (i * d) d) at c.in-Some.ensures in
+    let at = rw c.point.ensures.coordinates at c.in-Some.ensures in
     ap (λ (k : ℕ). refused (record { number = 10; place = i * d + k })) at.0
     ∙ judged-here d cs (flagged P.table.flags.now) i P.table.head.slots below live (omega (arith, inside)) c.loop-i.invariant (omega (arith, at.0, at.1, length_part cs (i * d) d (omega (arith, inside))))
 
@@ -41,7 +41,7 @@ loop-i-preserved c = let P = c.args in
     let read : get_or (take P.table.head.slots flags) i 0 ≡ get_or flags i 0 = get_or-take P.table.head.slots flags i 0 below in
     let inside = slot-inside i P.table.head.slots d below in
     elim c.if-flag-ne0.branch [
-      | then-flag-ne0+in_default w ↦ let e = rw (part-lent cs (i * d) d) at w.in_default.ensures in
+      | then-flag-ne0+in_default w ↦ let e = rw w.point.ensures.coordinates at w.in_default.ensures in
           none_more d cs (flagged flags) i (flag-live flags i (λ z. w.if-flag-ne0.true (read ∙ z))) (omega (arith, inside)) (omega (arith, e, length_part cs (i * d) d (omega (arith, inside)))) none
       | else-flag-ne0 w ↦ none-same d cs (flagged flags) i (flag-retired flags i (sym read ∙ w.if-flag-ne0.false)) none
     ]

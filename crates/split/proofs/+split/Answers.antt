@@ -6,15 +6,8 @@ use Rattle.cut_nodes.specs.Written.{domain_of}
 use Rattle.split.proofs.Turns.{turn, left-long, right-long, leaves-rows, leaves-written, left_less, left-asked, right-less, right-asked, halves-written, halves-rows}
 use Rattle.split.proofs.+split.Goals as goal
 
-pub with_upper-left-requires : goal.with_upper-left-requires
-with_upper-left-requires t c =
-    let a = c.args in
-    let g = c.requires.dimensions_nonzero in
-    let h = c.requires.dimensions_value in
-    (omega (arith, c.cut_node-at.ensures.plane.0, h.0, axis-below a.level.points.dimensions a.level.points.coordinates.now a.rows.now g.0), omega (arith, g.1, h.0))
-
-pub with_lower-right-requires : goal.with_lower-right-requires
-with_lower-right-requires t c =
+pub halves-requires : goal.halves-requires
+halves-requires t c =
     let a = c.args in
     let g = c.requires.dimensions_nonzero in
     let h = c.requires.dimensions_value in
@@ -25,11 +18,10 @@ returns-then-half-leaf-clause-rows t c =
     let a = c.args in
     let k = c.cut_node-at in
     let e = k.ensures in
-    let u = c.with_upper-left in
-    let v = c.with_lower-right in
+    let u = c.halves in
     let x =
-    turn a.rows.now a.whole u.result v.result a.depth k.result.axis k.result.value c.requires.dimensions_nonzero c.requires.dimensions_value
-    k.new.rows k.new.lists.wholes.now k.new.lists.cuts.now k.new.lists.planes.now e.plane e.rows e.wholes e.cuts e.planes e.same.0.wholes_len u.ensures v.ensures in
+    turn a.rows.now a.whole u.result.0 u.result.1 a.depth k.result.axis k.result.value c.requires.dimensions_nonzero c.requires.dimensions_value
+    k.new.rows k.new.lists.wholes.now k.new.lists.cuts.now k.new.lists.planes.now e.plane e.rows e.wholes e.cuts e.planes e.same.0.wholes_len u.ensures.left u.ensures.right in
     leaves-rows x c.if-half-leaf.true
 
 pub returns-then-half-leaf-clause-written : goal.returns-then-half-leaf-clause-written
@@ -37,11 +29,10 @@ returns-then-half-leaf-clause-written t c =
     let a = c.args in
     let k = c.cut_node-at in
     let e = k.ensures in
-    let u = c.with_upper-left in
-    let v = c.with_lower-right in
+    let u = c.halves in
     let x =
-    turn a.rows.now a.whole u.result v.result a.depth k.result.axis k.result.value c.requires.dimensions_nonzero c.requires.dimensions_value
-    k.new.rows k.new.lists.wholes.now k.new.lists.cuts.now k.new.lists.planes.now e.plane e.rows e.wholes e.cuts e.planes e.same.0.wholes_len u.ensures v.ensures in
+    turn a.rows.now a.whole u.result.0 u.result.1 a.depth k.result.axis k.result.value c.requires.dimensions_nonzero c.requires.dimensions_value
+    k.new.rows k.new.lists.wholes.now k.new.lists.cuts.now k.new.lists.planes.now e.plane e.rows e.wholes e.cuts e.planes e.same.0.wholes_len u.ensures.left u.ensures.right in
     let q = domain_of a.rows.now a.whole a.depth in
     leaves-written x c.if-half-leaf.true
     ((rw e.same.1 at c.put_leaves.ensures.written) (left_of a.level.points.dimensions a.level.points.coordinates.now q).rows (right_of a.level.points.dimensions a.level.points.coordinates.now q).rows (left-long x) (right-long x))
@@ -51,11 +42,10 @@ split-middle-requires t c =
     let a = c.args in
     let k = c.cut_node-at in
     let e = k.ensures in
-    let u = c.with_upper-left in
-    let v = c.with_lower-right in
+    let u = c.halves in
     let x =
-    turn a.rows.now a.whole u.result v.result a.depth k.result.axis k.result.value c.requires.dimensions_nonzero c.requires.dimensions_value
-    k.new.rows k.new.lists.wholes.now k.new.lists.cuts.now k.new.lists.planes.now e.plane e.rows e.wholes e.cuts e.planes e.same.0.wholes_len u.ensures v.ensures in
+    turn a.rows.now a.whole u.result.0 u.result.1 a.depth k.result.axis k.result.value c.requires.dimensions_nonzero c.requires.dimensions_value
+    k.new.rows k.new.lists.wholes.now k.new.lists.cuts.now k.new.lists.planes.now e.plane e.rows e.wholes e.cuts e.planes e.same.0.wholes_len u.ensures.left u.ensures.right in
     let big = c.if-half-leaf.false in
     (omega (arith, c.decreases, left_less x big), rw e.same.1 (left-asked x big))
 
@@ -64,11 +54,10 @@ split-requires t c =
     let a = c.args in
     let k = c.cut_node-at in
     let e = k.ensures in
-    let u = c.with_upper-left in
-    let v = c.with_lower-right in
+    let u = c.halves in
     let x =
-    turn a.rows.now a.whole u.result v.result a.depth k.result.axis k.result.value c.requires.dimensions_nonzero c.requires.dimensions_value
-    k.new.rows k.new.lists.wholes.now k.new.lists.cuts.now k.new.lists.planes.now e.plane e.rows e.wholes e.cuts e.planes e.same.0.wholes_len u.ensures v.ensures in
+    turn a.rows.now a.whole u.result.0 u.result.1 a.depth k.result.axis k.result.value c.requires.dimensions_nonzero c.requires.dimensions_value
+    k.new.rows k.new.lists.wholes.now k.new.lists.cuts.now k.new.lists.planes.now e.plane e.rows e.wholes e.cuts e.planes e.same.0.wholes_len u.ensures.left u.ensures.right in
     let big = c.if-half-leaf.false in
     let l = c.split-middle in (
       omega (arith, c.decreases, right-less x big l.new.rows l.auto.rows),
@@ -81,11 +70,10 @@ returns-clause-rows t c =
     let a = c.args in
     let k = c.cut_node-at in
     let e = k.ensures in
-    let u = c.with_upper-left in
-    let v = c.with_lower-right in
+    let u = c.halves in
     let x =
-    turn a.rows.now a.whole u.result v.result a.depth k.result.axis k.result.value c.requires.dimensions_nonzero c.requires.dimensions_value
-    k.new.rows k.new.lists.wholes.now k.new.lists.cuts.now k.new.lists.planes.now e.plane e.rows e.wholes e.cuts e.planes e.same.0.wholes_len u.ensures v.ensures in
+    turn a.rows.now a.whole u.result.0 u.result.1 a.depth k.result.axis k.result.value c.requires.dimensions_nonzero c.requires.dimensions_value
+    k.new.rows k.new.lists.wholes.now k.new.lists.cuts.now k.new.lists.planes.now e.plane e.rows e.wholes e.cuts e.planes e.same.0.wholes_len u.ensures.left u.ensures.right in
     let l = c.split-middle in
     let r = c.split in
     halves-rows x c.if-half-leaf.false l.new.rows l.auto.rows r.new.rows l.ensures.rows r.ensures.rows
@@ -95,11 +83,10 @@ returns-clause-written t c =
     let a = c.args in
     let k = c.cut_node-at in
     let e = k.ensures in
-    let u = c.with_upper-left in
-    let v = c.with_lower-right in
+    let u = c.halves in
     let x =
-    turn a.rows.now a.whole u.result v.result a.depth k.result.axis k.result.value c.requires.dimensions_nonzero c.requires.dimensions_value
-    k.new.rows k.new.lists.wholes.now k.new.lists.cuts.now k.new.lists.planes.now e.plane e.rows e.wholes e.cuts e.planes e.same.0.wholes_len u.ensures v.ensures in
+    turn a.rows.now a.whole u.result.0 u.result.1 a.depth k.result.axis k.result.value c.requires.dimensions_nonzero c.requires.dimensions_value
+    k.new.rows k.new.lists.wholes.now k.new.lists.cuts.now k.new.lists.planes.now e.plane e.rows e.wholes e.cuts e.planes e.same.0.wholes_len u.ensures.left u.ensures.right in
     let l = c.split-middle in
     let r = c.split in
     halves-written x c.if-half-leaf.false l.new.rows l.auto.rows l.new.lists.wholes.now l.new.lists.floats.now l.new.lists.cuts.now l.new.lists.planes.now (rw e.same.1 at l.ensures.written)

@@ -9,8 +9,8 @@ use Rattle.store.proofs.Sized.{own-passed, tree-bad, tree-good, tree-packs, tree
 use Rattle.store.proofs.Outcomes.{tree-refused, file-refused, file-written}
 use Rattle.store.proofs.store_sound.Goals as goal
 
-pub nonzero_div-n : goal.nonzero_div-n
-nonzero_div-n c = let start = c in
+pub count-n-requires : goal.count-n-requires
+count-n-requires c = let start = c in
     let a = start.args in
     let s = settings_of_lem a.points.dimensions a.params in
     let cs = a.points.coordinates.now in
@@ -24,7 +24,7 @@ check_lists-requires c = let start = c in
     let cs = a.points.coordinates.now in
     let l = lists_read a.tree in
     let p = own-passed s cs l start.requires in
-    rw c.of-tree.ensures (p.axes_few, p.rows_few, p.neighbours_few, p.none-short)
+    rw (c.of-tree.ensures, c.count-n.ensures) (p.axes_few, p.rows_few, p.neighbours_few, p.none-short)
 
 pub returns-in_default : goal.returns-in_default
 returns-in_default c = let start = c in
@@ -32,7 +32,7 @@ returns-in_default c = let start = c in
     let s = settings_of_lem a.points.dimensions a.params in
     let cs = a.points.coordinates.now in
     let l = lists_read a.tree in
-    tree-refused s cs (counts_given a.counts) l a.file.now start.requires (tree-bad s _ (counts_given a.counts) l ((rw c.of-tree.ensures at c.in_default.ensures) s refl refl)) _ refl
+    tree-refused s cs (counts_given a.counts) l a.file.now start.requires (tree-bad s _ (counts_given a.counts) l ((rw (c.of-tree.ensures, c.count-n.ensures) at c.in_default.ensures) s refl refl)) _ refl
 
 pub file_size-size-requires : goal.file_size-size-requires
 file_size-size-requires c = let start = c in
@@ -40,8 +40,8 @@ file_size-size-requires c = let start = c in
     let s = settings_of_lem a.points.dimensions a.params in
     let cs = a.points.coordinates.now in
     let l = lists_read a.tree in
-    let tested = (rw c.of-tree.ensures at c.in-Some.ensures) s refl refl in
-    tree-limited s cs (counts_given a.counts) l start.requires _ tested
+    let tested = (rw (c.of-tree.ensures, c.count-n.ensures) at c.in-Some.ensures) s refl refl in
+    rw c.count-n.ensures (tree-limited s cs (counts_given a.counts) l start.requires _ tested)
 
 pub returns-then-file-size : goal.returns-then-file-size
 returns-then-file-size c = let start = c in
@@ -49,9 +49,9 @@ returns-then-file-size c = let start = c in
     let s = settings_of_lem a.points.dimensions a.params in
     let cs = a.points.coordinates.now in
     let l = lists_read a.tree in
-    let tested = (rw c.of-tree.ensures at c.in-Some.ensures) s refl refl in
+    let tested = (rw (c.of-tree.ensures, c.count-n.ensures) at c.in-Some.ensures) s refl refl in
     let g = tree-good s cs (counts_given a.counts) l start.requires _ tested in
-    let size = tree-size s cs (counts_given a.counts) l start.requires _ tested _ c.file_size-size.ensures in
+    let size = tree-size s cs (counts_given a.counts) l start.requires _ tested _ (rw c.count-n.ensures at c.file_size-size.ensures) in
     file-refused s cs (counts_given a.counts) l a.file.now start.requires g (omega (arith, size, c.if-file-size.true)) _ refl
 
 pub put_file-requires : goal.put_file-requires
@@ -60,12 +60,12 @@ put_file-requires c = let start = c in
     let s = settings_of_lem a.points.dimensions a.params in
     let cs = a.points.coordinates.now in
     let l = lists_read a.tree in
-    let tested = (rw c.of-tree.ensures at c.in-Some.ensures) s refl refl in
+    let tested = (rw (c.of-tree.ensures, c.count-n.ensures) at c.in-Some.ensures) s refl refl in
     let p = own-passed s cs l start.requires in
     let packing = tree-packs s cs (counts_given a.counts) l start.requires _ tested in
     let passing = tree-sound s cs (counts_given a.counts) l start.requires _ tested in
     let room = tree-room s cs (counts_given a.counts) l start.requires _ tested in
-    let size = tree-size s cs (counts_given a.counts) l start.requires _ tested _ c.file_size-size.ensures in
+    let size = tree-size s cs (counts_given a.counts) l start.requires _ tested _ (rw c.count-n.ensures at c.file_size-size.ensures) in
     rw c.of-tree.ensures
     record {
       le_dimensions = (p.axes, p.axes_few);
@@ -79,8 +79,8 @@ returns c = let start = c in
     let s = settings_of_lem a.points.dimensions a.params in
     let cs = a.points.coordinates.now in
     let l = lists_read a.tree in
-    let tested = (rw c.of-tree.ensures at c.in-Some.ensures) s refl refl in
+    let tested = (rw (c.of-tree.ensures, c.count-n.ensures) at c.in-Some.ensures) s refl refl in
     let g = tree-good s cs (counts_given a.counts) l start.requires _ tested in
-    let size = tree-size s cs (counts_given a.counts) l start.requires _ tested _ c.file_size-size.ensures in
+    let size = tree-size s cs (counts_given a.counts) l start.requires _ tested _ (rw c.count-n.ensures at c.file_size-size.ensures) in
     let put = rw c.of-tree.ensures at c.put_file.ensures in
     file-written s cs (counts_given a.counts) l a.file.now start.requires g (omega (arith, size, c.if-file-size.false)) _ put.answer _ put.file

@@ -12,9 +12,9 @@ use Rattle.store_bytes.proofs.put_file.Goals as goal
 pub put_front-requires : goal.put_front-requires
 put_front-requires c =
     let a = c.args in
-    let s = settings_of_lem a.tree.leaves.dimensions a.params in
+    let s = settings_of_lem a.points.dimensions a.params in
     let l = lists_of a.tree.level_points.now a.tree.leaves.internals.now a.tree.leaves.domains.now a.tree.leaves.boxes.now a.tree.leaves.borrowed.now in
-    let e = file-run s a.points.now (counts_given a.tree.counts) l in
+    let e = file-run s a.points.coordinates.now a.tree.leaves.dimensions (counts_given a.tree.counts) l in
     record {
       le_dimensions = c.requires.le_dimensions;
       room_for = takes_first _ _ (takes_as e (record { fits = omega (arith, c.requires.borrowed_in_bounds) }));
@@ -23,9 +23,9 @@ put_front-requires c =
 pub put_levels-requires : goal.put_levels-requires
 put_levels-requires c =
     let a = c.args in
-    let s = settings_of_lem a.tree.leaves.dimensions a.params in
+    let s = settings_of_lem a.points.dimensions a.params in
     let l = lists_of a.tree.level_points.now a.tree.leaves.internals.now a.tree.leaves.domains.now a.tree.leaves.boxes.now a.tree.leaves.borrowed.now in
-    let e = file-run s a.points.now (counts_given a.tree.counts) l in
+    let e = file-run s a.points.coordinates.now a.tree.leaves.dimensions (counts_given a.tree.counts) l in
     record {
       stands = c.requires.stands;
       room_for = takes_next c.put_front.ensures (takes_as e (record { fits = omega (arith, c.requires.borrowed_in_bounds) }));
@@ -34,9 +34,9 @@ put_levels-requires c =
 pub returns : goal.returns
 returns c =
     let a = c.args in
-    let s = settings_of_lem a.tree.leaves.dimensions a.params in
+    let s = settings_of_lem a.points.dimensions a.params in
     let l = lists_of a.tree.level_points.now a.tree.leaves.internals.now a.tree.leaves.domains.now a.tree.leaves.boxes.now a.tree.leaves.borrowed.now in
-    let e = file-run s a.points.now (counts_given a.tree.counts) l in
+    let e = file-run s a.points.coordinates.now a.tree.leaves.dimensions (counts_given a.tree.counts) l in
     let w = spelt_as (sym e) (c.put_front.ensures ▸ c.put_levels.ensures) in
     let back : _ ≡ c.put_levels.new.out.bytes.now = search rules in
     record { answer = w.place ∙ zero-add _; file = back ∙ w.same }

@@ -7,15 +7,15 @@ use Rattle.store_bytes.proofs.put_front.Goals as goal
 
 pub put_head-requires : goal.put_head-requires
 unfolding front_bytes_lem
-put_head-requires c = takes_first _ _ c.requires.room_for
+put_head-requires c = rw c.count-n.ensures (takes_first _ _ c.requires.room_for)
 
 pub put_points-requires : goal.put_points-requires
 unfolding front_bytes_lem
 put_points-requires c = record {
-  dimensions_in_bounds = div-mul-le_self (length c.args.points.coordinates.now) c.args.points.dimensions;
-  room_for = takes_next c.put_head.ensures c.requires.room_for;
+  dimensions_in_bounds = rw c.count-n.ensures (div-mul-le_self (length c.args.points.coordinates.now) c.args.points.dimensions);
+  room_for = rw c.count-n.ensures (takes_next (rw c.count-n.ensures at c.put_head.ensures) c.requires.room_for);
 }
 
 pub returns : goal.returns
 unfolding front_bytes_lem
-returns c = c.put_head.ensures ▸ c.put_points.ensures
+returns c = (rw c.count-n.ensures at c.put_head.ensures) ▸ (rw c.count-n.ensures at c.put_points.ensures)

@@ -8,7 +8,7 @@ pub mark-requires : goal.mark-requires
 mark-requires c = takes_first _ _ (takes_as (point-parts c.args.points.dimensions c.args.points.coordinates.now c.args.i c.requires.dimensions_in_bounds) c.requires.room_for)
 
 pub fields-requires : goal.fields-requires
-fields-requires c = takes_next c.mark.ensures (takes_as (point-parts c.args.points.dimensions c.args.points.coordinates.now c.args.i c.requires.dimensions_in_bounds) c.requires.room_for)
+fields-requires c = rw c.point.ensures.coordinates (takes_next c.mark.ensures (takes_as (point-parts c.args.points.dimensions c.args.points.coordinates.now c.args.i c.requires.dimensions_in_bounds) c.requires.room_for))
 
 pub returns : goal.returns
-returns c = spelt_as (sym (point-parts c.args.points.dimensions c.args.points.coordinates.now c.args.i c.requires.dimensions_in_bounds)) (c.mark.ensures ▸ c.fields.ensures)
+returns c = spelt_as (sym (point-parts c.args.points.dimensions c.args.points.coordinates.now c.args.i c.requires.dimensions_in_bounds)) (c.mark.ensures ▸ (rw c.point.ensures.coordinates at c.fields.ensures))

@@ -2,7 +2,6 @@
 use mathlib.Core.Path.{◌∙◌}
 use native.Mathlib.Omega.{arith}
 use Rattle.std.proofs.lemmas.Result.{err_from_is_err_and}
-use Rattle.lists.proofs.Put.{part-whole}
 use Rattle.table_checks.specs.Tables.{wells_in}
 use Rattle.table_edits.proofs.Adds.{kept-table, kept-point, kept-full, add-room, add-done}
 use Rattle.table_edits.proofs.added.Goals as goal
@@ -41,13 +40,13 @@ overflow_mul-slot c = let a = c.args in
     let room = add-room a.wells.now.dimensions (wells_in a.head a.wells.now) a.point.now found.verdict c.in_ok-point_fault.ensures _ found.next _ many c.else-slot-slots.either in
     omega (arith, room.few)
 
-pub copy_rows-requires : goal.copy_rows-requires
-copy_rows-requires c = let a = c.args in
+pub put_values-requires : goal.put_values-requires
+put_values-requires c = let a = c.args in
     let v = c.table-table.ensures in
     let found = rw (v.head, v.flags, v.coordinates, v.dimensions) at c.in_ok-slot.ensures in
     let many = rw v.flags at c.capacity-room.ensures in
     let room = add-room a.wells.now.dimensions (wells_in a.head a.wells.now) a.point.now found.verdict c.in_ok-point_fault.ensures _ found.next _ many c.else-slot-slots.either in
-    (omega (arith, room.long), room.in-coordinates)
+    omega (arith, room.long, room.in-coordinates)
 
 pub overflow_add-slot : goal.overflow_add-slot
 overflow_add-slot c = let a = c.args in
@@ -71,5 +70,5 @@ returns-clause-outcome c = let a = c.args in
     let found = rw (v.head, v.flags, v.coordinates, v.dimensions) at c.in_ok-slot.ensures in
     let many = rw v.flags at c.capacity-room.ensures in
     let room = add-room a.wells.now.dimensions (wells_in a.head a.wells.now) a.point.now found.verdict c.in_ok-point_fault.ensures _ found.next _ many c.else-slot-slots.either in
-    rw (c.copy_rows.ensures, part-whole a.point.now a.wells.now.dimensions room.long, c.max.ensures)
+    rw (c.put_values.ensures, c.max.ensures)
     (add-done a.wells.now.dimensions (wells_in a.head a.wells.now) a.point.now found.verdict c.in_ok-point_fault.ensures _ found.next _ many c.else-slot-slots.either)

@@ -1,9 +1,0 @@
--- `boxes::Extents::with_lower` meets its contract. Assumes nothing.
-use mathlib.Core.Path.{refl}
-use Rattle.boxes.proofs.Boxed.{lower-changed}
-use Rattle.boxes.proofs.Extents.with_lower.Goals as goal
-
-pub returns : goal.returns
-returns c = let s = c.args.self in
-    let e = c.well_formed.0.1.1.0.1.0.1 in
-    (refl, lower-changed s.lower s.upper s.dimensions c.args.axis c.args.v e c.requires.0 c.requires.1)

@@ -1,0 +1,2 @@
+-- What the contracts of the checks cite beside the definition.
+pub mod Checked

@@ -1,0 +1,2 @@
+-- What is said of a leaf that is tested.
+pub mod Passed
