@@ -22,8 +22,8 @@ fn copy_sizes(leaves: LevelLeaves<'_>, wholes: &mut [usize])
     requires { (row_numbers * (leaves.first + leaves.count) ≤ length leaves.domains.now) × (leaves.count ≤ length wholes.old) }
     ensures { take leaves.entry.count wholes.new ≡ counts_at leaves.entry.domains.now leaves.entry.first leaves.entry.count }
 {
-    for l in 0..leaves.count {
-        wholes[l] = leaves.row(l).internal_count;
+    for (l, size) in wholes[..leaves.count].iter_mut().enumerate() {
+        *size = leaves.row(l).internal_count;
     }
 }
 

@@ -85,7 +85,7 @@ pub fn middle(column: Column<'_>, rows: &mut [usize]) -> usize
     };
     let mut left = 8 * count;
     let mut round = 0;
-    // a search that may end early: no counted loop
+    // two bounds end it, the rows that are left and those that may still be looked at: no counted loop
     while 32 < s.count && s.count <= left {
         let at = (s.count / 2 + round * 2654435761) % s.count;
         left -= s.count;
