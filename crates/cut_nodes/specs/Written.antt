@@ -6,7 +6,6 @@ use Rattle.definition.specs.Cut.{Domain}
 use Rattle.definition.specs.Record.{Cuts, whole_of, float_of, nodes_from}
 use Rattle.boxes.specs.declared.Extents.{Extents}
 use Rattle.boxes.specs.Boxes.{floats_of}
-use Rattle.cut_nodes.specs.declared.Lists.{Lists}
 use Rattle.record_laws.specs.Table.{entry_width, entry_numbers, entries_under, boxes_under, unnumbered, node_count, leaf_count}
 
 -- the domain of these rows in this box, at this depth
@@ -42,14 +41,3 @@ pub record Space (d base n place first : ℕ) (W : List ℕ) (F : List Float) (C
   pub boxes : box_width_lem d * (first + 2 * n) ≤ length F
   pub cuts : place + 4 * n ≤ length C
   pub planes : place + 4 * n ≤ length P
-
--- both hold the same lists, each as long as it was
-pub record SameLists (l m : Lists) : Type 0 where
-  pub floats : m.floats.ghost_name ≡ l.floats.ghost_name
-  pub floats_len : length m.floats.now ≡ length l.floats.now
-  pub wholes : m.wholes.ghost_name ≡ l.wholes.ghost_name
-  pub wholes_len : length m.wholes.now ≡ length l.wholes.now
-  pub cuts : m.cuts.ghost_name ≡ l.cuts.ghost_name
-  pub cuts_len : length m.cuts.now ≡ length l.cuts.now
-  pub planes : m.planes.ghost_name ≡ l.planes.ghost_name
-  pub planes_len : length m.planes.now ≡ length l.planes.now

@@ -1,4 +1,5 @@
-// What the depth-first cut writes: the node of a cut, and leaves, each with its entry in the table of the leaves, its box and its node.
+// What the depth-first cut writes: the node of a cut, and leaves, each with its entry in the table of the leaves, its box and its node. The
+// room holds the boxes of the leaves, the ordering's numbers, and behind these the table.
 #![tactic(auto)]
 
 ghost use Rattle.std.specs.Prelude.{◌≡◌, List, ℕ, ◌+◌, ◌-◌, ◌*◌, ◌/◌, ◌≤◌, ◌<◌, length, set};
@@ -10,12 +11,14 @@ ghost use Rattle.halving.specs.Cuts.{halved};
 ghost use Rattle.rows.specs.Rows.{GoodRows};
 ghost use Rattle.boxes.specs.Boxes.{floats_of};
 ghost use Rattle.record_laws.specs.Table.{entry_width};
-ghost use Rattle.cut_nodes.specs.Written.{domain_of, Written, WrittenTwo, SameLists};
+ghost use Rattle.tree_lists.specs.Lent.{SameRoom, SameRecords};
+ghost use Rattle.cut_nodes.specs.Written.{domain_of, Written, WrittenTwo};
 
 use boxes::Extents;
 use cut::Plane;
-use node::Node;
+use node::{Entry, Node};
 use points::Points;
+use tree_lists::{Records, Room};
 
 // Where the next node goes, and how many leaves there are so far.
 #[derive(Clone, Copy)]
@@ -24,40 +27,34 @@ pub struct Next {
     pub leaves: usize,
 }
 
-// What the cut writes to: the boxes of the leaves; the ordering's room, and behind it their table; and both lists of the record.
-// It is lent on by `&mut`, and a function that takes it promises that it still holds the caller's lists. One value, and not `Room` and
-// `Records` of tree_lists: the recursion of split then lends one thing on, where it would lend two.
-#[derive(Drop)]
-pub struct Lists<'a> {
-    pub floats: &'a mut [f64],
-    pub wholes: &'a mut [usize],
-    pub cuts: &'a mut [usize],
-    pub planes: &'a mut [f64],
-}
-
 // Writes a leaf of `count` rows: its entry, its box, and its node, which has no number yet.
 fn put_leaf(
     count: usize,
     depth: usize,
     whole: Extents,
     base: usize,
-    lists: &mut Lists<'_>,
+    room: &mut Room<'_>,
+    records: &mut Records<'_>,
     from: Next,
 ) -> Next
-    requires { (whole.dimensions ≤ 3) × (base + entry_width * (from.leaves + 1) ≤ length lists.old.wholes.now) × (box_width_lem whole.dimensions * (from.leaves + 1) ≤ length lists.old.floats.now)
-        × (from.place < length lists.old.cuts.now) × (from.place < length lists.old.planes.now) }
-    ensures same { SameLists lists.old lists.new }
+    requires { (whole.dimensions ≤ 3) × (base + entry_width * (from.leaves + 1) ≤ length room.old.wholes.now) × (box_width_lem whole.dimensions * (from.leaves + 1) ≤ length room.old.floats.now)
+        × (from.place < length records.old.cuts.now) × (from.place < length records.old.planes.now) }
+    ensures same { SameRoom room.old room.new × SameRecords records.old records.new }
     ensures next { (result.place ≡ from.place + 1) × (result.leaves ≡ from.leaves + 1) }
     ensures written { (rows : List ℕ) → length rows ≡ count → Written whole.dimensions base (uncut (domain_of rows whole depth)) from.place from.leaves result.place result.leaves
-        lists.old.wholes.now lists.new.wholes.now lists.old.floats.now lists.new.floats.now lists.old.cuts.now lists.new.cuts.now lists.old.planes.now lists.new.planes.now }
+        room.old.wholes.now room.new.wholes.now room.old.floats.now room.new.floats.now records.old.cuts.now records.new.cuts.now records.old.planes.now records.new.planes.now }
 {
     let Next { place, leaves } = from;
-    let entry = base + node::ENTRY * leaves;
-    lists.wholes[entry..entry + node::ENTRY].copy_from_slice(&[depth, count, place]);
+    let entry = Entry {
+        depth,
+        count,
+        place,
+    };
+    node::put_entry(room.wholes, base + node::ENTRY * leaves, entry);
     let at = boxes::bounds_before(whole.dimensions, leaves);
     let width = boxes::box_width(whole.dimensions);
-    boxes::write_box(whole, &mut lists.floats[at..at + width]);
-    node::write_node(lists.cuts, lists.planes, place, Node::Leaf(0));
+    boxes::write_box(whole, &mut room.floats[at..at + width]);
+    node::write_node(records, place, Node::Leaf(0));
     Next {
         place: place + 1,
         leaves: leaves + 1,
@@ -68,26 +65,26 @@ fn put_leaf(
 pub fn cut_node(
     points: Points<'_>,
     rows: &mut [usize],
-    lists: &mut Lists<'_>,
+    wholes: &mut [usize],
+    records: &mut Records<'_>,
     place: usize,
 ) -> Plane
-    requires { (0 < points.dimensions) × (1 ≤ length rows.old) × GoodRows points.dimensions points.coordinates.now rows.old × (length rows.old ≤ length lists.old.wholes.now)
-        × (place < length lists.old.cuts.now) × (place < length lists.old.planes.now) }
-    ensures same { SameLists lists.old lists.new × (lists.new.floats.now ≡ lists.old.floats.now) }
+    requires { (0 < points.dimensions) × (1 ≤ length rows.old) × GoodRows points.dimensions points.coordinates.now rows.old × (length rows.old ≤ length wholes.old)
+        × (place < length records.old.cuts.now) × (place < length records.old.planes.now) }
+    ensures same { SameRecords records.old records.new }
     ensures plane { (result.axis ≡ longest_axis_lem points.entry.dimensions points.entry.coordinates.now rows.old) × (result.value ≡ plane points.entry.dimensions points.entry.coordinates.now rows.old) }
     ensures rows { rows.new ≡ halved points.entry.dimensions points.entry.coordinates.now (longest_axis_lem points.entry.dimensions points.entry.coordinates.now rows.old) rows.old }
-    ensures wholes { AsFoundFrom (length rows.old) lists.old.wholes.now lists.new.wholes.now }
-    ensures cuts { lists.new.cuts.now ≡ set lists.old.cuts.now place (longest_axis_lem points.entry.dimensions points.entry.coordinates.now rows.old) }
-    ensures planes { lists.new.planes.now ≡ set lists.old.planes.now place (plane points.entry.dimensions points.entry.coordinates.now rows.old) }
+    ensures wholes { AsFoundFrom (length rows.old) wholes.old wholes.new }
+    ensures cuts { records.new.cuts.now ≡ set records.old.cuts.now place (longest_axis_lem points.entry.dimensions points.entry.coordinates.now rows.old) }
+    ensures planes { records.new.planes.now ≡ set records.old.planes.now place (plane points.entry.dimensions points.entry.coordinates.now rows.old) }
 {
     let count = rows.len();
-    let wholes: &mut [usize] = lists.wholes;
     let at = cut::cut_stretch(points, rows, &mut wholes[..count]);
     let node = Node::Cut {
         axis: at.axis,
         plane: at.value,
     };
-    node::write_node(lists.cuts, lists.planes, place, node);
+    node::write_node(records, place, node);
     at
 }
 
@@ -98,16 +95,17 @@ pub fn put_leaves(
     left: Extents,
     right: Extents,
     base: usize,
-    lists: &mut Lists<'_>,
+    room: &mut Room<'_>,
+    records: &mut Records<'_>,
     from: Next,
 ) -> Next
-    requires { (left.dimensions ≤ 3) × (right.dimensions ≡ left.dimensions) × (length (floats_of left) ≡ box_width_lem left.dimensions) × (base + entry_width * (from.leaves + 2) ≤ length lists.old.wholes.now) × (box_width_lem left.dimensions * (from.leaves + 2) ≤ length lists.old.floats.now)
-        × (from.place + 2 ≤ length lists.old.cuts.now) × (from.place + 2 ≤ length lists.old.planes.now) }
-    ensures same { SameLists lists.old lists.new }
+    requires { (left.dimensions ≤ 3) × (right.dimensions ≡ left.dimensions) × (length (floats_of left) ≡ box_width_lem left.dimensions) × (base + entry_width * (from.leaves + 2) ≤ length room.old.wholes.now) × (box_width_lem left.dimensions * (from.leaves + 2) ≤ length room.old.floats.now)
+        × (from.place + 2 ≤ length records.old.cuts.now) × (from.place + 2 ≤ length records.old.planes.now) }
+    ensures same { SameRoom room.old room.new × SameRecords records.old records.new }
     ensures written { (l m : List ℕ) → length l ≡ count / 2 → length m ≡ count - count / 2 → WrittenTwo left.dimensions base (uncut (domain_of l left depth)) (uncut (domain_of m right depth)) from.place from.leaves result.place result.leaves
-        lists.old.wholes.now lists.new.wholes.now lists.old.floats.now lists.new.floats.now lists.old.cuts.now lists.new.cuts.now lists.old.planes.now lists.new.planes.now }
+        room.old.wholes.now room.new.wholes.now room.old.floats.now room.new.floats.now records.old.cuts.now records.new.cuts.now records.old.planes.now records.new.planes.now }
 {
     let half = count / 2;
-    let middle = put_leaf(half, depth, left, base, lists, from);
-    put_leaf(count - half, depth, right, base, lists, middle)
+    let middle = put_leaf(half, depth, left, base, room, records, from);
+    put_leaf(count - half, depth, right, base, room, records, middle)
 }

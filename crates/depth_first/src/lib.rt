@@ -9,10 +9,9 @@ ghost use Rattle.definition.specs.Cut.{leaves_of};
 ghost use Rattle.definition.specs.Record.{record_of, whole_of, float_of};
 ghost use Rattle.queue.specs.Rows.{domain_own, with_own};
 ghost use Rattle.rows.specs.Rows.{GoodRows};
-ghost use Rattle.cut_nodes.specs.Written.{SameLists};
 ghost use Rattle.tree_lists.specs.Lent.{SameLeafLists, SameRoom, SameRecords};
 
-use cut_nodes::{Lists, Next};
+use cut_nodes::Next;
 use points::Points;
 use split::Level;
 use tree_lists::{LeafLists, Records, Room, Start};
@@ -29,34 +28,34 @@ fn cut_leaves(
     start: Start,
     domains: &mut [usize],
     boxes: &mut [f64],
-    lists: &mut Lists<'_>,
+    room: &mut Room<'_>,
+    records: &mut Records<'_>,
 ) -> usize
     requires dimensions_nonzero { (0 < level.points.dimensions) × (level.points.dimensions ≤ 3) × (1 ≤ level.leaf) × (1 ≤ length rows.old) × GoodRows level.points.dimensions level.points.coordinates.now rows.old }
     requires base { level.base ≡ length rows.old }
-    requires rows_in_bounds { (7 * length rows.old ≤ length lists.old.wholes.now) × (box_width_lem level.points.dimensions * (2 * length rows.old) ≤ length lists.old.floats.now) }
+    requires rows_in_bounds { (7 * length rows.old ≤ length room.old.wholes.now) × (box_width_lem level.points.dimensions * (2 * length rows.old) ≤ length room.old.floats.now) }
     requires rows_bound { (start.from + length rows.old < 2 ^ 64) × (row_numbers * (start.first + 2 * length rows.old) ≤ length domains.old) × (box_width_lem level.points.dimensions * (start.first + 2 * length rows.old) ≤ length boxes.old) }
-    requires rows_in_bounds_2 { (start.node + 4 * length rows.old ≤ length lists.old.cuts.now) × (start.node + 4 * length rows.old ≤ length lists.old.planes.now) }
-    ensures same { SameLists lists.old lists.new }
+    requires rows_in_bounds_2 { (start.node + 4 * length rows.old ≤ length records.old.cuts.now) × (start.node + 4 * length rows.old ≤ length records.old.planes.now) }
+    ensures same { SameRoom room.old room.new × SameRecords records.old records.new }
     ensures number { result ≡ length (leaves_of level.entry.points.dimensions level.entry.points.coordinates.now level.entry.leaf rows.old) }
     ensures nodes { length (record_of level.entry.points.dimensions level.entry.points.coordinates.now level.entry.leaf rows.old) + 1 ≡ 2 * result }
     ensures rows { rows.new ≡ joined (map (λ q. q.rows) (leaves_of level.entry.points.dimensions level.entry.points.coordinates.now level.entry.leaf rows.old)) }
     ensures domains { domains.new ≡ with_own start.from (map domain_own (leaves_of level.entry.points.dimensions level.entry.points.coordinates.now level.entry.leaf rows.old)) start.first domains.old }
     ensures boxes { boxes.new ≡ put boxes.old (box_width_lem level.entry.points.dimensions * start.first) (joined (map (λ q. q.box) (leaves_of level.entry.points.dimensions level.entry.points.coordinates.now level.entry.leaf rows.old))) }
-    ensures cuts { lists.new.cuts.now ≡ put lists.old.cuts.now start.node (map whole_of (record_of level.entry.points.dimensions level.entry.points.coordinates.now level.entry.leaf rows.old)) }
-    ensures planes { lists.new.planes.now ≡ put lists.old.planes.now start.node (map float_of (record_of level.entry.points.dimensions level.entry.points.coordinates.now level.entry.leaf rows.old)) }
+    ensures cuts { records.new.cuts.now ≡ put records.old.cuts.now start.node (map whole_of (record_of level.entry.points.dimensions level.entry.points.coordinates.now level.entry.leaf rows.old)) }
+    ensures planes { records.new.planes.now ≡ put records.old.planes.now start.node (map float_of (record_of level.entry.points.dimensions level.entry.points.coordinates.now level.entry.leaf rows.old)) }
 {
     let whole = extents::get_pointarray_extents(level.points, rows);
     let from = Next {
         place: start.node,
         leaves: 0,
     };
-    let end = split::split(level, rows, 0, whole, lists, from);
-    let floats: &mut [f64] = lists.floats;
+    let end = split::split(level, rows, 0, whole, room, records, from);
+    let floats: &mut [f64] = room.floats;
     let mut numbered = leaf_numbers::Lists {
         domains: &mut *domains,
         boxes: &mut *boxes,
-        wholes: &mut *lists.wholes,
-        cuts: &mut *lists.cuts,
+        wholes: &mut *room.wholes,
     };
     leaf_numbers::number_leaves(
         level.points.dimensions,
@@ -65,6 +64,7 @@ fn cut_leaves(
         floats,
         start,
         &mut numbered,
+        records.cuts,
     );
     end.leaves
 }
@@ -105,18 +105,13 @@ pub fn leaves(
         leaf,
         base: active.len(),
     };
-    let mut written = Lists {
-        floats: &mut *room.floats,
-        wholes: &mut *room.wholes,
-        cuts: &mut *records.cuts,
-        planes: &mut *records.planes,
-    };
     cut_leaves(
         level,
         rows,
         start,
         domains,
         &mut boxes[start.skip..],
-        &mut written,
+        room,
+        records,
     )
 }

@@ -2,10 +2,10 @@
 -- (`broken-printed`, `whole-printed`). Assumes nothing.
 -- Holds: job-refused, tree-ready, job-tree, room_for, broken-printed, whole-printed
 use mathlib.Core.Path.{◌≡◌, sym, ap, ◌∙◌}
-use Prim.Native.Nat.{ℕ, ◌+◌, ◌-◌, ◌*◌, ◌≤◌, ◌<◌}
+use Prim.Native.Nat.{ℕ, ◌+◌, ◌-◌, ◌≤◌, ◌<◌}
 use native.Mathlib.Omega.{arith}
 use mathlib.Core.List.{List}
-use lib.ListN.{length, take, drop}
+use lib.ListN.{length, drop}
 use lib.Ieee.{Float}
 use Rattle.std.specs.Prelude.{Result, Ok, Err}
 use Rattle.lists.proofs.Map.{get_d-map-in}
@@ -27,8 +27,7 @@ use Rattle.packed.proofs.Unpacked.{Packs, levels-are, tree-back, tree-stands}
 use Rattle.refusal.specs.declared.Refusal.{Refusal}
 use Rattle.refusal.specs.Refusals.{as_refusal}
 use Rattle.stream_reader.specs.declared.Job.{Job}
-use Rattle.settings_record.specs.Reading.{settings_are}
-use Rattle.stream_reader.specs.Reading.{job_of}
+use Rattle.stream_reader.specs.Reading.{job_is, job_of}
 use Rattle.job_room.proofs.Lists.{build-as-stated}
 use Rattle.job_room.proofs.JobRead.{broken-read, whole-read}
 use Rattle.job_room.proofs.Printing.{text-room}
@@ -135,11 +134,11 @@ pub room_for : (s : tree.Settings) (cs : List Float) {w : Writer} → JobLimits 
 room_for s cs h g = text-room (job_text (job s cs)) (job-long (job s cs) h) g
 
 -- ---- by the reader's answer
-module _ (r : Result Job Refusal) (cs : List Float) (bs : List ℕ) (h : job_of r cs ≡ job_in bs) where
+module _ (r : Result Job Refusal) (bs : List ℕ) (h : job_of r ≡ job_in bs) where
   pub broken-printed : (x : Refusal) → r ≡ Err x → refusal_text (as_refusal x) ≡ printout bs
   unfolding job_text printout
-  broken-printed x e = ap job_text (broken-read r cs bs h x e)
+  broken-printed x e = ap job_text (broken-read r bs h x e)
 
-  pub whole-printed : (j : Job) → r ≡ Ok j → job_text (job (settings_are j.settings) (take (j.points * j.settings.dimensions) cs)) ≡ printout bs
+  pub whole-printed : (j : Job) → r ≡ Ok j → job_text (job_is j) ≡ printout bs
   unfolding printout
-  whole-printed j e = ap job_text (whole-read r cs bs h j e)
+  whole-printed j e = ap job_text (whole-read r bs h j e)

@@ -1,10 +1,10 @@
 -- The refusals of a sampling, and what holds where it is accepted. Assumes nothing.
--- Holds: bad-found, bad-nowhere, SampleAccepted, call-accepted, rows-numbered, call-ready, call-written, call-covered,
+-- Holds: tests-dimension, tests-count, tests-choice, tests-lists, tests-finite, SampleAccepted, call-accepted, rows-numbered, call-ready, call-written, call-covered,
 --   call-refused, call-sampled
 use mathlib.Core.Path.{◌≡◌, refl, sym, ap, ap₂, ◌∙◌}
-use mathlib.Core.Bool.{Bool, true, false, not, cond, ◌||◌}
+use mathlib.Core.Bool.{Bool, true, false, not, ◌||◌}
 use mathlib.Core.List.{List, [], ◌∷◌, ◌++◌}
-use Prim.Native.Nat.{ℕ, zero, suc, ◌+◌, ◌*◌, ◌/◌, ◌≤◌, ◌<◌}
+use Prim.Native.Nat.{ℕ, zero, suc, ◌*◌, ◌/◌, ◌≤◌, ◌<◌}
 use native.Mathlib.Nat.{zero-add, div-mul-le_self}
 use native.Mathlib.Omega.{arith}
 use borrow.Author.Tests.{ltb-false, leb-false, eqb-false, not-false}
@@ -13,7 +13,7 @@ use lib.ListN.{length, get_or, take, drop}
 use lib.Seq.{take_at}
 use lib.Ieee.{Float, nan}
 use lib.Ieee.Scale.{finite}
-use Rattle.lists.specs.Lists.{any_of, from, put}
+use Rattle.lists.specs.Lists.{from, put}
 use Rattle.lists.specs.Ascends.{All}
 use Rattle.lists.proofs.All.{all-of, all-at}
 use Rattle.lists.proofs.From.{length_from, get_d-from}
@@ -21,45 +21,58 @@ use Rattle.lists.proofs.Put.{put-zero}
 use Rattle.lists.proofs.Members.{none_any}
 use Rattle.lists.proofs.Tests.{or-none}
 use Rattle.definition.specs.Packed.{sample_stated}
-use Rattle.definition.specs.Refusals.{on, accepted, refused, wrong_dimension_lem, coordinates_missing, first_bad, not_finite_lem, most_points, sample_short, sample_verdict}
+use Rattle.definition.specs.Refusals as definition
+use Rattle.definition.specs.Refusals.{Test, on, accepted, refused, verdict, wrong_dimension_lem, coordinates_missing, first_bad, not_finite_lem, most_points, sample_short, sample_verdict}
 use Rattle.definition.specs.Sampling.{sample, cover_of}
 use Rattle.definition.specs.Outcome.{number_of, place_of, value_of, written, list_after, RoomAfter, sample_call, sample_of, sample_cover_lem, sample_answer, sample_output}
 use Rattle.rows.specs.Rows.{GoodRows}
 use Rattle.rows.proofs.AllRows.{all-rows-good}
-use Rattle.definition_laws.proofs.Accepted.{passes, right-dimension}
+use Rattle.definition_laws.proofs.Accepted.{passes, decides, pass, right-dimension}
+use Rattle.point_checks.specs.Tests.{count_tests}
+use Rattle.point_checks.proofs.Laws.{fault-first, fault-second}
 use Rattle.std.specs.Prelude.{Ok, Err}
 use Rattle.refusal.specs.declared.Refusal.{Refusal}
 use Rattle.refusal.specs.Refusals.{as_refusal}
 use Rattle.sampling.specs.Answers.{sample_lent, sample_report_lem}
 use Rattle.sampling.specs.Outcome.{RowsSampled}
 
--- ---- 10: the first coordinate that is not finite stands inside the list where there is one
-abbrev bad : Float → Bool
-bad x = not (finite x)
+-- ---- its tests, group by group
+module _ (d : ℕ) (cs : List Float) (wanted seed o f w : ℕ) where
+  abbrev n : ℕ
+  n = length cs / d
 
-bad-some : (i : ℕ) (xs : List Float) → first_bad i xs < i + length xs → any_of bad xs ≡ true
-unfolding first_bad any_of
-bad-some i [] h = absurd (omega arith)
-bad-some i (x ∷ xs) h = go (finite x) h (bad-some (suc i) xs)
-  where
-    go : (t : Bool) → cond t (first_bad (suc i) xs) i < i + suc (length xs) → (first_bad (suc i) xs < suc i + length xs → any_of bad xs ≡ true) → not t || any_of bad xs ≡ true
-    go true b f = f (omega arith)
-    go false b f = refl
+  abbrev choice : Bool
+  choice = eqb wanted 0 || ltb n wanted || leb n seed
 
-bad-none : (i : ℕ) (xs : List Float) → i + length xs ≤ first_bad i xs → any_of bad xs ≡ false
-unfolding first_bad any_of
-bad-none i [] h = refl
-bad-none i (x ∷ xs) h = go (finite x) h (bad-none (suc i) xs)
-  where
-    go : (t : Bool) → i + suc (length xs) ≤ cond t (first_bad (suc i) xs) i → (suc i + length xs ≤ first_bad (suc i) xs → any_of bad xs ≡ false) → not t || any_of bad xs ≡ false
-    go true b f = f (omega arith)
-    go false b f = absurd (omega arith)
+  abbrev short : Bool
+  short = sample_short (sample_lent o f w) (sample_stated n wanted)
 
-pub bad-found : (cs : List Float) (p : ℕ) → p ≡ first_bad 0 cs → p < length cs → any_of (λ x. not (finite x)) cs ≡ true
-bad-found cs p e h = bad-some 0 cs (omega (arith, e))
+  abbrev last : List Test
+  last = on choice 13 ∷ on short 11 ∷ not_finite_lem cs ∷ []
 
-pub bad-nowhere : (cs : List Float) → first_bad 0 cs ≡ length cs → any_of (λ x. not (finite x)) cs ≡ false
-bad-nowhere cs e = bad-none 0 cs (omega (arith, e))
+  pub tests-dimension : (r : definition.Refusal) → refused r ≡ verdict (on (wrong_dimension_lem d) 1 ∷ []) → refused r ≡ sample_verdict d cs wanted seed (sample_lent o f w)
+  unfolding sample_verdict
+  tests-dimension = fault-first (on (wrong_dimension_lem d) 1 ∷ []) (count_tests (length cs) d ++ last)
+
+  module _ (one : accepted ≡ verdict (on (wrong_dimension_lem d) 1 ∷ [])) where
+    pub tests-count : (r : definition.Refusal) → refused r ≡ verdict (count_tests (length cs) d) → refused r ≡ sample_verdict d cs wanted seed (sample_lent o f w)
+    unfolding sample_verdict
+    tests-count r e = fault-first (count_tests (length cs) d) last r e ∙ fault-second (on (wrong_dimension_lem d) 1 ∷ []) (count_tests (length cs) d ++ last) one
+
+    module _ (eight : accepted ≡ verdict (count_tests (length cs) d)) where
+      last-three : verdict last ≡ sample_verdict d cs wanted seed (sample_lent o f w)
+      unfolding sample_verdict
+      last-three = fault-second (count_tests (length cs) d) last eight ∙ fault-second (on (wrong_dimension_lem d) 1 ∷ []) (count_tests (length cs) d ++ last) one
+
+      pub tests-choice : choice ≡ true → refused (record { number = 13; place = 0 }) ≡ sample_verdict d cs wanted seed (sample_lent o f w)
+      tests-choice e = sym (decides (on choice 13) (on short 11 ∷ not_finite_lem cs ∷ []) e) ∙ last-three
+
+      module _ (fine : choice ≡ false) where
+        pub tests-lists : short ≡ true → refused (record { number = 11; place = 0 }) ≡ sample_verdict d cs wanted seed (sample_lent o f w)
+        tests-lists e = sym (pass (on choice 13) (on short 11 ∷ not_finite_lem cs ∷ []) fine ∙ decides (on short 11) (not_finite_lem cs ∷ []) e) ∙ last-three
+
+        pub tests-finite : short ≡ false → verdict (not_finite_lem cs ∷ []) ≡ sample_verdict d cs wanted seed (sample_lent o f w)
+        tests-finite e = sym (pass (on choice 13) (on short 11 ∷ not_finite_lem cs ∷ []) fine ∙ pass (on short 11) (not_finite_lem cs ∷ []) e) ∙ last-three
 
 -- ---- an accepted call
 above_zero : (n : ℕ) → (n ≡ 0 → ⊥) → 0 < n
@@ -101,7 +114,7 @@ call-accepted d cs wanted seed o f w e =
       output = ltb-false o wanted t.0;
       floats = ltb-false f (2 * n) t.1;
       wholes = ltb-false w n s.1;
-      finites = all-of (λ x. finite x ≡ true) cs (λ x m. not-false (finite x) (none_any bad cs p7.0 m));
+      finites = all-of (λ x. finite x ≡ true) cs (λ x m. not-false (finite x) (none_any (λ x. not (finite x)) cs p7.0 m));
     }
 
 -- ---- all rows of the point list

@@ -1,10 +1,11 @@
 // The public call of sampling: its refusals, and the sampling of all rows of a point list.
 #![tactic(auto)]
 
-ghost use Rattle.std.specs.Prelude.{◌≡◌, ◌||◌, ◌≤◌, eqb, ltb, leb};
+ghost use Rattle.std.specs.Prelude.{◌≡◌, ◌||◌, ◌≤◌, eqb, ltb, leb, IfOk};
 ghost use Rattle.refusal.specs.Refusals.{verdict_of};
+ghost use Rattle.definition.specs.Tree.{point_count};
 ghost use Rattle.definition.specs.Packed.{sample_stated};
-ghost use Rattle.definition.specs.Refusals.{wrong_dimension_lem, most_points, sample_short, sample_verdict};
+ghost use Rattle.definition.specs.Refusals.{most_points, sample_short, sample_verdict};
 ghost use Rattle.sampling.specs.Answers.{sample_lent, sample_report_lem};
 ghost use Rattle.sampling.specs.Outcome.{RowsSampled};
 ghost use Rattle.tree_lists.specs.Lent.{SameRoom};
@@ -12,7 +13,6 @@ ghost use Rattle.tree_lists.specs.Lent.{SameRoom};
 use distances::LocalIdx;
 use points::Points;
 use refusal::Refusal;
-use rows::MOST_POINTS;
 use tree_lists::Room;
 
 // The count of rows written, and their cover.
@@ -28,13 +28,6 @@ struct Lent {
     output: usize,
     floats: usize,
     wholes: usize,
-}
-
-// Whether the dimension is not 1, 2 or 3.
-fn wrong_dimension(dimensions: usize) -> bool
-    ensures { result ≡ wrong_dimension_lem dimensions }
-{
-    dimensions < 1 || 3 < dimensions
 }
 
 // Whether none is wanted, more than there are, or the seed is no row.
@@ -53,40 +46,26 @@ fn lists_short(rows: usize, wanted: usize, lent: Lent) -> bool
     lent.output < wanted || lent.floats < 2 * rows || lent.wholes < rows
 }
 
-// The refusal of a sampling, if there is one.
-#[tactic(auto, using(std::proofs::lemmas::Bool::Decides::nat_tests), unfolding(definition::specs::Refusals::sample_verdict, definition::specs::Refusals::verdict))]
+// The tests of a sampling, in their order; and how many rows there are to sample.
 fn sampling_verdict(
     points: Points<'_>,
     wanted: usize,
     seed: usize,
     lent: Lent,
-) -> Result<(), Refusal>
-    ensures { verdict_of result ≡ sample_verdict points.entry.dimensions points.entry.coordinates.now wanted seed (sample_lent lent.output lent.floats lent.wholes) }
+) -> Result<usize, Refusal>
+    ensures number { verdict_of result ≡ sample_verdict points.entry.dimensions points.entry.coordinates.now wanted seed (sample_lent lent.output lent.floats lent.wholes) }
+    ensures rows { IfOk result (λ rows. rows ≡ point_count points.entry.dimensions points.entry.coordinates.now) }
 {
-    if wrong_dimension(points.dimensions) {
-        return Err(Refusal::WrongDimension);
-    }
-    let count = points.coordinates.len();
-    if count == 0 {
-        return Err(Refusal::NoPoints);
-    }
-    if count % points.dimensions != 0 {
-        return Err(Refusal::MissingCoordinate);
-    }
-    let rows = count / points.dimensions;
-    if MOST_POINTS < rows {
-        return Err(Refusal::ManyPoints);
-    }
+    point_checks::check_dimension(points.dimensions)?;
+    let rows = point_checks::check_count(points.coordinates.len(), points.dimensions)?;
     if wrong_choice(rows, wanted, seed) {
         return Err(Refusal::WrongChoice);
     }
     if lists_short(rows, wanted, lent) {
         return Err(Refusal::ShortList);
     }
-    match finite::first_not_finite(points.coordinates) {
-        Some(position) => Err(Refusal::NotFinite(position)),
-        None => Ok(()),
-    }
+    point_checks::check_finite(points.coordinates)?;
+    Ok(rows)
 }
 
 // Farthest point sampling of all rows, from the row `seed` on: `wanted` rows are written to the front of `out`. The cover
@@ -108,8 +87,7 @@ pub fn farthest_point_sampling(
         floats: room.floats.len(),
         wholes: room.wholes.len(),
     };
-    sampling_verdict(points, wanted, seed, lent)?;
-    let rows = points.coordinates.len() / points.dimensions;
+    let rows = sampling_verdict(points, wanted, seed, lent)?;
     let wholes: &mut [usize] = room.wholes;
     stretches::number_rows(wholes, rows);
     let all: &mut [usize] = &mut wholes[..rows];

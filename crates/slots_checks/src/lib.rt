@@ -17,17 +17,6 @@ use config::{DDMParams, Settings};
 use refusal::Refusal;
 use table_checks::Table;
 
-// Settings, and `live` rows of which none lacks a coordinate: the first of 1 to 9 whose condition is met.
-pub fn rows_fault(live: usize, settings: Settings) -> Result<(), Refusal>
-    requires { live ≤ most_points }
-    ensures number { verdict_of result ≡ verdict (settings_tests (settings_are settings) ++ points_tests (settings_are settings) live false) }
-    ensures fine { OnOk result ((1 ≤ settings.dimensions) × (settings.dimensions ≤ 3) × (settings.params.overlap_knn ≤ most_neighbours)) }
-{
-    build_checks::settings_fault(settings)?;
-    build_checks::points_fault(live * settings.dimensions, settings)?;
-    Ok(())
-}
-
 // Whether a list is shorter than the live rows ask for, or the coordinates than the capacity does.
 pub fn any_short(table: Table<'_>, lent: BuildSizes, neighbours: usize) -> bool
     requires { (table.points.dimensions ≤ 3) × (table.head.live ≤ most_points) × (neighbours ≤ most_neighbours) }
@@ -57,11 +46,9 @@ pub fn judge_slots(table: Table<'_>) -> Result<(), Refusal>
 pub fn check_slots(table: Table<'_>, params: DDMParams, lent: BuildSizes) -> Result<(), Refusal>
     ensures { verdict_of result ≡ slots_verdict (settings_of_lem table.entry.points.dimensions params) (table_in table.entry) (sizes_of lent) }
 {
-    let Some(_) = table.sound() else {
-        return Err(Refusal::UnsoundTable);
-    };
+    table.sound().ok_or(Refusal::UnsoundTable)?;
     let dimensions = table.points.dimensions;
-    rows_fault(table.head.live, Settings { dimensions, params })?;
+    build_checks::rows_fault(table.head.live, Settings { dimensions, params })?;
     if any_short(table, lent, params.overlap_knn as usize) {
         return Err(Refusal::ShortList);
     }

@@ -7,11 +7,13 @@ ghost use Rattle.definition.specs.Points.{box_width_lem};
 ghost use Rattle.rows.specs.Rows.{GoodRows};
 ghost use Rattle.boxes.specs.Boxes.{floats_of};
 ghost use Rattle.record_laws.specs.Table.{cuts_at, rows_under};
-ghost use Rattle.cut_nodes.specs.Written.{domain_of, Written, Space, SameLists};
+ghost use Rattle.tree_lists.specs.Lent.{SameRoom, SameRecords};
+ghost use Rattle.cut_nodes.specs.Written.{domain_of, Written, Space};
 
 use boxes::Extents;
-use cut_nodes::{Lists, Next};
+use cut_nodes::Next;
 use points::Points;
+use tree_lists::{Records, Room};
 
 // What a cut reads: the points, the leaf threshold, and how many whole numbers stand before the table of the leaves.
 #[derive(Clone, Copy)]
@@ -28,21 +30,22 @@ pub fn split(
     rows: &mut [usize],
     depth: usize,
     whole: Extents,
-    lists: &mut Lists<'_>,
+    room: &mut Room<'_>,
+    records: &mut Records<'_>,
     from: Next,
 ) -> Next
     requires dimensions_nonzero { (0 < level.points.dimensions) × (level.points.dimensions ≤ 3) × (1 ≤ level.leaf) × (1 ≤ length rows.old) × GoodRows level.points.dimensions level.points.coordinates.now rows.old }
-    requires dimensions_value { (whole.dimensions ≡ level.points.dimensions) × (length (floats_of whole) ≡ box_width_lem level.points.dimensions) × (depth + length rows.old < 2 ^ 64) × Space level.points.dimensions level.base (length rows.old) from.place from.leaves lists.old.wholes.now lists.old.floats.now lists.old.cuts.now lists.old.planes.now }
-    ensures same { SameLists lists.old lists.new }
+    requires dimensions_value { (whole.dimensions ≡ level.points.dimensions) × (length (floats_of whole) ≡ box_width_lem level.points.dimensions) × (depth + length rows.old < 2 ^ 64) × Space level.points.dimensions level.base (length rows.old) from.place from.leaves room.old.wholes.now room.old.floats.now records.old.cuts.now records.old.planes.now }
+    ensures same { SameRoom room.old room.new × SameRecords records.old records.new }
     ensures rows { rows.new ≡ rows_under (cuts_at level.entry.points.dimensions level.entry.points.coordinates.now level.entry.leaf (domain_of rows.old whole depth)) }
     ensures written { Written level.entry.points.dimensions level.entry.base (cuts_at level.entry.points.dimensions level.entry.points.coordinates.now level.entry.leaf (domain_of rows.old whole depth)) from.place from.leaves result.place result.leaves
-        lists.old.wholes.now lists.new.wholes.now lists.old.floats.now lists.new.floats.now lists.old.cuts.now lists.new.cuts.now lists.old.planes.now lists.new.planes.now }
+        room.old.wholes.now room.new.wholes.now room.old.floats.now room.new.floats.now records.old.cuts.now records.new.cuts.now records.old.planes.now records.new.planes.now }
 {
     let Level { points, leaf, base } = level;
     let count = rows.len();
     let half = count / 2;
     let Next { place, leaves } = from;
-    let at = cut_nodes::cut_node(points, rows, lists, place);
+    let at = cut_nodes::cut_node(points, rows, room.wholes, records, place);
     let (left, right) = whole.halves(at.axis, at.value);
     let below = depth + 1;
     let next = Next {
@@ -50,8 +53,16 @@ pub fn split(
         leaves,
     };
     if half < leaf {
-        return cut_nodes::put_leaves(count, below, left, right, base, lists, next);
+        return cut_nodes::put_leaves(count, below, left, right, base, room, records, next);
     }
-    let middle = split(level, &mut rows[..half], below, left, lists, next);
-    split(level, &mut rows[half..], below, right, lists, middle)
+    let middle = split(level, &mut rows[..half], below, left, room, records, next);
+    split(
+        level,
+        &mut rows[half..],
+        below,
+        right,
+        room,
+        records,
+        middle,
+    )
 }

@@ -16,7 +16,7 @@ returns c = let a = c in
       same = search rules;
       plane = e.plane;
       rows = e.rows;
-      wholes = drop_at k.new.room _ (length a.args.rows.now) (e.room ∙ length-take-le (length a.args.rows.now) a.args.lists.now.wholes.now (omega (arith, p.3)));
-      cuts = w.cuts ∙ ap (set a.args.lists.now.cuts.now a.args.place) e.plane.0;
-      planes = w.planes ∙ ap (set a.args.lists.now.planes.now a.args.place) e.plane.1;
+      wholes = drop_at k.new.room _ (length a.args.rows.now) (e.room ∙ length-take-le (length a.args.rows.now) a.args.wholes.now (omega (arith, p.3)));
+      cuts = w.cuts ∙ ap (set a.args.records.now.cuts.now a.args.place) e.plane.0;
+      planes = w.planes ∙ ap (set a.args.records.now.planes.now a.args.place) e.plane.1;
     }

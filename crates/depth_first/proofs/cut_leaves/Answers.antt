@@ -54,7 +54,7 @@ number_leaves-requires c = let a = c in
     let is = level.root_is d cs g.0 leaf g.2 R g.4 g.3 u.result u.ensures.1 in
     let w = written_of refl is (rw p.base at x.ensures.written) in
     let eR = x.ensures.rows ∙ ap rows_under is in
-    level.level-tabled d cs g.0 leaf g.2 R g.4 g.3 x.new.rows x.new.lists.wholes.now x.new.lists.floats.now x.new.lists.cuts.now x.new.lists.planes.now eR w x.auto.rows x.ensures.same.wholes_len x.ensures.same.floats_len x.ensures.same.cuts_len room g.1 a.args.start.from a.args.start.first a.args.domains.now a.args.boxes.now p.rows_bound.0 p.rows_bound.1 p.rows_bound.2
+    level.level-tabled d cs g.0 leaf g.2 R g.4 g.3 x.new.rows x.new.room.wholes.now x.new.room.floats.now x.new.records.cuts.now x.new.records.planes.now eR w x.auto.rows x.ensures.same.0.wholes_len x.ensures.same.0.floats_len x.ensures.same.1.cuts_len room g.1 a.args.start.from a.args.start.first a.args.domains.now a.args.boxes.now p.rows_bound.0 p.rows_bound.1 p.rows_bound.2
 
 pub returns : goal.returns
 returns c = let a = c in
@@ -71,12 +71,12 @@ returns c = let a = c in
     let w = written_of refl is (rw p.base at x.ensures.written) in
     let eR = x.ensures.rows ∙ ap rows_under is in
     let e = c.number_leaves.ensures in
-    let rows = level.level-rows d cs g.0 leaf g.2 R g.4 g.3 x.new.rows x.new.lists.wholes.now x.new.lists.floats.now x.new.lists.cuts.now x.new.lists.planes.now eR w x.auto.rows x.ensures.same.wholes_len x.ensures.same.floats_len x.ensures.same.cuts_len room in
-    let own = level.level-own d cs g.0 leaf g.2 R g.4 g.3 x.new.rows x.new.lists.wholes.now x.new.lists.floats.now x.new.lists.cuts.now x.new.lists.planes.now eR w x.auto.rows x.ensures.same.wholes_len x.ensures.same.floats_len x.ensures.same.cuts_len room in
-    let m = level.level-many d cs g.0 leaf g.2 R g.4 g.3 x.new.rows x.new.lists.wholes.now x.new.lists.floats.now x.new.lists.cuts.now x.new.lists.planes.now eR w x.auto.rows x.ensures.same.wholes_len x.ensures.same.floats_len x.ensures.same.cuts_len room in
+    let rows = level.level-rows d cs g.0 leaf g.2 R g.4 g.3 x.new.rows x.new.room.wholes.now x.new.room.floats.now x.new.records.cuts.now x.new.records.planes.now eR w x.auto.rows x.ensures.same.0.wholes_len x.ensures.same.0.floats_len x.ensures.same.1.cuts_len room in
+    let own = level.level-own d cs g.0 leaf g.2 R g.4 g.3 x.new.rows x.new.room.wholes.now x.new.room.floats.now x.new.records.cuts.now x.new.records.planes.now eR w x.auto.rows x.ensures.same.0.wholes_len x.ensures.same.0.floats_len x.ensures.same.1.cuts_len room in
+    let m = level.level-many d cs g.0 leaf g.2 R g.4 g.3 x.new.rows x.new.room.wholes.now x.new.room.floats.now x.new.records.cuts.now x.new.records.planes.now eR w x.auto.rows x.ensures.same.0.wholes_len x.ensures.same.0.floats_len x.ensures.same.1.cuts_len room in
     let domains = e.domains ∙ ap (λ (z : List Own). with_own a.args.start.from z a.args.start.first a.args.domains.now) own in
-    let boxes = e.boxes ∙ ap (λ (z : List (List Float)). put a.args.boxes.now (box_width_lem d * a.args.start.first) (joined z)) (level.level-boxes d cs g.0 leaf g.2 R g.4 g.3 x.new.rows x.new.lists.wholes.now x.new.lists.floats.now x.new.lists.cuts.now x.new.lists.planes.now eR w x.auto.rows x.ensures.same.wholes_len x.ensures.same.floats_len x.ensures.same.cuts_len room) in
-    let cuts = e.cuts ∙ level.level-cuts-are d cs g.0 leaf g.2 R g.4 g.3 x.new.rows x.new.lists.wholes.now x.new.lists.floats.now x.new.lists.cuts.now x.new.lists.planes.now eR w x.auto.rows x.ensures.same.wholes_len x.ensures.same.floats_len x.ensures.same.cuts_len room in record {
+    let boxes = e.boxes ∙ ap (λ (z : List (List Float)). put a.args.boxes.now (box_width_lem d * a.args.start.first) (joined z)) (level.level-boxes d cs g.0 leaf g.2 R g.4 g.3 x.new.rows x.new.room.wholes.now x.new.room.floats.now x.new.records.cuts.now x.new.records.planes.now eR w x.auto.rows x.ensures.same.0.wholes_len x.ensures.same.0.floats_len x.ensures.same.1.cuts_len room) in
+    let cuts = e.cuts ∙ level.level-cuts-are d cs g.0 leaf g.2 R g.4 g.3 x.new.rows x.new.room.wholes.now x.new.room.floats.now x.new.records.cuts.now x.new.records.planes.now eR w x.auto.rows x.ensures.same.0.wholes_len x.ensures.same.0.floats_len x.ensures.same.1.cuts_len room in record {
       same = search rules;
       number = m;
       nodes = omega (arith, m, record-long d cs g.0 leaf g.2 R g.4 g.3);
@@ -84,5 +84,5 @@ returns c = let a = c in
       domains = search (rules, domains);
       boxes = search (rules, boxes);
       cuts = search (rules, cuts);
-      planes = level.level-planes d cs g.0 leaf g.2 R g.4 g.3 x.new.rows x.new.lists.wholes.now x.new.lists.floats.now x.new.lists.cuts.now x.new.lists.planes.now eR w x.auto.rows x.ensures.same.wholes_len x.ensures.same.floats_len x.ensures.same.cuts_len room;
+      planes = level.level-planes d cs g.0 leaf g.2 R g.4 g.3 x.new.rows x.new.room.wholes.now x.new.room.floats.now x.new.records.cuts.now x.new.records.planes.now eR w x.auto.rows x.ensures.same.0.wholes_len x.ensures.same.0.floats_len x.ensures.same.1.cuts_len room;
     }

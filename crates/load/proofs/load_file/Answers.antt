@@ -1,7 +1,6 @@
 -- `load::load_file` meets its contract: each way out has its law. Assumes nothing.
 use mathlib.Core.Path.{◌≡◌, refl, sym, ap, ◌∙◌}
 use mathlib.Core.Bool.{true, false}
-use native.Mathlib.Omega.{arith}
 use Rattle.definition.specs.Packed.{Counts}
 use Rattle.stored.specs.Stored.{well_formed}
 use Rattle.stored.specs.Outcome.{same_settings_lem, same_points_lem}
@@ -20,13 +19,7 @@ returns-in_default-clause-loaded c = let start = c in
     loaded-refused s cs bs old _ (refused-20 s cs bs old start.requires (sym c.in_default.ensures.good)) refl
 
 pub same_settings-requires : goal.same_settings-requires
-same_settings-requires c = let start = c in
-    let s = settings_of_lem start.args.points.dimensions start.args.params in
-    let cs = start.args.points.coordinates.now in
-    let bs = start.args.bytes.now in
-    let old = lists_in start.args.lists.now in
-    let well : well_formed bs ≡ true = sym c.in-Some.ensures.good in
-    (settings-inside bs well, omega (arith, (taken-with s cs old start.requires).axes_few))
+same_settings-requires c = settings-inside c.args.bytes.now (sym c.in-Some.ensures.good)
 
 pub returns-then-not-same_settings-clause-loaded : goal.returns-then-not-same_settings-clause-loaded
 returns-then-not-same_settings-clause-loaded c = let start = c in

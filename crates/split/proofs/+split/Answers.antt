@@ -21,7 +21,7 @@ returns-then-half-leaf-clause-rows t c =
     let u = c.halves in
     let x =
     turn a.rows.now a.whole u.result.0 u.result.1 a.depth k.result.axis k.result.value c.requires.dimensions_nonzero c.requires.dimensions_value
-    k.new.rows k.new.lists.wholes.now k.new.lists.cuts.now k.new.lists.planes.now e.plane e.rows e.wholes e.cuts e.planes e.same.0.wholes_len u.ensures.left u.ensures.right in
+    k.new.rows k.new.wholes k.new.records.cuts.now k.new.records.planes.now e.plane e.rows e.wholes e.cuts e.planes k.auto.wholes u.ensures.left u.ensures.right in
     leaves-rows x c.if-half-leaf.true
 
 pub returns-then-half-leaf-clause-written : goal.returns-then-half-leaf-clause-written
@@ -32,10 +32,10 @@ returns-then-half-leaf-clause-written t c =
     let u = c.halves in
     let x =
     turn a.rows.now a.whole u.result.0 u.result.1 a.depth k.result.axis k.result.value c.requires.dimensions_nonzero c.requires.dimensions_value
-    k.new.rows k.new.lists.wholes.now k.new.lists.cuts.now k.new.lists.planes.now e.plane e.rows e.wholes e.cuts e.planes e.same.0.wholes_len u.ensures.left u.ensures.right in
+    k.new.rows k.new.wholes k.new.records.cuts.now k.new.records.planes.now e.plane e.rows e.wholes e.cuts e.planes k.auto.wholes u.ensures.left u.ensures.right in
     let q = domain_of a.rows.now a.whole a.depth in
     leaves-written x c.if-half-leaf.true
-    ((rw e.same.1 at c.put_leaves.ensures.written) (left_of a.level.points.dimensions a.level.points.coordinates.now q).rows (right_of a.level.points.dimensions a.level.points.coordinates.now q).rows (left-long x) (right-long x))
+    (c.put_leaves.ensures.written (left_of a.level.points.dimensions a.level.points.coordinates.now q).rows (right_of a.level.points.dimensions a.level.points.coordinates.now q).rows (left-long x) (right-long x))
 
 pub split-middle-requires : goal.split-middle-requires
 split-middle-requires t c =
@@ -45,9 +45,9 @@ split-middle-requires t c =
     let u = c.halves in
     let x =
     turn a.rows.now a.whole u.result.0 u.result.1 a.depth k.result.axis k.result.value c.requires.dimensions_nonzero c.requires.dimensions_value
-    k.new.rows k.new.lists.wholes.now k.new.lists.cuts.now k.new.lists.planes.now e.plane e.rows e.wholes e.cuts e.planes e.same.0.wholes_len u.ensures.left u.ensures.right in
+    k.new.rows k.new.wholes k.new.records.cuts.now k.new.records.planes.now e.plane e.rows e.wholes e.cuts e.planes k.auto.wholes u.ensures.left u.ensures.right in
     let big = c.if-half-leaf.false in
-    (omega (arith, c.decreases, left_less x big), rw e.same.1 (left-asked x big))
+    (omega (arith, c.decreases, left_less x big), left-asked x big)
 
 pub split-requires : goal.split-requires
 split-requires t c =
@@ -57,12 +57,12 @@ split-requires t c =
     let u = c.halves in
     let x =
     turn a.rows.now a.whole u.result.0 u.result.1 a.depth k.result.axis k.result.value c.requires.dimensions_nonzero c.requires.dimensions_value
-    k.new.rows k.new.lists.wholes.now k.new.lists.cuts.now k.new.lists.planes.now e.plane e.rows e.wholes e.cuts e.planes e.same.0.wholes_len u.ensures.left u.ensures.right in
+    k.new.rows k.new.wholes k.new.records.cuts.now k.new.records.planes.now e.plane e.rows e.wholes e.cuts e.planes k.auto.wholes u.ensures.left u.ensures.right in
     let big = c.if-half-leaf.false in
     let l = c.split-middle in (
       omega (arith, c.decreases, right-less x big l.new.rows l.auto.rows),
-      right-asked x big l.new.rows l.auto.rows l.new.lists.wholes.now l.new.lists.floats.now l.new.lists.cuts.now l.new.lists.planes.now (rw e.same.1 at l.ensures.written)
-          l.ensures.same.wholes_len (rw e.same.1 at l.ensures.same.floats_len) l.ensures.same.cuts_len l.ensures.same.planes_len,
+      right-asked x big l.new.rows l.auto.rows l.new.room.wholes.now l.new.room.floats.now l.new.records.cuts.now l.new.records.planes.now l.ensures.written
+          l.ensures.same.0.wholes_len l.ensures.same.0.floats_len l.ensures.same.1.cuts_len l.ensures.same.1.planes_len,
     )
 
 pub returns-clause-rows : goal.returns-clause-rows
@@ -73,7 +73,7 @@ returns-clause-rows t c =
     let u = c.halves in
     let x =
     turn a.rows.now a.whole u.result.0 u.result.1 a.depth k.result.axis k.result.value c.requires.dimensions_nonzero c.requires.dimensions_value
-    k.new.rows k.new.lists.wholes.now k.new.lists.cuts.now k.new.lists.planes.now e.plane e.rows e.wholes e.cuts e.planes e.same.0.wholes_len u.ensures.left u.ensures.right in
+    k.new.rows k.new.wholes k.new.records.cuts.now k.new.records.planes.now e.plane e.rows e.wholes e.cuts e.planes k.auto.wholes u.ensures.left u.ensures.right in
     let l = c.split-middle in
     let r = c.split in
     halves-rows x c.if-half-leaf.false l.new.rows l.auto.rows r.new.rows l.ensures.rows r.ensures.rows
@@ -86,8 +86,8 @@ returns-clause-written t c =
     let u = c.halves in
     let x =
     turn a.rows.now a.whole u.result.0 u.result.1 a.depth k.result.axis k.result.value c.requires.dimensions_nonzero c.requires.dimensions_value
-    k.new.rows k.new.lists.wholes.now k.new.lists.cuts.now k.new.lists.planes.now e.plane e.rows e.wholes e.cuts e.planes e.same.0.wholes_len u.ensures.left u.ensures.right in
+    k.new.rows k.new.wholes k.new.records.cuts.now k.new.records.planes.now e.plane e.rows e.wholes e.cuts e.planes k.auto.wholes u.ensures.left u.ensures.right in
     let l = c.split-middle in
     let r = c.split in
-    halves-written x c.if-half-leaf.false l.new.rows l.auto.rows l.new.lists.wholes.now l.new.lists.floats.now l.new.lists.cuts.now l.new.lists.planes.now (rw e.same.1 at l.ensures.written)
-    l.ensures.same.wholes_len (rw e.same.1 at l.ensures.same.floats_len) l.ensures.same.cuts_len l.ensures.same.planes_len r.ensures.written
+    halves-written x c.if-half-leaf.false l.new.rows l.auto.rows l.new.room.wholes.now l.new.room.floats.now l.new.records.cuts.now l.new.records.planes.now l.ensures.written
+    l.ensures.same.0.wholes_len l.ensures.same.0.floats_len l.ensures.same.1.cuts_len l.ensures.same.1.planes_len r.ensures.written
