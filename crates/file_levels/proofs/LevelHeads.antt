@@ -1,5 +1,4 @@
 -- The level record at a place of a file: its rows lie within the file. Assumes nothing.
--- Holds: head-within
 use Rattle.std.specs.Prelude.{Some}
 use mathlib.Core.Path.{◌≡◌, sym}
 use Prim.Native.Nat.{ℕ, ◌+◌, ◌*◌, ◌≤◌}

@@ -1,7 +1,7 @@
 -- Loops over rows: asked for, marked, and taken out of two sets, one after the other. The sets are words; what becomes of a set is in
 -- crate tree_tests. Assumes nothing.
--- Holds: Asking, asking-start, asking-end, asking-low, asking-out, asking-next, Marking, marking-start,
---   marking-next, marking-within, marking-clear, Taking, taking-start, taking-end, taking-low, taking-out, taking-next
+-- Holds: Asking, asking-start, asking-end, asking-low, asking-out, asking-next, Marking, marking-start, marking-next,
+--   marking-within, marking-clear, Taking, taking-start, taking-end, taking-low, taking-out, taking-next
 use mathlib.Core.Path.{◌≡◌, refl, sym, ap, ◌∙◌}
 use mathlib.Core.Bool.{Bool, true, false, not, ◌&&◌, ◌||◌}
 use Prim.Native.Nat.{ℕ, ◌+◌, ◌*◌, ◌≤◌, ◌<◌}
