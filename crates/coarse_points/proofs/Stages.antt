@@ -1,6 +1,6 @@
 -- How the steps fit together: sizes, quotas, what each leaf sends, and the sorted rows behind the active ones. Assumes nothing.
--- Holds: counts_all, leaves-fit, sent-size, up-size, sorted-up, covers_up, quotas-front, lent-good, lent-size, part-between,
---   part-size, leaf_room, leaf-end, leaf-list, all-sent
+-- Holds: counts_all, leaves-fit, sorted-up, covers_up, quotas-front, lent-good, lent-size, part-between, part-size, leaf_room,
+--   leaf-end, leaf-list, all-sent
 use mathlib.Core.Path.{◌≡◌, sym, ap, ◌∙◌}
 use mathlib.Core.List.{List, [], ◌++◌, map, zip_with, map-map}
 use Prim.Native.Nat.{ℕ, ◌+◌, ◌-◌, ◌≤◌, ◌<◌}

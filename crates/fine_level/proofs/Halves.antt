@@ -1,5 +1,4 @@
 -- The level points in two parts: the active rows end the first, and the rows that are sent begin the second. Assumes nothing.
--- Holds: front-part, sent-back
 use mathlib.Core.Path.{◌≡◌, ap, ◌∙◌}
 use mathlib.Core.List.{List, ◌++◌}
 use Prim.Native.Nat.{ℕ, ◌+◌, ◌-◌}

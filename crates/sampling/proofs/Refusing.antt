@@ -1,6 +1,6 @@
 -- The refusals of a sampling, and what holds where it is accepted. Assumes nothing.
--- Holds: tests-dimension, tests-count, tests-choice, tests-lists, tests-finite, SampleAccepted, call-accepted, rows-numbered, call-ready, call-written, call-covered,
---   call-refused, call-sampled
+-- Holds: tests-dimension, tests-count, tests-choice, tests-lists, tests-finite, SampleAccepted, call-accepted, rows-numbered,
+--   call-ready, call-written, call-covered, call-refused, call-sampled
 use mathlib.Core.Path.{◌≡◌, refl, sym, ap, ap₂, ◌∙◌}
 use mathlib.Core.Bool.{Bool, true, false, not, ◌||◌}
 use mathlib.Core.List.{List, [], ◌∷◌, ◌++◌}
