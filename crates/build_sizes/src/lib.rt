@@ -63,7 +63,9 @@ impl BuildSizes {
     }
 }
 
-// The lengths for n points on `dimensions` axes with this neighbour count: three numbers, as the public call is asked with them.
+// The lengths for n points on `dimensions` axes with this neighbour count: three numbers, as the public call is asked with them. That there are
+// so many axes, points and neighbours at most is asked here and wherever they are passed on: the public calls take any and refuse, so that no
+// type of theirs can promise it.
 pub fn stated_sizes(dimensions: usize, n: usize, neighbours: usize) -> BuildSizes
     requires { (dimensions ≤ 3) × (n ≤ most_points) × (neighbours ≤ most_neighbours) }
     ensures { sizes_of result ≡ build_stated dimensions n neighbours }

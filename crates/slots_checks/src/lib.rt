@@ -1,13 +1,13 @@
 // The refusals of a build over the live slots of a table, tried in their order before anything is written.
 #![tactic(auto)]
 
-ghost use Rattle.std.specs.Prelude.{◌≡◌, false, ◌||◌, [], ◌∷◌, ◌++◌, ◌*◌, ◌≤◌, length, OnOk};
+ghost use Rattle.std.specs.Prelude.{◌≡◌, ◌||◌, [], ◌∷◌, ◌*◌, ◌≤◌, length};
 ghost use Rattle.lists.specs.Lists.{keep, from};
 ghost use Rattle.definition.specs.Packed.{build_stated};
-ghost use Rattle.definition.specs.Refusals.{most_points, most_neighbours, verdict, settings_tests, points_tests, build_short};
+ghost use Rattle.definition.specs.Refusals.{most_points, most_neighbours, verdict, build_short};
 ghost use Rattle.definition.specs.Table.{flagged, coordinates_short};
 ghost use Rattle.definition.specs.Slots.{rows_not_finite, slots_verdict};
-ghost use Rattle.config.specs.Params.{settings_of_lem, settings_are};
+ghost use Rattle.config.specs.Params.{settings_of_lem};
 ghost use Rattle.build_sizes.specs.Sizes.{sizes_of};
 ghost use Rattle.refusal.specs.Refusals.{verdict_of};
 ghost use Rattle.table_checks.specs.Tables.{table_in};
