@@ -1,9 +1,9 @@
 -- `coarse_points::copy_sizes` meets its contract: the sizes so far stand at the front of the working list. Assumes nothing.
-use mathlib.Core.Path.{◌≡◌, sym, ap, ◌∙◌}
-use Prim.Native.Nat.{◌+◌, ◌≤◌}
+use mathlib.Core.Path.{◌≡◌, sym, ◌∙◌}
+use Prim.Native.Nat.{◌+◌}
 use native.Mathlib.Omega.{arith}
 use borrow.Author.Rules.{rules}
-use lib.ListN.{length, take}
+use lib.ListN.{length}
 use lib.Seq.{take_all, length-take-le, take_at}
 use Rattle.lists.proofs.From.{map-from-nil, fill_more}
 use Rattle.packed.specs.Reading.{own_count}

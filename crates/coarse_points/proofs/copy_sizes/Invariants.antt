@@ -1,5 +1,5 @@
 use mathlib.Core.Path.{◌≡◌}
-use lib.ListN.{length, take}
+use lib.ListN.{take}
 use Rattle.coarse_points.specs.Sent.{counts_at}
 use Rattle.coarse_points.proofs.copy_sizes.Given as goal
 
