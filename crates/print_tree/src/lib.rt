@@ -6,11 +6,13 @@ ghost use Rattle.formats.specs.Printout.{domain_line, fine_lines, levels_text, t
 ghost use Rattle.bytes_out.specs.Writing.{Takes, Appends};
 ghost use Rattle.packed.specs.Reading.{RowFits, read_leaves, Stands, read_levels};
 ghost use Rattle.packed.specs.View.{packed_of, leaf_of};
-ghost use Rattle.print_tree.specs.Unpack.{box_part, points_line, leaf_line, fine_level_text, coarse_level_text};
+ghost use Rattle.print_tree.specs.Unpack.{AnswerStands, answer_text, box_part, points_line, leaf_line, fine_level_text, coarse_level_text};
 
 use bytes_out::Writer;
 use packed::{Leaf, Packed};
-use tree_answer::PackedTree;
+use refusal::Refusal;
+use tree_answer::{DDMTree, PackedTree};
+use tree_lists::TreeRead;
 
 // The bounds of a box; a dash for the coarse domain's. The flag stays: an Option of the bounds is no plainer, since each contract
 // would take it apart again.
@@ -122,4 +124,21 @@ pub fn write_tree(tree: PackedTree<'_>, out: &mut Writer<'_>)
     print_texts::write_numbered(b"levels ", tree.counts.levels, out);
     out.byte(b'\n');
     write_levels(tree, out);
+}
+
+// The answer of a call that makes a tree: the tree, which the lists hold, or the refusal.
+pub fn write_answer(
+    answer: Result<DDMTree, Refusal>,
+    lists: TreeRead<'_>,
+    dimensions: usize,
+    out: &mut Writer<'_>,
+)
+    requires stands { AnswerStands answer lists dimensions }
+    requires room_for { Takes out.old (answer_text answer lists dimensions) }
+    ensures { Appends out.old out.new (answer_text answer lists.entry dimensions) }
+{
+    match answer {
+        Ok(counts) => write_tree(PackedTree::of(counts, lists, dimensions), out),
+        Err(refusal) => print_texts::write_refusal(refusal, out),
+    }
 }

@@ -12,7 +12,6 @@ use bytes_out::Writer;
 use job_room::JobRoom;
 use refusal::Refusal;
 use stream_reader::Job;
-use tree_answer::PackedTree;
 
 // The text of a job: of its tree, or of the build's refusal. The lists suffice for the largest job.
 fn write_job(job: Job<'_>, out: &mut Writer<'_>)
@@ -23,16 +22,14 @@ fn write_job(job: Job<'_>, out: &mut Writer<'_>)
     let mut lists = lists.lend();
     let mut room = JobRoom::zeros();
     let mut room = room.lend();
-    match ddm::build(job.points, job.params, &mut lists, &mut room) {
-        Ok(counts) => {
-            let tree = PackedTree::of(counts, lists.read(), job.points.dimensions);
-            print_tree::write_tree(tree, out);
-        }
-        Err(refusal) => print_texts::write_refusal(refusal, out),
-    }
+    let answer = ddm::build(job.points, job.params, &mut lists, &mut room);
+    print_tree::write_answer(answer, lists.read(), job.points.dimensions, out);
 }
 
 // The printout of a stream that is lent room for every printout.
+// This and the next one stand in reload too, over its own text: one function for both would be lent `write_job` as a closure over a job and a
+// writer. Its contract would say of every job within the limits, and of every writer with room, that the closure may be called and what it
+// appends, and that a broken job's text is its refusal's: three clauses over a ghost text, for this match and the test below.
 fn write_printout(input: &[u8], output: &mut Writer<'_>)
     requires { output.old.at + most_bytes ≤ length output.old.bytes.now }
     ensures { Appends output.old output.new (printed input.now) }

@@ -13,7 +13,6 @@ ghost use Rattle.reload.specs.Loading.{loaded_text};
 use bytes_out::Writer;
 use refusal::Refusal;
 use stream_reader::Job;
-use tree_answer::PackedTree;
 
 // The longest file that is taken.
 pub const MOST_FILE: usize = 1048576;
@@ -25,13 +24,8 @@ fn write_loaded(job: Job<'_>, file: &[u8], out: &mut Writer<'_>)
 {
     let mut lists = job_room::zero_lists();
     let mut lists = lists.lend();
-    match load::load_tree(job.points, job.params, file, &mut lists) {
-        Ok(counts) => {
-            let tree = PackedTree::of(counts, lists.read(), job.points.dimensions);
-            print_tree::write_tree(tree, out);
-        }
-        Err(refusal) => print_texts::write_refusal(refusal, out),
-    }
+    let answer = load::load_tree(job.points, job.params, file, &mut lists);
+    print_tree::write_answer(answer, lists.read(), job.points.dimensions, out);
 }
 
 // The text for a job that was read: a large one's refusal where the file is too long.
@@ -47,6 +41,9 @@ fn write_job(job: Job<'_>, file: &[u8], out: &mut Writer<'_>)
 }
 
 // The text for a stream and a file that is lent room for every text.
+// This and the next one stand in printout too, over its own text: one function for both would be lent `write_job` as a closure over a job and a
+// writer. Its contract would say of every job within the limits, and of every writer with room, that the closure may be called and what it
+// appends, and that a broken job's text is its refusal's: three clauses over a ghost text, for this match and the test below.
 fn write_reloaded(stream: &[u8], file: &[u8], output: &mut Writer<'_>)
     requires { output.old.at + most_bytes ≤ length output.old.bytes.now }
     ensures { Appends output.old output.new (reloaded stream.now file.now) }

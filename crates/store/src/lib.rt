@@ -57,9 +57,7 @@ fn store_sound(
     let tree = PackedTree::of(counts, tree, dimensions);
     let n = points.count();
     let neighbours = params.overlap_knn as usize;
-    let Some(passed) = list_levels::check_lists(tree, n, neighbours) else {
-        return Err(Refusal::NoSoundTree);
-    };
+    let passed = list_levels::check_lists(tree, n, neighbours).ok_or(Refusal::NoSoundTree)?;
     let size = file_size(dimensions, n, counts.levels, passed);
     if file.len() < size {
         return Err(Refusal::ShortList);
