@@ -1,30 +1,37 @@
--- How many rows pass a test, and the turns of the loop that keeps those. Assumes nothing.
--- Holds: counted, Moving, moving-first, moving-here, moving_row, moving_in, moving_out, KeptFront, kept-first, kept-number,
---   kept-rows, kept_in, kept_out
+-- The turns of the loops that count and that keep the rows on one side, for any test. Assumes nothing.
+-- Holds: CountedTo, counted-first, counted-in, counted-out, counted-end, Moving, moving-first, moving-here, moving_row,
+--   moving_in, moving_out, KeptFront, kept-first, kept-number, kept-rows, kept_in, kept_out
 use mathlib.Core.Path.{◌≡◌, refl, sym, ap, ◌∙◌}
 use Prim.Native.Nat.{ℕ, ◌+◌, ◌≤◌, ◌<◌}
-use native.Mathlib.Nat.{zero-add}
 use native.Mathlib.Omega.{arith}
-use mathlib.Core.Bool.{Bool, true, false, cond}
+use mathlib.Core.Bool.{Bool, true, false}
 use mathlib.Core.List.{List}
 use lib.ListN.{length, get_or, set, take, length-append, length-set}
 use lib.Seq.{get_or-set_other, take_all}
-use Rattle.std.specs.List.{count_by}
-use Rattle.std.proofs.lemmas.List.Recursion.{is_count_by}
-use Rattle.lists.specs.Lists.{count, one_if, put, keep}
+use Rattle.lists.specs.Lists.{count, put, keep}
 use Rattle.lists.specs.Ascends.{All}
 use Rattle.lists.proofs.All.{all-at}
-use Rattle.lists.proofs.Count.{keep-yes, keep-no}
+use Rattle.lists.proofs.Count.{count_yes, count_no, keep-yes, keep-no}
 use Rattle.lists.proofs.Put.{put-nil, put-snoc}
 
--- ---- how many pass, as the library counts them
-pub counted : (p : ℕ → Bool) (l : List ℕ) → count p l ≡ count_by p l
+-- ---- n of the first t rows pass
+pub record CountedTo (p : ℕ → Bool) (l : List ℕ) (n t : ℕ) : Type 0 where
+  pub less : n ≤ t
+  pub is : n ≡ count p (take t l)
+
+pub counted-first : (p : ℕ → Bool) (l : List ℕ) → CountedTo p l 0 0
 unfolding count
-counted p l = is_count_by (count p) p refl (λ x xs. go (p x) (count p xs)) l
-  where
-    go : (b : Bool) (n : ℕ) → one_if b + n ≡ cond b (1 + n) n
-    go true n = refl
-    go false n = zero-add n
+counted-first p l = record { less = omega arith; is = refl }
+
+module _ {p : ℕ → Bool} {l : List ℕ} {n t : ℕ} (s : CountedTo p l n t) where
+  pub counted-in : t < length l → p (get_or l t 0) ≡ true → CountedTo p l (n + 1) (t + 1)
+  counted-in h b = record { less = omega (arith, s.less); is = omega (arith, count_yes p l t 0 h b, s.is) }
+
+  pub counted-out : t < length l → p (get_or l t 0) ≡ false → CountedTo p l n (t + 1)
+  counted-out h b = record { less = omega (arith, s.less); is = omega (arith, count_no p l t 0 h b, s.is) }
+
+  pub counted-end : length l ≤ t → n ≡ count p l
+  counted-end h = s.is ∙ ap (count p) (take_all t l h)
 
 -- ---- those that pass are moved to the front of the list: m is l after i rows, of which k passed
 pub record Moving (l m : List ℕ) (k i : ℕ) : Type 0 where

@@ -16,9 +16,14 @@ fn count_before(column: Column<'_>, rows: &[usize], p: usize) -> usize
     requires { FiniteIn column rows.now × HasRow column p }
     ensures { result ≡ count (side_in column.entry p true) rows.now }
 {
-    rows.iter()
-        .filter(|&&r| argsort::comes_before(column, r, p))
-        .count()
+    let mut n = 0;
+    // by hand: with `filter` and `count` the cut of random points takes up to a fifth longer
+    for &r in rows {
+        if argsort::comes_before(column, r, p) {
+            n += 1;
+        }
+    }
+    n
 }
 
 // Moves the rows that pass a test to the front, in their order. The answer is how many they are.

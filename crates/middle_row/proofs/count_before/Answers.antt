@@ -1,29 +1,27 @@
 -- `middle_row::count_before` meets its contract. Assumes nothing.
-use Rattle.std.proofs.Common.{◌≡◌, sym, ap, ◌∙◌, true, get_or, count_by, rules}
-use Rattle.std.proofs.lemmas.Iterator.{YieldsList-from_slice}
-use Rattle.std.proofs.lemmas.Iterator.Adapters.{serves_from_places}
+use mathlib.Core.Path.{sym, ◌∙◌}
 use Rattle.lists.proofs.All.{all-at}
-use Rattle.points.specs.Columns.{HasRow}
 use Rattle.argsort.proofs.Orders.{row_inside}
-use Rattle.middle_row.specs.Middle.{side_in}
-use Rattle.middle_row.proofs.Turns.{counted}
+use Rattle.middle_row.proofs.Turns.{counted-first, counted-in, counted-out, counted-end}
+use Rattle.middle_row.proofs.count_before.Goals.{then-comes_before, else-comes_before}
 use Rattle.middle_row.proofs.count_before.Goals as goal
 
-pub count-requires-clause-can : goal.count-requires-clause-can
-count-requires-clause-can c = let a = c.args in
-    let rows = a.rows.now in
-    let col : c.filter.result.p.0.now ≡ a.column = search rules in
-    let last : c.filter.result.p.1.now ≡ a.p = search rules in (
-      tt,
-      tt,
-      serves_from_places (YieldsList-from_slice rows (search rules)) (λ x q h. search rules)
-          (λ x k b e y f u r n s t w l.
-          let here : HasRow a.column (get_or rows k x.now) = row_inside a.column.points.dimensions a.column.points.coordinates.now a.column.axis _ (all-at _ rows k x.now c.requires.0 b) in
-          let is : y.now.now ≡ get_or rows k x.now = ap (λ z. z.now) f ∙ e in
-          (rw (col, is) here, rw (col, last) c.requires.1)),
-    )
+pub loop-r-init : goal.loop-r-init
+loop-r-init c = counted-first _ _
+
+pub comes_before-requires : goal.comes_before-requires
+comes_before-requires c = let s = c in
+    let a = s.args in
+    (row_inside a.column.points.dimensions a.column.points.coordinates.now a.column.axis _ (all-at _ a.rows.now c.loop-r.r-index 0 s.requires.0 c.loop-r-test.true), s.requires.1)
+
+pub loop-r-preserved : goal.loop-r-preserved
+loop-r-preserved c =
+    let t = c.loop-r-test.true in
+    let b = sym c.comes_before.ensures in
+    elim c.if-comes_before.branch [
+      | then-comes_before w ↦ rw w.n-is (counted-in c.loop-r.invariant t (b ∙ w.if-comes_before.true))
+      | else-comes_before w ↦ rw w.n-is (counted-out c.loop-r.invariant t (b ∙ w.if-comes_before.false))
+    ]
 
 pub returns : goal.returns
-returns c = let a = c.args in
-    let found : c.count.result ≡ count_by (side_in a.column a.p true) a.rows.now = search rules in
-    found ∙ sym (counted (side_in a.column a.p true) a.rows.now)
+returns c = counted-end c.loop-r.invariant c.loop-r-test.false
