@@ -1,14 +1,14 @@
 -- The tests of a build, group by group. Assumes nothing.
--- Holds: build-groups, reductions-many, checked-reductions, points-groups, nine-met, nine-passed, short-pairs, tests-stop, tests-pass,
---   tests-short, tests-last, checks-stop, checks-short, checks-last, same-tests, and those of point_checks that are passed on
+-- Holds: use, build-groups, reductions-many, checked-reductions, points-groups, nine-met, nine-passed, rows-tests, short-pairs,
+--   tests-stop, tests-pass, tests-short, tests-last, checks-stop, checks-short, checks-last, same-tests
 pub use Rattle.point_checks.proofs.Laws.{and_then, verdict-append, fault-first, fault-second, bad-test}
-use mathlib.Core.Path.{◌≡◌, refl, sym, ap, ◌∙◌}
+use mathlib.Core.Path.{◌≡◌, refl, sym, ap, ap₂, ◌∙◌}
 use mathlib.Core.Bool.{Bool, true, false, not, ◌&&◌, ◌||◌}
 use mathlib.Core.List.{List, [], ◌∷◌, ◌++◌}
 use Prim.Native.Nat.{ℕ, ◌*◌, ◌^◌, ◌/◌, ◌%◌, ◌≤◌, ◌<◌}
 use native.Mathlib.Omega.{arith}
-use native.Mathlib.Nat.{mul-le-mul_left, le_trans, pow-le-pow_right}
-use borrow.Author.Tests.{lt-ltb, le-ltb, leb-true, leb-false}
+use native.Mathlib.Nat.{mul-le-mul_left, le_trans, pow-le-pow_right, mul-div_cancel, mul-mod_left}
+use borrow.Author.Tests.{eq-eqb, lt-ltb, le-ltb, leb-true, leb-false}
 use lib.Dec.{leb, ltb, eqb}
 use lib.Ieee.{Float}
 use Rattle.std.specs.List.{list_any, zip}
@@ -73,6 +73,12 @@ module _ (s : Settings) (n : ℕ) where
   pub nine-passed : 1 ≤ s.factor → reductions n (threshold s.policy n) s.factor ≤ 3 → accepted ≡ verdict (on (ltb (threshold s.policy n * s.factor ^ most_fine) n) 9 ∷ [])
   unfolding verdict
   nine-passed f h = rw (le-ltb (threshold s.policy n * s.factor ^ most_fine) n (checked-reductions n (threshold s.policy n) s.factor f h))
+
+-- n rows of d coordinates each are n points, of which none lacks a coordinate
+pub rows-tests : (s : Settings) (n : ℕ) → 1 ≤ s.dimension
+    → verdict (points_tests s (n * s.dimension / s.dimension) (not (eqb (n * s.dimension % s.dimension) 0))) ≡ verdict (points_tests s n false)
+rows-tests s n h =
+    ap₂ (λ (m : ℕ) (b : Bool). verdict (points_tests s m b)) (mul-div_cancel n (omega arith)) (ap not (eq-eqb (n * s.dimension % s.dimension) 0 (mul-mod_left n s.dimension)))
 
 -- ---- the lists
 -- the same answers, in the order in which they are asked

@@ -1,7 +1,7 @@
 // The refusals of a build, tried in document 01's order before anything is written.
 #![tactic(auto)]
 
-ghost use Rattle.std.specs.Prelude.{◌≡◌, ℕ, not, ◌++◌, ◌/◌, ◌%◌, ◌≤◌, eqb, IfOk, OnOk};
+ghost use Rattle.std.specs.Prelude.{◌≡◌, ℕ, false, not, ◌++◌, ◌/◌, ◌%◌, ◌^◌, ◌≤◌, ◌<◌, eqb, IfOk, OnOk};
 ghost use Rattle.definition.specs.Packed.{build_stated};
 ghost use Rattle.definition.specs.Refusals.{most_points, most_neighbours, verdict, settings_tests, points_tests, zero_threshold_lem, build_short, build_verdict};
 ghost use Rattle.config.specs.Params.{threshold_policy, settings_of_lem, settings_are};
@@ -67,6 +67,17 @@ pub fn first_fault(count: usize, settings: Settings) -> Result<usize, Refusal>
 {
     settings_fault(settings)?;
     points_fault(count, settings)
+}
+
+// Settings, and n points of which none lacks a coordinate: the first of 1 to 9 whose condition is met.
+pub fn rows_fault(n: usize, settings: Settings) -> Result<(), Refusal>
+    requires { n < 2 ^ 32 }
+    ensures number { verdict_of result ≡ verdict (settings_tests (settings_are settings) ++ points_tests (settings_are settings) n false) }
+    ensures fine { OnOk result ((1 ≤ settings.dimensions) × (settings.dimensions ≤ 3) × (settings.params.overlap_knn ≤ most_neighbours)) }
+{
+    settings_fault(settings)?;
+    points_fault(n * settings.dimensions, settings)?;
+    Ok(())
 }
 
 // Whether one of the lists is shorter than n points on `dimensions` axes with this neighbour count ask for.

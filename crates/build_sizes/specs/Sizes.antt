@@ -1,7 +1,7 @@
 -- The code's lengths and answers as those of the definition. Definitions only.
-use Rattle.std.specs.Prelude.{ℕ, List, [], ◌∷◌, Result}
+use Rattle.std.specs.Prelude.{ℕ, List, [], ◌∷◌, length, Result}
 use Rattle.definition.specs.Packed.{BuildSizes}
-use Rattle.definition.specs.Outcome.{Answer, zero_sizes}
+use Rattle.definition.specs.Outcome.{Answer, TreeLists, zero_sizes}
 use Rattle.build_sizes.specs.declared.BuildSizes.{BuildSizes as Lengths}
 use Rattle.refusal.specs.declared.Refusal.{Refusal}
 use Rattle.refusal.specs.Refusals.{answer_of}
@@ -17,6 +17,19 @@ sizes_of l =
       borrowed = l.borrowed;
       floats = l.floats;
       wholes = l.wholes;
+    }
+
+-- those of five lists, with room of these lengths beside them
+abbrev pub sizes_beside : TreeLists → ℕ → ℕ → BuildSizes
+sizes_beside l floats wholes =
+    record {
+      level_points = length l.level_points;
+      internals = length l.internals;
+      domains = length l.domains;
+      boxes = length l.boxes;
+      borrowed = length l.borrowed;
+      floats = floats;
+      wholes = wholes;
     }
 
 -- the lengths one after the other

@@ -5,12 +5,12 @@ ghost use Rattle.std.specs.Prelude.{◌≡◌, ◌≤◌};
 ghost use Rattle.definition.specs.Packed.{build_stated};
 ghost use Rattle.definition.specs.Refusals.{most_points, most_neighbours};
 ghost use Rattle.definition.specs.Outcome.{lent_sizes, sizes_answer};
-ghost use Rattle.tree_lists.specs.Lent.{lists_in};
-ghost use Rattle.build_sizes.specs.Sizes.{sizes_of, lengths_of, sizes_report};
+ghost use Rattle.tree_lists.specs.Lent.{lists_in, lists_read};
+ghost use Rattle.build_sizes.specs.Sizes.{sizes_of, sizes_beside, lengths_of, sizes_report};
 
 use refusal::Refusal;
 use rows::{MOST_NEIGHBOURS, MOST_POINTS};
-use tree_lists::{Room, TreeLists};
+use tree_lists::{Room, TreeLists, TreeRead};
 
 // The lengths of the five lists, and of the two lists of working room.
 #[derive(Clone, Copy, Default)]
@@ -29,14 +29,21 @@ impl BuildSizes {
     pub fn lent(lists: &TreeLists<'_>, room: &Room<'_>) -> BuildSizes
         ensures { sizes_of result ≡ lent_sizes (lists_in lists.now) room.now.floats.now room.now.wholes.now }
     {
+        BuildSizes::of(lists.read(), room.floats.len(), room.wholes.len())
+    }
+
+    // The lengths of five lists, with those of a working room beside them.
+    pub fn of(lists: TreeRead<'_>, floats: usize, wholes: usize) -> BuildSizes
+        ensures { sizes_of result ≡ sizes_beside (lists_read lists.entry) floats wholes }
+    {
         BuildSizes {
             level_points: lists.level_points.len(),
             internals: lists.internals.len(),
             domains: lists.domains.len(),
             boxes: lists.boxes.len(),
             borrowed: lists.borrowed.len(),
-            floats: room.floats.len(),
-            wholes: room.wholes.len(),
+            floats,
+            wholes,
         }
     }
 
@@ -56,7 +63,9 @@ impl BuildSizes {
     }
 }
 
-// The lengths for n points on `dimensions` axes with this neighbour count: three numbers, as the public call is asked with them.
+// The lengths for n points on `dimensions` axes with this neighbour count: three numbers, as the public call is asked with them. That there are
+// so many axes, points and neighbours at most is asked here and wherever they are passed on: the public calls take any and refuse, so that no
+// type of theirs can promise it.
 pub fn stated_sizes(dimensions: usize, n: usize, neighbours: usize) -> BuildSizes
     requires { (dimensions ≤ 3) × (n ≤ most_points) × (neighbours ≤ most_neighbours) }
     ensures { sizes_of result ≡ build_stated dimensions n neighbours }

@@ -1,13 +1,15 @@
 -- The bytes at the front of what is left of a record, and the number that they stand for. Assumes nothing.
--- Holds: byte-front, word-front, bits-front, read-on
-use mathlib.Core.Path.{◌≡◌, ap, ◌∙◌}
-use Prim.Native.Nat.{ℕ, ◌+◌, ◌≤◌}
+-- Holds: byte-front, word-front, bits-front, read-on, behind, entry-behind, entries-past
+use mathlib.Core.Path.{◌≡◌, sym, ap, ◌∙◌}
+use Prim.Native.Nat.{ℕ, ◌+◌, ◌*◌, min, ◌≤◌, ◌<◌}
+use native.Mathlib.Nat.{add_assoc, mul-suc}
+use native.Mathlib.Numerals.{add-one}
 use native.Mathlib.Omega.{arith}
 use mathlib.Core.List.{List}
 use lib.ListN.{length, get_or, take, drop, length-drop}
 use lib.Seq.{drop-drop, get_or-take}
 use Rattle.std.specs.Int.{w32, w64, from_le_bytes}
-use Rattle.formats.specs.Bytes.{field}
+use Rattle.formats.specs.Bytes.{field, number_size}
 use Rattle.bytes_in.proofs.Bytes.{byte-is, field-add}
 
 module _ (bs : List ℕ) where
@@ -66,3 +68,21 @@ pub read-on : (k m : ℕ) (bs old new : List ℕ) (n : ℕ) → m ≤ length bs 
     → (m + k ≤ length bs) × (n ≡ field k m bs) × (new ≡ drop (m + k) bs)
 read-on k m bs old new n h e (room, value, rest) =
     (omega (arith, room, ap length e, length-drop m bs), value ∙ ap (field k 0) e, rest ∙ ap (drop k) e ∙ drop-drop k m bs)
+
+-- what is left behind one part of a record, and behind the next
+pub behind : (m k : ℕ) (bs old new : List ℕ) → old ≡ drop m bs → new ≡ drop k old → new ≡ drop (m + k) bs
+behind m k bs old new e f = f ∙ ap (drop k) e ∙ drop-drop k m bs
+
+-- ---- behind the entries of a list that were read, of w bytes each, as many as the index and the count say
+module _ (w i count : ℕ) (bs old : List ℕ) (e : old ≡ drop (number_size + w * min i count) bs) where
+  pub entry-behind : i < count → (new : List ℕ) → new ≡ drop w old → new ≡ drop (number_size + w * min (i + 1) count) bs
+  entry-behind h new f =
+      let here : min i count ≡ i = omega arith in
+      let next : min (i + 1) count ≡ i + 1 = omega arith in
+      behind (number_size + w * min i count) w bs old new e f
+      ∙ ap (λ (k : ℕ). drop k bs) (rw (here, next) (add_assoc number_size (w * i) w ∙ ap (λ (k : ℕ). number_size + k) (sym (ap (λ (k : ℕ). w * k) (add-one i) ∙ mul-suc w i))))
+
+  pub entries-past : count ≤ i → old ≡ drop (number_size + w * min (i + 1) count) bs
+  entries-past h =
+      let same : min i count ≡ min (i + 1) count = omega arith in
+      e ∙ ap (λ (k : ℕ). drop (number_size + w * k) bs) same

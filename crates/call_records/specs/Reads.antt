@@ -1,5 +1,5 @@
 -- What it is to read fields of a record. Definitions only.
-use Rattle.std.specs.Prelude.{◌≡◌, ℕ, ◌+◌, List, length, take, drop, ◌≤◌, ◌<◌, Option, MatchOption}
+use Rattle.std.specs.Prelude.{◌≡◌, ℕ, ◌+◌, ◌*◌, List, length, take, drop, ◌≤◌, ◌<◌, Option, MatchOption}
 use Rattle.definition.specs.Levels.{Policy, policy_from}
 use Rattle.definition.specs.Tree.{Settings}
 use Rattle.formats.specs.Bytes.{field, number_at, number_size}
@@ -20,6 +20,18 @@ bytes_size bs = number_size + number_at 0 bs
 
 abbrev pub bytes_read : List ℕ → List ℕ
 bytes_read bs = take (number_at 0 bs) (drop number_size bs)
+
+-- a list with its count before it, of entries of w bytes each
+abbrev pub list_size : ℕ → List ℕ → ℕ
+list_size w bs = number_size + w * number_at 0 bs
+
+-- what is left behind such a list that has its length as a number before it
+abbrev pub filled_left : ℕ → List ℕ → List ℕ
+filled_left w bs = drop (list_size w (drop number_size bs)) (drop number_size bs)
+
+-- what is left behind n numbers
+abbrev pub numbers_left : ℕ → List ℕ → List ℕ
+numbers_left n bs = drop (number_size * n) bs
 
 -- a policy: its kind in one byte, and its number
 abbrev pub policy_read : List ℕ → Policy

@@ -1,13 +1,21 @@
 // What stands for an entry of a list in a record.
+ghost use Rattle.std.specs.Prelude.{ℕ};
+ghost use Rattle.formats.specs.Bytes.{field};
+ghost use Rattle.call_records.specs.Reads.{Reads};
+
 use crate::fields::Fields;
 
 // An entry of a list: a number, a float or a byte.
 pub trait Entry: Copy {
+    // The bytes of an entry.
+    ghost SIZE: { ℕ };
+
     // The bits of 9, which a list holds past its front.
     const NINE: u64;
 
     // The bits of the entry that stands next.
-    fn next_bits(fields: &mut Fields<'_>) -> Option<u64>;
+    fn next_bits(fields: &mut Fields<'_>) -> Option<u64>
+        ensures { Reads SIZE (field SIZE 0) fields.old.rest.now fields.new.rest.now result };
 
     // The entry with these bits, and the bits of an entry.
     fn from_bits(bits: u64) -> Self;
@@ -16,6 +24,8 @@ pub trait Entry: Copy {
 }
 
 impl Entry for usize {
+    ghost SIZE = { 8 };
+
     const NINE: u64 = 9;
 
     fn next_bits(fields: &mut Fields<'_>) -> Option<u64> {
@@ -32,6 +42,8 @@ impl Entry for usize {
 }
 
 impl Entry for f64 {
+    ghost SIZE = { 8 };
+
     const NINE: u64 = 0x4022_0000_0000_0000;
 
     fn next_bits(fields: &mut Fields<'_>) -> Option<u64> {
@@ -48,6 +60,8 @@ impl Entry for f64 {
 }
 
 impl Entry for u8 {
+    ghost SIZE = { 1 };
+
     const NINE: u64 = 9;
 
     fn next_bits(fields: &mut Fields<'_>) -> Option<u64> {

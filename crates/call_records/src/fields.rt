@@ -4,19 +4,12 @@ ghost use Rattle.formats.specs.Bytes.{field, number_at, numbers_at, number_size}
 ghost use Rattle.config.specs.Params.{threshold_policy, settings_of_lem};
 ghost use Rattle.call_records.specs.Reads.{Reads, ReadsAll, bytes_size, bytes_read, policy_read, settings_read};
 
-use config::{DDMParams, SizePolicy};
+use config::{DDMParams, Settings, SizePolicy};
 
 // What is left of a record.
 #[derive(Clone, Copy)]
 pub struct Fields<'a> {
     rest: &'a [u8],
-}
-
-// The number of axes, and the settings of the build.
-#[derive(Clone, Copy)]
-pub struct Settings {
-    pub dimensions: usize,
-    pub params: DDMParams,
 }
 
 impl<'a> Fields<'a> {
@@ -105,10 +98,7 @@ impl<'a> Fields<'a> {
     {
         let kind = self.byte()?;
         let threshold = self.word()?;
-        match kind {
-            0 => Some(SizePolicy::Auto),
-            _ => Some(SizePolicy::Fixed(threshold)),
-        }
+        Some(SizePolicy::of(kind as usize, threshold))
     }
 
     pub fn settings(&mut self) -> Option<Settings>

@@ -8,9 +8,9 @@ mod fronts;
 mod trees;
 
 pub use entries::Entry;
-pub use fields::{Fields, Settings};
+pub use fields::Fields;
 pub use fronts::NINE;
-pub use trees::Lists;
+pub use trees::{FLOATS, Lists, WHOLES, nines};
 
 // The most coordinates in the stored calls of the loader and the writer.
 pub const POINTS: usize = 15;

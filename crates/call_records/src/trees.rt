@@ -1,85 +1,87 @@
 // What a record says of a tree: the answer of the call that made it, and its five lists.
+ghost use Rattle.std.specs.Prelude.{◌≡◌, true, ◌+◌, length, drop, IfSome};
+ghost use Rattle.formats.specs.Bytes.{field, number_at, number_size};
+ghost use Rattle.call_records.specs.Reads.{filled_left, numbers_left};
+
 use crate::fields::Fields;
 use crate::fronts::NINE;
-use refusal::Refusal;
+use refusal::{Refusal, Report};
 use tree_answer::DDMTree;
-use tree_lists::{TreeLists, TreeRead};
+use tree_lists::{TreeArrays, TreeLists, TreeRead};
 
-// Room for the five lists of a tree in the stored calls.
-#[derive(Drop)]
-pub struct Lists {
-    level_points: [usize; 64],
-    internals: [usize; 64],
-    domains: [usize; 485],
-    boxes: [f64; 679],
-    borrowed: [usize; 1560],
+// Room for the five lists of a tree in the stored calls: of a build over 16 points with 3 neighbours, and of one over a few points with more.
+pub type Lists = TreeArrays<64, 485, 679, 1560>;
+
+// The working room of a build over 16 points with 3 neighbours, and of one over a single point with 65.
+pub const FLOATS: usize = 512;
+
+pub const WHOLES: usize = 1024;
+
+// Lists that hold 9.
+pub fn nines() -> Lists {
+    Lists::filled(NINE, 9.0)
 }
 
-impl Lists {
-    // All of it holds 9.
-    pub fn nines() -> Lists {
-        Lists {
-            level_points: [NINE; 64],
-            internals: [NINE; 64],
-            domains: [NINE; 485],
-            boxes: [9.0; 679],
-            borrowed: [NINE; 1560],
-        }
-    }
-
-    // Lists of the five lengths that stand next.
-    pub fn lend<'r>(&'r mut self, fields: &mut Fields<'_>) -> Option<TreeLists<'r>> {
-        let Lists {
+impl<'a> Fields<'a> {
+    // Lists of the five lengths that stand next, each a front of the list that is lent. `None` says also that one of those is too short.
+    pub fn lend_lists<'r>(&mut self, lists: TreeLists<'r>) -> Option<TreeLists<'r>>
+        ensures { IfSome result (λ lent. self.new.rest.now ≡ numbers_left 5 self.old.rest.now) }
+    {
+        let TreeLists {
             level_points,
             internals,
             domains,
             boxes,
             borrowed,
-        } = self;
+        } = lists;
         Some(TreeLists {
-            level_points: fields.lend(level_points)?,
-            internals: fields.lend(internals)?,
-            domains: fields.lend(domains)?,
-            boxes: fields.lend(boxes)?,
-            borrowed: fields.lend(borrowed)?,
+            level_points: self.lend(level_points)?,
+            internals: self.lend(internals)?,
+            domains: self.lend(domains)?,
+            boxes: self.lend(boxes)?,
+            borrowed: self.lend(borrowed)?,
         })
     }
 
     // The same where the front of each list stands after its length. It is a function of its own: what lends a list is generic over the entries,
     // and no closure is.
-    pub fn lend_filled<'r>(&'r mut self, fields: &mut Fields<'_>) -> Option<TreeLists<'r>> {
-        let Lists {
+    pub fn lend_filled_lists<'r>(&mut self, lists: TreeLists<'r>) -> Option<TreeLists<'r>>
+        ensures { IfSome result (λ lent. self.new.rest.now
+            ≡ filled_left 8 (filled_left 8 (filled_left 8 (filled_left 8 (filled_left 8 self.old.rest.now))))) }
+    {
+        let TreeLists {
             level_points,
             internals,
             domains,
             boxes,
             borrowed,
-        } = self;
+        } = lists;
         Some(TreeLists {
-            level_points: fields.lend_filled(level_points)?,
-            internals: fields.lend_filled(internals)?,
-            domains: fields.lend_filled(domains)?,
-            boxes: fields.lend_filled(boxes)?,
-            borrowed: fields.lend_filled(borrowed)?,
+            level_points: self.lend_filled(level_points)?,
+            internals: self.lend_filled(internals)?,
+            domains: self.lend_filled(domains)?,
+            boxes: self.lend_filled(boxes)?,
+            borrowed: self.lend_filled(borrowed)?,
         })
     }
-}
 
-impl<'a> Fields<'a> {
     // Whether the number and the place of a refusal stand next, or zeros where there is none.
-    pub fn refusal_agrees(&mut self, refusal: Option<Refusal>) -> Option<bool> {
-        let (number, place) = match refusal {
-            Some(refusal) => (refusal.number(), refusal.place()),
-            None => (0, 0),
-        };
-        Some(self.byte()? as usize == number && self.number()? == place)
+    pub fn report_agrees<T>(&mut self, report: &Report<T>) -> Option<bool>
+        ensures number { IfSome result (λ same. same ≡ true → field 1 0 self.old.rest.now ≡ report.now.number) }
+        ensures place { IfSome result (λ same. same ≡ true → number_at 1 self.old.rest.now ≡ report.now.place) }
+        ensures left { IfSome result (λ same. same ≡ true → self.new.rest.now ≡ drop 5 self.old.rest.now) }
+    {
+        Some(self.byte()? as usize == report.number && self.number()? == report.place)
     }
 
     // Whether the answer of a call stands next. A refused one has no counts.
-    pub fn answer_agrees(&mut self, answer: Result<DDMTree, Refusal>) -> Option<bool> {
-        let tree = answer.unwrap_or(DDMTree::none());
+    pub fn answer_agrees(&mut self, answer: Result<DDMTree, Refusal>) -> Option<bool>
+        ensures { IfSome result (λ same. same ≡ true → self.new.rest.now ≡ drop 41 self.old.rest.now) }
+    {
+        let report = Report::of(answer);
+        let tree = report.value;
         Some(
-            self.refusal_agrees(answer.err())?
+            self.report_agrees(&report)?
                 && self.number()? == tree.levels
                 && self.counts()? == tree.rows
                 && self.counts()? == tree.domains,
@@ -87,7 +89,9 @@ impl<'a> Fields<'a> {
     }
 
     // Whether the five lists stand next, and the record ends there.
-    pub fn lists_agree(&mut self, lists: TreeRead<'_>) -> Option<bool> {
+    pub fn lists_agree(&mut self, lists: TreeRead<'_>) -> Option<bool>
+        ensures { IfSome result (λ same. same ≡ true → length self.new.rest.now ≡ 0) }
+    {
         Some(
             self.agrees(lists.level_points)?
                 && self.agrees(lists.internals)?

@@ -16,7 +16,7 @@ ghost use Rattle.cut_nodes.specs.Written.{domain_of, Written, WrittenTwo};
 
 use boxes::Extents;
 use cut::Plane;
-use node::Node;
+use node::{Entry, Node};
 use points::Points;
 use tree_lists::{Records, Room};
 
@@ -45,8 +45,12 @@ fn put_leaf(
         room.old.wholes.now room.new.wholes.now room.old.floats.now room.new.floats.now records.old.cuts.now records.new.cuts.now records.old.planes.now records.new.planes.now }
 {
     let Next { place, leaves } = from;
-    let entry = base + node::ENTRY * leaves;
-    room.wholes[entry..entry + node::ENTRY].copy_from_slice(&[depth, count, place]);
+    let entry = Entry {
+        depth,
+        count,
+        place,
+    };
+    node::put_entry(room.wholes, base + node::ENTRY * leaves, entry);
     let at = boxes::bounds_before(whole.dimensions, leaves);
     let width = boxes::box_width(whole.dimensions);
     boxes::write_box(whole, &mut room.floats[at..at + width]);

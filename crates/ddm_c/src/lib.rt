@@ -16,9 +16,7 @@ ghost use Rattle.slots.specs.Told.{Told, QuotasTold, SampleTold, BuildTold, Dept
 
 use points::Points;
 use quotas::Seated;
-use refusal::Refusal;
-use sampling::Sampled;
-use slots::Report;
+use refusal::{Refusal, Report};
 use table::{Head, Table, Wells};
 use tree_lists::{Records, Room, TreeLists, TreeRead};
 
@@ -38,9 +36,7 @@ pub extern "C" fn ddm_square_root(x: f64, res: &mut [f64]) -> usize
     if res.is_empty() {
         return Refusal::ShortList.number();
     }
-    let told = Report::of(root::square_root(x), 0.0);
-    res[0] = told.value;
-    told.number
+    slots::put_value(res, root::square_root(x))
 }
 
 // The size of the next level, of a active rows at the threshold c with r reductions left. Refusals 4, 8, 14, 9.
@@ -51,9 +47,7 @@ pub extern "C" fn ddm_level_size(a: usize, c: u32, r: u32, res: &mut [usize]) ->
     if res.is_empty() {
         return Refusal::ShortList.number();
     }
-    let told = Report::of(level_sizes::get_num_level_coarse_points(a, c, r), 0);
-    res[0] = told.value;
-    told.number
+    slots::put_value(res, level_sizes::get_num_level_coarse_points(a, c, r))
 }
 
 // The quotas of leaves of these sizes for `wanted` seats. The slot: entries written, seats. Refusals 8, 11.
@@ -68,18 +62,13 @@ pub extern "C" fn ddm_quotas(
     ensures { QuotasTold sizes.now wanted quotas.old quotas.new wholes.old wholes.new
         res.old res.new result }
 {
-    if res.len() < 2 {
+    if res.len() < slots::PAIR {
         return Refusal::ShortList.number();
     }
     let answer = quotas::get_domain_coarse_quotas(sizes, wanted, quotas, wholes);
-    let told = Report::of(
-        answer,
-        Seated {
-            leaves: 0,
-            seats: 0,
-        },
-    );
-    stretches::put_pair(res, 0, told.value.leaves, told.value.seats);
+    let told = Report::of(answer);
+    let Seated { leaves, seats } = told.value;
+    stretches::put_values(res, 0, &[leaves, seats]);
     told.number
 }
 
@@ -103,7 +92,7 @@ pub extern "C" fn ddm_sample(
     if cover.is_empty() {
         return Refusal::ShortList.number();
     }
-    if res.len() < 2 {
+    if res.len() < slots::PAIR {
         return Refusal::ShortList.number();
     }
     let points = Points {
@@ -112,15 +101,9 @@ pub extern "C" fn ddm_sample(
     };
     let mut room = Room { floats, wholes };
     let answer = sampling::farthest_point_sampling(points, wanted, seed, out, &mut room);
-    let told = Report::of(
-        answer,
-        Sampled {
-            rows: 0,
-            cover: 0.0,
-        },
-    );
+    let told = Report::of(answer);
     cover[0] = told.value.cover;
-    stretches::put_pair(res, 0, told.place, told.value.rows);
+    stretches::put_values(res, 0, &[told.place, told.value.rows]);
     told.number
 }
 
@@ -129,10 +112,7 @@ pub extern "C" fn ddm_sample(
 pub extern "C" fn ddm_row_test(start: usize, count: usize, list_len: usize) -> usize
     ensures { result ≡ number_of (stretch_verdict start count list_len) }
 {
-    match leaf_rows::stretch_test(list_len, start, count) {
-        Ok(()) => 0,
-        Err(refusal) => refusal.number(),
-    }
+    Report::of(leaf_rows::stretch_test(list_len, start, count)).number
 }
 
 // The lengths of the lists that a build over n points is to be lent. The slot: level points, internals, domain rows, boxes, borrowed
@@ -146,7 +126,7 @@ pub extern "C" fn ddm_build_sizes(
 ) -> usize
     ensures { Told 7 sizes_slot res.old res.new result (sizes_answer dimensions n neighbours) }
 {
-    if res.len() < 7 {
+    if res.len() < slots::SIZES {
         return Refusal::ShortList.number();
     }
     slots::put_sizes(res, build_sizes::build_sizes(n, dimensions, neighbours))
@@ -176,7 +156,7 @@ pub extern "C" fn ddm_build(
         (lists_of level_points.new internals.new domains.new boxes.new borrowed.new)
         floats.old floats.new wholes.old wholes.new res.old res.new result }
 {
-    if res.len() < 10 {
+    if res.len() < slots::TREE {
         return Refusal::ShortList.number();
     }
     let params = slots::params_of(leaf, neighbours, factor, policy, threshold);
@@ -224,7 +204,7 @@ pub extern "C" fn ddm_build_depth_first(
         floats.old floats.new wholes.old wholes.new
         (records_of cuts.old planes.old) (records_of cuts.new planes.new) res.old res.new result }
 {
-    if res.len() < 10 {
+    if res.len() < slots::TREE {
         return Refusal::ShortList.number();
     }
     let params = slots::params_of(leaf, neighbours, factor, policy, threshold);
@@ -275,12 +255,11 @@ pub extern "C" fn ddm_store(
         (lists_of level_points.now internals.now domains.now boxes.now borrowed.now)
         file.old file.new res.old res.new result }
 {
-    if res.len() < 2 {
+    if res.len() < slots::PAIR {
         return Refusal::ShortList.number();
     }
-    if tree.len() < 10 {
-        stretches::put_pair(res, 0, 0, 0);
-        return Refusal::ShortList.number();
+    if tree.len() < slots::TREE {
+        return slots::put_placed(res, Err(Refusal::ShortList));
     }
     let params = slots::params_of(leaf, neighbours, factor, policy, threshold);
     let counts = slots::counts_from(tree);
@@ -296,9 +275,7 @@ pub extern "C" fn ddm_store(
         borrowed,
     };
     let stored = store::store_tree(points, params, counts, lists, file);
-    let told = Report::of(stored, 0);
-    stretches::put_pair(res, 0, told.place, told.value);
-    told.number
+    slots::put_placed(res, stored)
 }
 
 // Hands out the tree that stands in the bytes of a file, for these points and settings. The slot is that of a build. Refusals 1 to 11,
@@ -325,7 +302,7 @@ pub extern "C" fn ddm_load(
         (lists_of level_points.new internals.new domains.new boxes.new borrowed.new)
         res.old res.new result }
 {
-    if res.len() < 10 {
+    if res.len() < slots::TREE {
         return Refusal::ShortList.number();
     }
     let params = slots::params_of(leaf, neighbours, factor, policy, threshold);
@@ -358,9 +335,10 @@ pub extern "C" fn ddm_add(
     ensures { AddTold dimensions head.old head.new flags.old flags.new
         coordinates.old coordinates.new point.now res.old res.new result }
 {
-    if res.len() < 2 {
+    if res.len() < slots::PAIR {
         return Refusal::ShortList.number();
     }
+    // C's head is two numbers: taken in here, and given back below
     let mut counters = Head {
         slots: head[0],
         live: head[1],
@@ -373,9 +351,7 @@ pub extern "C" fn ddm_add(
     let answer = table::add(&mut counters, &mut wells, point);
     head[0] = counters.slots;
     head[1] = counters.live;
-    let told = Report::of(answer, 0);
-    stretches::put_pair(res, 0, told.place, told.value);
-    told.number
+    slots::put_placed(res, answer)
 }
 
 // Retires a slot of the table. No refusal names a place, and nothing is answered, so there is no slot. Refusals 1, 11, 27, 22.
@@ -389,6 +365,7 @@ pub extern "C" fn ddm_retire(
 ) -> usize
     ensures { RetireTold dimensions head.old head.new flags.old flags.new coordinates.now slot result }
 {
+    // C's head is two numbers: taken in here, and given back below
     let mut counters = Head {
         slots: head[0],
         live: head[1],
@@ -400,7 +377,7 @@ pub extern "C" fn ddm_retire(
     let answer = table::retire(&mut counters, flags, points, slot);
     head[0] = counters.slots;
     head[1] = counters.live;
-    Report::of(answer, ()).number
+    Report::of(answer).number
 }
 
 // Builds the tree over the live slots of a table: rows in every list are slots, and n is the live count. The slot is that of a build.
@@ -431,7 +408,7 @@ pub extern "C" fn ddm_build_slots(
         (lists_of level_points.new internals.new domains.new boxes.new borrowed.new)
         floats.old floats.new wholes.old wholes.new res.old res.new result }
 {
-    if res.len() < 10 {
+    if res.len() < slots::TREE {
         return Refusal::ShortList.number();
     }
     let params = slots::params_of(leaf, neighbours, factor, policy, threshold);

@@ -39,7 +39,7 @@ fn reply_to(input: Input<'_>, file: &mut [u8]) -> Result<usize, Refusal>
     keep_bytes(input.read(), file)
 }
 
-// Writes the file for what was read.
+// Writes the file for what was read: `write_all`, which asks here for the file's bytes, as the next one asks for the refusal's text.
 fn write_file<W: Write>(out: &mut W, input: Input<'_>, bytes: &[u8]) -> io::Result<()>
     requires { FileFor input.front input.bytes.now bytes.now }
     ensures { OnOk result (Appends (W.contents out.old) (W.contents out.new) bytes.now) }

@@ -40,7 +40,8 @@ fn read_argument<R: Env + Files + Alloc>(
     read_opened(program_input::open_argument(rt, i), input).map_err(|error| Failure { what, error })
 }
 
-// What is printed for the bytes of a stream and of a file, at the front of `text`.
+// What is printed for the bytes of a stream and of a file, at the front of `text`. ddm_tree has one that calls `printout`: they share the
+// `unwrap` alone.
 fn print_bytes(stream: &[u8], file: &[u8], text: &mut [u8]) -> usize
     requires { most_bytes ≤ length text.old }
     ensures fits { result ≤ length text.new }
@@ -61,7 +62,8 @@ fn reply_to(job: Input<'_>, tree: Input<'_>, text: &mut [u8]) -> usize
     print_bytes(job.read(), tree.read(), text)
 }
 
-// Writes what is printed for the two inputs.
+// Writes what is printed for the two inputs: `write_all`, which asks here for this program's text. Without that it would be `write_all` itself,
+// with its failure named.
 fn write_reply<W: Write>(
     out: &mut W,
     job: Input<'_>,

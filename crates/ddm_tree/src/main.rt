@@ -14,7 +14,7 @@ use std::io;
 use std::io::{Read, Write};
 use std::process::ExitCode;
 
-// The printout of the bytes, at the front of `text`.
+// The printout of the bytes, at the front of `text`. ddm_reload has one that calls `reload`: they share the `unwrap` alone.
 fn print_bytes(bytes: &[u8], text: &mut [u8]) -> usize
     requires { most_bytes ≤ length text.old }
     ensures fits { result ≤ length text.new }
@@ -33,7 +33,7 @@ fn reply_to(input: Input<'_>, text: &mut [u8]) -> usize
     print_bytes(input.read(), text)
 }
 
-// Writes the printout for what was read.
+// Writes the printout for what was read: `write_all`, which asks here for this program's text. Without that it would be `write_all` itself.
 fn write_reply<W: Write>(out: &mut W, input: Input<'_>, text: &[u8]) -> io::Result<()>
     requires { PrintoutFor input.front input.bytes.now text.now }
     ensures { OnOk result (Appends (W.contents out.old) (W.contents out.new) text.now) }

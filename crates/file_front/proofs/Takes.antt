@@ -1,5 +1,5 @@
 -- What the build takes, group by group: the settings, the count of the points, and their coordinates. Assumes nothing.
--- Holds: ok-taken, when_ok, settings-refused, head_is, head-axes, buildable-is
+-- Holds: ok-taken, head_is, head-axes, buildable-is
 use Rattle.std.specs.Prelude.{Result, Ok, Err, is_ok, OnOk}
 use mathlib.Core.Path.{◌≡◌, refl, sym, ap, ap₂, ◌∙◌}
 use mathlib.Core.Bool.{Bool, true, false, not, ◌&&◌, cond}
@@ -46,26 +46,11 @@ unfolding taken
 ok-taken (Ok x) v e = ap taken e
 ok-taken (Err x) v e = ap taken e
 
--- what is promised of an accepted call
-pub when_ok : {A : Type 0} {P : Type 0} (r : Result A Refusal) → OnOk r P → is_ok r ≡ true → P
-when_ok (Ok x) p h = p
-when_ok (Err x) p h = clash h refl
-
 -- ---- settings and count
-module _ {A : Type 0} (s : Settings) (n : ℕ) (r : Result A Refusal) (e : verdict_of r ≡ verdict (settings_tests s)) where
-  pub settings-refused : is_ok r ≡ false → false ≡ head_taken s n
+module _ {A : Type 0} (s : Settings) (n : ℕ) where
+  pub head_is : (r : Result A Refusal) → verdict_of r ≡ verdict (settings_tests s ++ points_tests s n false) → is_ok r ≡ head_taken s n
   unfolding head_taken
-  settings-refused h =
-      let out : taken (verdict (settings_tests s)) ≡ false = sym (ok-taken r (verdict (settings_tests s)) e) ∙ h in
-      sym (ap (λ (b : Bool). b && taken (verdict (points_tests s n false))) out)
-
-  -- the points' tests see n points of d coordinates
-  pub head_is : {B : Type 0} → is_ok r ≡ true → (j : Result B Refusal) (d : ℕ) → 1 ≤ d → verdict_of j ≡ verdict (points_tests s (n * d / d) (not (eqb (n * d % d) 0))) → is_ok j ≡ head_taken s n
-  unfolding head_taken
-  head_is h j d f q =
-      let fine : taken (verdict (settings_tests s)) ≡ true = sym (ok-taken r (verdict (settings_tests s)) e) ∙ h in
-      let known = ap₂ (λ (m : ℕ) (b : Bool). verdict (points_tests s m b)) (mul-div_cancel n f) (ap not (eq-eqb (n * d % d) 0 (mul-mod_left n d))) in
-      ok-taken j (verdict (points_tests s n false)) (q ∙ known) ∙ sym (ap (λ (b : Bool). b && taken (verdict (points_tests s n false))) fine)
+  head_is r e = ok-taken r (verdict (settings_tests s ++ points_tests s n false)) e ∙ taken-append (settings_tests s) (points_tests s n false)
 
 axes-taken : (s : Settings) → verdict (settings_tests s) ≡ accepted → (1 ≤ s.dimension) × (s.dimension ≤ 3)
 axes-taken s e = right-dimension s.dimension (passes _ _ e).0

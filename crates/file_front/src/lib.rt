@@ -65,8 +65,7 @@ fn head_passes(settings: Settings, n: usize) -> bool
     requires { n < 2 ^ 32 }
     ensures { result ≡ head_taken (settings_are settings) n }
 {
-    build_checks::settings_fault(settings).is_ok()
-        && build_checks::points_fault(n * settings.dimensions, settings).is_ok()
+    build_checks::rows_fault(n, settings).is_ok()
 }
 
 // Tests the head and the points of a file: each record stands whole at its place, and the build takes what stands in them.

@@ -12,7 +12,8 @@ ghost use Rattle.tree_tests.specs.Whole.{levels_whole};
 ghost use Rattle.marks.specs.Bits.{Marked};
 ghost use Rattle.file_levels.specs.Levels.{IsHead, LevelPassedIs, TreePassedIs};
 
-use bytes_in::{COUNTS, FIRST_COUNT, SECOND_COUNT, marks};
+use bytes_in::{COUNTS, marks};
+use file_reader::FileReader;
 use file_rows::FileRows;
 use leaf_depths::LeafLevel;
 use row_sets::{LevelRows, WORDS};
@@ -48,11 +49,7 @@ pub fn level_at(bytes: &[u8], at: usize) -> Option<LevelHead>
     requires { at ≤ length bytes.now }
     ensures { IsHead (drop at bytes.now) at result }
 {
-    if !bytes_in::record_at(bytes, at, COUNTS, marks::LEVEL) {
-        return None;
-    }
-    let rows = bytes_in::number_at(bytes, at + FIRST_COUNT);
-    let domains = bytes_in::number_at(bytes, at + SECOND_COUNT);
+    let (rows, domains) = FileReader { bytes, at }.counts(marks::LEVEL)?;
     let size = COUNTS + bytes_in::NUMBER * rows;
     if bytes.len() - at < size {
         return None;
@@ -69,7 +66,8 @@ pub fn level_at(bytes: &[u8], at: usize) -> Option<LevelHead>
 // definition speaks of the bytes from a place on.
 
 // Whether the level at a place stands there whole, has at least `least` and fewer than `below` rows, and passes against the listed rows of
-// the level above. Where it does, its rows are the listed ones.
+// the level above. Where it does, its rows are the listed ones. What list_levels does alike are the calls of `narrow` and of `check_domains`: there
+// the counts are given, and stand in no record.
 pub fn check_level(
     bytes: &[u8],
     at: usize,

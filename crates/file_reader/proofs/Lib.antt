@@ -1,3 +1,3 @@
--- Laws of a record that is fetched, one for each way out, and of its floats and its end.
+-- Laws of a record that is fetched, of its floats and of its end.
 pub mod Fetches
 pub mod LastFloats

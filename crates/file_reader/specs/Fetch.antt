@@ -1,7 +1,7 @@
 -- The domain record at the front of bytes, of which the first stands at a place of a file. Definitions only.
-use Rattle.std.specs.Prelude.{◌≡◌, ℕ, ◌+◌, Bool, cond, List, Option, is_some, IfSome}
+use Rattle.std.specs.Prelude.{◌≡◌, ℕ, ◌+◌, ◌^◌, ◌<◌, Bool, cond, List, Option, is_some, IfSome}
 use Rattle.definition.specs.Packed.{row_floats_lem}
-use Rattle.formats.specs.Bytes.{number_size, whole}
+use Rattle.formats.specs.Bytes.{number_size, Mark, whole}
 use Rattle.stored.specs.File.{domain_mark}
 use Rattle.stored.specs.Stored.{counts_size, first_count_lem, second_count, borrowed_place, bounds_place}
 use Rattle.file_reader.specs.declared.Fetched.{Fetched}
@@ -10,7 +10,12 @@ use Rattle.file_reader.specs.declared.Fetched.{Fetched}
 abbrev pub record_floats_lem : ℕ → Bool → ℕ
 record_floats_lem d coarse = cond coarse 1 (row_floats_lem d)
 
--- its counts, and the places of its parts and of what comes next
+-- the two counts behind a mark at the front of bytes, where they stand there whole
+pub record CountsRead (m : Mark) (bs : List ℕ) (r : Option (ℕ × ℕ)) : Type 0 where
+  pub stands : is_some r ≡ whole m counts_size bs
+  pub counts : IfSome r (λ c. (c.0 ≡ first_count_lem bs) × (c.1 ≡ second_count bs) × (c.0 < 2 ^ 32) × (c.1 < 2 ^ 32))
+
+-- the counts of a domain's record, and the places of its parts and of what comes next
 pub record Parts (bs : List ℕ) (at tail : ℕ) (r : Fetched) : Type 0 where
   pub own : r.own ≡ first_count_lem bs
   pub borrowed : r.borrowed ≡ second_count bs

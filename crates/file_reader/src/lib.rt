@@ -3,12 +3,10 @@
 #![tactic(auto)]
 
 ghost use Rattle.std.specs.Prelude.{◌≡◌, ◌≤◌, drop};
-ghost use Rattle.formats.specs.Bytes.{whole};
-ghost use Rattle.stored.specs.File.{domain_mark};
-ghost use Rattle.stored.specs.Stored.{counts_size};
-ghost use Rattle.file_reader.specs.Fetch.{record_floats_lem, IsFetched};
+ghost use Rattle.bytes_in.specs.Marks.{mark_read};
+ghost use Rattle.file_reader.specs.Fetch.{record_floats_lem, CountsRead, IsFetched};
 
-use bytes_in::{COUNTS, FIRST_COUNT, SECOND_COUNT, marks};
+use bytes_in::{COUNTS, FIRST_COUNT, MARK, SECOND_COUNT, marks};
 
 // A position in the bytes of a stored tree.
 #[derive(Clone, Copy)]
@@ -42,24 +40,26 @@ pub fn record_floats(dimensions: usize, coarse: bool) -> usize
     }
 }
 
-// Whether a domain's mark and its two counts stand at a position.
-fn counts_stand(bytes: &[u8], at: usize) -> bool
-    ensures { result ≡ whole domain_mark counts_size (drop at bytes.now) }
-{
-    at <= bytes.len() && bytes_in::record_at(bytes, at, COUNTS, marks::DOMAIN)
-}
-
 impl FileReader<'_> {
+    // The two counts that stand behind this mark at the reader's position: a level's rows and domains, or a domain's own and borrowed rows.
+    pub fn counts(self, mark: [u8; MARK]) -> Option<(usize, usize)>
+        ensures { CountsRead (mark_read mark) (drop self.entry.at self.entry.bytes.now) result }
+    {
+        let FileReader { bytes, at } = self;
+        if bytes.len() < at || !bytes_in::record_at(bytes, at, COUNTS, mark) {
+            return None;
+        }
+        let first = bytes_in::number_at(bytes, at + FIRST_COUNT);
+        let second = bytes_in::number_at(bytes, at + SECOND_COUNT);
+        Some((first, second))
+    }
+
     // The domain record at the reader's position, where one stands there whole; its floats have `tail` bytes, and its depth ends it.
     pub fn domain(self, tail: usize) -> Option<Fetched>
         ensures { IsFetched (drop self.entry.at self.entry.bytes.now) self.entry.at tail result }
     {
         let FileReader { bytes, at } = self;
-        if !counts_stand(bytes, at) {
-            return None;
-        }
-        let own = bytes_in::number_at(bytes, at + FIRST_COUNT);
-        let borrowed = bytes_in::number_at(bytes, at + SECOND_COUNT);
+        let (own, borrowed) = self.counts(marks::DOMAIN)?;
         let place = COUNTS + bytes_in::NUMBER * (own + borrowed);
         let left = bytes.len() - at;
         if left < place + bytes_in::NUMBER || left - place - bytes_in::NUMBER < tail {

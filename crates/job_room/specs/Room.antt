@@ -4,7 +4,6 @@ use Rattle.definition.specs.Number.{plus_zero}
 use Rattle.definition.specs.Packed.{most_rows, row_numbers, row_floats_lem}
 use Rattle.definition.specs.Outcome.{TreeLists}
 use Rattle.formats.specs.Stream.{stream_points, stream_neighbours}
-use Rattle.job_room.specs.declared.JobLists.{JobLists}
 
 abbrev pub lent_lists : TreeLists
 lent_lists =
@@ -21,8 +20,3 @@ lent_floats = replicate (32 * stream_points) plus_zero
 
 abbrev pub lent_wholes : List ℕ
 lent_wholes = replicate (32 * stream_points + 8 * stream_points * (stream_neighbours + 1)) 0
-
--- the lists that are held, as the definition has them
-abbrev pub lists_held : JobLists → TreeLists
-lists_held l =
-    record { level_points = l.level_points; internals = l.internals; domains = l.domains; boxes = l.boxes; borrowed = l.borrowed }

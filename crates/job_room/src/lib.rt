@@ -2,16 +2,17 @@
 #![tactic(auto)]
 
 ghost use Rattle.std.specs.Prelude.{◌≡◌};
-ghost use Rattle.tree_lists.specs.Lent.{lists_in};
-ghost use Rattle.job_room.specs.Room.{lent_lists, lent_floats, lent_wholes, lists_held};
+ghost use Rattle.tree_lists.specs.Lent.{arrays_held};
+ghost use Rattle.job_room.specs.Room.{lent_lists, lent_floats, lent_wholes};
 
-use tree_lists::{Room, TreeLists};
+use tree_lists::{Room, TreeArrays};
 
 // The bytes of a stream: its first 878 decide what is printed, kept and loaded (`front-printed` of stream_laws, `front_kept` and
 // `front-reloaded` of reload_laws), so a longer one is read no further.
 pub const STREAM: usize = 1024;
 
-// The largest job: so many points on three axes, each of which takes so many rows, and its domain rows.
+// The largest job: so many points on three axes, each of which takes so many rows, and its domain rows. `rows::most_domains` and
+// `rows::most_borrowed` say the same of any number of points, but no constant calls a function.
 const POINTS: usize = stream_reader::MOST_POINTS;
 
 const TAKEN: usize = stream_reader::MOST_NEIGHBOURS as usize + 1;
@@ -39,47 +40,13 @@ const WHOLES: usize = 32 * POINTS + 8 * POINTS * TAKEN;
 pub const TEXT: usize = 139264;
 
 // The lists of its tree.
-#[derive(Drop)]
-pub struct JobLists {
-    level_points: [usize; LEVEL_POINTS],
-    internals: [usize; LEVEL_POINTS],
-    domains: [usize; DOMAINS],
-    boxes: [f64; BOXES],
-    borrowed: [usize; BORROWED],
-}
+pub type JobLists = TreeArrays<LEVEL_POINTS, DOMAINS, BOXES, BORROWED>;
 
-impl JobLists {
-    pub fn zeros() -> JobLists
-        ensures { lists_held result ≡ lent_lists }
-    {
-        JobLists {
-            level_points: [0; LEVEL_POINTS],
-            internals: [0; LEVEL_POINTS],
-            domains: [0; DOMAINS],
-            boxes: [0.0; BOXES],
-            borrowed: [0; BORROWED],
-        }
-    }
-
-    // Lends them as one value.
-    pub fn lend(&mut self) -> TreeLists<'_>
-        ensures { lists_in result ≡ lists_held self.old }
-    {
-        let JobLists {
-            level_points,
-            internals,
-            domains,
-            boxes,
-            borrowed,
-        } = self;
-        TreeLists {
-            level_points,
-            internals,
-            domains,
-            boxes,
-            borrowed,
-        }
-    }
+// They hold zeros.
+pub fn zero_lists() -> JobLists
+    ensures { arrays_held result ≡ lent_lists }
+{
+    JobLists::filled(0, 0.0)
 }
 
 // The working room of its build.

@@ -2,33 +2,27 @@
 #![tactic(auto)]
 
 ghost use Rattle.std.specs.Prelude.{◌≡◌, ◌≤◌, length};
-ghost use Rattle.formats.specs.Stream.{job};
 ghost use Rattle.stored.specs.Programs.{kept_job, kept};
 ghost use Rattle.stream_laws.specs.Sizes.{JobLimits};
 ghost use Rattle.reload_laws.specs.Sizes.{most_file_bytes};
-ghost use Rattle.settings_record.specs.Reading.{settings_are};
+ghost use Rattle.stream_reader.specs.Reading.{job_settings, job_is};
 ghost use Rattle.keep.specs.Keeping.{keep_answer, keep_output, keep_report};
 
-use job_room::{JobLists, JobRoom};
-use points::Points;
+use job_room::JobRoom;
 use refusal::Refusal;
-use settings_record::Settings;
+use stream_reader::Job;
 
 // The room that suffices for every file (`kept-fits` of reload_laws).
 pub const MOST_FILE_BYTES: usize = 32768;
 
 // The file of a job's tree, or the build's refusal. The lists suffice for the largest job. The answer is how many bytes the file has.
-fn keep_job(settings: Settings, points: &[f64], file: &mut [u8]) -> Result<usize, Refusal>
-    requires { JobLimits (settings_are settings) points.now × (most_file_bytes ≤ length file.old) }
-    ensures answer { keep_report result ≡ keep_answer (kept_job (job (settings_are settings) points.now)) file.old }
-    ensures output { file.new ≡ keep_output (kept_job (job (settings_are settings) points.now)) file.old }
+fn keep_job(job: Job<'_>, file: &mut [u8]) -> Result<usize, Refusal>
+    requires { JobLimits (job_settings job) job.points.coordinates.now × (most_file_bytes ≤ length file.old) }
+    ensures answer { keep_report result ≡ keep_answer (kept_job (job_is job.entry)) file.old }
+    ensures output { file.new ≡ keep_output (kept_job (job_is job.entry)) file.old }
 {
-    let Settings { dimensions, params } = settings;
-    let points = Points {
-        coordinates: points,
-        dimensions,
-    };
-    let mut lists = JobLists::zeros();
+    let Job { points, params } = job;
+    let mut lists = job_room::zero_lists();
     let mut lists = lists.lend();
     let mut room = JobRoom::zeros();
     let mut room = room.lend();
@@ -45,8 +39,7 @@ pub fn keep(stream: &[u8], file: &mut [u8]) -> Result<usize, Refusal>
     if file.len() < MOST_FILE_BYTES {
         return Err(Refusal::ShortList);
     }
-    let mut points = [0.0; job_room::COORDINATES];
-    let job = stream_reader::read_job(stream, &mut points)?;
-    let k = job.points * job.settings.dimensions;
-    keep_job(job.settings, &points[..k], file)
+    let mut coordinates = [0.0; job_room::COORDINATES];
+    let job = stream_reader::read_job(stream, &mut coordinates)?;
+    keep_job(job, file)
 }

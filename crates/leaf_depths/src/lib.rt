@@ -29,7 +29,8 @@ pub struct LeafLevel {
 }
 
 impl LeafLevel {
-    // Whether the depth of a leaf passes, where the leaf before it is at `least`, and 0 stands for none. The coarse domain is at depth 0.
+    // Whether the depth of a leaf passes, where the leaf before it is at `least`, which is 0 before the first: no depth is lower. The coarse domain
+    // is at depth 0.
     #[tactic(auto, using(std::proofs::lemmas::Bool::Decides::nat_tests), unfolding(tree_tests::specs::InTurn::depth_passes_lem))]
     pub fn depth_passes(self, least: usize, own: usize, depth: usize) -> bool
         ensures { result ≡ depth_passes_lem self.coarse self.rows least own depth }

@@ -10,7 +10,8 @@ ghost use Rattle.leaf_tests.specs.Passed.{LeafPassed};
 use leaf_depths::LeafLevel;
 use row_sets::{LevelRows, Rows};
 
-// How far the leaves of a level have passed: how many of its rows are left for those to come, and the depth of the last one, or 0.
+// How far the leaves of a level have passed: how many of its rows are left for those to come, and the least depth that the next one may have, that
+// of the last one. It is 0 before the first: no depth is lower.
 #[derive(Clone, Copy)]
 pub struct LeavesPassed {
     pub remaining: usize,

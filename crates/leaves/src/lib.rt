@@ -14,6 +14,7 @@ ghost use Rattle.rows.specs.Rows.{Inside, GoodRows};
 ghost use Rattle.leaves.specs.Room.{touched_wholes, touched_floats};
 ghost use Rattle.tree_lists.specs.Lent.{SameLeafLists, SameRoom};
 
+use cut::Plane;
 use points::Points;
 use queue::Stretch;
 use tree_lists::{LeafLists, Room, Start};
@@ -93,29 +94,23 @@ fn cut_leaves(
         let end = start + count;
         let at = stride * head;
         let whole = boxes::read_box(&floats[at..at + stride], points.dimensions);
-        let plane = cut::cut_stretch(points, &mut rows[start..end], &mut wholes[..count]);
+        let Plane { axis, value } = cut::cut_stretch(
+            points,
+            &mut rows[start..end],
+            &mut wholes[..count],
+        );
         head += 1;
         if leaf <= count / 2 {
             queue::put_halves(wholes, base + queue::WAITING * tail, stretch);
             let at = stride * tail;
-            boxes::write_halves(
-                whole,
-                plane.axis,
-                plane.value,
-                &mut floats[at..at + 2 * stride],
-            );
+            boxes::write_halves(whole, axis, value, &mut floats[at..at + 2 * stride]);
             tail += 2;
         } else {
             stretches::put_values(wholes, n + done, &rows[start..end]);
             let start = from + done;
             queue::put_leaves(domains, k, Stretch { start, ..stretch });
             let at = stride * k;
-            boxes::write_halves(
-                whole,
-                plane.axis,
-                plane.value,
-                &mut boxes[at..at + 2 * stride],
-            );
+            boxes::write_halves(whole, axis, value, &mut boxes[at..at + 2 * stride]);
             done += count;
             k += 2;
         }

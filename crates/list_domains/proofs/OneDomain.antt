@@ -103,7 +103,7 @@ module _ {l : Packed} {most j a b k : ℕ} (ready : Ready l most j 1 a b k) {row
       box-long =
           let w = box_width_lem l.dimension in
           let long : row_floats_lem l.dimension * j + w ≤ length l.boxes =
-              omega (arith, ready.boxes, mul-add (row_floats_lem l.dimension) j 1, mul-one (row_floats_lem l.dimension)) in
+          omega (arith, ready.boxes, mul-add (row_floats_lem l.dimension) j 1, mul-one (row_floats_lem l.dimension)) in
           ap (λ (f : Leaf). length f.box) read ∙ length_part l.boxes (row_floats_lem l.dimension * j) w long
 
       module _ (coarse : Bool) (rows least : ℕ) (left₀ listed₀ : List ℕ) where
@@ -143,8 +143,8 @@ module _ {l : Packed} {most j a b k : ℕ} (ready : Ready l most j 1 a b k) {row
                 (Some (record { own_at = a + row.internal_count; borrowed_at = b + row.borrowed_count; leaves = leaves }))
             leaf-tells leaves e =
                 let told : (p q : ℕ → Bool) → Marked left₀ p → Marked listed₀ q
-                    → LeafPassed coarse rows leaf.own leaf.borrowed leaf.depth (record { remaining = k; least = least }) p q left listed (Some leaves) =
-                    λ p q m n. rw e at (said p q m n) in
+                → LeafPassed coarse rows leaf.own leaf.borrowed leaf.depth (record { remaining = k; least = least }) p q left listed (Some leaves) =
+                λ p q m n. rw e at (said p q m n) in
                 let any = told (held left₀) (held listed₀) (bits-marked left₀) (bits-marked listed₀) in
                 let own-read : leaf.own ≡ (read_leaf l j).own = ap (λ (f : Leaf). f.own) read in
                 record {

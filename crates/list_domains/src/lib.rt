@@ -59,7 +59,8 @@ fn floats_fit(leaf: Leaf<'_>, coarse: bool) -> bool
     bounds_fit(leaf.bounds, coarse) && !leaf.cover.is_nan()
 }
 
-// Whether a domain row's stretches start where those before them end, and end inside what is left.
+// Whether a domain row's stretches start where those before them end, and end inside what is left: only then do they lie inside their lists, and
+// the leaf can be lent.
 #[tactic(auto, using(std::proofs::lemmas::Bool::Decides::nat_tests), unfolding(crate::specs::InLists::stretches_fit_lem))]
 fn stretches_fit(row: DomainRow, most: usize, so_far: SoFar) -> bool
     requires { so_far.borrowed_at ≤ most }
@@ -109,7 +110,7 @@ pub fn check_domain(
 }
 
 // Whether the next `count` domain rows, behind those of the levels before, pass, and have just the rows that their level lists as their own
-// rows; where they do, where their borrowed rows end.
+// rows; where they do, where their borrowed rows end. The loop of file_domains carries other values, and says why there are two.
 pub fn check_domains(
     tree: Packed<'_>,
     before: ListsPassed,

@@ -42,9 +42,7 @@ fn load_file(
     ensures loaded { Loaded (settings_of_lem points.entry.dimensions params) points.entry.coordinates.now bytes.now
         (lists_in lists.old) (lists_in lists.new) (tree_answer_lem result) }
 {
-    let Some(place) = check_file(bytes) else {
-        return Err(Refusal::NoSoundTree);
-    };
+    let place = check_file(bytes).ok_or(Refusal::NoSoundTree)?;
     let dimensions = points.dimensions;
     if !settings_record::same_settings(Settings { dimensions, params }, bytes) {
         return Err(Refusal::OtherSettings);

@@ -1,15 +1,16 @@
 -- A whole domain record that is fetched at a place of a file: what stands in it, and where. Assumes nothing.
--- Holds: Found, stands, found, all_read, cover-read, own-fits, borrowed-fits, domain-written
+-- Holds: Found, stands, found, length-floats-read, all_read, cover-read, row-back, own-fits, borrowed-fits, domain-written
 use Rattle.std.specs.Prelude.{Option, Some, is_some}
 use mathlib.Core.Path.{◌≡◌, refl, sym, ap, ap₂, ◌∙◌}
 use mathlib.Core.Bool.{Bool, true, false, cond}
 use mathlib.Core.List.{List, [], ◌∷◌, ◌++◌}
-use Prim.Native.Nat.{ℕ, ◌+◌, ◌*◌, ◌≤◌}
+use Prim.Native.Nat.{ℕ, ◌+◌, ◌-◌, ◌*◌, ◌≤◌}
 use native.Mathlib.Omega.{arith}
-use lib.ListN.{length, drop, replicate, length-replicate}
+use lib.ListN.{length, drop, replicate, length-replicate, length-append}
+use borrow.Rule.Slice.PartMut.{put_mid}
 use lib.Ieee.{Float}
 use Rattle.lists.specs.Lists.{put}
-use Rattle.lists.proofs.Put.{put-next-at}
+use Rattle.lists.proofs.Put.{put-next-at, put_whole, part-back}
 use Rattle.lists.proofs.Joined.{joined-one}
 use Rattle.definition.specs.Number.{plus_zero}
 use Rattle.definition.specs.Points.{box_width_lem}
@@ -26,7 +27,7 @@ use Rattle.file_reader.proofs.Fetches.{number-here, parts_within}
 use Rattle.file_reader.proofs.LastFloats.{depth-place, leaf-size, fine-floats, coarse-floats}
 use Rattle.load_lists.specs.Places.{ahead, domain_at_lem, floats_read, Room, Written}
 use Rattle.load_lists.specs.declared.Cursor.{Cursor}
-use Rattle.bytes_in.proofs.Fields.{length-numbers-at, numbers-here, floats-here}
+use Rattle.bytes_in.proofs.Fields.{length-numbers-at, length-floats-at, numbers-here, floats-here}
 
 -- ---- the domain at a cursor
 pub record Found (d : ℕ) (coarse : Bool) (file : List ℕ) (c : Cursor) (r : Fetched) : Type 0 where
@@ -77,17 +78,31 @@ found d coarse file c floats r e f =
       borrowed-within = omega arith;
     }
 
--- ---- its floats, by what is read of them: all of a fine domain's row; behind zeros the coarse one's cover
-module _ (d : ℕ) (coarse : Bool) (at : ℕ) (file : List ℕ) (B B₁ : List Float) (k : ℕ) where
-  pub all_read : (n : ℕ) → coarse ≡ false → n ≡ row_floats_lem d → B₁ ≡ put B k (floats_at n at file) → B₁ ≡ put B k (floats_read d coarse at file)
-  all_read n e en h = rw (e, ← en) h
+-- ---- its floats
+pub length-floats-read : (d : ℕ) (coarse : Bool) (at : ℕ) (file : List ℕ) → length (floats_read d coarse at file) ≡ row_floats_lem d
+length-floats-read d true at file =
+    length-append (replicate (box_width_lem d) plus_zero) (floats_at 1 at file)
+    ∙ ap₂ (λ (i j : ℕ). i + j) (length-replicate (box_width_lem d) plus_zero) (length-floats-at 1 at file)
+length-floats-read d false at file = length-floats-at (row_floats_lem d) at file
 
-  pub cover-read : (w : ℕ) (Z : List Float) → coarse ≡ true → w ≡ box_width_lem d → k ≤ length B → Z ≡ put B k (replicate w plus_zero)
-      → B₁ ≡ put Z (k + w) (floats_at 1 at file) → B₁ ≡ put B k (floats_read d coarse at file)
-  cover-read w Z e ew room z h =
+-- by what is read of them: all of a fine domain's row; behind zeros the coarse one's cover
+module _ (d : ℕ) (coarse : Bool) (at : ℕ) (file : List ℕ) (B B₁ : List Float) (long : length B ≡ row_floats_lem d) where
+  pub all_read : coarse ≡ false → B₁ ≡ floats_at (length B) at file → B₁ ≡ floats_read d coarse at file
+  all_read e h = rw (e, ← long) h
+
+  pub cover-read : (w : ℕ) (Z : List Float) → coarse ≡ true → w ≡ box_width_lem d → Z ≡ put B 0 (replicate w plus_zero)
+      → B₁ ≡ put Z w (floats_at 1 at file) → B₁ ≡ floats_read d coarse at file
+  cover-read w Z e ew z h =
       rw (e, ← ew)
-      (h ∙ ap (λ (l : List Float). put l (k + w) (floats_at 1 at file)) z
-      ∙ put-next-at B k (replicate w plus_zero) (floats_at 1 at file) (k + w) room (ap (λ (i : ℕ). k + i) (length-replicate w plus_zero)))
+      (h ∙ ap (λ (l : List Float). put l w (floats_at 1 at file)) z
+      ∙ put-next-at B 0 (replicate w plus_zero) (floats_at 1 at file) w (omega arith) (omega (arith, length-replicate w plus_zero))
+      ∙ put_whole B (replicate w plus_zero ++ floats_at 1 at file)
+      (omega (arith, long, ew, length-append (replicate w plus_zero) (floats_at 1 at file), length-replicate w plus_zero, length-floats-at 1 at file)))
+
+-- and they come back to their list
+pub row-back : (d : ℕ) (coarse : Bool) (at : ℕ) (file : List ℕ) (boxes : List Float) (k n : ℕ) → n ≡ row_floats_lem d → {ys : List Float} → ys ≡ floats_read d coarse at file
+    → put_mid k (k + n - k) boxes ys ≡ put boxes k (floats_read d coarse at file)
+row-back d coarse at file boxes k n e {ys} h = part-back boxes k n ys (ap length h ∙ length-floats-read d coarse at file ∙ sym e) ∙ ap (put boxes k) h
 
 -- ---- its rows and its floats in the lists
 module _ {d : ℕ} {coarse : Bool} {file : List ℕ} {c : Cursor} {r : Fetched} (h : Found d coarse file c r) where

@@ -35,27 +35,18 @@ struct Cursor {
 // `coarse` stays a flag in these functions: the definition has it as one (`leaf_size dimensions coarse`, `leaf_in dimensions coarse`), and each
 // contract would turn an enum back into it.
 
-// Writes the floats that stand at `at` in a domain's record to the boxes from k on: its box and its cover; before the coarse domain's
+// Writes the floats that stand at `at` in a domain's record to the floats of its row: its box and its cover; before the coarse domain's
 // cover +0 for each bound of the box that it does not have.
-fn put_row_floats(
-    bytes: &[u8],
-    at: usize,
-    dimensions: usize,
-    coarse: bool,
-    boxes: &mut [f64],
-    k: usize,
-)
-    requires { (dimensions ≤ 3) × (at + float_size * record_floats_lem dimensions coarse ≤ length bytes.now) × (k + row_floats_lem dimensions ≤ length boxes.old) }
-    ensures { boxes.new ≡ put boxes.old k (floats_read dimensions coarse at bytes.now) }
+fn put_row_floats(bytes: &[u8], at: usize, dimensions: usize, coarse: bool, row: &mut [f64])
+    requires { (dimensions ≤ 3) × (at + float_size * record_floats_lem dimensions coarse ≤ length bytes.now) × (length row.old ≡ row_floats_lem dimensions) }
+    ensures { row.new ≡ floats_read dimensions coarse at bytes.now }
 {
-    let width = boxes::box_width(dimensions);
-    let floats = packed::row_floats(dimensions);
     if coarse {
-        boxes::put_zeros(boxes, k, width);
-        let cover = k + width;
-        bytes_in::read_fields(bytes, at, &mut boxes[cover..cover + packed::COVER]);
+        let width = boxes::box_width(dimensions);
+        boxes::put_zeros(row, 0, width);
+        bytes_in::read_fields(bytes, at, &mut row[width..width + packed::COVER]);
     } else {
-        bytes_in::read_fields(bytes, at, &mut boxes[k..k + floats]);
+        bytes_in::read_fields(bytes, at, row);
     }
 }
 
@@ -96,13 +87,13 @@ fn put_domain(
     };
     packed::put_row(lists.domains, c.row, row);
     let box_at = packed::floats_before(dimensions, c.row);
+    let box_end = box_at + packed::row_floats(dimensions);
     put_row_floats(
         bytes,
         found.bounds_at,
         dimensions,
         coarse,
-        lists.boxes,
-        box_at,
+        &mut lists.boxes[box_at..box_end],
     );
     Cursor {
         at: found.next,

@@ -1,5 +1,6 @@
 -- A bit of a number that is 0 becomes 1 by adding its power, one that is 1 becomes 0 by taking it away, and the other bits stay. Assumes nothing.
--- Holds: rest_lt, added, bit-set, bit-higher, bit-lower, other-bit, bit-there, bit-cleared, other-cleared, or-adds, and-rest, and-takes, and-keeps
+-- Holds: rest_lt, added, bit-set, bit-higher, bit-lower, other-bit, bit-there, bit-cleared, other-cleared, or-adds, and-takes,
+--   and-keeps
 use mathlib.Core.Path.{◌≡◌, sym, ap, ap₂, subst, ◌∙◌}
 use Prim.Native.Nat.{ℕ, suc, ◌+◌, ◌-◌, ◌*◌, ◌/◌, ◌%◌, ◌^◌, ◌≤◌, ◌<◌}
 use native.Mathlib.Nat.{pow-succ', mul_comm, add-mul, zero-mul, one-mul, mul-le-mul_right, mod-lt}

@@ -104,12 +104,9 @@ fn reach(codes: &[usize], from: usize, limit: usize) -> usize
     requires { from ≤ length codes.now }
     ensures { Reached codes.now from limit result }
 {
-    for k in from..codes.len() {
-        if limit <= codes[k] {
-            return k;
-        }
-    }
-    codes.len()
+    let rest = &codes[from..];
+    let passed = rest.iter().position(|&c| limit <= c);
+    from + passed.unwrap_or(rest.len())
 }
 
 // Writes where the borrowed rows of each leaf start, counted from `bat` on, and how many they are, to the last two columns of the m

@@ -1,40 +1,42 @@
 // The printout of a tree, line by line, from the packed lists: each part is appended to what a writer has written.
 #![tactic(auto)]
 
-ghost use Rattle.std.specs.Prelude.{ℕ, ◌+◌, ◌<◌};
+ghost use Rattle.std.specs.Prelude.{not, ℕ, ◌+◌, ◌<◌};
 ghost use Rattle.formats.specs.Printout.{domain_line, fine_lines, levels_text, tree_text};
 ghost use Rattle.bytes_out.specs.Writing.{Takes, Appends};
 ghost use Rattle.packed.specs.Reading.{RowFits, read_leaves, Stands, read_levels};
 ghost use Rattle.packed.specs.View.{packed_of, leaf_of};
-ghost use Rattle.print_tree.specs.Unpack.{box_part, points_line, leaf_line, fine_level_text, coarse_level_text};
+ghost use Rattle.print_tree.specs.Unpack.{AnswerStands, answer_text, box_part, points_line, leaf_line, fine_level_text, coarse_level_text};
 
 use bytes_out::Writer;
 use packed::{Leaf, Packed};
-use tree_answer::PackedTree;
+use refusal::Refusal;
+use tree_answer::{DDMTree, PackedTree};
+use tree_lists::TreeRead;
 
 // The bounds of a box; a dash for the coarse domain's. The flag stays: an Option of the bounds is no plainer, since each contract
 // would take it apart again.
-fn write_box(fine: bool, bounds: &[f64], out: &mut Writer<'_>)
-    requires { Takes out.old (box_part fine bounds.now) }
-    ensures { Appends out.old out.new (box_part fine bounds.now) }
+fn write_box(coarse: bool, bounds: &[f64], out: &mut Writer<'_>)
+    requires { Takes out.old (box_part (not coarse) bounds.now) }
+    ensures { Appends out.old out.new (box_part (not coarse) bounds.now) }
 {
-    if fine {
-        print_texts::write_floats(bounds, out);
-    } else {
+    if coarse {
         out.text(b" -");
+    } else {
+        print_texts::write_floats(bounds, out);
     }
 }
 
-// The line of the domain number i; the coarse domain has a dash for its box, and `fine` is passed on to say so.
-fn write_domain(i: usize, leaf: Leaf<'_>, fine: bool, out: &mut Writer<'_>)
-    requires { Takes out.old (domain_line i (leaf_of leaf) (box_part fine (leaf_of leaf).box)) }
-    ensures { Appends out.old out.new (domain_line i (leaf_of leaf.entry) (box_part fine (leaf_of leaf.entry).box)) }
+// The line of the domain number i; the coarse domain has a dash for its box, and `coarse` is passed on to say so.
+fn write_domain(i: usize, leaf: Leaf<'_>, coarse: bool, out: &mut Writer<'_>)
+    requires { Takes out.old (domain_line i (leaf_of leaf) (box_part (not coarse) (leaf_of leaf).box)) }
+    ensures { Appends out.old out.new (domain_line i (leaf_of leaf.entry) (box_part (not coarse) (leaf_of leaf.entry).box)) }
 {
     print_texts::write_numbered(b"domain ", i, out);
     print_texts::write_listed(b" internal", leaf.own, out);
     print_texts::write_listed(b" overlap", leaf.borrowed, out);
     out.text(b" box");
-    write_box(fine, leaf.bounds, out);
+    write_box(coarse, leaf.bounds, out);
     print_texts::write_valued(b" cover", leaf.cover, out);
     print_texts::write_numbered(b" depth ", leaf.depth, out);
     out.byte(b'\n');
@@ -51,12 +53,12 @@ fn write_level(t: usize, rows: &[usize], out: &mut Writer<'_>)
 }
 
 // The line of a domain, from the domain row number j: its number is i.
-fn write_leaf(fine: bool, i: usize, j: usize, tree: Packed<'_>, out: &mut Writer<'_>)
+fn write_leaf(coarse: bool, i: usize, j: usize, tree: Packed<'_>, out: &mut Writer<'_>)
     requires row_fits { RowFits (packed_of tree) j }
-    requires room_for { Takes out.old (leaf_line fine i (packed_of tree) j) }
-    ensures { Appends out.old out.new (leaf_line fine i (packed_of tree.entry) j) }
+    requires room_for { Takes out.old (leaf_line (not coarse) i (packed_of tree) j) }
+    ensures { Appends out.old out.new (leaf_line (not coarse) i (packed_of tree.entry) j) }
 {
-    write_domain(i, tree.leaf(j), fine, out);
+    write_domain(i, tree.leaf(j), coarse, out);
 }
 
 // The lines of m fine domains, from the domain row number j on.
@@ -66,7 +68,7 @@ fn write_leaves(j: usize, m: usize, tree: Packed<'_>, out: &mut Writer<'_>)
     ensures { Appends out.old out.new (fine_lines 0 (read_leaves (packed_of tree.entry) j m)) }
 {
     for i in 0..m {
-        write_leaf(true, i, j + i, tree, out);
+        write_leaf(false, i, j + i, tree, out);
     }
 }
 
@@ -87,7 +89,7 @@ fn write_coarse(t: usize, rows: &[usize], j: usize, tree: Packed<'_>, out: &mut 
     ensures { Appends out.old out.new (coarse_level_text t rows.now (packed_of tree.entry) j) }
 {
     write_level(t, rows, out);
-    write_leaf(false, 0, j, tree, out);
+    write_leaf(true, 0, j, tree, out);
 }
 
 // The lines of all levels.
@@ -122,4 +124,21 @@ pub fn write_tree(tree: PackedTree<'_>, out: &mut Writer<'_>)
     print_texts::write_numbered(b"levels ", tree.counts.levels, out);
     out.byte(b'\n');
     write_levels(tree, out);
+}
+
+// The answer of a call that makes a tree: the tree, which the lists hold, or the refusal.
+pub fn write_answer(
+    answer: Result<DDMTree, Refusal>,
+    lists: TreeRead<'_>,
+    dimensions: usize,
+    out: &mut Writer<'_>,
+)
+    requires stands { AnswerStands answer lists dimensions }
+    requires room_for { Takes out.old (answer_text answer lists dimensions) }
+    ensures { Appends out.old out.new (answer_text answer lists.entry dimensions) }
+{
+    match answer {
+        Ok(counts) => write_tree(PackedTree::of(counts, lists, dimensions), out),
+        Err(refusal) => print_texts::write_refusal(refusal, out),
+    }
 }

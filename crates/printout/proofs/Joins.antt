@@ -1,11 +1,11 @@
--- From the build's outcome to the text of a job (`job-refused`, `job-tree`), and from the reader's answer to the printout
+-- From the build's outcome to the text of a job (`answer-stands`, `answer-printed`), and from the reader's answer to the printout
 -- (`broken-printed`, `whole-printed`). Assumes nothing.
--- Holds: job-refused, tree-ready, job-tree, room_for, broken-printed, whole-printed
+-- Holds: answer-stands, answer-printed, room_for, broken-printed, whole-printed
 use mathlib.Core.Path.{◌≡◌, sym, ap, ◌∙◌}
-use Prim.Native.Nat.{ℕ, ◌+◌, ◌-◌, ◌*◌, ◌≤◌, ◌<◌}
+use Prim.Native.Nat.{ℕ, ◌+◌, ◌-◌, ◌≤◌, ◌<◌}
 use native.Mathlib.Omega.{arith}
 use mathlib.Core.List.{List}
-use lib.ListN.{length, take, drop}
+use lib.ListN.{length, drop}
 use lib.Ieee.{Float}
 use Rattle.std.specs.Prelude.{Result, Ok, Err}
 use Rattle.lists.proofs.Map.{get_d-map-in}
@@ -27,11 +27,15 @@ use Rattle.packed.proofs.Unpacked.{Packs, levels-are, tree-back, tree-stands}
 use Rattle.refusal.specs.declared.Refusal.{Refusal}
 use Rattle.refusal.specs.Refusals.{as_refusal}
 use Rattle.stream_reader.specs.declared.Job.{Job}
-use Rattle.settings_record.specs.Reading.{settings_are}
-use Rattle.stream_reader.specs.Reading.{job_of}
+use Rattle.stream_reader.specs.Reading.{job_is, job_of}
 use Rattle.job_room.proofs.Lists.{build-as-stated}
 use Rattle.job_room.proofs.JobRead.{broken-read, whole-read}
-use Rattle.job_room.proofs.Printing.{text-room}
+use Rattle.job_room.proofs.Printing.{text-room, refusal-numbered}
+use Rattle.tree_lists.specs.declared.TreeRead.{TreeRead}
+use Rattle.tree_lists.specs.Lent.{lists_read}
+use Rattle.tree_answer.specs.declared.DDMTree.{DDMTree}
+use Rattle.tree_answer.specs.Answers.{tree_answer_lem}
+use Rattle.print_tree.specs.Unpack.{AnswerStands, answer_text}
 
 -- ---- a build in the program's lists
 module _ (s : tree.Settings) (cs : List Float) (old : TreeLists) (floats : List Float) (wholes : List ℕ) where
@@ -61,7 +65,7 @@ module _ (s : tree.Settings) (cs : List Float) (old : TreeLists) (floats : List 
       text-refused accepted en ep h = absurd (omega arith)
       text-refused (refused q) en ep h = rw (en, ep)
 
-      pub job-refused : 0 < r.number → job_text (job s cs) ≡ refusal_text (record { number = r.number; place = r.place })
+      job-refused : 0 < r.number → job_text (job s cs) ≡ refusal_text (record { number = r.number; place = r.place })
       unfolding job_text
       job-refused h = ap (λ (v : Verdict). built_text v s cs) (sym as-printed) ∙ text-refused call number_is place_is h
 
@@ -114,7 +118,7 @@ module _ (s : tree.Settings) (cs : List Float) (old : TreeLists) (floats : List 
               borrowed = ap (λ (l : TreeLists). l.borrowed) lists-are;
             }
 
-        pub tree-ready : Stands (packed new.internals new.domains new.boxes new.borrowed s.dimension) new.level_points r.value.rows r.value.domains
+        tree-ready : Stands (packed new.internals new.domains new.boxes new.borrowed s.dimension) new.level_points r.value.rows r.value.domains
             r.value.levels
         tree-ready =
             let shaped = tree-shaped s cs in
@@ -122,7 +126,7 @@ module _ (s : tree.Settings) (cs : List Float) (old : TreeLists) (floats : List 
             tree-stands ls lists new.level_points r.value tree-packed limits.axes_few shaped.some
             (sym (get_d-map-in (λ (l : tree.Level). length l.leaves) ls last no_level 0 (omega (arith, shaped.some))) ∙ shaped.last)
 
-        pub job-tree : job_text (job s cs)
+        job-tree : job_text (job s cs)
             ≡ tree_text (read_levels (packed new.internals new.domains new.boxes new.borrowed s.dimension) new.level_points r.value.rows
             r.value.domains r.value.levels)
         job-tree =
@@ -130,16 +134,27 @@ module _ (s : tree.Settings) (cs : List Float) (old : TreeLists) (floats : List 
             ∙ ap tree_text (sym (ap (read_levels lists new.level_points r.value.rows r.value.domains) (levels-are ls lists new.level_points r.value tree-packed)
             ∙ tree-back ls lists new.level_points r.value tree-packed))
 
+-- ---- by the answer: a refusal, or a tree that the lists hold
+module _ (s : tree.Settings) (cs : List Float) (old : TreeLists) (floats : List Float) (wholes : List ℕ) (limits : JobLimits s cs) where
+  module _ (rooms : lent_sizes old floats wholes ≡ build_stated 3 stream_points stream_neighbours) (l : TreeRead) (f : lists_read l ≡ build_lists s cs old floats wholes) where
+    pub answer-stands : (r : Result DDMTree Refusal) → tree_answer_lem r ≡ build_answer s cs old floats wholes → AnswerStands r l s.dimension
+    answer-stands (Ok t) e = tree-ready s cs old floats wholes limits rooms (tree_answer_lem (Ok t)) e (omega arith) (lists_read l) f
+    answer-stands (Err x) e = tt
+
+    pub answer-printed : (r : Result DDMTree Refusal) → tree_answer_lem r ≡ build_answer s cs old floats wholes → job_text (job s cs) ≡ answer_text r l s.dimension
+    answer-printed (Ok t) e = job-tree s cs old floats wholes limits rooms (tree_answer_lem (Ok t)) e (omega arith) (lists_read l) f
+    answer-printed (Err x) e = job-refused s cs old floats wholes limits rooms (tree_answer_lem (Err x)) e (refusal-numbered x)
+
 -- ---- room for the text
 pub room_for : (s : tree.Settings) (cs : List Float) {w : Writer} → JobLimits s cs → w.at + most_bytes ≤ length w.bytes.now → Takes w (job_text (job s cs))
 room_for s cs h g = text-room (job_text (job s cs)) (job-long (job s cs) h) g
 
 -- ---- by the reader's answer
-module _ (r : Result Job Refusal) (cs : List Float) (bs : List ℕ) (h : job_of r cs ≡ job_in bs) where
+module _ (r : Result Job Refusal) (bs : List ℕ) (h : job_of r ≡ job_in bs) where
   pub broken-printed : (x : Refusal) → r ≡ Err x → refusal_text (as_refusal x) ≡ printout bs
   unfolding job_text printout
-  broken-printed x e = ap job_text (broken-read r cs bs h x e)
+  broken-printed x e = ap job_text (broken-read r bs h x e)
 
-  pub whole-printed : (j : Job) → r ≡ Ok j → job_text (job (settings_are j.settings) (take (j.points * j.settings.dimensions) cs)) ≡ printout bs
+  pub whole-printed : (j : Job) → r ≡ Ok j → job_text (job_is j) ≡ printout bs
   unfolding printout
-  whole-printed j e = ap job_text (whole-read r cs bs h j e)
+  whole-printed j e = ap job_text (whole-read r bs h j e)

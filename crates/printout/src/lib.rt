@@ -2,67 +2,41 @@
 #![tactic(auto)]
 
 ghost use Rattle.std.specs.Prelude.{◌≡◌, ◌+◌, ◌≤◌, length};
-ghost use Rattle.formats.specs.Stream.{job};
 ghost use Rattle.formats.specs.Printout.{job_text, printout as printed};
 ghost use Rattle.stream_laws.specs.Sizes.{JobLimits, most_bytes};
-ghost use Rattle.settings_record.specs.Reading.{settings_are};
+ghost use Rattle.stream_reader.specs.Reading.{job_settings, job_is};
 ghost use Rattle.bytes_out.specs.Writing.{Appends};
 ghost use Rattle.job_room.specs.Printing.{print_answer_lem, print_output, printed_answer};
 
 use bytes_out::Writer;
-use job_room::{JobLists, JobRoom};
-use packed::Packed;
-use points::Points;
+use job_room::JobRoom;
 use refusal::Refusal;
-use settings_record::Settings;
-use tree_answer::PackedTree;
+use stream_reader::Job;
 
 // The text of a job: of its tree, or of the build's refusal. The lists suffice for the largest job.
-fn write_job(settings: Settings, points: &[f64], out: &mut Writer<'_>)
-    requires { JobLimits (settings_are settings) points.now × (out.old.at + most_bytes ≤ length out.old.bytes.now) }
-    ensures { Appends out.old out.new (job_text (job (settings_are settings) points.now)) }
+fn write_job(job: Job<'_>, out: &mut Writer<'_>)
+    requires { JobLimits (job_settings job) job.points.coordinates.now × (out.old.at + most_bytes ≤ length out.old.bytes.now) }
+    ensures { Appends out.old out.new (job_text (job_is job.entry)) }
 {
-    let Settings { dimensions, params } = settings;
-    let points = Points {
-        coordinates: points,
-        dimensions,
-    };
-    let mut lists = JobLists::zeros();
+    let mut lists = job_room::zero_lists();
     let mut lists = lists.lend();
     let mut room = JobRoom::zeros();
     let mut room = room.lend();
-    match ddm::build(points, params, &mut lists, &mut room) {
-        Ok(tree) => {
-            let lists = lists.read();
-            let tree = PackedTree {
-                counts: tree,
-                level_points: lists.level_points,
-                leaves: Packed {
-                    internals: lists.internals,
-                    domains: lists.domains,
-                    boxes: lists.boxes,
-                    borrowed: lists.borrowed,
-                    dimensions,
-                },
-            };
-            print_tree::write_tree(tree, out);
-        }
-        Err(refusal) => print_texts::write_refusal(refusal, out),
-    }
+    let answer = ddm::build(job.points, job.params, &mut lists, &mut room);
+    print_tree::write_answer(answer, lists.read(), job.points.dimensions, out);
 }
 
 // The printout of a stream that is lent room for every printout.
+// This and the next one stand in reload too, over its own text: one function for both would be lent `write_job` as a closure over a job and a
+// writer. Its contract would say of every job within the limits, and of every writer with room, that the closure may be called and what it
+// appends, and that a broken job's text is its refusal's: three clauses over a ghost text, for this match and the test below.
 fn write_printout(input: &[u8], output: &mut Writer<'_>)
     requires { output.old.at + most_bytes ≤ length output.old.bytes.now }
     ensures { Appends output.old output.new (printed input.now) }
 {
-    let mut points = [0.0; job_room::COORDINATES];
-    let read = stream_reader::read_job(input, &mut points);
-    match read {
-        Ok(job) => {
-            let k = job.points * job.settings.dimensions;
-            write_job(job.settings, &points[..k], output);
-        }
+    let mut coordinates = [0.0; job_room::COORDINATES];
+    match stream_reader::read_job(input, &mut coordinates) {
+        Ok(job) => write_job(job, output),
         Err(refusal) => print_texts::write_refusal(refusal, output),
     }
 }

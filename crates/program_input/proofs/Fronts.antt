@@ -1,5 +1,4 @@
 -- Where reading stands after each read, and what the bytes that were read decide. Assumes nothing.
--- Holds: known-more, known-open, count-within, front-decides
 use lib.Seq.{take-add, take-append-le, length-take-le}
 use native.Mathlib.Omega.{arith}
 use Rattle.std.proofs.Common.{◌≡◌, ℕ, ◌+◌, ◌≤◌, List, ◌++◌, length, take, drop, sym, ap, subst, ◌∙◌, append-nil, take_all, IfSome, None, Some}
@@ -31,11 +30,6 @@ known-ended : (old new : Option (List ℕ)) (n : ℕ) (input : List ℕ) → Con
 known-ended None new n input p q = tt
 known-ended (Some xs) None n input p q = absurd p
 known-ended (Some xs) (Some ys) n input p q = p ∙ ap (λ l. take n input ++ l) q ∙ append-nil (take n input)
-
--- no more was read than there is room for
-pub count-within : (front : Front) (most : ℕ) → Stopped most front → front_count front ≤ most
-count-within (Open n) most s = omega arith
-count-within (Ended n) most s = s
 
 -- what is made of the bytes read is made of each stream that the input may be: the input's end was seen, or a full list holds the bytes that
 -- decide it

@@ -10,7 +10,8 @@ use std::process::ExitCode;
 use std::rt::{Env, Files};
 use std::{env, fs, io};
 
-// Where reading stopped: so many bytes were read and the end was not seen, or the input ended after so many.
+// Where reading stopped: so many bytes were read and the end was not seen, or the input ended after so many. It is an enum of its own: both
+// cases have a count, and neither is one where something is missing.
 #[derive(Clone, Copy)]
 pub enum Front {
     Open(usize),

@@ -1,9 +1,8 @@
 // The refusals of the build that cuts depth first: those of a build, in its order, with the two lists of the record among the lists.
 #![tactic(auto)]
 
-ghost use Rattle.std.specs.Prelude.{◌≡◌, ◌||◌, ◌≤◌};
-ghost use Rattle.definition.specs.Packed.{build_stated};
-ghost use Rattle.definition.specs.Refusals.{most_points, most_neighbours, build_short};
+ghost use Rattle.std.specs.Prelude.{◌≡◌, ◌≤◌};
+ghost use Rattle.definition.specs.Refusals.{most_points};
 ghost use Rattle.definition.specs.DepthFirst.{lent_records, record_short_lem, depth_first_verdict};
 ghost use Rattle.config.specs.Params.{settings_of_lem};
 ghost use Rattle.build_sizes.specs.Sizes.{sizes_of};

@@ -27,7 +27,15 @@ use Rattle.stored_laws.proofs.WellFormed.{well-formed-sound}
 use Rattle.stream_laws.specs.Sizes.{JobLimits}
 use Rattle.load.specs.Loading.{Loaded}
 use Rattle.load.proofs.SameFile.{its-dimension}
+use Rattle.std.specs.Prelude.{Result, Ok, Err}
+use Rattle.refusal.specs.declared.Refusal.{Refusal}
+use Rattle.tree_lists.specs.declared.TreeRead.{TreeRead}
+use Rattle.tree_lists.specs.Lent.{lists_read}
+use Rattle.tree_answer.specs.declared.DDMTree.{DDMTree}
+use Rattle.tree_answer.specs.Answers.{tree_answer_lem}
+use Rattle.print_tree.specs.Unpack.{AnswerStands, answer_text}
 use Rattle.job_room.specs.Room.{lent_lists}
+use Rattle.job_room.proofs.Printing.{refusal-numbered}
 use Rattle.reload.specs.Loading.{loaded_text}
 use Rattle.reload.proofs.LoadsAsStated.{load-as-stated}
 
@@ -78,7 +86,7 @@ module _ (s : Settings) (cs : List Float) (bs : List ℕ) (limits : JobLimits s 
   text-refused accepted en ep h = absurd (omega arith)
   text-refused (refused q) en ep h = rw (en, ep)
 
-  pub load-refused : 0 < r.number → loaded_text s cs bs ≡ refusal_text (record { number = r.number; place = r.place })
+  load-refused : 0 < r.number → loaded_text s cs bs ≡ refusal_text (record { number = r.number; place = r.place })
   load-refused h = text-is ∙ text-refused call number_is place_is h
 
   -- or the text of the tree, which the counts and the lists hold
@@ -100,14 +108,14 @@ module _ (s : Settings) (cs : List Float) (bs : List ℕ) (limits : JobLimits s 
         rw (counts-are, w.level_points, w.internals, w.domains, w.boxes, w.borrowed, lists-are)
         (lists-hold s.dimension (tree_in bs) lent_lists sound.few sound.boxed)
 
-    pub loaded-stands : Stands (packed new.internals new.domains new.boxes new.borrowed s.dimension) new.level_points r.value.rows r.value.domains
+    loaded-stands : Stands (packed new.internals new.domains new.boxes new.borrowed s.dimension) new.level_points r.value.rows r.value.domains
         r.value.levels
     loaded-stands =
         let sound = tree-passes s cs bs lent_lists takes in
         tree-stands ls (packed new.internals new.domains new.boxes new.borrowed s.dimension) new.level_points r.value tree-held limits.axes_few sound.some
         (sound.last (length ls - 1) (omega (arith, sound.some))).one-leaf
 
-    pub load-tree-text : loaded_text s cs bs
+    load-tree-text : loaded_text s cs bs
         ≡ tree_text (read_levels (packed new.internals new.domains new.boxes new.borrowed s.dimension) new.level_points r.value.rows
         r.value.domains r.value.levels)
     unfolding reloaded_by
@@ -116,3 +124,13 @@ module _ (s : Settings) (cs : List Float) (bs : List ℕ) (limits : JobLimits s 
         text-is ∙ ap (λ (v : Verdict). reloaded_by v bs) takes
         ∙ ap tree_text (sym (ap (read_levels lists new.level_points r.value.rows r.value.domains) (levels-are ls lists new.level_points r.value tree-held)
         ∙ tree-back ls lists new.level_points r.value tree-held))
+
+-- ---- by the answer: a refusal, or a tree that the lists hold
+module _ (s : Settings) (cs : List Float) (bs : List ℕ) (limits : JobLimits s cs) (l : TreeRead) where
+  pub answer-stands : (r : Result DDMTree Refusal) → Loaded s cs bs lent_lists (lists_read l) (tree_answer_lem r) → AnswerStands r l s.dimension
+  answer-stands (Ok t) w = loaded-stands s cs bs limits (lists_read l) (tree_answer_lem (Ok t)) w (omega arith)
+  answer-stands (Err x) w = tt
+
+  pub answer-printed : (r : Result DDMTree Refusal) → Loaded s cs bs lent_lists (lists_read l) (tree_answer_lem r) → loaded_text s cs bs ≡ answer_text r l s.dimension
+  answer-printed (Ok t) w = load-tree-text s cs bs limits (lists_read l) (tree_answer_lem (Ok t)) w (omega arith)
+  answer-printed (Err x) w = load-refused s cs bs limits (lists_read l) (tree_answer_lem (Err x)) w (refusal-numbered x)

@@ -1,9 +1,9 @@
 -- From the file's length and the reader's answer to what is printed. Assumes nothing.
 -- Holds: too_long, not-too-long, loaded-room, broken-reloaded, whole-reloaded
 use mathlib.Core.Path.{◌≡◌, ap}
-use Prim.Native.Nat.{ℕ, ◌+◌, ◌*◌, ◌≤◌, ◌<◌}
+use Prim.Native.Nat.{ℕ, ◌+◌, ◌≤◌, ◌<◌}
 use mathlib.Core.List.{List}
-use lib.ListN.{length, take}
+use lib.ListN.{length}
 use lib.Ieee.{Float}
 use borrow.Author.Tests.{le-ltb, lt-ltb}
 use Rattle.definition.specs.Tree as tree
@@ -19,9 +19,8 @@ use Rattle.std.specs.Prelude.{Result, Ok, Err}
 use Rattle.refusal.specs.declared.Refusal.{Refusal}
 use Rattle.refusal.specs.declared.Refusal.TheVariants.{LargeJob}
 use Rattle.refusal.specs.Refusals.{as_refusal}
-use Rattle.settings_record.specs.Reading.{settings_are}
 use Rattle.stream_reader.specs.declared.Job.{Job}
-use Rattle.stream_reader.specs.Reading.{job_of}
+use Rattle.stream_reader.specs.Reading.{job_is, job_of}
 use Rattle.job_room.proofs.JobRead.{broken-read, whole-read}
 use Rattle.job_room.proofs.Printing.{text-room}
 use Rattle.reload.specs.Loading.{loaded_text}
@@ -40,11 +39,11 @@ module _ (s : tree.Settings) (cs : List Float) (bs : List ℕ) where
   loaded-room limits long h = rw (not-too-long h) (text-room (reloaded_for (job s cs) bs) (reloaded-for-long (job s cs) bs limits) long)
 
 -- ---- by the reader's answer
-module _ (r : Result Job Refusal) (cs : List Float) (stream bs : List ℕ) (h : job_of r cs ≡ job_in stream) where
+module _ (r : Result Job Refusal) (stream bs : List ℕ) (h : job_of r ≡ job_in stream) where
   pub broken-reloaded : (x : Refusal) → r ≡ Err x → refusal_text (as_refusal x) ≡ reloaded stream bs
   unfolding reloaded_for reloaded
-  broken-reloaded x e = ap (λ (j : format.Job). reloaded_for j bs) (broken-read r cs stream h x e)
+  broken-reloaded x e = ap (λ (j : format.Job). reloaded_for j bs) (broken-read r stream h x e)
 
-  pub whole-reloaded : (j : Job) → r ≡ Ok j → reloaded_for (job (settings_are j.settings) (take (j.points * j.settings.dimensions) cs)) bs ≡ reloaded stream bs
+  pub whole-reloaded : (j : Job) → r ≡ Ok j → reloaded_for (job_is j) bs ≡ reloaded stream bs
   unfolding reloaded
-  whole-reloaded j e = ap (λ (k : format.Job). reloaded_for k bs) (whole-read r cs stream h j e)
+  whole-reloaded j e = ap (λ (k : format.Job). reloaded_for k bs) (whole-read r stream h j e)

@@ -1,15 +1,10 @@
 // A call of the build over slots on the table that a record gives, in lists of the given lengths that hold 9, and its outcome.
 #![tactic(auto)]
 
-use call_records::{Fields, Lists};
+use call_records::Fields;
 use config::DDMParams;
 use table::Table;
 use tree_lists::Room;
-
-// The working room of a build over 16 live slots with 3 neighbours, and of one over a single slot with 65.
-const FLOATS: usize = 512;
-
-const WHOLES: usize = 1024;
 
 // Whether the working room is as it was.
 fn untouched(room: &Room<'_>) -> bool {
@@ -19,10 +14,10 @@ fn untouched(room: &Room<'_>) -> bool {
 // Whether the build that stands next has the outcome behind it: a refused one leaves its working room too. `None` says that the record is
 // cut, or that a list has more entries than there is room for.
 pub fn agrees(fields: &mut Fields<'_>, table: Table<'_>, params: DDMParams) -> Option<bool> {
-    let mut lists = Lists::nines();
-    let mut lists = lists.lend(fields)?;
-    let mut floats = [9.0; FLOATS];
-    let mut wholes = [call_records::NINE; WHOLES];
+    let mut lists = call_records::nines();
+    let mut lists = fields.lend_lists(lists.lend())?;
+    let mut floats = [9.0; call_records::FLOATS];
+    let mut wholes = [call_records::NINE; call_records::WHOLES];
     let mut room = Room {
         floats: fields.lend(&mut floats)?,
         wholes: fields.lend(&mut wholes)?,

@@ -3,7 +3,7 @@
 
 use call_records::Fields;
 use points::Points;
-use refusal::Refusal;
+use refusal::{Refusal, Report};
 use table::{Head, Table, Wells};
 
 // The most coordinates of a point.
@@ -15,9 +15,10 @@ fn outcome_agrees(
     answer: Result<usize, Refusal>,
     table: Table<'_>,
 ) -> Option<bool> {
+    let report = Report::of(answer);
     Some(
-        fields.refusal_agrees(answer.err())?
-            && fields.number()? == answer.unwrap_or(0)
+        fields.report_agrees(&report)?
+            && fields.number()? == report.value
             && fields.count()? == table.head.slots
             && fields.count()? == table.head.live
             && fields.agrees(table.points.coordinates)?

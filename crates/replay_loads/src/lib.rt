@@ -1,7 +1,7 @@
 // The call of a load: five lists of the given lengths that hold 9, and their outcome.
 #![tactic(auto)]
 
-use call_records::{Fields, Lists};
+use call_records::Fields;
 use points::Points;
 
 // Whether the load that stands next has the outcome behind it. `None` says that the record is cut, or that a list has more entries than
@@ -13,8 +13,8 @@ pub fn agrees(fields: &mut Fields<'_>) -> Option<bool> {
         coordinates: fields.list(&mut room)?,
         dimensions: settings.dimensions,
     };
-    let mut room = Lists::nines();
-    let mut lists = room.lend(fields)?;
+    let mut room = call_records::nines();
+    let mut lists = fields.lend_lists(room.lend())?;
     let file = fields.bytes()?;
     let answer = load::load_tree(points, settings.params, file, &mut lists);
     Some(fields.answer_agrees(answer)? && fields.lists_agree(lists.read())?)

@@ -1,9 +1,9 @@
 // The call of a store: five lists of the given lengths with their fronts, a file list that holds 9, and the outcome.
 #![tactic(auto)]
 
-use call_records::{Fields, Lists};
+use call_records::Fields;
 use points::Points;
-use refusal::Refusal;
+use refusal::{Refusal, Report};
 use tree_answer::DDMTree;
 
 // The most entries of a file list in the stored calls.
@@ -35,9 +35,10 @@ fn outcome_agrees(
     answer: Result<usize, Refusal>,
     file: &[u8],
 ) -> Option<bool> {
+    let report = Report::of(answer);
     Some(
-        fields.refusal_agrees(answer.err())?
-            && fields.number()? == answer.unwrap_or(0)
+        fields.report_agrees(&report)?
+            && fields.number()? == report.value
             && fields.agrees(file)?
             && fields.ended(),
     )
@@ -53,8 +54,8 @@ pub fn agrees(fields: &mut Fields<'_>) -> Option<bool> {
         dimensions: settings.dimensions,
     };
     let counts = counts(fields)?;
-    let mut room = Lists::nines();
-    let lists = room.lend_filled(fields)?;
+    let mut room = call_records::nines();
+    let lists = fields.lend_filled_lists(room.lend())?;
     let mut room = [9u8; FILE];
     let file = fields.lend(&mut room)?;
     let answer = store::store_tree(points, settings.params, counts, lists.read(), file);

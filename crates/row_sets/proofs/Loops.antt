@@ -1,7 +1,7 @@
--- Loops over rows: asked for, marked, and their marks taken away, one after the other. The sets are words; what becomes of a set is in
+-- Loops over rows: asked for, marked, and taken out of two sets, one after the other. The sets are words; what becomes of a set is in
 -- crate tree_tests. Assumes nothing.
--- Holds: Asking, asking-start, asking-end, asking-low, asking-out, asking-next, Marking, marking-start,
---   marking-next, marking-within, marking-clear, Unmarking, unmarking-start, unmarking-next, unmarking-end
+-- Holds: Asking, asking-start, asking-end, asking-low, asking-out, asking-next, Marking, marking-start, marking-next,
+--   marking-within, marking-clear, Taking, taking-start, taking-end, taking-low, taking-out, taking-next
 use mathlib.Core.Path.{◌≡◌, refl, sym, ap, ◌∙◌}
 use mathlib.Core.Bool.{Bool, true, false, not, ◌&&◌, ◌||◌}
 use Prim.Native.Nat.{ℕ, ◌+◌, ◌*◌, ◌≤◌, ◌<◌}
@@ -13,6 +13,7 @@ use Rattle.lists.specs.Lists.{member}
 use Rattle.lists.proofs.All.{all-at, all-mem}
 use Rattle.tree_tests.specs.InTurn.{without, in_order_lem}
 use Rattle.tree_tests.proofs.Sets.{without-nil, without_more, without_all}
+use Rattle.tree_tests.proofs.Taken.{Taken, take-start, take_step, take-low, take_out, take-end}
 use Rattle.tree_tests.proofs.Checked.{Checked, check-start, check-step, check-low, check-out, check-end}
 use Rattle.tree_tests.proofs.Marking.{Fresh, mark-fresh, mark-start, mark-step}
 use Rattle.marks.specs.Bits.{bit_at, Marked}
@@ -80,22 +81,52 @@ module _ {rows old ws : List ℕ} {i : ℕ} (s : Marking rows old ws i) where
       pub marking-clear : bit_at ws row ≡ 0
       marking-clear = unmarked-bit (s.sets (held old) (bits-marked old)) row marking-within (mark-fresh fresh i row h e)
 
--- ---- a loop that takes the marks of rows away: those before i are out of the set
-pub record Unmarking (rows old ws : List ℕ) (i : ℕ) : Type 0 where
+-- ---- a loop that takes rows out of two sets: those before i are out of both, and the rest decides
+pub record Taking (rows old-left old-listed left listed : List ℕ) (least i : ℕ) : Type 0 where
   pub bound : i ≤ length rows
-  pub sets : (p : ℕ → Bool) → Marked old p → Marked ws (without (take i rows) p)
+  pub taken : (p : ℕ → Bool) → Marked old-left p → Taken p rows i least
+  pub left_set : (p : ℕ → Bool) → Marked old-left p → Marked left (without (take i rows) p)
+  pub listed_set : (q : ℕ → Bool) → Marked old-listed q → Marked listed (without (take i rows) q)
 
-pub unmarking-start : (rows ws : List ℕ) → Unmarking rows ws ws 0
-unmarking-start rows ws = record { bound = omega arith; sets = λ p m. marked-same m (without [] p) (λ x. sym (without-nil p x)) }
+pub taking-start : (rows left listed : List ℕ) → Taking rows left listed left listed 0 0
+taking-start rows left listed =
+    record {
+      bound = omega arith;
+      taken = λ p m. take-start p rows;
+      left_set = λ p m. marked-same m (without [] p) (λ x. sym (without-nil p x));
+      listed_set = λ q m. marked-same m (without [] q) (λ x. sym (without-nil q x));
+    }
 
-module _ {rows old ws : List ℕ} {i : ℕ} (s : Unmarking rows old ws i) where
-  pub unmarking-next : (row : ℕ) → i < length rows → row ≡ get_or rows i 0 → (new : List ℕ)
-      → ((p : ℕ → Bool) → Marked ws p → Marked new (λ j. p j && not (eqb j row))) → Unmarking rows old new (i + 1)
-  unmarking-next row h e new said =
-      record {
-        bound = omega arith;
-        sets = λ p m. marked-same (said (without (take i rows) p) (s.sets p m)) (without (take (i + 1) rows) p) (without_more rows i row h e p);
-      }
+module _ {rows old-left old-listed left listed : List ℕ} {least i : ℕ} (s : Taking rows old-left old-listed left listed least i) where
+  pub taking-end : length rows ≤ i → (p q : ℕ → Bool) → Marked old-left p → Marked old-listed q
+      → (true ≡ in_order_lem 0 p rows) × (true ≡ true → Marked left (without rows p) × Marked listed (without rows q))
+  taking-end h p q m n = (
+    sym (take-end (s.taken p m) h),
+    λ _. (
+      marked-same (s.left_set p m) (without rows p) (without_all rows i h p),
+      marked-same (s.listed_set q n) (without rows q) (without_all rows i h q),
+    ),
+  )
 
-  pub unmarking-end : length rows ≤ i → (p : ℕ → Bool) → Marked old p → Marked ws (without rows p)
-  unmarking-end h p m = marked-same (s.sets p m) (without rows p) (without_all rows i h p)
+  module _ (row : ℕ) (h : i < length rows) (e : row ≡ get_or rows i 0) where
+    pub taking-low : row < least → (p : ℕ → Bool) → Marked old-left p → false ≡ in_order_lem 0 p rows
+    taking-low l p m = sym (take-low (s.taken p m) row h e l)
+
+    module _ (l : least ≤ row) (r : Bool) (said : (p : ℕ → Bool) → Marked left p → r ≡ p row) where
+      told : (p : ℕ → Bool) → Marked old-left p → r ≡ without (take i rows) p row
+      told p m = said (without (take i rows) p) (s.left_set p m)
+
+      pub taking-out : r ≡ false → (p : ℕ → Bool) → Marked old-left p → false ≡ in_order_lem 0 p rows
+      taking-out f p m = sym (take_out (s.taken p m) row h e l (sym (told p m) ∙ f))
+
+      pub taking-next : r ≡ true
+          → (new-left : List ℕ) → ((p : ℕ → Bool) → Marked left p → Marked new-left (λ j. p j && not (eqb j row)))
+          → (new-listed : List ℕ) → ((q : ℕ → Bool) → Marked listed q → Marked new-listed (λ j. q j && not (eqb j row)))
+          → Taking rows old-left old-listed new-left new-listed (row + 1) (i + 1)
+      taking-next t new-left left-out new-listed listed-out =
+          record {
+            bound = omega arith;
+            taken = λ p m. take_step (s.taken p m) row h e l (sym (told p m) ∙ t);
+            left_set = λ p m. marked-same (left-out (without (take i rows) p) (s.left_set p m)) (without (take (i + 1) rows) p) (without_more rows i row h e p);
+            listed_set = λ q m. marked-same (listed-out (without (take i rows) q) (s.listed_set q m)) (without (take (i + 1) rows) q) (without_more rows i row h e q);
+          }

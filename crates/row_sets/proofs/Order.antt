@@ -1,5 +1,4 @@
 -- A row against the least one that may stand there. Assumes nothing.
--- Holds: too-low, not_low
 use mathlib.Core.Path.{◌≡◌, sym, ◌∙◌}
 use mathlib.Core.Bool.{Bool, true, false}
 use Prim.Native.Nat.{ℕ, ◌≤◌, ◌<◌}

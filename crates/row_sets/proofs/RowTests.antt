@@ -30,41 +30,43 @@ inside-sets s m n x e = bit_in n x (s.among x (marked-bit m x e))
 pub sets-inside : {left listed : List ℕ} {p q : ℕ → Bool} → length left ≡ length listed → Marked left p → Marked listed q → ((x : ℕ) → p x ≡ true → q x ≡ true) → LeftIsListed left listed
 sets-inside l m n f = record { same_length = l; among = λ x e. marked-bit n x (f x (bit_in m x e)) }
 
-module _ (own : List ℕ) {left₀ : List ℕ} (r : Bool) (asked : (p : ℕ → Bool) → Marked left₀ p → r ≡ in_order_lem 0 p own) where
+module _ (own left₀ listed₀ left listed : List ℕ) (r : Bool) (inside : LeftIsListed left₀ listed₀)
+    (took : (p q : ℕ → Bool) → Marked left₀ p → Marked listed₀ q → (r ≡ in_order_lem 0 p own) × (r ≡ true → Marked left (without own p) × Marked listed (without own q))) where
   -- the own rows do not pass
-  pub own-fail : r ≡ false → (borrowed left listed : List ℕ) {listed₀ : List ℕ} (p q : ℕ → Bool) → Marked left₀ p → Marked listed₀ q
-      → RowsPassed own borrowed p q left listed false
-  own-fail e borrowed left listed p q m n =
-      let f : in_order_lem 0 p own ≡ false = sym (asked p m) ∙ e in
+  pub own-fail : r ≡ false → (borrowed : List ℕ) (p q : ℕ → Bool) → Marked left₀ p → Marked listed₀ q → RowsPassed own borrowed p q left listed false
+  own-fail e borrowed p q m n =
+      let f : in_order_lem 0 p own ≡ false = sym (took p q m n).0 ∙ e in
       record { tests = rw f; left_set = λ t. clash t refl; listed_set = λ t. clash t refl }
 
-  -- ---- they are out of what is listed
-  module _ {listed₀ : List ℕ} (listed : List ℕ) (out : (q : ℕ → Bool) → Marked listed₀ q → Marked listed (without own q)) where
-    -- where they pass, they can be marked there again
-    pub own-markable : r ≡ true → LeftIsListed left₀ listed₀ → length listed ≡ length listed₀ → Markable own listed
-    own-markable t inside l =
-        let p = held left₀ in
-        let m = bits-marked left₀ in
-        let g : in_order_lem 0 p own ≡ true = sym (asked p m) ∙ t in
-        taken-markable own (in-order-ascends 0 p own g)
-        (all-of (λ x. x < 64 * length listed) own (λ x i. omega (arith, l, inside.same_length, marked-within m x (in-order-in 0 p own g x i))))
-        (held listed₀) (out (held listed₀) (bits-marked listed₀))
+  module _ (t : r ≡ true) where
+    -- they pass, and can be marked again
+    own-pass : (p : ℕ → Bool) → Marked left₀ p → in_order_lem 0 p own ≡ true
+    own-pass p m = sym (took p (held listed₀) m (bits-marked listed₀)).0 ∙ t
 
-    module _ (borrowed : List ℕ) (b : Bool) (there : (q : ℕ → Bool) → Marked listed q → b ≡ in_order_lem 0 q borrowed) where
-      -- the borrowed rows do not pass
-      pub borrowed-fail : b ≡ false → (left new : List ℕ) (p q : ℕ → Bool) → Marked left₀ p → Marked listed₀ q → RowsPassed own borrowed p q left new false
-      borrowed-fail e left new p q m n =
-          let f : in_order_lem 0 (without own q) borrowed ≡ false = sym (there (without own q) (out q n)) ∙ e in
+    pub own-markable : length listed ≡ length listed₀ → Markable own listed
+    own-markable l =
+        let g = own-pass (held left₀) (bits-marked left₀) in
+        taken-markable own (in-order-ascends 0 (held left₀) own g)
+        (all-of (λ x. x < 64 * length listed) own (λ x i. omega (arith, inside.same_length, marked-within (bits-marked left₀) x (in-order-in 0 (held left₀) own g x i))))
+        (held listed₀) ((took (held left₀) (held listed₀) (bits-marked left₀) (bits-marked listed₀)).1 t).1
+
+    module _ (borrowed : List ℕ) (b : Bool) (asked : (q : ℕ → Bool) → Marked listed q → b ≡ in_order_lem 0 q borrowed) where
+      borrowed-test : (p q : ℕ → Bool) → Marked left₀ p → Marked listed₀ q → b ≡ in_order_lem 0 (without own q) borrowed
+      borrowed-test p q m n = asked (without own q) ((took p q m n).1 t).1
+
+      -- the borrowed rows do not
+      pub borrowed-fail : b ≡ false → (p q : ℕ → Bool) → Marked left₀ p → Marked listed₀ q → RowsPassed own borrowed p q left listed false
+      borrowed-fail e p q m n =
+          let f : in_order_lem 0 (without own q) borrowed ≡ false = sym (borrowed-test p q m n) ∙ e in
           record { tests = rw f (sym (and-false (in_order_lem 0 p own))); left_set = λ t. clash t refl; listed_set = λ t. clash t refl }
 
       -- both pass, and the own rows are marked again
-      pub rows-good : r ≡ true → b ≡ true → LeftIsListed left₀ listed₀ → (left : List ℕ) → ((p : ℕ → Bool) → Marked left₀ p → Marked left (without own p))
-          → (new : List ℕ) → ((q : ℕ → Bool) → Marked listed q → Marked new (λ i. q i || member i own))
+      pub rows-good : b ≡ true → (new : List ℕ) → ((q : ℕ → Bool) → Marked listed q → Marked new (λ i. q i || member i own))
           → (p q : ℕ → Bool) → Marked left₀ p → Marked listed₀ q → RowsPassed own borrowed p q left new true
-      rows-good t e inside left taken new again p q m n =
-          let g : in_order_lem 0 p own ≡ true = sym (asked p m) ∙ t in
+      rows-good e new again p q m n =
           record {
-            tests = sym (and-of g (sym (there (without own q) (out q n)) ∙ e));
-            left_set = λ _. taken p m;
-            listed_set = λ _. put_back own q (all-of (λ x. q x ≡ true) own (λ x i. inside-sets inside m n x (in-order-in 0 p own g x i))) (again (without own q) (out q n));
+            tests = sym (and-of (own-pass p m) (sym (borrowed-test p q m n) ∙ e));
+            left_set = λ _. ((took p q m n).1 t).0;
+            listed_set = λ _. put_back own q (all-of (λ x. q x ≡ true) own (λ x i. inside-sets inside m n x (in-order-in 0 p own (own-pass p m) x i)))
+                (again (without own q) ((took p q m n).1 t).1);
           }

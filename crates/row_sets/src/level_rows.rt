@@ -9,7 +9,7 @@ ghost use Rattle.row_sets.specs.Tested.{LeftIsListed, RowsPassed};
 
 use crate::Rows;
 
-// Two lists of as many words, lent by the caller.
+// The two sets are lists of as many words, lent by the caller.
 #[derive(Drop)]
 pub struct LevelRows<'a> {
     pub left: &'a mut [usize],
@@ -36,11 +36,9 @@ impl<'a> LevelRows<'a> {
     {
         let left: &mut [usize] = self.left;
         let listed: &mut [usize] = self.listed;
-        if !crate::rows_marked(own, left) {
+        if !crate::take_rows(own, left, listed) {
             return false;
         }
-        crate::unmark_rows(own, left);
-        crate::unmark_rows(own, listed);
         if !crate::rows_marked(borrowed, listed) {
             return false;
         }

@@ -1,26 +1,13 @@
 // Edges of the build: the lengths to lend, and what each call answers, with the front of each list of whole numbers that it was lent.
 // The lists hold nines before the call.
-use build_sizes::BuildSizes;
 use config::{DDMParams, SizePolicy};
 use points::Points;
 use printing::Numbers;
+use refusal::{Refusal, Report};
 use std::io;
 use std::io::Write;
 use tree_answer::DDMTree;
 use tree_lists::{Room, TreeLists};
-
-// The seven lengths.
-fn lengths_of(sizes: BuildSizes) -> [usize; 7] {
-    [
-        sizes.level_points,
-        sizes.internals,
-        sizes.domains,
-        sizes.boxes,
-        sizes.borrowed,
-        sizes.floats,
-        sizes.wholes,
-    ]
-}
 
 // The lengths that a build over n points is to be lent.
 fn print_lent<W: Write>(
@@ -29,12 +16,11 @@ fn print_lent<W: Write>(
     dimensions: usize,
     neighbours: u32,
 ) -> io::Result<()> {
-    let (number, lengths) = match build_sizes::build_sizes(n, dimensions, neighbours) {
-        Ok(sizes) => (0, lengths_of(sizes)),
-        Err(refusal) => (refusal.number(), [0; 7]),
-    };
+    let Report { number, value, .. } = Report::of(build_sizes::build_sizes(
+        n, dimensions, neighbours,
+    ));
     write!(to, "lent {n} {dimensions} {neighbours}: refused {number}")?;
-    writeln!(to, " lengths{}", Numbers(&lengths))
+    writeln!(to, " lengths{}", Numbers(&value.lengths()))
 }
 
 // Lengths, and each refusal of them.
@@ -53,23 +39,24 @@ pub fn print_lengths<W: Write>(to: &mut W) -> io::Result<()> {
     Ok(())
 }
 
-// The answer of a build, and the fronts of its lists.
-fn print_answer<W: Write>(
-    to: &mut W,
-    number: usize,
-    place: usize,
-    tree: DDMTree,
-) -> io::Result<()> {
+// The answer of a build.
+fn print_answer<W: Write>(to: &mut W, answer: Result<DDMTree, Refusal>) -> io::Result<()> {
+    let Report {
+        number,
+        place,
+        value,
+    } = Report::of(answer);
     let DDMTree {
         levels,
         rows,
         domains,
-    } = tree;
+    } = value;
     writeln!(to, "refused {number} at {place} levels {levels}")?;
     writeln!(to, "  rows{}", Numbers(&rows))?;
     writeln!(to, "  domains{}", Numbers(&domains))
 }
 
+// The fronts of its lists.
 fn print_lists<W: Write>(to: &mut W, lists: &TreeLists<'_>) -> io::Result<()> {
     writeln!(
         to,
@@ -81,23 +68,16 @@ fn print_lists<W: Write>(to: &mut W, lists: &TreeLists<'_>) -> io::Result<()> {
     writeln!(to, "  borrowed{}", Numbers::front(lists.borrowed, 24))
 }
 
-// A build in lists for at most 16 points with at most 3 neighbours.
+// A build in the lists of the stored calls, which hold nines: they suffice for 16 points with 3 neighbours.
 fn show<W: Write>(to: &mut W, points: Points<'_>, params: DDMParams) -> io::Result<()> {
-    let mut lists = TreeLists {
-        level_points: &mut [9; 64],
-        internals: &mut [9; 64],
-        domains: &mut [9; 485],
-        boxes: &mut [9.0; 679],
-        borrowed: &mut [9; 384],
-    };
+    let mut lists = call_records::nines();
+    let mut lists = lists.lend();
     let mut room = Room {
-        floats: &mut [9.0; 512],
-        wholes: &mut [9; 1024],
+        floats: &mut [9.0; call_records::FLOATS],
+        wholes: &mut [9; call_records::WHOLES],
     };
-    match ddm::build(points, params, &mut lists, &mut room) {
-        Ok(tree) => print_answer(to, 0, 0, tree)?,
-        Err(refusal) => print_answer(to, refusal.number(), refusal.place(), DDMTree::none())?,
-    }
+    let answer = ddm::build(points, params, &mut lists, &mut room);
+    print_answer(to, answer)?;
     print_lists(to, &lists)
 }
 

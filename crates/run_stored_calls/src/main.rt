@@ -9,7 +9,7 @@ use std::io;
 // The room for a record.
 const ROOM: usize = 4096;
 
-// What a record calls.
+// What a record calls. The codes are those of this program's records: in those of run_table_calls 1 and 2 are other calls.
 #[derive(Clone, Copy)]
 enum Kind {
     Load,
@@ -42,7 +42,8 @@ fn outcome_agrees(record: &[u8]) -> Option<bool> {
     }
 }
 
-// The room and the test are the program's own; the rest is record_file's.
+// Room and test are the program's own, the rest is record_file's. One function over both would be passed the file and the output too, and
+// leave these five lines in each program.
 fn main(rt: HostRuntime) -> io::Result<()> {
     let mut file = program_input::open_argument(&rt, 1)?;
     let mut room = [0u8; ROOM];

@@ -16,7 +16,7 @@ const FLAGS: usize = 40;
 
 const COORDINATES: usize = 130;
 
-// What a record calls.
+// What a record calls. The codes are those of this program's records: in those of run_stored_calls 1 and 2 are other calls.
 #[derive(Clone, Copy)]
 enum Kind {
     Add,
@@ -88,7 +88,8 @@ fn outcome_agrees(record: &[u8]) -> Option<bool> {
     }
 }
 
-// The room and the test are the program's own; the rest is record_file's.
+// Room and test are the program's own, the rest is record_file's. One function over both would be passed the file and the output too, and
+// leave these five lines in each program.
 fn main(rt: HostRuntime) -> io::Result<()> {
     let mut file = program_input::open_argument(&rt, 1)?;
     let mut room = [0u8; ROOM];

@@ -1,21 +1,21 @@
 -- A record's bytes against those of settings: field by field, each as a number. Assumes nothing.
--- Holds: field-same, parts_same, policy-same, settings-same, met, unmet
+-- Holds: field-same, parts_same, settings-same, fields-equal
 use mathlib.Core.Path.{◌≡◌, refl, sym, ap, ◌∙◌}
-use mathlib.Core.Bool.{Bool, true, false, ◌&&◌, and_assoc}
-use Prim.Native.Nat.{ℕ, zero, suc, ◌+◌, ◌*◌, ◌/◌, ◌%◌, ◌^◌, ◌≤◌, ◌<◌}
+use mathlib.Core.Bool.{Bool, ◌&&◌, and_assoc}
+use Prim.Native.Nat.{ℕ, zero, suc, ◌+◌, ◌-◌, ◌*◌, ◌/◌, ◌%◌, ◌^◌, ◌≤◌, ◌<◌}
 use native.Mathlib.Nat.{pow-zero, pow-succ'}
 use native.Mathlib.Omega.{arith}
 use mathlib.Core.List.{List, [], ◌∷◌, ◌++◌}
 use lib.ListN.{length, get_or, take, drop, length-append, length-drop}
 use lib.Seq.{get_or-drop}
 use lib.Dec.{eqb}
+use Rattle.std.specs.Str.{bytes_eq}
 use borrow.Author.Tests.{eq-eqb, eqb-true}
-use Rattle.lists.specs.Lists.{part}
+use Rattle.lists.specs.Lists.{part, put}
 use Rattle.lists.proofs.Tests.{same_test, and-fst, and-snd, and-of}
-use Rattle.lists.proofs.Put.{part-append, length_part}
-use Rattle.definition.specs.Levels.{Policy}
+use Rattle.lists.proofs.Put.{part-append, length_part, put_whole}
 use Rattle.definition.specs.Tree.{Settings}
-use Rattle.formats.specs.Bytes.{little, field, bytes_of}
+use Rattle.formats.specs.Bytes.{mark_size, little, field, bytes_of}
 use Rattle.formats.specs.Stream.{settings_size, policy_bytes, settings_bytes}
 use Rattle.stored.specs.Sound.{same}
 use Rattle.stored.specs.Outcome.{same_settings_lem}
@@ -56,11 +56,6 @@ module _ (bs : List ℕ) where
   pub parts_same : (xs ys : List ℕ) (at m n : ℕ) → length xs ≡ m → at + m ≤ length bs → same (xs ++ ys) (part bs at (m + n)) ≡ same xs (part bs at m) && same ys (part bs (at + m) n)
   parts_same xs ys at m n e h = rw (← part-append bs at m n) (same-append xs (part bs at m) ys (part bs (at + m) n) (e ∙ sym (length_part bs at m h)))
 
-  -- policy and threshold
-  pub policy-same : (p : Policy) (kind threshold : ℕ) → settings_size ≤ length bs → policy_bytes p ≡ bytes_of 1 kind ++ bytes_of 4 threshold
-      → same (policy_bytes p) (part bs 15 5) ≡ same (bytes_of 1 kind) (part bs 15 1) && same (bytes_of 4 threshold) (part bs 16 4)
-  policy-same p kind threshold h e = rw e (parts_same (bytes_of 1 kind) (bytes_of 4 threshold) 15 1 4 (length-bytes 1 kind) (omega arith))
-
 module _ (s : Settings) (bs : List ℕ) (h : settings_size ≤ length bs) where
   pub settings-same : same_settings_lem s bs
       ≡ same (bytes_of 1 s.dimension) (part bs 2 1) && same (bytes_of 4 s.leaf) (part bs 3 4) && same (bytes_of 4 s.neighbours) (part bs 7 4)
@@ -83,10 +78,20 @@ module _ (s : Settings) (bs : List ℕ) (h : settings_size ≤ length bs) where
       (parts_same bs (d ++ leaf) neighbours 2 5 4 k2 (omega arith)
       ∙ ap (λ (t : Bool). t && same neighbours (part bs 7 4)) (parts_same bs d leaf 2 1 4 (length-bytes 1 s.dimension) (omega arith))))
 
--- ---- a chain of tests that stops at the first one that is not met
-module _ {v b x : Bool} (e : b ≡ x) where
-  pub met : {r l : Bool} → b ≡ true → v ≡ r → r ≡ l → v ≡ x && l
-  met h p q = rw (p, q, ← e, h)
+-- ---- all fields at once
+same-equal : (xs ys : List ℕ) → bytes_eq xs ys ≡ same xs ys
+unfolding same
+same-equal [] [] = refl
+same-equal [] (y ∷ ys) = refl
+same-equal (x ∷ xs) [] = refl
+same-equal (x ∷ xs) (y ∷ ys) = ap (λ (t : Bool). eqb x y && t) (same-equal xs ys)
 
-  pub unmet : (l : Bool) → b ≡ false → v ≡ b → v ≡ x && l
-  unmet l h p = rw (p, ← e, h)
+-- what was written to a list that the fields just fill, against a record
+pub fields-equal : (s : Settings) (bs room written : List ℕ) → mark_size + length room ≡ settings_size → written ≡ put room 0 (settings_bytes s)
+    → bytes_eq written (part bs mark_size (settings_size - mark_size)) ≡ same_settings_lem s bs
+fields-equal s bs room written h e =
+    let long : length room ≡ length (settings_bytes s) = omega (arith, length-settings s) in
+    let full : written ≡ settings_bytes s = e ∙ put_whole room (settings_bytes s) (omega (arith, long)) in
+    same-equal written (part bs mark_size (settings_size - mark_size))
+    ∙ ap (λ (xs : List ℕ). same xs (part bs mark_size (settings_size - mark_size))) full
+    ∙ ap (λ (k : ℕ). same (settings_bytes s) (part bs mark_size k)) (omega (arith, length-settings s))

@@ -1,18 +1,15 @@
 // The settings record of a job stream, and of a stored tree: read, written and compared.
 #![tactic(auto)]
 
-ghost use Rattle.std.specs.Prelude.{◌≡◌, ◌++◌, ◌+◌, ◌-◌, ◌≤◌, ◌<◌, length};
-ghost use Rattle.lists.specs.Lists.{part};
-ghost use Rattle.formats.specs.Bytes.{bytes_of, number_at, number_bytes, number_size};
-ghost use Rattle.formats.specs.Stream.{settings_size, policy_field, policy_fits_lem, settings_in, policy_bytes, settings_bytes};
-ghost use Rattle.stored.specs.Sound.{same};
+ghost use Rattle.std.specs.Prelude.{◌≡◌, ◌+◌, ◌≤◌, length};
+ghost use Rattle.formats.specs.Bytes.{number_at, number_size};
+ghost use Rattle.formats.specs.Stream.{settings_size, policy_fits_lem, settings_in, policy_bytes, settings_bytes};
 ghost use Rattle.stored.specs.Outcome.{same_settings_lem};
 ghost use Rattle.bytes_out.specs.Writing.{Takes, Appends};
 ghost use Rattle.config.specs.Params.{threshold_policy, settings_are};
 
 use bytes_out::Writer;
-pub use config::Settings;
-use config::{DDMParams, SizePolicy};
+use config::{DDMParams, Settings, SizePolicy};
 
 // Where each field of the record begins, and where the record ends.
 const DIMENSION: usize = bytes_in::MARK;
@@ -29,26 +26,8 @@ const THRESHOLD: usize = POLICY + 1;
 
 pub const SIZE: usize = THRESHOLD + bytes_in::NUMBER;
 
-// A policy as the record has it: its number, and its threshold, which is 0 for Auto.
-#[derive(Clone, Copy)]
-struct PolicyFields {
-    kind: usize,
-    threshold: u32,
-}
-
-impl From<SizePolicy> for PolicyFields {
-    ghost from_gives = { λ policy fields. (policy_bytes (threshold_policy policy) ≡ bytes_of 1 fields.kind ++ number_bytes fields.threshold) × (fields.kind < 256) };
-
-    fn from(policy: SizePolicy) -> PolicyFields {
-        match policy {
-            SizePolicy::Auto => PolicyFields {
-                kind: 0,
-                threshold: 0,
-            },
-            SizePolicy::Fixed(threshold) => PolicyFields { kind: 1, threshold },
-        }
-    }
-}
+// The bytes of the fields, behind the mark.
+const FIELDS: usize = SIZE - DIMENSION;
 
 // ---- read
 
@@ -95,14 +74,17 @@ pub fn settings_of(input: &[u8]) -> Settings
 
 // ---- written, after the mark
 
-// Appends the policy and its threshold.
+// Appends the policy's number and its threshold, which is 0 for Auto.
 fn put_policy(policy: SizePolicy, out: &mut Writer<'_>)
     requires { Takes out.old (policy_bytes (threshold_policy policy)) }
     ensures { Appends out.old out.new (policy_bytes (threshold_policy policy)) }
 {
-    let fields = PolicyFields::from(policy);
-    out.low_byte(fields.kind);
-    out.field(fields.threshold as usize);
+    let (kind, threshold) = match policy {
+        SizePolicy::Auto => (0, 0),
+        SizePolicy::Fixed(threshold) => (1, threshold as usize),
+    };
+    out.low_byte(kind);
+    out.field(threshold);
 }
 
 // Appends the record's bytes after its mark.
@@ -118,42 +100,19 @@ pub fn put_settings(settings: Settings, out: &mut Writer<'_>)
     put_policy(params.coarse_threshold, out);
 }
 
-// ---- compared, byte for byte: settings that are read and then compared by `==` would be the same for records that differ
+// ---- compared
 
-// Whether the byte at `at` is that of a number.
-fn byte_is(n: usize, input: &[u8], at: usize) -> bool
-    requires { (n < 256) × (at < length input.now) }
-    ensures { result ≡ same (bytes_of 1 n) (part input.now at 1) }
-{
-    n == bytes_in::byte_at(input, at)
-}
-
-// Whether the four bytes from `at` on are those of a number.
-fn number_is(n: u32, input: &[u8], at: usize) -> bool
-    requires { at + number_size ≤ length input.now }
-    ensures { result ≡ same (number_bytes n) (part input.now at number_size) }
-{
-    n as usize == bytes_in::number_at(input, at)
-}
-
-// Whether the record has this policy and its threshold.
-fn policy_is(policy: SizePolicy, input: &[u8]) -> bool
-    requires { settings_size ≤ length input.now }
-    ensures { result ≡ same (policy_bytes (threshold_policy policy)) (part input.now policy_field.offset (settings_size - policy_field.offset)) }
-{
-    let fields = PolicyFields::from(policy);
-    byte_is(fields.kind, input, POLICY) && number_is(fields.threshold, input, THRESHOLD)
-}
-
-// Whether a whole record has these settings, byte for byte.
+// Whether a whole record has these settings, byte for byte: settings that are read and then compared by `==` would be the same for records that
+// differ.
 pub fn same_settings(settings: Settings, input: &[u8]) -> bool
-    requires { (settings_size ≤ length input.now) × (settings.dimensions < 256) }
+    requires { settings_size ≤ length input.now }
     ensures { result ≡ same_settings_lem (settings_are settings) input.now }
 {
-    let Settings { dimensions, params } = settings;
-    byte_is(dimensions, input, DIMENSION)
-        && number_is(params.leaf_threshold, input, LEAF)
-        && number_is(params.overlap_knn, input, NEIGHBOURS)
-        && number_is(params.coarse_reduction_factor, input, FACTOR)
-        && policy_is(params.coarse_threshold, input)
+    let mut bytes = [0; FIELDS];
+    let mut out = Writer {
+        bytes: &mut bytes,
+        at: 0,
+    };
+    put_settings(settings, &mut out);
+    bytes[..] == input[DIMENSION..SIZE]
 }

@@ -1,7 +1,6 @@
 -- A call by the length of its slot: a short one is refused before anything else, and any other gets what the call answers.
 -- Assumes nothing.
--- Holds: slot-short, slot-long, slot-written, room-short, room-long, number-long, seen, part-four, slot_counts, slot_read
-use Rattle.std.specs.Prelude.{Result, Ok, Err}
+-- Holds: slot-short, slot-long, slot-written, room-short, room-long, number-long, part-four, slot_counts, slot_read
 use mathlib.Core.Path.{◌≡◌, refl, ap, ◌∙◌}
 use mathlib.Core.List.{List, [], ◌∷◌, ◌++◌}
 use Prim.Native.Nat.{ℕ, suc, ◌+◌, ◌≤◌, ◌<◌}
@@ -9,13 +8,10 @@ use native.Mathlib.Omega.{arith}
 use lib.ListN.{length, get_or}
 use borrow.Author.Tests.{lt-ltb, le-ltb}
 use Rattle.lists.specs.Lists.{put, part}
-use Rattle.lists.proofs.Put.{put-zero, put-next-at, part-whole, part-cons, part-nil}
+use Rattle.lists.proofs.Put.{put-zero, put-next-at, part-cons, part-nil}
 use Rattle.definition.specs.Refusals.{Verdict}
 use Rattle.definition.specs.Outcome.{Answer, written, RoomAfter}
-use Rattle.refusal.specs.declared.Refusal.{Refusal}
-use Rattle.refusal.specs.Refusals.{answer_of}
-use Rattle.slots.specs.declared.Report.{Report}
-use Rattle.slots.specs.Slots.{unless_short, number_after, slot_after, slot_first, counts_in, told}
+use Rattle.slots.specs.Slots.{unless_short, number_after, slot_after, slot_first, counts_in}
 
 module _ {B : Type 0} (n : ℕ) (slot : List B) where
   pub slot-short : {A : Type 0} (x y : A) → length slot < n → x ≡ unless_short n slot x y
@@ -44,12 +40,6 @@ module _ {B : Type 0} (n : ℕ) (slot : List B) where
   pub number-long : {A : Type 0} (a b : Answer A) (k : ℕ) → n ≤ length slot → k ≡ a.number → a ≡ b → k ≡ number_after n slot b
   number-long a b k h e g = slot-long 11 b.number k h (e ∙ ap (λ (x : Answer _). x.number) g)
 
--- what is told of an answer, each value seen through `view`
-pub seen : {A B : Type 0} (view : A → B) (zeros : B) (zero : A) (answer : Result A Refusal) (r : Report A) → told r ≡ answer_of (λ x. x) zero answer → view zero ≡ zeros
-    → record { number = r.number; place = r.place; value = view r.value } ≡ answer_of view zeros answer
-seen view zeros zero (Ok x) r e z = ap (λ (a : Answer _). record { number = a.number; place = a.place; value = view a.value }) e
-seen view zeros zero (Err d) r e z = ap (λ (a : Answer _). record { number = a.number; place = a.place; value = view a.value }) e ∙ rw z refl
-
 -- four numbers of a list, by their places
 pub part-four : (l : List ℕ) (at : ℕ) → at + 4 ≤ length l
     → get_or l at 0 ∷ get_or l (suc at) 0 ∷ get_or l (suc (suc at)) 0 ∷ get_or l (suc (suc (suc at))) 0 ∷ [] ≡ part l at 4
@@ -64,12 +54,12 @@ part-four l at h =
 
 -- place and levels, then the rows of each level, then the domains of each level
 pub slot_counts : (old first second third : List ℕ) (place levels : ℕ) (rows domains : List ℕ) → length rows ≡ 4 → length domains ≡ 4
-    → first ≡ put old 0 (place ∷ levels ∷ []) → second ≡ put first 2 (part rows 0 4) → third ≡ put second 6 (part domains 0 4)
+    → first ≡ put old 0 (place ∷ levels ∷ []) → second ≡ put first 2 rows → third ≡ put second 6 domains
     → third ≡ put old 0 (place ∷ levels ∷ rows ++ domains)
 slot_counts old first second third place levels rows domains m k e f g =
     let two : second ≡ put old 0 (place ∷ levels ∷ rows) =
-    f ∙ rw (e, part-whole rows 4 m) (put-next-at old 0 (place ∷ levels ∷ []) rows 2 (omega arith) refl) in
-    g ∙ rw (two, part-whole domains 4 k) (put-next-at old 0 (place ∷ levels ∷ rows) domains 6 (omega arith) (omega arith))
+    f ∙ rw e (put-next-at old 0 (place ∷ levels ∷ []) rows 2 (omega arith) refl) in
+    g ∙ rw two (put-next-at old 0 (place ∷ levels ∷ rows) domains 6 (omega arith) (omega arith))
 
 -- the counts in a slot, entry by entry
 pub slot_read : (slot : List ℕ) → 10 ≤ length slot

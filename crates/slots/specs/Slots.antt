@@ -1,11 +1,14 @@
 -- The result slot of a call: what is written to it, and what becomes of a call whose slot is short. Definitions only.
-use Rattle.std.specs.Prelude.{ℕ, ◌+◌, ◌*◌, cond, List, [], ◌∷◌, ◌++◌, length, get_or, set, ltb, Float}
-use Rattle.lists.specs.Lists.{part}
+use Rattle.std.specs.Prelude.{ℕ, ◌≡◌, Result, ◌+◌, ◌*◌, cond, List, [], ◌∷◌, ◌++◌, length, get_or, set, ltb, Float}
+use Rattle.lists.specs.Lists.{part, put}
 use Rattle.definition.specs.Packed.{Counts, BuildSizes, most_levels}
 use Rattle.definition.specs.Refusals.{Verdict, refused}
 use Rattle.definition.specs.Table.{Head, Table}
 use Rattle.definition.specs.Outcome.{Answer, Shared, Sampled, written}
-use Rattle.slots.specs.declared.Report.{Report}
+use Rattle.build_sizes.specs.Sizes.{lengths_of}
+use Rattle.refusal.specs.declared.Refusal.{Refusal}
+use Rattle.refusal.specs.declared.Report.{Report}
+use Rattle.refusal.specs.Reports.{Reports}
 
 -- ---- a slot that is to have n entries
 
@@ -49,10 +52,6 @@ abbrev pub placed_slot : Answer ℕ → List ℕ
 placed_slot a = a.place ∷ a.value ∷ []
 
 -- the lengths that a build is to be lent, in the order of its lists
-abbrev pub lengths_of : BuildSizes → List ℕ
-lengths_of b =
-    b.level_points ∷ b.internals ∷ b.domains ∷ b.boxes ∷ b.borrowed ∷ b.floats ∷ b.wholes ∷ []
-
 abbrev pub sizes_slot : Answer BuildSizes → List ℕ
 sizes_slot a = lengths_of a.value
 
@@ -63,9 +62,9 @@ build_slot a = a.place ∷ a.value.levels ∷ a.value.rows ++ a.value.domains
 abbrev pub counts_in : List ℕ → Counts
 counts_in slot = record { levels = get_or slot 1 0; rows = part slot 2 most_levels; domains = part slot 6 most_levels }
 
--- what is told of an answer
-abbrev pub told : {A : Type 0} → Report A → Answer A
-told r = record { number = r.number; place = r.place; value = r.value }
+-- what a call returns, and its slot of one value after it: what is told of its answer
+abbrev pub PutValue : {A : Type 0} → (A → Type 0) → Result A Refusal → List A → List A → ℕ → Type 0
+PutValue {A} IsZero answer slot slot' returned = (r : Report A) × Reports IsZero answer r × (returned ≡ r.number) × (slot' ≡ put slot 0 (r.value ∷ []))
 
 -- ---- a table's head, as two numbers
 

@@ -1,4 +1,5 @@
-// What the exported functions write to their result slots, and return: one small function for each kind of answer.
+// What the exported functions write to their result slots, and return: one small function for each kind of answer. Each slot is a list of plain
+// numbers, and a refusal a number that is returned, as the C interface has them.
 #![tactic(auto)]
 
 ghost use Rattle.std.specs.Prelude.{◌≡◌, ◌∷◌, ◌++◌, ℕ, ◌≤◌, length};
@@ -8,11 +9,11 @@ ghost use Rattle.build_sizes.specs.Sizes.{sizes_report};
 ghost use Rattle.config.specs.Params.{settings_of_lem};
 ghost use Rattle.tree_answer.specs.Answers.{counts_given, tree_answer_lem};
 ghost use Rattle.slots.specs.Settings.{settings_from};
-ghost use Rattle.slots.specs.Slots.{sizes_slot, build_slot, counts_in, told, version_number};
+ghost use Rattle.slots.specs.Slots.{sizes_slot, build_slot, counts_in, placed_slot, version_number, PutValue};
 
 use build_sizes::BuildSizes;
 use config::{DDMParams, SizePolicy};
-use refusal::Refusal;
+use refusal::{Refusal, Report};
 use tree_answer::DDMTree;
 
 // The version, 0.7.0, as one number: major, minor and patch, with two digits for each of the last two.
@@ -22,43 +23,33 @@ pub fn version() -> usize
     700
 }
 
-// The lengths that a refused call tells of.
-const NO_SIZES: BuildSizes = BuildSizes {
-    level_points: 0,
-    internals: 0,
-    domains: 0,
-    boxes: 0,
-    borrowed: 0,
-    floats: 0,
-    wholes: 0,
-};
+// How many entries a slot has: of a pair, as a place and a value; of the lengths of a build's lists; and of a tree, which are its place, its levels,
+// and the rows and the domains of each level.
+pub const PAIR: usize = 2;
 
-// What a call returns, and writes to its slot: the refusal's number, 0 for none, its place, and the values, which are `zero` of a refused one.
-#[derive(Clone, Copy)]
-pub struct Report<T> {
-    pub number: usize,
-    pub place: usize,
-    pub value: T,
+pub const SIZES: usize = 7;
+
+pub const TREE: usize = 10;
+
+// The value that a call answers, to the front of a slot: a zero where the call is refused. What it returns is the refusal's number.
+pub fn put_value<T: Copy + Default>(res: &mut [T], answer: Result<T, Refusal>) -> usize
+    requires { 1 ≤ length res.old }
+    ensures { PutValue T.is_default answer res.old res.new result }
+{
+    let told = Report::of(answer);
+    res[0] = told.value;
+    told.number
 }
 
-impl<T: Copy> Report<T> {
-    // What is told of an answer.
-    pub fn of(answer: Result<T, Refusal>, zero: T) -> Report<T>
-        ensures { told result ≡ answer_of (λ x. x) zero answer }
-    {
-        match answer {
-            Ok(value) => Report {
-                number: 0,
-                place: 0,
-                value,
-            },
-            Err(refusal) => Report {
-                number: refusal.number(),
-                place: refusal.place(),
-                value: zero,
-            },
-        }
-    }
+// The place of a refusal, and the number that an accepted call answers, to the front of a slot. What it returns is the refusal's number.
+pub fn put_placed(res: &mut [usize], answer: Result<usize, Refusal>) -> usize
+    requires { 2 ≤ length res.old }
+    ensures slot { res.new ≡ put res.old 0 (placed_slot (answer_of (λ x. x) 0 answer)) }
+    ensures number { result ≡ (answer_of (λ x. x) 0 answer).number }
+{
+    let told = Report::of(answer);
+    stretches::put_values(res, 0, &[told.place, told.value]);
+    told.number
 }
 
 // The seven lengths that a build is to be lent, to the front of a slot: 0 where the call is refused. What it returns is the refusal's number.
@@ -67,36 +58,20 @@ pub fn put_sizes(res: &mut [usize], answer: Result<BuildSizes, Refusal>) -> usiz
     ensures slot { res.new ≡ put res.old 0 (sizes_slot (sizes_report answer)) }
     ensures number { result ≡ (sizes_report answer).number }
 {
-    let told = Report::of(answer, NO_SIZES);
-    let sizes = told.value;
-    let seven = [
-        sizes.level_points,
-        sizes.internals,
-        sizes.domains,
-        sizes.boxes,
-        sizes.borrowed,
-        sizes.floats,
-        sizes.wholes,
-    ];
-    stretches::copy_rows(&seven, 0, 7, res, 0);
+    let told = Report::of(answer);
+    stretches::put_values(res, 0, &told.value.lengths());
     told.number
 }
 
-// The settings, from the numbers of the call: of the policy, 0 is Auto, and any other number Fixed. It is no `From`: C hands over five plain
-// numbers, which are no value of their own.
+// The settings, from the numbers of the call. It is no `From`: C hands over five plain numbers, which are no value of their own.
 pub fn params_of(leaf: u32, neighbours: u32, factor: u32, policy: u32, threshold: u32) -> DDMParams
     ensures { (d : ℕ) → settings_of_lem d result ≡ settings_from d leaf neighbours factor policy threshold }
 {
-    let coarse_threshold = if policy == 0 {
-        SizePolicy::Auto
-    } else {
-        SizePolicy::Fixed(threshold)
-    };
     DDMParams {
         leaf_threshold: leaf,
         overlap_knn: neighbours,
         coarse_reduction_factor: factor,
-        coarse_threshold,
+        coarse_threshold: SizePolicy::of(policy as usize, threshold),
     }
 }
 
@@ -107,15 +82,15 @@ pub fn put_tree(res: &mut [usize], answer: Result<DDMTree, Refusal>) -> usize
     ensures slot { res.new ≡ put res.old 0 (build_slot (tree_answer_lem answer)) }
     ensures number { result ≡ (tree_answer_lem answer).number }
 {
-    let told = Report::of(answer, DDMTree::none());
+    let told = Report::of(answer);
     let DDMTree {
         levels,
         rows,
         domains,
     } = told.value;
-    stretches::put_pair(res, 0, told.place, levels);
-    stretches::copy_rows(&rows, 0, 4, res, 2);
-    stretches::copy_rows(&domains, 0, 4, res, 6);
+    stretches::put_values(res, 0, &[told.place, levels]);
+    stretches::put_values(res, 2, &rows);
+    stretches::put_values(res, 6, &domains);
     told.number
 }
 

@@ -1,18 +1,18 @@
 -- The tests of a build over slots, group by group. Assumes nothing.
--- Holds: slot-inside, rows-tests, refused-27, refused-9, refused-11, judged-last
-use mathlib.Core.Path.{◌≡◌, sym, ap, ap₂, ◌∙◌}
-use mathlib.Core.Bool.{Bool, true, false, not, ◌||◌}
+-- Holds: slot-inside, is-sound, is-unsound, refused-27, refused-9, refused-11, judged-last
+use mathlib.Core.Path.{◌≡◌, sym, ◌∙◌}
+use mathlib.Core.Bool.{Bool, true, false, ◌||◌}
 use mathlib.Core.List.{[], ◌∷◌, ◌++◌}
-use Prim.Native.Nat.{ℕ, suc, ◌+◌, ◌*◌, ◌/◌, ◌%◌, ◌≤◌, ◌<◌}
+use Prim.Native.Nat.{ℕ, suc, ◌+◌, ◌*◌, ◌≤◌, ◌<◌}
 use native.Mathlib.Omega.{arith}
-use native.Mathlib.Nat.{mul-le-mul_right, suc-mul, mul-div_cancel, mul-mod_left}
-use borrow.Author.Tests.{eq-eqb}
-use lib.Dec.{eqb}
+use native.Mathlib.Nat.{mul-le-mul_right, suc-mul}
+use Rattle.std.specs.Prelude.{Ok, Err, Option, Some, None, MatchOption}
+use Rattle.std.specs.Option.{ok_or}
 use Rattle.lists.specs.Lists.{keep, from}
 use Rattle.definition.specs.Tree.{Settings}
 use Rattle.definition.specs.Packed.{BuildSizes, build_stated}
 use Rattle.definition.specs.Refusals.{Refusal, accepted, refused, on, verdict, settings_tests, points_tests, build_short}
-use Rattle.definition.specs.Table.{Table, flagged, live_slots_lem, unsound, coordinates_short}
+use Rattle.definition.specs.Table.{Table, flagged, live_slots_lem, next_slot, unsound, coordinates_short}
 use Rattle.definition.specs.Slots.{rows_not_finite, rows_of, slots_verdict}
 use Rattle.definition_laws.proofs.Accepted.{decides, pass}
 use Rattle.build_checks.proofs.Laws.{tests-stop, tests-pass}
@@ -21,11 +21,22 @@ use Rattle.build_checks.proofs.Laws.{tests-stop, tests-pass}
 pub slot-inside : (i n d : ℕ) → i < n → i * d + d ≤ n * d
 slot-inside i n d h = let s : suc i ≤ n = omega arith in omega (arith, mul-le-mul_right d s, suc-mul i d)
 
--- n rows of d coordinates each are n points, of which none lacks a coordinate
-pub rows-tests : (s : Settings) (n : ℕ) → 1 ≤ s.dimension
-    → verdict (points_tests s (n * s.dimension / s.dimension) (not (eqb (n * s.dimension % s.dimension) 0))) ≡ verdict (points_tests s n false)
-rows-tests s n h =
-    ap₂ (λ (m : ℕ) (b : Bool). verdict (points_tests s m b)) (mul-div_cancel n (omega arith)) (ap not (eq-eqb (n * s.dimension % s.dimension) 0 (mul-mod_left n s.dimension)))
+-- ---- the test of the head, and what is refused where it fails
+module _ {R : Type 0} (t : Table) (o : Option ℕ) (r : R)
+    (tested : MatchOption o (unsound t.head t.flags ≡ true) (λ next. (unsound t.head t.flags ≡ false) × (next ≡ next_slot t.head t.flags))) where
+  pub is-sound : (next : ℕ) → ok_or o r ≡ Ok next → unsound t.head t.flags ≡ false
+  is-sound next e = go o e tested
+    where
+      go : (o : Option ℕ) → ok_or o r ≡ Ok next → MatchOption o (unsound t.head t.flags ≡ true) (λ next. (unsound t.head t.flags ≡ false) × (next ≡ next_slot t.head t.flags)) → unsound t.head t.flags ≡ false
+      go None e h = let z : ◌≡◌ {A = ℕ} 0 1 = cc in absurd (omega arith)
+      go (Some m) e h = h.0
+
+  pub is-unsound : (x : R) → ok_or o r ≡ Err x → (unsound t.head t.flags ≡ true) × (x ≡ r)
+  is-unsound x e = go o e tested
+    where
+      go : (o : Option ℕ) → ok_or o r ≡ Err x → MatchOption o (unsound t.head t.flags ≡ true) (λ next. (unsound t.head t.flags ≡ false) × (next ≡ next_slot t.head t.flags)) → (unsound t.head t.flags ≡ true) × (x ≡ r)
+      go None e h = let z : x ≡ r = cc in (h, z)
+      go (Some m) e h = let z : ◌≡◌ {A = ℕ} 0 1 = cc in absurd (omega arith)
 
 -- ---- the whole verdict
 module _ (s : Settings) (t : Table) (lent : BuildSizes) where

@@ -1,13 +1,13 @@
 // The refusals of a build over the live slots of a table, tried in their order before anything is written.
 #![tactic(auto)]
 
-ghost use Rattle.std.specs.Prelude.{◌≡◌, false, ◌||◌, [], ◌∷◌, ◌++◌, ◌*◌, ◌≤◌, length, OnOk};
+ghost use Rattle.std.specs.Prelude.{◌≡◌, ◌||◌, [], ◌∷◌, ◌*◌, ◌≤◌, length};
 ghost use Rattle.lists.specs.Lists.{keep, from};
 ghost use Rattle.definition.specs.Packed.{build_stated};
-ghost use Rattle.definition.specs.Refusals.{most_points, most_neighbours, verdict, settings_tests, points_tests, build_short};
+ghost use Rattle.definition.specs.Refusals.{most_points, most_neighbours, verdict, build_short};
 ghost use Rattle.definition.specs.Table.{flagged, coordinates_short};
 ghost use Rattle.definition.specs.Slots.{rows_not_finite, slots_verdict};
-ghost use Rattle.config.specs.Params.{settings_of_lem, settings_are};
+ghost use Rattle.config.specs.Params.{settings_of_lem};
 ghost use Rattle.build_sizes.specs.Sizes.{sizes_of};
 ghost use Rattle.refusal.specs.Refusals.{verdict_of};
 ghost use Rattle.table_checks.specs.Tables.{table_in};
@@ -16,17 +16,6 @@ use build_sizes::BuildSizes;
 use config::{DDMParams, Settings};
 use refusal::Refusal;
 use table_checks::Table;
-
-// Settings, and `live` rows of which none lacks a coordinate: the first of 1 to 9 whose condition is met.
-pub fn rows_fault(live: usize, settings: Settings) -> Result<(), Refusal>
-    requires { live ≤ most_points }
-    ensures number { verdict_of result ≡ verdict (settings_tests (settings_are settings) ++ points_tests (settings_are settings) live false) }
-    ensures fine { OnOk result ((1 ≤ settings.dimensions) × (settings.dimensions ≤ 3) × (settings.params.overlap_knn ≤ most_neighbours)) }
-{
-    build_checks::settings_fault(settings)?;
-    build_checks::points_fault(live * settings.dimensions, settings)?;
-    Ok(())
-}
 
 // Whether a list is shorter than the live rows ask for, or the coordinates than the capacity does.
 pub fn any_short(table: Table<'_>, lent: BuildSizes, neighbours: usize) -> bool
@@ -57,11 +46,9 @@ pub fn judge_slots(table: Table<'_>) -> Result<(), Refusal>
 pub fn check_slots(table: Table<'_>, params: DDMParams, lent: BuildSizes) -> Result<(), Refusal>
     ensures { verdict_of result ≡ slots_verdict (settings_of_lem table.entry.points.dimensions params) (table_in table.entry) (sizes_of lent) }
 {
-    let Some(_) = table.sound() else {
-        return Err(Refusal::UnsoundTable);
-    };
+    table.sound().ok_or(Refusal::UnsoundTable)?;
     let dimensions = table.points.dimensions;
-    rows_fault(table.head.live, Settings { dimensions, params })?;
+    build_checks::rows_fault(table.head.live, Settings { dimensions, params })?;
     if any_short(table, lent, params.overlap_knn as usize) {
         return Err(Refusal::ShortList);
     }

@@ -12,6 +12,7 @@ ghost use Rattle.store.specs.Limits.{Limited};
 ghost use Rattle.store.specs.Outcome.{store_report, Stored};
 
 use config::DDMParams;
+use list_domains::ListsPassed;
 use points::Points;
 use refusal::Refusal;
 use tree_answer::{DDMTree, PackedTree};
@@ -22,17 +23,15 @@ const END: usize = bytes_in::FLOAT + bytes_in::NUMBER;
 
 // The bytes of a tree's file, by its counts: the rows, domains and borrowed rows of all its levels. Each of its rows stands in it twice, as
 // a level's row and as a domain's own; each domain has a cover and a depth, and all but the coarse one a box.
-fn file_size(
-    dimensions: usize,
-    n: usize,
-    levels: usize,
-    rows: usize,
-    domains: usize,
-    borrowed: usize,
-) -> usize
-    requires { Limited dimensions n levels rows domains borrowed }
-    ensures { result ≡ file_size_lem dimensions n levels rows domains borrowed }
+fn file_size(dimensions: usize, n: usize, levels: usize, all: ListsPassed) -> usize
+    requires { Limited dimensions n levels all.rows all.domains all.borrowed }
+    ensures { result ≡ file_size_lem dimensions n levels all.rows all.domains all.borrowed }
 {
+    let ListsPassed {
+        rows,
+        domains,
+        borrowed,
+    } = all;
     let bounds = bytes_in::FLOAT * boxes::box_width(dimensions);
     let front = file_front::HEAD + n * bytes_in::point_size(dimensions);
     let counts = bytes_in::COUNTS * (levels + domains);
@@ -58,17 +57,8 @@ fn store_sound(
     let tree = PackedTree::of(counts, tree, dimensions);
     let n = points.count();
     let neighbours = params.overlap_knn as usize;
-    let Some(passed) = list_levels::check_lists(tree, n, neighbours) else {
-        return Err(Refusal::NoSoundTree);
-    };
-    let size = file_size(
-        dimensions,
-        n,
-        counts.levels,
-        passed.rows,
-        passed.domains,
-        passed.borrowed,
-    );
+    let passed = list_levels::check_lists(tree, n, neighbours).ok_or(Refusal::NoSoundTree)?;
+    let size = file_size(dimensions, n, counts.levels, passed);
     if file.len() < size {
         return Err(Refusal::ShortList);
     }

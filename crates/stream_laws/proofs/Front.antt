@@ -1,5 +1,6 @@
 -- The front of a stream decides what it comes to: its settings, and 33 point records of three axes, are 878 bytes (`decisive-is`).
 -- What lies past them is not looked at: `front-decides` says so of the job, `front-printed` of the printout. Assumes nothing.
+-- Holds: whole_take, point-take, front-decides, front-printed, decisive-is
 use mathlib.Core.Path.{◌≡◌, refl, sym, ap, ap₂, ◌∙◌}
 use mathlib.Core.Bool.{Bool, true, false, ◌&&◌, cond}
 use mathlib.Core.Logic.{⊎_elim}
@@ -46,10 +47,10 @@ module _ (n : ℕ) (bs : List ℕ) where
       (λ (cut : n < length bs). rw (length-take-le n bs (omega arith)) (le-leb size n h ∙ sym (le-leb size (length bs) (omega arith))))
       (le-or-lt (length bs) n)
 
-  whole_take : (m : Mark) (size : ℕ) → 2 ≤ size → size ≤ n → whole m size (take n bs) ≡ whole m size bs
+  pub whole_take : (m : Mark) (size : ℕ) → 2 ≤ size → size ≤ n → whole m size (take n bs) ≡ whole m size bs
   whole_take m size g h = rw (long-take size h, get_or-take n bs 0 0 (omega arith), get_or-take n bs 1 0 (omega arith))
 
-  point-take : (d : ℕ) → point_size_lem d ≤ n → floats_at d mark_size (take n bs) ≡ floats_at d mark_size bs
+  pub point-take : (d : ℕ) → point_size_lem d ≤ n → floats_at d mark_size (take n bs) ≡ floats_at d mark_size bs
   unfolding floats_at
   point-take d h =
       map-below-same (λ a. float_at (mark_size + float_size * a) (take n bs)) (λ a. float_at (mark_size + float_size * a) bs) d

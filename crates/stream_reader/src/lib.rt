@@ -1,25 +1,27 @@
 // The job stream: settings and points from a list of bytes.
 #![tactic(auto)]
 
-ghost use Rattle.std.specs.Prelude.{◌≡◌, ◌&&◌, ◌*◌, ◌≤◌, length};
+ghost use Rattle.std.specs.Prelude.{◌≡◌, ◌&&◌, ◌*◌, ◌≤◌, [], length, IfOk};
 ghost use Rattle.formats.specs.Bytes.{whole};
-ghost use Rattle.formats.specs.Stream.{settings_mark, settings_size, policy_fits_lem, stream_points, job_in};
-ghost use Rattle.stream_reader.specs.Reading.{job_of, Within};
+ghost use Rattle.formats.specs.Stream.{settings_mark, settings_size, policy_fits_lem, stream_points, read_points as points_from, job_in};
+ghost use Rattle.config.specs.Params.{settings_are};
+ghost use Rattle.stream_reader.specs.Reading.{points_of, job_of, Within};
 
 use bytes_in::marks;
+use config::{DDMParams, Settings};
+use points::Points;
 use refusal::Refusal;
-use settings_record::Settings;
 
 // The most points, and the most neighbours, that a stream may have.
 pub const MOST_POINTS: usize = 32;
 
 pub const MOST_NEIGHBOURS: u32 = 16;
 
-// A job: its settings, and the number of its points.
+// A job: its points, and the settings of its build.
 #[derive(Clone, Copy)]
-pub struct Job {
-    pub settings: Settings,
-    pub points: usize,
+pub struct Job<'a> {
+    pub points: Points<'a>,
+    pub params: DDMParams,
 }
 
 // Whether a whole settings record stands at the beginning.
@@ -30,41 +32,53 @@ fn settings_whole(input: &[u8]) -> bool
         && settings_record::policy_fits(input)
 }
 
-// Reads a job: its settings, and its points' coordinates at the front of `points`.
-pub fn read_job(input: &[u8], points: &mut [f64]) -> Result<Job, Refusal>
-    requires { 3 * stream_points ≤ length points.old }
-    ensures same { job_of result points.new ≡ job_in input.now }
+// Reads the points of the records behind the settings: their coordinates to the front of `coordinates`. The answer is how many there are.
+fn read_points(
+    records: &[u8],
+    settings: Settings,
+    coordinates: &mut [f64],
+) -> Result<usize, Refusal>
+    requires axes { (1 ≤ settings.dimensions) × (settings.dimensions ≤ 3) }
+    requires room { 3 * stream_points ≤ length coordinates.old }
+    ensures same { points_of settings result coordinates.new ≡ points_from (settings_are settings) stream_points settings_size records.now [] }
+    ensures few { IfOk result (λ n. n ≤ stream_points) }
+{
+    let d = settings.dimensions;
+    let size = bytes_in::point_size(d);
+    for (n, record) in records.chunks(size).enumerate() {
+        if !bytes_in::record_at(record, 0, size, marks::POINT) {
+            return Err(Refusal::BrokenRecord(settings_record::SIZE + n * size));
+        }
+        if n == MOST_POINTS {
+            return Err(Refusal::LargeJob);
+        }
+        let row = n * d;
+        bytes_in::read_fields(record, bytes_in::MARK, &mut coordinates[row..row + d]);
+    }
+    Ok(records.len() / size)
+}
+
+// Reads a job, with its points' coordinates at the front of `coordinates`.
+pub fn read_job<'a>(input: &[u8], coordinates: &'a mut [f64]) -> Result<Job<'a>, Refusal>
+    requires { 3 * stream_points ≤ length coordinates.old }
+    ensures same { job_of result ≡ job_in input.now }
     ensures within { Within result }
 {
     if !settings_whole(input) {
         return Err(Refusal::BrokenRecord(0));
     }
     let settings = settings_record::settings_of(input);
-    let d = settings.dimensions;
-    if d == 0 || 3 < d {
+    let Settings { dimensions, params } = settings;
+    if dimensions == 0 || 3 < dimensions {
         return Err(Refusal::WrongDimension);
     }
-    let size = bytes_in::MARK + bytes_in::FLOAT * d;
-    let mut at = settings_record::SIZE;
-    let mut n = 0;
-    // the place of the next record goes on with the number of points, up to the input's end: no counted loop
-    while at < input.len() {
-        if !bytes_in::record_at(input, at, size, marks::POINT) {
-            return Err(Refusal::BrokenRecord(at));
-        }
-        if n == MOST_POINTS {
-            return Err(Refusal::LargeJob);
-        }
-        let row = n * d;
-        bytes_in::read_fields(input, at + bytes_in::MARK, &mut points[row..row + d]);
-        at += size;
-        n += 1;
-    }
-    if MOST_NEIGHBOURS < settings.params.overlap_knn {
+    let count = read_points(&input[settings_record::SIZE..], settings, coordinates)?;
+    if MOST_NEIGHBOURS < params.overlap_knn {
         return Err(Refusal::LargeJob);
     }
-    Ok(Job {
-        settings,
-        points: n,
-    })
+    let points = Points {
+        coordinates: &coordinates[..count * dimensions],
+        dimensions,
+    };
+    Ok(Job { points, params })
 }

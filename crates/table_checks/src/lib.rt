@@ -51,7 +51,8 @@ impl<'a> Table<'a> {
         MOST_POINTS.min(self.flags.len())
     }
 
-    // Whether the coordinates are short of the capacity.
+    // Whether the coordinates are short of the capacity. That the axes are three at most is asked by it: a table may have any number, and its
+    // callers refuse others before.
     pub fn is_short(self) -> bool
         requires { self.points.dimensions ≤ 3 }
         ensures { result ≡ coordinates_short self.entry.points.dimensions (table_in self.entry) }
@@ -59,7 +60,7 @@ impl<'a> Table<'a> {
         self.points.coordinates.len() < self.capacity() * self.points.dimensions
     }
 
-    // The pass over the flags below the slot count.
+    // The pass over the flags below the slot count. One pass tells both: `filter(..).count()` and `position(..)` would go over the flags twice.
     pub fn survey(self) -> Found
         requires { self.head.slots ≤ length self.flags.now }
         ensures live { result.live ≡ length (keep (flagged self.entry.flags.now) (from 0 self.entry.head.slots)) }

@@ -18,14 +18,6 @@ use tree_lists::TreeRead;
 pub fn check_tree(points: Points<'_>, params: DDMParams, lists: TreeRead<'_>) -> Result<(), Refusal>
     ensures { verdict_of result ≡ verdict (own_tests (settings_of_lem points.entry.dimensions params) points.entry.coordinates.now (lists_read lists.entry)) }
 {
-    let lent = BuildSizes {
-        level_points: lists.level_points.len(),
-        internals: lists.internals.len(),
-        domains: lists.domains.len(),
-        boxes: lists.boxes.len(),
-        borrowed: lists.borrowed.len(),
-        floats: usize::MAX,
-        wholes: usize::MAX,
-    };
+    let lent = BuildSizes::of(lists, usize::MAX, usize::MAX);
     build_checks::check_build(points, params, lent)
 }

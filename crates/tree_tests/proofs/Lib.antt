@@ -4,6 +4,7 @@ pub mod AllPass
 pub mod Rows
 pub mod Sets
 pub mod Checked
+pub mod Taken
 pub mod Marking
 pub mod Partition
 pub mod Leaves

@@ -1,5 +1,5 @@
 -- Sets of rows without the rows of a list: one row after the other taken out, and the rows put back. Assumes nothing.
--- Holds: without-nil, without-mem, without_in, put_back, without_more, without_all
+-- Holds: without-nil, without_other, without-mem, without_in, put_back, without_more, without_all
 use mathlib.Core.Path.{◌≡◌, refl, sym, ◌∙◌}
 use Prim.Native.Nat.{ℕ, ◌+◌, ◌≤◌, ◌<◌}
 use mathlib.Core.Bool.{Bool, true, false, not, ◌&&◌, ◌||◌, and-true, and-false, or-false, or-true}
@@ -15,6 +15,10 @@ use Rattle.tree_tests.specs.InTurn.{without}
 -- ---- a set without rows
 pub without-nil : (p : ℕ → Bool) (j : ℕ) → without [] p j ≡ p j
 without-nil p j = rw (member-nil j) (and-true (p j))
+
+-- a row that is no member stays as it was
+pub without_other : (rows : List ℕ) (p : ℕ → Bool) (j : ℕ) → member j rows ≡ false → without rows p j ≡ p j
+without_other rows p j h = rw h (and-true (p j))
 
 -- none of the rows is left
 pub without-mem : (rows : List ℕ) (p : ℕ → Bool) (j : ℕ) → Memᴰ j rows → without rows p j ≡ false

@@ -23,7 +23,6 @@ returns c = record {
       let p = c.requires in
       let w = a.whole.dimensions in
       let entry = a.base + 3 * a.from.leaves in
-      let e = c.copy_from_slice.ensures in
       let floats = a.room.now.floats.now in
       let at = c.bounds_before-at.result in
       let wide = c.box_width-width.result in
@@ -32,7 +31,7 @@ returns c = record {
       leaf-written w a.base (domain_of rows a.whole a.depth) a.from.place a.from.leaves _ _
       a.room.now.wholes.now _ a.room.now.floats.now _ a.records.now.cuts.now _ a.records.now.planes.now _
       (omega (arith, p.1)) p.3 p.4
-      (part-back _ _ _ _ (ap length e.after) ∙ ap (put a.room.now.wholes.now entry) e.after
+      (c.put_entry.ensures
       ∙ ap (λ (n : ℕ). put a.room.now.wholes.now entry (a.depth ∷ n ∷ a.from.place ∷ [])) (sym h))
       (back ∙ ap (put floats at) c.write_box.ensures ∙ ap (λ (f : ℕ). put floats f (floats_of a.whole)) c.bounds_before-at.ensures)
       c.write_node.ensures.cuts c.write_node.ensures.planes refl refl;

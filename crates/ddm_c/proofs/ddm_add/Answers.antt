@@ -1,14 +1,13 @@
 -- `ddm_c::ddm_add` meets its contract. Assumes nothing.
-use mathlib.Core.Path.{◌≡◌, ◌∙◌}
-use native.Mathlib.Omega.{arith}
+use mathlib.Core.Path.{◌≡◌}
 use borrow.Author.Rules.{rules}
 use Rattle.table_checks.specs.Tables.{wells_in}
-use Rattle.slots.specs.Slots.{told}
+use Rattle.refusal.specs.Refusals.{answer_of}
 use Rattle.slots.proofs.Told.{add-short, add-long}
 use Rattle.ddm_c.proofs.ddm_add.Goals as goal
 
-pub returns-then-res-lt2 : goal.returns-then-res-lt2
-returns-then-res-lt2 c = rw c.number.ensures (add-short _ _ _ _ _ _ c.if-res-lt2.true)
+pub returns-then-res-lt-PAIR : goal.returns-then-res-lt-PAIR
+returns-then-res-lt-PAIR c = rw c.number.ensures (add-short _ _ _ _ _ _ c.if-res-lt-PAIR.true)
 
 pub returns : goal.returns
 returns c = let P = c.args in
@@ -16,5 +15,6 @@ returns c = let P = c.args in
     let w = q.ensures.outcome in
     let flags : _ ≡ q.new.wells.flags.now = search rules in
     let coordinates : _ ≡ q.new.wells.coordinates.now = search rules in
-    add-long P.dimensions P.head.now P.flags.now P.coordinates.now P.point.now P.res.now _ _ _ (told c.of-told.result)
-    (wells_in q.new.head q.new.wells) (omega arith) c.put_pair.ensures (c.of-told.ensures ∙ w.answers) w.table flags coordinates
+    rw c.put_placed.ensures.number
+    (add-long P.dimensions P.head.now P.flags.now P.coordinates.now P.point.now P.res.now _ _ _ (answer_of (λ x. x) 0 q.result)
+    (wells_in q.new.head q.new.wells) c.if-res-lt-PAIR.false c.put_placed.ensures.slot w.answers w.table flags coordinates)

@@ -10,8 +10,8 @@ use Rattle.slots.specs.Settings.{settings_from}
 use Rattle.slots.proofs.Told.{slots-short, slots-long}
 use Rattle.ddm_c.proofs.ddm_build_slots.Goals as goal
 
-pub returns-then-res-lt10 : goal.returns-then-res-lt10
-returns-then-res-lt10 c = rw c.number.ensures (slots-short _ (lists_of _ _ _ _ _) _ _ _ _ c.if-res-lt10.true)
+pub returns-then-res-lt-TREE : goal.returns-then-res-lt-TREE
+returns-then-res-lt-TREE c = rw c.number.ensures (slots-short _ (lists_of _ _ _ _ _) _ _ _ _ c.if-res-lt-TREE.true)
 
 pub returns : goal.returns
 returns c = let a = c.args in
@@ -22,4 +22,4 @@ returns c = let a = c.args in
     slots-long (table_of _ _ _ _) (lists_of _ _ _ _ _) _ _ _ (lists_of _ _ _ _ _) _ _ _ _ (tree_answer_lem q.result) (settings_of_lem _ p.result)
     (settings_from a.dimensions a.leaf a.neighbours a.factor a.policy a.threshold)
     (p.ensures _)
-    c.if-res-lt10.false c.put_tree.ensures.number c.put_tree.ensures.slot w.answers (back ∙ w.lists) (subst (RoomAfter _ _) (sym (search rules)) w.floats_free) (subst (RoomAfter _ _) (sym (search rules)) w.wholes_free)
+    c.if-res-lt-TREE.false c.put_tree.ensures.number c.put_tree.ensures.slot w.answers (back ∙ w.lists) (subst (RoomAfter _ _) (sym (search rules)) w.floats_free) (subst (RoomAfter _ _) (sym (search rules)) w.wholes_free)

@@ -8,8 +8,8 @@ use Rattle.slots.specs.Settings.{settings_from}
 use Rattle.slots.proofs.Told.{load-short, load-long}
 use Rattle.ddm_c.proofs.ddm_load.Goals as goal
 
-pub returns-then-res-lt10 : goal.returns-then-res-lt10
-returns-then-res-lt10 c = rw c.number.ensures (load-short _ _ (lists_of _ _ _ _ _) _ _ (omega arith))
+pub returns-then-res-lt-TREE : goal.returns-then-res-lt-TREE
+returns-then-res-lt-TREE c = rw c.number.ensures (load-short _ _ (lists_of _ _ _ _ _) _ _ (omega arith))
 
 pub returns : goal.returns
 returns c = let a = c.args in
@@ -19,4 +19,4 @@ returns c = let a = c.args in
     load-long _ _ (lists_of _ _ _ _ _) _ (lists_of _ _ _ _ _) _ _ (tree_answer_lem q.result) (settings_of_lem _ p.result)
     (settings_from a.dimensions a.leaf a.neighbours a.factor a.policy a.threshold)
     (p.ensures _)
-    c.if-res-lt10.false c.put_tree.ensures.number c.put_tree.ensures.slot w.answers (search rules ∙ w.level_points) (search rules ∙ w.internals) (search rules ∙ w.domains) (search rules ∙ w.boxes) (search rules ∙ w.borrowed)
+    c.if-res-lt-TREE.false c.put_tree.ensures.number c.put_tree.ensures.slot w.answers (search rules ∙ w.level_points) (search rules ∙ w.internals) (search rules ∙ w.domains) (search rules ∙ w.boxes) (search rules ∙ w.borrowed)

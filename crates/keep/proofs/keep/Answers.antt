@@ -1,10 +1,8 @@
 -- `keep::keep` meets its contract. Assumes nothing.
-use mathlib.Core.Path.{sym}
 use native.Mathlib.Omega.{arith}
-use lib.Seq.{length-take-le}
 use Rattle.std.proofs.lemmas.Result.{err_from_is_err_and}
 use Rattle.stored.specs.Programs.{kept}
-use Rattle.job_room.proofs.JobRead.{limits-read, coordinates-read}
+use Rattle.job_room.proofs.JobRead.{limits-read}
 use Rattle.keep.proofs.Outcomes.{answer-short, output-short}
 use Rattle.keep.proofs.StreamKept.{broken-answer, broken-output, whole-answer, whole-output}
 use Rattle.keep.proofs.keep.Goals as goal
@@ -23,28 +21,13 @@ returns-in_err-job c = let a = c.args in
     let same = c.read_job.ensures.same in
     let p = err_from_is_err_and c.from_residual.result c.from_residual.ensures.1 in
     record {
-      answer = rw (p.1, p.2) (broken-answer _ _ a.stream.now same a.file.now _ c.in_err-job.was (omega (arith, long)));
-      output = broken-output _ _ a.stream.now same a.file.now _ c.in_err-job.was (omega (arith, long));
+      answer = rw (p.1, p.2) (broken-answer _ a.stream.now same a.file.now _ c.in_err-job.was (omega (arith, long)));
+      output = broken-output _ a.stream.now same a.file.now _ c.in_err-job.was (omega (arith, long));
     }
-
-pub overflow_mul-k : goal.overflow_mul-k
-overflow_mul-k c = let job = c.read_job in
-    let few = coordinates-read _ _ c.args.stream.now job.ensures.same _ c.in_ok-job.was job.ensures.within in
-    omega (arith, few)
-
-pub slice_bounds-points-end : goal.slice_bounds-points-end
-slice_bounds-points-end c = let job = c.read_job in
-    let few = coordinates-read _ _ c.args.stream.now job.ensures.same _ c.in_ok-job.was job.ensures.within in
-    omega (arith, few, job.auto)
-
-pub slice_bounds-keep_job-end : goal.slice_bounds-keep_job-end
-slice_bounds-keep_job-end c = let job = c.read_job in
-    let few = coordinates-read _ _ c.args.stream.now job.ensures.same _ c.in_ok-job.was job.ensures.within in
-    sym (length-take-le _ _ (omega (arith, few, job.auto)))
 
 pub keep_job-requires : goal.keep_job-requires
 keep_job-requires c =
-    (limits-read _ _ c.args.stream.now c.read_job.ensures.same _ c.in_ok-job.was, omega (arith, c.if-file-lt-MOST_FILE_BYTES.false))
+    (limits-read _ c.args.stream.now c.read_job.ensures.same _ c.in_ok-job.was, omega (arith, c.if-file-lt-MOST_FILE_BYTES.false))
 
 pub returns : goal.returns
 returns c = let a = c.args in
@@ -52,6 +35,6 @@ returns c = let a = c.args in
     let told = c.in_ok-job.was in
     let w = c.keep_job.ensures in
     record {
-      answer = whole-answer _ _ a.stream.now same a.file.now _ told _ w.answer;
-      output = whole-output _ _ a.stream.now same a.file.now _ told _ w.output;
+      answer = whole-answer _ a.stream.now same a.file.now _ told _ w.answer;
+      output = whole-output _ a.stream.now same a.file.now _ told _ w.output;
     }

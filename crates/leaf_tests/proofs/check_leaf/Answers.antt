@@ -13,7 +13,7 @@ returns g c = λ p q m n.
     let a = c.args in
     let rows = c.rows_pass.ensures p q m n in
     let deep : depth_passes_lem a.level.coarse a.level.rows a.passed.least (length (g.O.Rows.rows a.own.now)) a.depth ≡ true =
-        sym (ap (λ (k : ℕ). depth_passes_lem a.level.coarse a.level.rows a.passed.least k a.depth) c.count.ensures) ∙ sym c.depth_passes.ensures ∙ search rules in
+    sym (ap (λ (k : ℕ). depth_passes_lem a.level.coarse a.level.rows a.passed.least k a.depth) c.count.ensures) ∙ sym c.depth_passes.ensures ∙ search rules in
     record {
       tests = sym (and-of (sym rows.tests ∙ search rules) deep);
       remaining = ap (λ (k : ℕ). a.passed.remaining - k) c.count-2.ensures;

@@ -100,8 +100,8 @@ slice_bounds-cut_stretch-end-in-loop-head-2 c = let t = c in
     let x = front i.0 t.loop-head-test.true c.waiting_at-stretch.ensures in
     sym (spare-length x)
 
-pub cut_stretch-plane-requires : goal.cut_stretch-plane-requires
-cut_stretch-plane-requires c = let t = c in
+pub cut_stretch-axis-requires : goal.cut_stretch-axis-requires
+cut_stretch-axis-requires c = let t = c in
     let i = t.loop-head.invariant in
     let x = front i.0 t.loop-head-test.true c.waiting_at-stretch.ensures in
     (i.0.pos, lent-some x, lent-good x, lent-room x)
@@ -119,7 +119,7 @@ put_halves-requires c = let cut = c in
     let i = t.loop-head.invariant in
     let x = front i.0 t.loop-head-test.true c.waiting_at-stretch.ensures in
     let u = known x in
-    let m = room-kept x cut.cut_stretch-plane.new.room cut.cut_stretch-plane.auto.room in
+    let m = room-kept x cut.cut_stretch-axis.new.room cut.cut_stretch-axis.auto.room in
     (omega (arith, u.room-fit c.if-leaf-count.true, m, u.fit-w), omega (arith, u.inside, u.fit-w, i.1.same_w, i.1.cap-w))
 
 pub overflow_mul-at-then-leaf-count : goal.overflow_mul-at-then-leaf-count
@@ -146,7 +146,7 @@ write_halves-requires c = let cut = c in
     let e = read.read_box-whole.ensures.0 in
     let w = c.box_width-stride.result in
     let twice : 2 * w ≡ 2 * box_width_lem c.args.points.dimensions = ap (λ (n : ℕ). 2 * n) i.2 in
-    (rw e (axis-fit x _ cut.cut_stretch-plane.ensures.plane.0), rw e i.0.few, rw e (lent-long t.loop-head.floats (w * t.loop-head.tail) (2 * w) (rw i.2 (u.floats_fit c.if-leaf-count.true)) ∙ twice))
+    (rw e (axis-fit x _ cut.cut_stretch-axis.ensures.plane.0), rw e i.0.few, rw e (lent-long t.loop-head.floats (w * t.loop-head.tail) (2 * w) (rw i.2 (u.floats_fit c.if-leaf-count.true)) ∙ twice))
 
 pub overflow_add-tail : goal.overflow_add-tail
 overflow_add-tail c = let t = c in
@@ -161,9 +161,9 @@ loop-head-smaller-then-leaf-count c = let cut = c in
     let t = c in
     let i = t.loop-head.invariant in
     let x = front i.0 t.loop-head-test.true c.waiting_at-stretch.ensures in
-    wait-less x cut.cut_stretch-plane.new.rows cut.cut_stretch-plane.new.room cut.cut_stretch-plane.ensures.rows cut.cut_stretch-plane.auto.room
-    cut.cut_stretch-plane.result.axis cut.cut_stretch-plane.result.value (floats_of read.read_box-whole.result) read.read_box-whole.result.dimensions
-    cut.cut_stretch-plane.ensures.plane.0 cut.cut_stretch-plane.ensures.plane.1 (rw i.2 at read.read_box-whole.ensures.1 ∙ part-lent _ _ _) read.read_box-whole.ensures.0
+    wait-less x cut.cut_stretch-axis.new.rows cut.cut_stretch-axis.new.room cut.cut_stretch-axis.ensures.rows cut.cut_stretch-axis.auto.room
+    cut.cut_stretch-axis.result.axis cut.cut_stretch-axis.result.value (floats_of read.read_box-whole.result) read.read_box-whole.result.dimensions
+    cut.cut_stretch-axis.ensures.plane.0 cut.cut_stretch-axis.ensures.plane.1 (rw i.2 at read.read_box-whole.ensures.1 ∙ part-lent _ _ _) read.read_box-whole.ensures.0
     c.if-leaf-count.true _ c.put_halves.ensures
 
 pub loop-head-preserved-then-leaf-count : goal.loop-head-preserved-then-leaf-count
@@ -177,10 +177,10 @@ loop-head-preserved-then-leaf-count c = let wrote = c in
     let u = known x in
     let w = c.box_width-stride.result in
     let fit : w * t.loop-head.tail + 2 * w ≤ length t.loop-head.floats = rw i.2 (u.floats_fit c.if-leaf-count.true) in
-    let m = room-kept x cut.cut_stretch-plane.new.room cut.cut_stretch-plane.auto.room in (
-      wait x cut.cut_stretch-plane.new.rows cut.cut_stretch-plane.new.room cut.cut_stretch-plane.ensures.rows cut.cut_stretch-plane.auto.room
-          cut.cut_stretch-plane.result.axis cut.cut_stretch-plane.result.value (floats_of read.read_box-whole.result) read.read_box-whole.result.dimensions
-          cut.cut_stretch-plane.ensures.plane.0 cut.cut_stretch-plane.ensures.plane.1 (rw i.2 at read.read_box-whole.ensures.1 ∙ part-lent _ _ _) read.read_box-whole.ensures.0
+    let m = room-kept x cut.cut_stretch-axis.new.room cut.cut_stretch-axis.auto.room in (
+      wait x cut.cut_stretch-axis.new.rows cut.cut_stretch-axis.new.room cut.cut_stretch-axis.ensures.rows cut.cut_stretch-axis.auto.room
+          cut.cut_stretch-axis.result.axis cut.cut_stretch-axis.result.value (floats_of read.read_box-whole.result) read.read_box-whole.result.dimensions
+          cut.cut_stretch-axis.ensures.plane.0 cut.cut_stretch-axis.ensures.plane.1 (rw i.2 at read.read_box-whole.ensures.1 ∙ part-lent _ _ _) read.read_box-whole.ensures.0
           c.if-leaf-count.true _ put.put_halves.ensures _ (lent-back t.loop-head.floats _ _ w _ t.loop-head.tail (2 * w) i.2 fit wrote.write_halves.auto.bounds wrote.write_halves.ensures),
       kept_next i.1 (put.put_halves.auto.wholes ∙ m) refl (lent_kept t.loop-head.floats _ (w * t.loop-head.tail) (2 * w) fit wrote.write_halves.auto.bounds) refl,
       i.2,
@@ -205,7 +205,7 @@ slice_bounds-put_values-end c = let t = c in
     let i = t.loop-head.invariant in
     let x = front i.0 t.loop-head-test.true c.waiting_at-stretch.ensures in
     let u = known x in
-    omega (arith, rows-kept x c.cut_stretch-plane.new.rows c.cut_stretch-plane.auto.rows, u.inside, u.same)
+    omega (arith, rows-kept x c.cut_stretch-axis.new.rows c.cut_stretch-axis.auto.rows, u.inside, u.same)
 
 pub put_values-requires : goal.put_values-requires
 put_values-requires c = let cut = c in
@@ -213,10 +213,10 @@ put_values-requires c = let cut = c in
     let i = t.loop-head.invariant in
     let x = front i.0 t.loop-head-test.true c.waiting_at-stretch.ensures in
     let u = known x in
-    let m = room-kept x cut.cut_stretch-plane.new.room cut.cut_stretch-plane.auto.room in
-    let r = rows-kept x cut.cut_stretch-plane.new.rows cut.cut_stretch-plane.auto.rows in
+    let m = room-kept x cut.cut_stretch-axis.new.room cut.cut_stretch-axis.auto.room in
+    let r = rows-kept x cut.cut_stretch-axis.new.rows cut.cut_stretch-axis.auto.rows in
     let s = c.waiting_at-stretch.result in
-    let rows = put_mid s.start (s.start + s.count - s.start) t.loop-head.rows cut.cut_stretch-plane.new.rows in
+    let rows = put_mid s.start (s.start + s.count - s.start) t.loop-head.rows cut.cut_stretch-axis.new.rows in
     omega (arith, lent-long rows s.start s.count (omega (arith, r, u.inside, u.same)), m, u.rows_fit, u.fit-w)
 
 pub overflow_add-start : goal.overflow_add-start
@@ -259,7 +259,7 @@ write_halves-requires-else-leaf-count c = let cut = c in
     let e = read.read_box-whole.ensures.0 in
     let w = c.box_width-stride.result in
     let twice : 2 * w ≡ 2 * box_width_lem c.args.points.dimensions = ap (λ (n : ℕ). 2 * n) i.2 in
-    (rw e (axis-fit x _ cut.cut_stretch-plane.ensures.plane.0), rw e i.0.few, rw e (lent-long t.loop-head.boxes (w * t.loop-head.k) (2 * w) (rw i.2 u.boxes_fit) ∙ twice))
+    (rw e (axis-fit x _ cut.cut_stretch-axis.ensures.plane.0), rw e i.0.few, rw e (lent-long t.loop-head.boxes (w * t.loop-head.k) (2 * w) (rw i.2 u.boxes_fit) ∙ twice))
 
 pub overflow_add-done : goal.overflow_add-done
 overflow_add-done c = let t = c in
@@ -281,9 +281,9 @@ loop-head-smaller c = let cut = c in
     let t = c in
     let i = t.loop-head.invariant in
     let x = front i.0 t.loop-head-test.true c.waiting_at-stretch.ensures in
-    next-leaves-less x cut.cut_stretch-plane.new.rows cut.cut_stretch-plane.new.room cut.cut_stretch-plane.ensures.rows cut.cut_stretch-plane.auto.room
-    cut.cut_stretch-plane.result.axis cut.cut_stretch-plane.result.value (floats_of read.read_box-whole.result) read.read_box-whole.result.dimensions
-    cut.cut_stretch-plane.ensures.plane.0 cut.cut_stretch-plane.ensures.plane.1 (rw i.2 at read.read_box-whole.ensures.1 ∙ part-lent _ _ _) read.read_box-whole.ensures.0
+    next-leaves-less x cut.cut_stretch-axis.new.rows cut.cut_stretch-axis.new.room cut.cut_stretch-axis.ensures.rows cut.cut_stretch-axis.auto.room
+    cut.cut_stretch-axis.result.axis cut.cut_stretch-axis.result.value (floats_of read.read_box-whole.result) read.read_box-whole.result.dimensions
+    cut.cut_stretch-axis.ensures.plane.0 cut.cut_stretch-axis.ensures.plane.1 (rw i.2 at read.read_box-whole.ensures.1 ∙ part-lent _ _ _) read.read_box-whole.ensures.0
     c.if-leaf-count.false _ (c.put_values.ensures ∙ ap (put _ _) (part-lent _ _ _))
 
 pub loop-head-preserved : goal.loop-head-preserved
@@ -298,10 +298,10 @@ loop-head-preserved c = let wrote = c in
     let u = known x in
     let w = c.box_width-stride.result in
     let fit : w * t.loop-head.k + 2 * w ≤ length t.loop-head.boxes = rw i.2 u.boxes_fit in
-    let m = room-kept x cut.cut_stretch-plane.new.room cut.cut_stretch-plane.auto.room in (
-      next-leaves x cut.cut_stretch-plane.new.rows cut.cut_stretch-plane.new.room cut.cut_stretch-plane.ensures.rows cut.cut_stretch-plane.auto.room
-          cut.cut_stretch-plane.result.axis cut.cut_stretch-plane.result.value (floats_of read.read_box-whole.result) read.read_box-whole.result.dimensions
-          cut.cut_stretch-plane.ensures.plane.0 cut.cut_stretch-plane.ensures.plane.1 (rw i.2 at read.read_box-whole.ensures.1 ∙ part-lent _ _ _) read.read_box-whole.ensures.0
+    let m = room-kept x cut.cut_stretch-axis.new.room cut.cut_stretch-axis.auto.room in (
+      next-leaves x cut.cut_stretch-axis.new.rows cut.cut_stretch-axis.new.room cut.cut_stretch-axis.ensures.rows cut.cut_stretch-axis.auto.room
+          cut.cut_stretch-axis.result.axis cut.cut_stretch-axis.result.value (floats_of read.read_box-whole.result) read.read_box-whole.result.dimensions
+          cut.cut_stretch-axis.ensures.plane.0 cut.cut_stretch-axis.ensures.plane.1 (rw i.2 at read.read_box-whole.ensures.1 ∙ part-lent _ _ _) read.read_box-whole.ensures.0
           c.if-leaf-count.false _ (packed.put_values.ensures ∙ ap (put _ _) (part-lent _ _ _)) _ _ named.put_leaves.ensures
           (lent-back t.loop-head.boxes _ _ w _ t.loop-head.k (2 * w) i.2 fit wrote.write_halves-else-leaf-count.auto.bounds wrote.write_halves-else-leaf-count.ensures),
       kept_next i.1 (packed.put_values.auto.list ∙ m) named.put_leaves.auto.domains refl (lent_kept t.loop-head.boxes _ (w * t.loop-head.k) (2 * w) fit wrote.write_halves-else-leaf-count.auto.bounds),

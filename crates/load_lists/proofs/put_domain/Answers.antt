@@ -2,7 +2,7 @@
 use mathlib.Core.Path.{refl}
 use native.Mathlib.Omega.{arith}
 use Rattle.bytes_in.proofs.Fields.{lent_many, numbers-back}
-use Rattle.load_lists.proofs.Domain.{stands, found, own-fits, borrowed-fits, domain-written}
+use Rattle.load_lists.proofs.Domain.{stands, found, own-fits, borrowed-fits, row-back, domain-written}
 use Rattle.load_lists.proofs.put_domain.Goals as goal
 
 pub unwrap-found-requires : goal.unwrap-found-requires
@@ -49,4 +49,5 @@ returns-clause-written c = let a = c.args in
     let h = found a.dimensions a.coarse a.bytes.now a.c _ _ c.record_floats-floats.ensures (rw c.unwrap-found.ensures at c.domain.ensures) in
     domain-written h a.lists.now.internals.now a.lists.now.domains.now a.lists.now.boxes.now a.lists.now.borrowed.now _ _ _ _ _ _ c.number_at-depth.ensures.0 c.floats_before-box_at.ensures
     (numbers-back _ _ _ _ a.lists.now.internals.now (own-fits h c.requires.room) c.read_fields.ensures)
-    (numbers-back _ _ _ _ a.lists.now.borrowed.now (borrowed-fits h c.requires.room) c.read_fields-2.ensures) c.put_row.ensures c.put_row_floats.ensures
+    (numbers-back _ _ _ _ a.lists.now.borrowed.now (borrowed-fits h c.requires.room) c.read_fields-2.ensures) c.put_row.ensures
+    (row-back _ _ _ _ a.lists.now.boxes.now c.floats_before-box_at.result c.row_floats.result c.row_floats.ensures c.put_row_floats.ensures)

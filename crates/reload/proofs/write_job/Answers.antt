@@ -2,7 +2,7 @@
 use native.Mathlib.Omega.{arith}
 use Rattle.refusal.specs.declared.Refusal.TheVariants.{LargeJob}
 use Rattle.bytes_out.proofs.Writing.{spelt_as}
-use Rattle.settings_record.specs.Reading.{settings_are}
+use Rattle.stream_reader.specs.Reading.{job_settings}
 use Rattle.job_room.proofs.Printing.{refusal-room}
 use Rattle.reload.proofs.Reloads.{too_long, not-too-long, loaded-room}
 use Rattle.reload.proofs.write_job.Goals as goal
@@ -12,21 +12,21 @@ write_refusal-requires c = refusal-room LargeJob c.requires.1
 
 pub returns-then-file-gt-MOST_FILE : goal.returns-then-file-gt-MOST_FILE
 returns-then-file-gt-MOST_FILE c = let start = c in
-    let s = settings_are start.args.settings in
-    let cs = start.args.points.now in
+    let s = job_settings start.args.job in
+    let cs = start.args.job.points.coordinates.now in
     let bs = start.args.file.now in
     spelt_as (too_long s cs bs (omega (arith, c.if-file-gt-MOST_FILE.true))) c.write_refusal.ensures
 
 pub write_loaded-requires : goal.write_loaded-requires
 write_loaded-requires c = let start = c in
-    let s = settings_are start.args.settings in
-    let cs = start.args.points.now in
+    let s = job_settings start.args.job in
+    let cs = start.args.job.points.coordinates.now in
     let bs = start.args.file.now in
     (start.requires.0, loaded-room s cs bs start.requires.0 start.requires.1 (omega (arith, c.if-file-gt-MOST_FILE.false)))
 
 pub returns : goal.returns
 returns c = let start = c in
-    let s = settings_are start.args.settings in
-    let cs = start.args.points.now in
+    let s = job_settings start.args.job in
+    let cs = start.args.job.points.coordinates.now in
     let bs = start.args.file.now in
     spelt_as (not-too-long s cs bs (omega (arith, c.if-file-gt-MOST_FILE.false))) c.write_loaded.ensures

@@ -1,43 +1,23 @@
 -- `reload::write_loaded` meets its contract. Assumes nothing.
 use mathlib.Core.Path.{sym, ◌∙◌}
-use native.Mathlib.Omega.{arith}
 use Rattle.bytes_out.proofs.Writing.{spelt_as, takes_as}
-use Rattle.settings_record.specs.Reading.{settings_are}
-use Rattle.job_room.proofs.Printing.{refusal-numbered}
-use Rattle.reload.proofs.LoadedText.{load-refused, loaded-stands, load-tree-text}
+use Rattle.stream_reader.specs.Reading.{job_settings}
+use Rattle.reload.proofs.LoadedText.{answer-stands, answer-printed}
 use Rattle.reload.proofs.write_loaded.Goals as goal
 
-pub write_refusal-requires : goal.write_refusal-requires
-write_refusal-requires c = let start = c in
-    let s = settings_are start.args.settings in
-    let cs = start.args.points.now in
-    let bs = start.args.file.now in
-    let w = rw (c.lend-lists.ensures ∙ c.zeros-lists.ensures) at c.in-Err.ensures.loaded in
-    takes_as (load-refused s cs bs start.requires.0 _ _ w (refusal-numbered _)) start.requires.1
-
-pub returns-in-Err : goal.returns-in-Err
-returns-in-Err c = let start = c in
-    let s = settings_are start.args.settings in
-    let cs = start.args.points.now in
-    let bs = start.args.file.now in
-    let w = rw (c.lend-lists.ensures ∙ c.zeros-lists.ensures) at c.in-Err.ensures.loaded in
-    spelt_as (sym (load-refused s cs bs start.requires.0 _ _ w (refusal-numbered _))) c.write_refusal.ensures
-
-pub write_tree-requires : goal.write_tree-requires
-write_tree-requires c = let start = c in
-    let s = settings_are start.args.settings in
-    let cs = start.args.points.now in
-    let bs = start.args.file.now in
-    let w = rw (c.lend-lists.ensures ∙ c.zeros-lists.ensures, sym c.read-lists.ensures) at c.in-Ok.ensures.loaded in
+pub write_answer-requires : goal.write_answer-requires
+write_answer-requires c =
+    let s = job_settings c.args.job in
+    let cs = c.args.job.points.coordinates.now in
+    let w = rw (c.lend-lists.ensures ∙ c.zero_lists-lists.ensures, sym c.read.ensures) at c.load_tree-answer.ensures.loaded in
     record {
-      stands = loaded-stands s cs bs start.requires.0 _ _ w (omega arith);
-      room_for = takes_as (load-tree-text s cs bs start.requires.0 _ _ w (omega arith)) start.requires.1;
+      stands = answer-stands s cs c.args.file.now c.requires.0 _ _ w;
+      room_for = takes_as (answer-printed s cs c.args.file.now c.requires.0 _ _ w) c.requires.1;
     }
 
-pub returns-in-Ok : goal.returns-in-Ok
-returns-in-Ok c = let start = c in
-    let s = settings_are start.args.settings in
-    let cs = start.args.points.now in
-    let bs = start.args.file.now in
-    let w = rw (c.lend-lists.ensures ∙ c.zeros-lists.ensures, sym c.read-lists.ensures) at c.in-Ok.ensures.loaded in
-    spelt_as (sym (load-tree-text s cs bs start.requires.0 _ _ w (omega arith))) c.write_tree.ensures
+pub returns : goal.returns
+returns c =
+    let s = job_settings c.args.job in
+    let cs = c.args.job.points.coordinates.now in
+    let w = rw (c.lend-lists.ensures ∙ c.zero_lists-lists.ensures, sym c.read.ensures) at c.load_tree-answer.ensures.loaded in
+    spelt_as (sym (answer-printed s cs c.args.file.now c.requires.0 _ _ w)) c.write_answer.ensures

@@ -1,7 +1,10 @@
 -- `store::store_sound` meets its contract. Assumes nothing.
-use mathlib.Core.Path.{refl}
+use mathlib.Core.Path.{refl, ap}
+use Rattle.std.proofs.lemmas.Result.{err_from_is_err_and}
 use native.Mathlib.Omega.{arith}
 use Rattle.config.specs.Params.{settings_of_lem}
+use Rattle.list_domains.specs.declared.ListsPassed.{ListsPassed}
+use Rattle.refusal.specs.Refusals.{answer_of}
 use Rattle.tree_answer.specs.Answers.{counts_given}
 use Rattle.tree_lists.specs.Lent.{lists_read}
 use Rattle.store.proofs.Held.{held-stands}
@@ -26,13 +29,17 @@ check_lists-requires c = let start = c in
     let p = own-passed s cs l start.requires in
     rw (c.of-tree.ensures, c.count-n.ensures) (p.axes_few, p.rows_few, p.neighbours_few, p.none-short)
 
-pub returns-in_default : goal.returns-in_default
-returns-in_default c = let start = c in
+pub returns-in_err-passed : goal.returns-in_err-passed
+returns-in_err-passed c = let start = c in
     let a = start.args in
     let s = settings_of_lem a.points.dimensions a.params in
     let cs = a.points.coordinates.now in
     let l = lists_read a.tree in
-    tree-refused s cs (counts_given a.counts) l a.file.now start.requires (tree-bad s _ (counts_given a.counts) l ((rw (c.of-tree.ensures, c.count-n.ensures) at c.in_default.ensures) s refl refl)) _ refl
+    let none = c.in_err-passed.ensures.ok_part in
+    let p = err_from_is_err_and c.from_residual.result c.from_residual.ensures.1 in
+    let tested = (rw (none, c.of-tree.ensures, c.count-n.ensures) at c.check_lists.ensures) s refl refl in
+    let number = ap (answer_of (λ (x : ListsPassed). 0) 0) (rw none at c.in_err-passed.ensures.value) in
+    rw (p.1, p.2) (tree-refused s cs (counts_given a.counts) l a.file.now start.requires (tree-bad s _ (counts_given a.counts) l tested) _ number)
 
 pub file_size-size-requires : goal.file_size-size-requires
 file_size-size-requires c = let start = c in
@@ -40,7 +47,8 @@ file_size-size-requires c = let start = c in
     let s = settings_of_lem a.points.dimensions a.params in
     let cs = a.points.coordinates.now in
     let l = lists_read a.tree in
-    let tested = (rw (c.of-tree.ensures, c.count-n.ensures) at c.in-Some.ensures) s refl refl in
+    let found = c.in_ok-passed.ensures.ok_part in
+    let tested = (rw (found, c.of-tree.ensures, c.count-n.ensures) at c.check_lists.ensures) s refl refl in
     rw c.count-n.ensures (tree-limited s cs (counts_given a.counts) l start.requires _ tested)
 
 pub returns-then-file-size : goal.returns-then-file-size
@@ -49,7 +57,8 @@ returns-then-file-size c = let start = c in
     let s = settings_of_lem a.points.dimensions a.params in
     let cs = a.points.coordinates.now in
     let l = lists_read a.tree in
-    let tested = (rw (c.of-tree.ensures, c.count-n.ensures) at c.in-Some.ensures) s refl refl in
+    let found = c.in_ok-passed.ensures.ok_part in
+    let tested = (rw (found, c.of-tree.ensures, c.count-n.ensures) at c.check_lists.ensures) s refl refl in
     let g = tree-good s cs (counts_given a.counts) l start.requires _ tested in
     let size = tree-size s cs (counts_given a.counts) l start.requires _ tested _ (rw c.count-n.ensures at c.file_size-size.ensures) in
     file-refused s cs (counts_given a.counts) l a.file.now start.requires g (omega (arith, size, c.if-file-size.true)) _ refl
@@ -60,7 +69,8 @@ put_file-requires c = let start = c in
     let s = settings_of_lem a.points.dimensions a.params in
     let cs = a.points.coordinates.now in
     let l = lists_read a.tree in
-    let tested = (rw (c.of-tree.ensures, c.count-n.ensures) at c.in-Some.ensures) s refl refl in
+    let found = c.in_ok-passed.ensures.ok_part in
+    let tested = (rw (found, c.of-tree.ensures, c.count-n.ensures) at c.check_lists.ensures) s refl refl in
     let p = own-passed s cs l start.requires in
     let packing = tree-packs s cs (counts_given a.counts) l start.requires _ tested in
     let passing = tree-sound s cs (counts_given a.counts) l start.requires _ tested in
@@ -79,7 +89,8 @@ returns c = let start = c in
     let s = settings_of_lem a.points.dimensions a.params in
     let cs = a.points.coordinates.now in
     let l = lists_read a.tree in
-    let tested = (rw (c.of-tree.ensures, c.count-n.ensures) at c.in-Some.ensures) s refl refl in
+    let found = c.in_ok-passed.ensures.ok_part in
+    let tested = (rw (found, c.of-tree.ensures, c.count-n.ensures) at c.check_lists.ensures) s refl refl in
     let g = tree-good s cs (counts_given a.counts) l start.requires _ tested in
     let size = tree-size s cs (counts_given a.counts) l start.requires _ tested _ (rw c.count-n.ensures at c.file_size-size.ensures) in
     let put = rw c.of-tree.ensures at c.put_file.ensures in

@@ -1,107 +1,60 @@
 -- `stream_reader::read_job` meets its contract. Assumes nothing.
-use Rattle.stream_reader.proofs.Records.{job-broken, whole_long, job-low, job-high, begun, reading-cut, reading-full, spot, reading-more, reading-over, reading-done}
-use Rattle.bytes_in.proofs.Bytes.{record-room}
-use Rattle.bytes_in.proofs.Fields.{lent_many, floats-back}
-use Rattle.formats.specs.Stream.{point_mark, point_size_lem}
-use mathlib.Core.Path.{refl, sym, ◌∙◌}
-use Prim.Native.Nat.{◌*◌}
-use borrow.Author.Rules.{rules}
+use Rattle.std.proofs.lemmas.Result.{err_from_is_err_and}
+use Rattle.stream_reader.proofs.Records.{job-broken, job-low, job-high, job-right, held-broken, held-over, held-within}
+use Rattle.config.specs.Params.{settings_are}
+use Rattle.formats.specs.Stream.{Job, settings_size, stream_points, read_points, held, job_in}
+use mathlib.Core.List.{List, []}
+use lib.ListN.{length, drop, take, length-drop}
+use lib.Seq.{take_all}
 use native.Mathlib.Omega.{arith}
+use Prim.Native.Nat.{ℕ, ◌-◌, ◌*◌}
+use mathlib.Core.Path.{◌≡◌, sym, ap, ◌∙◌}
 use Rattle.stream_reader.proofs.read_job.Goals as goal
-use Rattle.stream_reader.proofs.read_job.Goals.{then-d-eq0-via-then-d-eq0, then-d-eq0-via-else-d-eq0+then-d-gt3}
+use Rattle.stream_reader.proofs.read_job.Goals.{Else-dimensions-gt3, then-dimensions-eq0-via-then-dimensions-eq0, then-dimensions-eq0-via-else-dimensions-eq0+then-dimensions-gt3}
 
-pub returns-then-not-settings_whole : goal.returns-then-not-settings_whole
-returns-then-not-settings_whole c = record {
-  same = job-broken c.args.input.now (sym c.settings_whole.ensures ∙ c.if-not-settings_whole.true);
-  within = tt;
-}
+pub returns-then-not-settings_whole-clause-same : goal.returns-then-not-settings_whole-clause-same
+returns-then-not-settings_whole-clause-same c = job-broken c.args.input.now (sym c.settings_whole.ensures ∙ c.if-not-settings_whole.true)
 
-pub settings_of-settings-requires : goal.settings_of-settings-requires
-settings_of-settings-requires c = whole_long c.args.input.now (sym c.settings_whole.ensures ∙ c.if-not-settings_whole.false)
+pub returns-then-dimensions-eq0-clause-same : goal.returns-then-dimensions-eq0-clause-same
+returns-then-dimensions-eq0-clause-same c =
+    elim c.then-dimensions-eq0.branch [
+      | then-dimensions-eq0-via-then-dimensions-eq0 w ↦
+          job-low c.args.input.now (sym c.settings_whole.ensures ∙ c.if-not-settings_whole.false) _ c.settings_of-settings.ensures w.if-dimensions-eq0.true
+      | then-dimensions-eq0-via-else-dimensions-eq0+then-dimensions-gt3 w ↦
+          job-high c.args.input.now (sym c.settings_whole.ensures ∙ c.if-not-settings_whole.false) _ c.settings_of-settings.ensures w.if-dimensions-gt3.true
+    ]
 
-pub returns-then-d-eq0 : goal.returns-then-d-eq0
-returns-then-d-eq0 c = record {
-  same = elim c.then-d-eq0.branch [
-    | then-d-eq0-via-then-d-eq0 w ↦
-        job-low c.args.input.now (sym c.settings_whole.ensures ∙ c.if-not-settings_whole.false) _ c.settings_of-settings.ensures w.if-d-eq0.true
-    | then-d-eq0-via-else-d-eq0+then-d-gt3 w ↦
-        job-high c.args.input.now (sym c.settings_whole.ensures ∙ c.if-not-settings_whole.false) _ c.settings_of-settings.ensures w.if-d-gt3.true
-  ];
-  within = tt;
-}
+-- the points that are read decide the job
+module _ (c : Else-dimensions-gt3) where
+  abbrev points : Job
+  points = read_points (settings_are c.settings_of-settings.result) stream_points settings_size (drop settings_size c.args.input.now) []
 
-pub loop-at-init : goal.loop-at-init
-loop-at-init c = let start = c in (
-  begun _ start.args.input.now _
-      (sym c.settings_whole.ensures ∙ c.if-not-settings_whole.false)
-      c.settings_of-settings.ensures c.if-d-eq0.false c.if-d-gt3.false start.requires,
-  refl,
-)
+  by-points : job_in c.args.input.now ≡ held points
+  by-points =
+      job-right c.args.input.now (sym c.settings_whole.ensures ∙ c.if-not-settings_whole.false) _ c.settings_of-settings.ensures c.if-dimensions-eq0.false
+      c.if-dimensions-gt3.false
 
-pub record_at-requires : goal.record_at-requires
-record_at-requires c = (c.loop-at.invariant.0.within, search rules)
+  -- the records that are lent are all behind the settings
+  all-records : read_points (settings_are c.settings_of-settings.result) stream_points settings_size
+      (take (length c.args.input.now - settings_size) (drop settings_size c.args.input.now)) [] ≡ points
+  all-records =
+      ap (λ (bs : List ℕ). read_points (settings_are c.settings_of-settings.result) stream_points settings_size bs [])
+      (take_all (length c.args.input.now - settings_size) (drop settings_size c.args.input.now) (omega (arith, length-drop settings_size c.args.input.now)))
 
-pub returns-then-not-record_at : goal.returns-then-not-record_at
-returns-then-not-record_at c = record {
-  same = reading-cut c.loop-at.invariant.0 c.loop-at-test.true
-      (sym c.record_at.ensures ∙ c.if-not-record_at.true);
-  within = tt;
-}
+pub returns-in_err-count-clause-same : goal.returns-in_err-count-clause-same
+returns-in_err-count-clause-same c =
+    let p = err_from_is_err_and c.from_residual.result c.from_residual.ensures.1 in
+    let at = (goal.at.returns-in_err-count-clause-same c).Else-dimensions-gt3 in
+    rw (p.1, p.2) (held-broken (settings_are c.settings_of-settings.result) c.args.input.now (points at) (by-points at) _ (c.in_err-count.ensures.same ∙ all-records at))
 
-pub returns-then-n-eq-MOST_POINTS : goal.returns-then-n-eq-MOST_POINTS
-returns-then-n-eq-MOST_POINTS c = record {
-  same = reading-full c.loop-at.invariant.0 c.loop-at-test.true
-      (sym c.record_at.ensures ∙ c.if-not-record_at.false) c.if-n-eq-MOST_POINTS.true;
-  within = tt;
-}
+pub returns-then-params-gt-MOST_NEIGHBOURS-clause-same : goal.returns-then-params-gt-MOST_NEIGHBOURS-clause-same
+returns-then-params-gt-MOST_NEIGHBOURS-clause-same c =
+    let at = (goal.at.returns-then-params-gt-MOST_NEIGHBOURS-clause-same c).Else-dimensions-gt3 in
+    held-over (settings_are c.settings_of-settings.result) c.args.input.now (points at) (by-points at)
+    (take (c.in_ok-count.count * c.settings_of-settings.result.dimensions) c.read_points.new.coordinates) (c.in_ok-count.ensures.same ∙ all-records at) c.if-params-gt-MOST_NEIGHBOURS.true
 
-pub overflow_mul-row : goal.overflow_mul-row
-overflow_mul-row c = let turn = c.loop-at in
-    let d = c.settings_of-settings.result.dimensions in
-    omega (arith, spot turn.n d (omega (arith, turn.invariant.0.few, c.if-n-eq-MOST_POINTS.false)) turn.invariant.0.flat)
-
-pub read_fields-requires : goal.read_fields-requires
-read_fields-requires c = let turn = c.loop-at in
-    let r = turn.invariant.0 in
-    let d = c.settings_of-settings.result.dimensions in
-    let room = spot turn.n d (omega (arith, r.few, c.if-n-eq-MOST_POINTS.false)) r.flat in
-    let long = record-room point_mark (point_size_lem d) turn.at c.args.input.now
-    r.within (sym c.record_at.ensures ∙ c.if-not-record_at.false) in
-    omega (arith, lent_many c.loop-at.points (turn.n * d) d (omega (arith, r.room)))
-
-pub overflow_add-at-in-loop-at : goal.overflow_add-at-in-loop-at
-overflow_add-at-in-loop-at c = let start = c in
-    let turn = c.loop-at in
-    let d = c.settings_of-settings.result.dimensions in
-    let long = record-room point_mark (point_size_lem d) turn.at start.args.input.now turn.invariant.0.within
-    (sym c.record_at.ensures ∙ c.if-not-record_at.false) in
-    omega (arith, start.well_formed)
-
-pub overflow_add-n : goal.overflow_add-n
-overflow_add-n c = omega (arith, c.loop-at.invariant.0.few)
-
-pub loop-at-smaller : goal.loop-at-smaller
-loop-at-smaller c = omega (arith, c.loop-at-test.true)
-
-pub loop-at-preserved : goal.loop-at-preserved
-loop-at-preserved c = let turn = c.loop-at in
-    let r = turn.invariant.0 in
-    let d = c.settings_of-settings.result.dimensions in
-    let room = spot turn.n d (omega (arith, r.few, c.if-n-eq-MOST_POINTS.false)) r.flat in (
-      reading-more turn.invariant.0 c.loop-at-test.true
-          (sym c.record_at.ensures ∙ c.if-not-record_at.false)
-          c.if-n-eq-MOST_POINTS.false _ (floats-back (turn.n * d) d _ _ turn.points (omega (arith, r.room)) c.read_fields.ensures) (search rules),
-      search rules,
-    )
-
-pub returns-then-settings-gt-MOST_NEIGHBOURS : goal.returns-then-settings-gt-MOST_NEIGHBOURS
-returns-then-settings-gt-MOST_NEIGHBOURS c = record {
-  same = reading-over c.loop-at.invariant.0 c.loop-at-test.false c.if-settings-gt-MOST_NEIGHBOURS.true;
-  within = tt;
-}
-
-pub returns : goal.returns
-returns c = record {
-  same = reading-done c.loop-at.invariant.0 c.loop-at-test.false c.if-settings-gt-MOST_NEIGHBOURS.false;
-  within = c.loop-at.invariant.0.few;
-}
+pub returns-clause-same : goal.returns-clause-same
+returns-clause-same c =
+    let at = (goal.at.returns-clause-same c).Else-dimensions-gt3 in
+    held-within (settings_are c.settings_of-settings.result) c.args.input.now (points at) (by-points at)
+    (take (c.in_ok-count.count * c.settings_of-settings.result.dimensions) c.read_points.new.coordinates) (c.in_ok-count.ensures.same ∙ all-records at) c.if-params-gt-MOST_NEIGHBOURS.false

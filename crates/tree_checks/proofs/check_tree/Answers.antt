@@ -5,4 +5,4 @@ use Rattle.tree_checks.proofs.NoRoom.{build-is-own}
 use Rattle.tree_checks.proofs.check_tree.Goals as goal
 
 pub returns : goal.returns
-returns c = c.check_build.ensures ∙ build-is-own _ _ _ (lists_read c.args.lists) refl refl refl refl refl refl refl
+returns c = rw c.of-lent.ensures at c.check_build.ensures ∙ build-is-own _ _ _ (lists_read c.args.lists) refl refl refl refl refl refl refl
