@@ -1,6 +1,6 @@
 -- The tests of a build, group by group. Assumes nothing.
--- Holds: build-groups, reductions-many, checked-reductions, points-groups, nine-met, nine-passed, rows-tests, short-pairs, tests-stop, tests-pass,
---   tests-short, tests-last, checks-stop, checks-short, checks-last, same-tests, and those of point_checks that are passed on
+-- Holds: use, build-groups, reductions-many, checked-reductions, points-groups, nine-met, nine-passed, rows-tests, short-pairs,
+--   tests-stop, tests-pass, tests-short, tests-last, checks-stop, checks-short, checks-last, same-tests
 pub use Rattle.point_checks.proofs.Laws.{and_then, verdict-append, fault-first, fault-second, bad-test}
 use mathlib.Core.Path.{◌≡◌, refl, sym, ap, ap₂, ◌∙◌}
 use mathlib.Core.Bool.{Bool, true, false, not, ◌&&◌, ◌||◌}

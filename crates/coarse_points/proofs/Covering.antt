@@ -1,15 +1,13 @@
 -- The covers of what leaves send up: of one leaf, leaf after leaf behind the working room, and as the definition has them. Assumes
 -- nothing.
--- Holds: cover-empty, cover-unsent, leaf-sampled, leaf-lent, covers-first, covers-next, covers-zip
+-- Holds: cover-empty, cover-unsent, leaf-sampled, covers-first, covers-next, covers-zip
 use mathlib.Core.Path.{◌≡◌, refl, sym, ap, ◌∙◌}
-use mathlib.Core.List.{List, [], ◌∷◌, ◌++◌, map, zip_with}
+use mathlib.Core.List.{List, [], ◌∷◌, map, zip_with}
 use Prim.Native.Nat.{ℕ, ◌+◌, ◌≤◌, ◌<◌}
 use native.Mathlib.Omega.{arith}
-use lib.ListN.{length, get_or, set, take, drop, length-append, length-drop}
-use lib.Seq.{drop_at}
+use lib.ListN.{length, get_or, set, take}
 use lib.Ieee.{Float}
-use Rattle.lists.specs.Lists.{from, part, put}
-use Rattle.lists.proofs.Put.{set-put, put_right, part-nil}
+use Rattle.lists.specs.Lists.{from}
 use Rattle.lists.proofs.From.{map-from-nil, fill_more, zip-from-at}
 use Rattle.lists.proofs.Map.{zip_length, zip-at}
 use Rattle.definition.specs.Number.{plus_zero, plus_infinity}
@@ -43,45 +41,26 @@ module _ (d : ℕ) (cs : List Float) where
 
   -- a leaf that sends some of its rows, from its seed on
   pub leaf-sampled : (rows : List ℕ) (quota seed : ℕ) → 1 ≤ length rows → 1 ≤ quota → seed ≡ seed_of d cs rows
-      → (old new : List ℕ) (at : ℕ) (x : Float) → new ≡ put old at (sample d cs rows quota seed) → x ≡ cover_of d cs rows (sample d cs rows quota seed)
-      → (new ≡ put old at (sent_by d cs rows quota)) × (x ≡ leaf_cover d cs rows (sent_by d cs rows quota))
-  leaf-sampled rows quota seed h q e old new at x w f =
+      → (new : List ℕ) (x : Float) → new ≡ sample d cs rows quota seed → x ≡ cover_of d cs rows (sample d cs rows quota seed)
+      → (new ≡ sent_by d cs rows quota) × (x ≡ leaf_cover d cs rows (sent_by d cs rows quota))
+  leaf-sampled rows quota seed h q e new x w f =
       let s : sample d cs rows quota seed ≡ sent_by d cs rows quota = ap (sample d cs rows quota) e ∙ sym (sent-some d cs rows quota q) in (
-        w ∙ ap (put old at) s,
+        w ∙ s,
         f ∙ ap (cover_of d cs rows) s ∙ some-sent rows (sent_by d cs rows quota) h (omega (arith, sent-length d cs rows quota)),
       )
 
-  -- the same of the rows as they were lent
-  pub leaf-lent : (rows own : List ℕ) (quota : ℕ) → rows ≡ own → (old new : List ℕ) (at : ℕ) (x : Float)
-      → new ≡ put old at (sent_by d cs rows quota) → x ≡ leaf_cover d cs rows (sent_by d cs rows quota)
-      → (new ≡ put old at (sent_by d cs own quota)) × (x ≡ leaf_cover d cs own (sent_by d cs own quota))
-  leaf-lent rows own quota e old new at x w f =
-      (w ∙ ap (λ (z : List ℕ). put old at (sent_by d cs z quota)) e, f ∙ ap (λ (z : List ℕ). leaf_cover d cs z (sent_by d cs z quota)) e)
-
--- ---- leaf after leaf: a cover at a + l, behind the room of a floats, which the sampling left otherwise
+-- ---- leaf after leaf: a cover at l
 module _ (d : ℕ) (cs : List Float) (I D : List ℕ) (first : ℕ) (shares : List ℕ) where
   abbrev covers : ℕ → Float
   covers l = leaf_cover d cs (own_at I D (first + l)) (sent_by d cs (own_at I D (first + l)) (get_or shares l 0))
 
-  pub covers-first : (floats : List Float) (a : ℕ) → part floats a 0 ≡ covers_at d cs I D first shares 0
-  covers-first floats a = part-nil floats a ∙ sym (map-from-nil covers 0)
+  pub covers-first : (xs : List Float) → take 0 xs ≡ covers_at d cs I D first shares 0
+  covers-first xs = sym (map-from-nil covers 0)
 
-  pub covers-next : (floats room : List Float) (a l : ℕ) (x : Float) → length room ≡ a → a + l < length floats
+  pub covers-next : (xs : List Float) (l : ℕ) (x : Float) → l < length xs
       → x ≡ leaf_cover d cs (own_at I D (first + l)) (sent_by d cs (own_at I D (first + l)) (get_or shares l 0))
-      → part floats a l ≡ covers_at d cs I D first shares l
-      → part (set (room ++ drop a floats) (a + l) x) a (l + 1) ≡ covers_at d cs I D first shares (l + 1)
-  unfolding part
-  covers-next floats room a l x e h q p =
-      let k : l < length (drop a floats) = omega (arith, length-drop a floats) in
-      ap (λ (z : List Float). take (l + 1) (drop a z)) (behind k)
-      ∙ ap (take (l + 1)) (drop_at room (set (drop a floats) l x) a e)
-      ∙ fill_more covers (drop a floats) l x k q p
-    where
-      behind : l < length (drop a floats) → set (room ++ drop a floats) (a + l) x ≡ room ++ set (drop a floats) l x
-      behind k =
-          set-put (room ++ drop a floats) (a + l) x (omega (arith, e, length-append room (drop a floats)))
-          ∙ put_right room (drop a floats) a l (x ∷ []) e
-          ∙ ap (λ (z : List Float). room ++ z) (sym (set-put (drop a floats) l x k))
+      → take l xs ≡ covers_at d cs I D first shares l → take (l + 1) (set xs l x) ≡ covers_at d cs I D first shares (l + 1)
+  covers-next xs l x h q p = fill_more covers xs l x h q p
 
   -- as the definition has them, quota by quota
   pub covers-zip : (m : ℕ) (ws : List ℕ) → length ws ≡ m → ((l : ℕ) → l < m → get_or shares l 0 ≡ get_or ws l 0)

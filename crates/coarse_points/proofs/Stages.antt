@@ -1,18 +1,18 @@
 -- How the steps fit together: sizes, quotas, what each leaf sends, and the sorted rows behind the active ones. Assumes nothing.
--- Holds: counts_all, leaves-fit, sent-size, up-size, sorted-up, covers_up, written-up, reordered, quotas-front, lent-good,
---   lent-size, leaf_room, leaf-end, leaf-list
+-- Holds: counts_all, leaves-fit, sorted-up, covers_up, quotas-front, lent-good, lent-size, part-between, part-size, leaf_room,
+--   leaf-end, leaf-list, all-sent
 use mathlib.Core.Path.{◌≡◌, sym, ap, ◌∙◌}
 use mathlib.Core.List.{List, [], ◌++◌, map, zip_with, map-map}
 use Prim.Native.Nat.{ℕ, ◌+◌, ◌-◌, ◌≤◌, ◌<◌}
+use native.Mathlib.Nat.{zero-add}
 use native.Mathlib.Omega.{arith}
 use lib.ListN.{length, get_or, take, drop}
-use lib.Seq.{get_or-take, length-take-le, take_at}
+use lib.Seq.{get_or-take, length-take-le, take_at, drop_at}
 use lib.Ieee.{Float}
-use borrow.Rule.Slice.PartMut.{put_mid}
-use Rattle.lists.specs.Lists.{total, from, joined, keep, member, count, part, put}
+use Rattle.lists.specs.Lists.{total, from, joined, keep, member, part, put}
 use Rattle.lists.specs.Ascends.{All}
 use Rattle.lists.proofs.All.{all-at, joined-all}
-use Rattle.lists.proofs.Put.{length_part, put_next, put-over, part-put-same, mid_back}
+use Rattle.lists.proofs.Put.{length_part, part-lent, put_next, put_whole}
 use Rattle.lists.proofs.From.{map-below-same, length-map-from, get_d-map-below}
 use Rattle.lists.proofs.Joined.{length-joined}
 use Rattle.lists.proofs.Sums.{sum-below-same, sum-below-suc, sum-below-part, sum-below-at, total-index}
@@ -29,8 +29,8 @@ use Rattle.rows.specs.Rows.{GoodRow, GoodRows}
 use Rattle.sort.specs.Heap.{Sorted}
 use Rattle.packed.specs.Reading.{own_start, own_count, own_at, read_own}
 use Rattle.packed.proofs.OwnRows.{read_length, read_at}
-use Rattle.coarse_points.specs.Sent.{sent_rows, sent_covers, counts_at, sent_at, covers_at, SendsUp, LeafFits, LeavesFit, Reordered}
-use Rattle.coarse_points.proofs.Sending.{sent-next, sent-zip, sent-many, sent-times, sorted-next, up-many}
+use Rattle.coarse_points.specs.Sent.{sent_rows, sent_covers, counts_at, sent_at, covers_at, SendsUp, LeafFits, LeavesFit}
+use Rattle.coarse_points.proofs.Sending.{sent-next, sent-zip, sent-many, sent-times, sorted-next}
 use Rattle.coarse_points.proofs.Covering.{covers-zip}
 
 module _ (d : ℕ) (cs : List Float) (active I D : List ℕ) (first m : ℕ) (s : SendsUp d cs active I D first m) where
@@ -99,8 +99,8 @@ module _ (d : ℕ) (cs : List Float) (active I D : List ℕ) (first m : ℕ) (s 
         ∙ ap (λ (k : ℕ). total (map (λ l. get_or ws l 0) (from 0 k))) (sym many) ∙ sym (total-index ws) ∙ fair.sum
 
     -- what sampling asks
-    pub leaves-fit : (out : List ℕ) (at k : ℕ) → at + size ≤ length out → length active ≤ k → LeavesFit d cs I D first m wholes out at k
-    leaves-fit out at k f g = record {
+    pub leaves-fit : (k : ℕ) → length active ≤ k → LeavesFit d cs I D first m wholes size k
+    leaves-fit k g = record {
       each = λ l h. record {
         axes = s.axes;
         row = omega (arith, s.leaves.rows);
@@ -110,7 +110,7 @@ module _ (d : ℕ) (cs : List Float) (active I D : List ℕ) (first m : ℕ) (s 
         within = within l h;
       };
       listed = long;
-      fits = omega (arith, sum);
+      fits = sum;
     }
 
     -- ---- what is sent, and what becomes of it
@@ -119,9 +119,6 @@ module _ (d : ℕ) (cs : List Float) (active I D : List ℕ) (first m : ℕ) (s 
 
     as-defined : sent ≡ joined (zip_with (sent_by d cs) own ws)
     as-defined = sent-zip d cs I D first wholes m ws many read
-
-    pub sent-size : length (sent_at d cs I D first wholes m) ≡ size
-    sent-size = sent-many d cs I D first wholes m ∙ sum
 
     sent-some : (r : ℕ) → times r sent ≤ times r active
     sent-some r =
@@ -132,36 +129,12 @@ module _ (d : ℕ) (cs : List Float) (active I D : List ℕ) (first m : ℕ) (s 
     unfolding sent_rows next_active
     up_is = rw (as-defined, sizes-read, quotas-held counts size seats)
 
-    pub up-size : length (sent_rows d cs active (read_own I D first m) size) ≡ size
-    up-size = ap length (sym up_is) ∙ up-many active s.leaves.ascends sent sent-some ∙ sent-size
-
     pub sorted-up : (ys : List ℕ) → Sorted (λ x y. x ≤ y) ys → Same ys (sent_at d cs I D first wholes m) → ys ≡ sent_rows d cs active (read_own I D first m) size
     sorted-up ys o h = sorted-next active s.leaves.ascends sent sent-some ys o h ∙ up_is
 
     pub covers_up : (xs : List Float) → xs ≡ covers_at d cs I D first wholes m → xs ≡ sent_covers d cs (read_own I D first m) size
     unfolding sent_covers
     covers_up xs h = h ∙ covers-zip d cs I D first wholes m ws many read ∙ rw (sizes-read, quotas-held counts size seats)
-
-    -- written behind the active rows and sorted there
-    pub written-up : (l : List ℕ) (at : ℕ) (mid : List ℕ) (n : ℕ) (new : List ℕ) → at + size ≤ length l → mid ≡ put l at (sent_at d cs I D first wholes m)
-        → n ≡ length (sent_at d cs I D first wholes m) → Reordered mid at n new → new ≡ put l at (sent_rows d cs active (read_own I D first m) size)
-    written-up l at mid n new f g k o =
-        let e : part mid at n ≡ sent = ap (λ (z : List ℕ). part z at n) g ∙ part-put-same l at sent n (omega arith) (sym k) in
-        let same : Same o.rows sent = λ p. o.same p ∙ ap (count p) e in
-        o.is ∙ ap (λ (z : List ℕ). put z at o.rows) g
-        ∙ put-over l at sent o.rows (omega arith) (sym (same_length o.rows sent same))
-        ∙ ap (put l at) (sorted-up o.rows o.sorted same)
-
--- ---- a part that was lent comes back
-pub reordered : (l : List ℕ) (start e : ℕ) (ys : List ℕ) → start ≤ e → e ≤ length l → Sorted (λ x y. x ≤ y) ys → Same ys (take (e - start) (drop start l))
-    → Reordered l start (e - start) (put_mid start (e - start) l ys)
-unfolding part
-reordered l start e ys h g o s = record {
-  rows = ys;
-  sorted = o;
-  same = s;
-  is = mid_back l start (e - start) ys (same_length ys (take (e - start) (drop start l)) s ∙ length_part l start (e - start) (omega arith));
-}
 
 -- ---- the quotas at the front of the working list
 pub quotas-front : (sizes mid new : List ℕ) (m size : ℕ) → m ≤ length mid → take m mid ≡ sizes → size ≤ total sizes
@@ -178,18 +151,34 @@ module _ (d : ℕ) (cs : List Float) (I D : List ℕ) (r quota k : ℕ) (f : Lea
   pub lent-size : length rows ≡ own_count D r
   lent-size = ap length e ∙ length_part I (own_start D r) (own_count D r) f.stretch
 
+-- ---- what stands between two parts
+pub part-between : (front mid back : List Float) (a m : ℕ) → length front ≡ a → length mid ≡ m → part (front ++ (mid ++ back)) a m ≡ mid
+unfolding part
+part-between front mid back a m e n = ap (take m) (drop_at front (mid ++ back) a e) ∙ take_at mid back m n
+
+-- ---- the part of a list that takes n rows
+pub part-size : (out : List ℕ) (start n : ℕ) → start + n ≤ length out → length (take (start + n - start) (drop start out)) ≡ n
+part-size out start n h = ap length (part-lent out start n) ∙ length_part out start n h
+
 -- ---- the turn of the loop over the leaves
-module _ (d : ℕ) (cs : List Float) (I D : List ℕ) (first m : ℕ) (shares out : List ℕ) (at k : ℕ) (f : LeavesFit d cs I D first m shares out at k) where
-  pub leaf_room : (l : ℕ) → l < m → at + length (sent_at d cs I D first shares l) + get_or shares l 0 ≤ length out
+module _ (d : ℕ) (cs : List Float) (I D : List ℕ) (first m : ℕ) (shares : List ℕ) (n k : ℕ) (f : LeavesFit d cs I D first m shares n k) where
+  pub leaf_room : (l : ℕ) → l < m → length (sent_at d cs I D first shares l) + get_or shares l 0 ≤ n
   leaf_room l h =
       omega (arith, sent-many d cs I D first shares l, sum-below-suc l (λ l. get_or shares l 0), sum-below-part (l + 1) m (λ l. get_or shares l 0) (omega arith), f.fits)
 
   pub leaf-end : (l : ℕ) → length (sent_at d cs I D first shares (l + 1)) ≡ length (sent_at d cs I D first shares l) + get_or shares l 0
   leaf-end l = omega (arith, sent-many d cs I D first shares l, sent-many d cs I D first shares (l + 1), sum-below-suc l (λ l. get_or shares l 0))
 
-  pub leaf-list : (l e : ℕ) (now : List ℕ) → l < m → e ≡ at + length (sent_at d cs I D first shares l) → now ≡ put out at (sent_at d cs I D first shares l)
-      → put now e (sent_by d cs (own_at I D (first + l)) (get_or shares l 0)) ≡ put out at (sent_at d cs I D first shares (l + 1))
-  leaf-list l e now h q g =
+  pub leaf-list : (out : List ℕ) (l e : ℕ) (now : List ℕ) → length out ≡ n → l < m → e ≡ length (sent_at d cs I D first shares l)
+      → now ≡ put out 0 (sent_at d cs I D first shares l)
+      → put now e (sent_by d cs (own_at I D (first + l)) (get_or shares l 0)) ≡ put out 0 (sent_at d cs I D first shares (l + 1))
+  leaf-list out l e now w h q g =
+      let before = sent_at d cs I D first shares l in
       rw (g, q)
-      (put_next out at (sent_at d cs I D first shares l) (sent_by d cs (own_at I D (first + l)) (get_or shares l 0)) (omega (arith, leaf_room l h))
-      ∙ ap (put out at) (sym (sent-next d cs I D first shares l)))
+      (ap (λ (i : ℕ). put (put out 0 before) i (sent_by d cs (own_at I D (first + l)) (get_or shares l 0))) (sym (zero-add (length before)))
+      ∙ put_next out 0 before (sent_by d cs (own_at I D (first + l)) (get_or shares l 0)) (omega (arith, w, leaf_room l h))
+      ∙ ap (put out 0) (sym (sent-next d cs I D first shares l)))
+
+  -- all that is sent fills the list
+  pub all-sent : (out now : List ℕ) → length out ≡ n → now ≡ put out 0 (sent_at d cs I D first shares m) → now ≡ sent_at d cs I D first shares m
+  all-sent out now w g = g ∙ put_whole out (sent_at d cs I D first shares m) (omega (arith, w, sent-many d cs I D first shares m, f.fits))

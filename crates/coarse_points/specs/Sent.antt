@@ -1,14 +1,12 @@
 -- The rows that leaves send up to the next level, and their covers. Definitions only.
 use Rattle.std.specs.Prelude.{ℕ, ◌+◌, ◌*◌, ◌≤◌, ◌<◌, ◌≡◌, length, get_or, Float}
 use mathlib.Core.List.{List, map, zip_with}
-use Rattle.lists.specs.Lists.{total, from, joined, part, put}
+use Rattle.lists.specs.Lists.{total, from, joined}
 use Rattle.lists.specs.Ascends.{Ascends}
-use Rattle.lists.specs.Same.{Same}
 use Rattle.definition.specs.Quotas.{quotas}
 use Rattle.definition.specs.Sampling.{sent_by, leaf_cover}
 use Rattle.definition.specs.Tree.{next_active}
 use Rattle.rows.specs.Rows.{GoodRows}
-use Rattle.sort.specs.Heap.{Sorted}
 use Rattle.definition.specs.Packed.{row_numbers}
 use Rattle.packed.specs.Reading.{own_start, own_count, own_at}
 use Rattle.overlap_owners.specs.Own.{Leaves}
@@ -51,15 +49,8 @@ pub record LeafFits (d : ℕ) (cs : List Float) (I D : List ℕ) (r quota k : �
   pub floats : own_count D r ≤ k
   pub within : quota ≤ own_count D r
 
--- the same of m leaves with these quotas, and room from `at` on for all that they send
-pub record LeavesFit (d : ℕ) (cs : List Float) (I D : List ℕ) (first m : ℕ) (shares level_points : List ℕ) (at k : ℕ) : Type 0 where
+-- the same of m leaves with these quotas, which add up to n
+pub record LeavesFit (d : ℕ) (cs : List Float) (I D : List ℕ) (first m : ℕ) (shares : List ℕ) (n k : ℕ) : Type 0 where
   pub each : (l : ℕ) → l < m → LeafFits d cs I D (first + l) (get_or shares l 0) k
   pub listed : m ≤ length shares
-  pub fits : at + total (map (λ l. get_or shares l 0) (from 0 m)) ≤ length level_points
-
--- the n numbers from `start` on, sorted in place
-pub record Reordered (old : List ℕ) (start n : ℕ) (new : List ℕ) : Type 0 where
-  pub rows : List ℕ
-  pub sorted : Sorted (λ x y. x ≤ y) rows
-  pub same : Same rows (part old start n)
-  pub is : new ≡ put old start rows
+  pub fits : total (map (λ l. get_or shares l 0) (from 0 m)) ≡ n

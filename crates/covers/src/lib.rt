@@ -27,6 +27,7 @@ pub fn put_covers(boxes: &mut [f64], dimensions: usize, first: usize, covers: &[
     ensures { boxes.new ≡ put boxes.old (row_floats_lem dimensions * first) (covered dimensions boxes.old (row_floats_lem dimensions * first) covers.now) }
 {
     let start = packed::floats_before(dimensions, first);
+    // by the index: tried as `enumerate().rev()`, whose proof has no fact that ties the cover at hand to its place
     for l in (0..covers.len()).rev() {
         put_cover(boxes, dimensions, start, l, covers[l]);
     }

@@ -10,44 +10,56 @@ use Rattle.lists.specs.Lists.{best, from}
 use Rattle.lists.proofs.Best.{best-map, best-from-yes, best-from-no}
 use Rattle.definition.specs.Keys.{Key, keyed, nearest_row, farthest_row}
 
--- x is the best of the first i places, of n
+-- x is the best of the first i places, of n; before the first one, it is that place
 pub record Place (better : ℕ → ℕ → Bool) (n x i : ℕ) : Type 0 where
-  pub least : 1 ≤ i
   pub most : i - 1 ≤ n - 1
   pub is : x ≡ best better 0 (from 1 (i - 1))
 
+one : (j : ℕ) → 1 + j ≡ suc j
+one j = omega arith
+
+less : (j : ℕ) → suc j - 1 ≡ j
+less j = omega arith
+
+next : (j : ℕ) → suc j + 1 - 1 ≡ j + 1
+next j = omega arith
+
+first-alone : (better : ℕ → ℕ → Bool) → best better 0 (from 1 0) ≡ 0
+unfolding best from
+first-alone better = refl
+
 module _ {better : ℕ → ℕ → Bool} {n : ℕ} where
-  pub place-first : Place better n 0 1
+  pub place-first : Place better n 0 0
   unfolding best from
-  place-first = record { least = omega arith; most = omega arith; is = refl }
+  place-first = record { most = omega arith; is = refl }
 
-  module _ {x i : ℕ} (p : Place better n x i) where
-    last : 1 + (i - 1) ≡ i
-    last = omega (arith, p.least)
+  -- the first place is kept, whatever is asked of it
+  only : (x : ℕ) → Place better n x 0 → x ≡ 0
+  unfolding best from
+  only x p = p.is
 
-    next : i + 1 - 1 ≡ i - 1 + 1
-    next = omega (arith, p.least)
+  pub place-yes : (x i : ℕ) → Place better n x i → i < n → better i x ≡ true → Place better n i (i + 1)
+  place-yes x zero p h y = record { most = omega arith; is = sym (first-alone better) }
+  place-yes x (suc j) p h y =
+      let here : x ≡ best better 0 (from 1 j) = p.is ∙ ap (λ (k : ℕ). best better 0 (from 1 k)) (less j) in
+      let z : better (1 + j) (best better 0 (from 1 j)) ≡ true = rw (one j, ← here) y in
+      record {
+        most = omega arith;
+        is = sym (one j) ∙ sym (ap (λ (k : ℕ). best better 0 (from 1 k)) (next j) ∙ best-from-yes better 0 1 j z);
+      }
 
-    pub place-yes : i < n → better i x ≡ true → Place better n i (i + 1)
-    place-yes h y =
-        let z : better (1 + (i - 1)) (best better 0 (from 1 (i - 1))) ≡ true = rw (last, ← p.is) y in
-        record {
-          least = omega arith;
-          most = omega arith;
-          is = sym (ap (λ (k : ℕ). best better 0 (from 1 k)) next ∙ best-from-yes better 0 1 (i - 1) z ∙ last);
-        }
+  pub place-no : (x i : ℕ) → Place better n x i → i < n → better i x ≡ false → Place better n x (i + 1)
+  place-no x zero p h y = record { most = omega arith; is = only x p ∙ sym (first-alone better) }
+  place-no x (suc j) p h y =
+      let here : x ≡ best better 0 (from 1 j) = p.is ∙ ap (λ (k : ℕ). best better 0 (from 1 k)) (less j) in
+      let z : better (1 + j) (best better 0 (from 1 j)) ≡ false = rw (one j, ← here) y in
+      record {
+        most = omega arith;
+        is = here ∙ sym (ap (λ (k : ℕ). best better 0 (from 1 k)) (next j) ∙ best-from-no better 0 1 j z);
+      }
 
-    pub place-no : i < n → better i x ≡ false → Place better n x (i + 1)
-    place-no h y =
-        let z : better (1 + (i - 1)) (best better 0 (from 1 (i - 1))) ≡ false = rw (last, ← p.is) y in
-        record {
-          least = omega arith;
-          most = omega arith;
-          is = p.is ∙ sym (ap (λ (k : ℕ). best better 0 (from 1 k)) next ∙ best-from-no better 0 1 (i - 1) z);
-        }
-
-    pub place_end : n ≤ i → x ≡ best better 0 (from 1 (n - 1))
-    place_end h = p.is ∙ ap (λ (k : ℕ). best better 0 (from 1 k)) (omega (arith, p.least, p.most))
+  pub place_end : (x i : ℕ) → Place better n x i → n ≤ i → x ≡ best better 0 (from 1 (n - 1))
+  place_end x i p h = p.is ∙ ap (λ (k : ℕ). best better 0 (from 1 k)) (omega (arith, p.most))
 
 -- The definition's choice by keys is the one by places.
 module _ (v : ℕ → Float) where

@@ -19,6 +19,7 @@ pub fn distance_sq_between(p: &[f64], q: &[f64]) -> f64
     ensures { result ≡ distance_sq_lem (length p.now) (point_at p.now 0) (point_at q.now 0) }
 {
     let mut sum = 0.0;
+    // by the index: tried as a zip, whose proof has a pair, but nothing that says that it is the one at the index that the sum has reached
     for k in 0..p.len() {
         let d = p[k] - q[k];
         sum += d * d;

@@ -1,4 +1,5 @@
-// Where the least and the greatest of some values stand. Of equal values the first wins; 0 where there is none.
+// Where the least and the greatest of some values stand. Of equal values the first wins; 0 where there is none: no `Option`, since these are
+// the calls of the reference, whose answer is an index, and the definition's `nearest_row` of no rows is 0.
 ghost use Rattle.std.specs.Prelude.{◌≡◌, ◌-◌, Bool, Float, length, get_or};
 ghost use Rattle.std.specs.Float.{nan};
 ghost use Rattle.lists.specs.Lists.{best, from};
@@ -12,8 +13,8 @@ fn place<F: Fn(f64, f64) -> bool>(values: &[f64], better: F) -> usize
         → result ≡ best (λ i j. b (get_or values.now i nan) (get_or values.now j nan)) 0 (from 1 (length values.now - 1)) }
 {
     let mut best = 0;
-    for i in 1..values.len() {
-        if better(values[i], values[best]) {
+    for (i, &value) in values.iter().enumerate() {
+        if better(value, values[best]) {
             best = i;
         }
     }

@@ -1,5 +1,4 @@
 -- The domain record at a place of a file: its numbers, and that its parts lie within the file. Assumes nothing.
--- Holds: number-here, parts_within
 use Rattle.std.specs.Prelude.{Some}
 use mathlib.Core.Path.{◌≡◌, sym, ap}
 use Prim.Native.Nat.{ℕ, ◌+◌, ◌*◌, ◌≤◌}

@@ -2,3 +2,4 @@
 pub mod Columns
 pub mod Stages
 pub mod Sent
+pub mod Halves

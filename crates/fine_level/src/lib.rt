@@ -161,8 +161,8 @@ fn divide(
     }
 }
 
-// What the m leaves from the domain row `first` on send up, `size` rows in all, goes right behind the active rows; the answer is how many
-// these are. Each leaf's box, which stands packed with the others, is put to its row, with the cover of what the leaf sends behind it.
+// What the m leaves from the domain row `first` on send up, `size` rows in all, goes right behind the active rows. Each leaf's box, which
+// stands packed with the others, is put to its row, with the cover of what the leaf sends behind it.
 fn send_up(
     points: Points<'_>,
     size: usize,
@@ -170,17 +170,16 @@ fn send_up(
     m: usize,
     lists: &mut TreeLists<'_>,
     room: &mut Room<'_>,
-) -> usize
+)
     requires sends_up { SendsUp points.dimensions points.coordinates.now (part lists.old.level_points.now place.from place.a) lists.old.internals.now lists.old.domains.now place.first m }
     requires size_le_a { (size ≤ place.a) × (place.from + place.a + size ≤ length lists.old.level_points.now) × (m ≤ length room.old.wholes.now) × (place.a + m ≤ length room.old.floats.now) × (row_floats_lem points.dimensions * (place.first + m) ≤ length lists.old.boxes.now) }
     ensures same { SameLists lists.old lists.new × SameRoom room.old room.new }
     ensures kept { (lists.new.internals.now ≡ lists.old.internals.now) × (lists.new.domains.now ≡ lists.old.domains.now) × (lists.new.borrowed.now ≡ lists.old.borrowed.now) }
-    ensures number { (result ≡ length (sent_rows points.entry.dimensions points.entry.coordinates.now (part lists.old.level_points.now place.from place.a) (read_own lists.old.internals.now lists.old.domains.now place.first m) size)) × (result ≡ size) }
+    ensures number { size ≡ length (sent_rows points.entry.dimensions points.entry.coordinates.now (part lists.old.level_points.now place.from place.a) (read_own lists.old.internals.now lists.old.domains.now place.first m) size) }
     ensures list { lists.new.level_points.now ≡ put lists.old.level_points.now (place.from + place.a) (sent_rows points.entry.dimensions points.entry.coordinates.now (part lists.old.level_points.now place.from place.a) (read_own lists.old.internals.now lists.old.domains.now place.first m) size) }
     ensures boxes { lists.new.boxes.now ≡ put lists.old.boxes.now (row_floats_lem points.entry.dimensions * place.first) (covered points.entry.dimensions lists.old.boxes.now (row_floats_lem points.entry.dimensions * place.first) (sent_covers points.entry.dimensions points.entry.coordinates.now (read_own lists.old.internals.now lists.old.domains.now place.first m) size)) }
 {
     let Place { from, a, first, .. } = place;
-    let level_points: &mut [usize] = lists.level_points;
     let internals: &mut [usize] = lists.internals;
     let domains: &mut [usize] = lists.domains;
     let leaves = LevelLeaves {
@@ -189,22 +188,13 @@ fn send_up(
         first,
         count: m,
     };
-    let next = coarse_points::coarse_points(points, size, level_points, from, a, leaves, room);
+    let level_points: &mut [usize] = lists.level_points;
+    let (front, behind) = level_points.split_at_mut(from + a);
+    coarse_points::coarse_points(points, &front[from..], leaves, &mut behind[..size], room);
     let stop = a + m;
     let floats: &mut [f64] = room.floats;
     let covers: &mut [f64] = &mut floats[a..stop];
     covers::put_covers(lists.boxes, points.dimensions, first, covers);
-    next
-}
-
-// How many leaves a level has, how many rows they borrow, how many active rows the next level has, and how many nodes of its record
-// are written.
-#[derive(Clone, Copy)]
-pub struct Written {
-    pub leaves: usize,
-    pub borrowed: usize,
-    pub next: usize,
-    pub nodes: usize,
 }
 
 // The fine level over the active rows of its place in the level points. Its leaves' rows go to the same place in the internals, and
@@ -216,7 +206,7 @@ pub fn fine_level(
     lists: &mut TreeLists<'_>,
     room: &mut Room<'_>,
     records: &mut Records<'_>,
-) -> Written
+) -> Parts
     requires a_in_bounds { (place.from + 2 * place.a ≤ length lists.old.level_points.now) × (size ≤ place.a) × GivenBy plan (active_at place lists.old.level_points.now) }
     requires fits_at { FitsAt plan place place.a lists.old.internals.now lists.old.domains.now lists.old.boxes.now lists.old.borrowed.now }
     requires room { LevelRoom plan.neighbours place.a room.old.floats.now room.old.wholes.now }
@@ -224,8 +214,8 @@ pub fn fine_level(
     ensures same { SameLists lists.old lists.new × SameRoom room.old room.new × SameRecords records.old records.new }
     ensures counts { (result.leaves ≡ length (leaves_by plan.entry size (active_at place lists.old.level_points.now)))
         × (result.borrowed ≡ length (borrowed_in (leaves_by plan.entry size (active_at place lists.old.level_points.now))))
-        × (result.next ≡ length (next_at plan.entry.points.dimensions plan.entry.points.coordinates.now plan.entry.leaf size (active_at place lists.old.level_points.now)))
         × (result.nodes ≡ length (nodes_by plan.entry (active_at place lists.old.level_points.now))) × (result.nodes ≤ nodes_for plan.entry.engine place.a) }
+    ensures next { size ≡ length (next_at plan.entry.points.dimensions plan.entry.points.coordinates.now plan.entry.leaf size (active_at place lists.old.level_points.now)) }
     ensures level_points { lists.new.level_points.now ≡ put lists.old.level_points.now (place.from + place.a) (next_at plan.entry.points.dimensions plan.entry.points.coordinates.now plan.entry.leaf size (active_at place lists.old.level_points.now)) }
     ensures internals { lists.new.internals.now ≡ put lists.old.internals.now place.from (own_in_lem (leaves_by plan.entry size (active_at place lists.old.level_points.now))) }
     ensures domains { lists.new.domains.now ≡ put lists.old.domains.now (row_numbers * place.first) (stretches place.from place.bat (leaves_by plan.entry size (active_at place lists.old.level_points.now))) }
@@ -235,11 +225,6 @@ pub fn fine_level(
     ensures planes { records.new.planes.now ≡ put records.old.planes.now place.node (map float_of (nodes_by plan.entry (active_at place lists.old.level_points.now))) }
 {
     let parts = divide(plan, place, lists, room, records);
-    let next = send_up(plan.points, size, place, parts.leaves, lists, room);
-    Written {
-        leaves: parts.leaves,
-        borrowed: parts.borrowed,
-        next,
-        nodes: parts.nodes,
-    }
+    send_up(plan.points, size, place, parts.leaves, lists, room);
+    parts
 }

@@ -41,7 +41,7 @@ pub fn grow(
     ensures cuts { records.new.cuts.now ≡ put records.old.cuts.now 0 (map whole_of (records_by engine (settings_of_lem points.entry.dimensions params) points.entry.coordinates.now (levels (settings_of_lem points.entry.dimensions params) points.entry.coordinates.now))) }
     ensures planes { records.new.planes.now ≡ put records.old.planes.now 0 (map float_of (records_by engine (settings_of_lem points.entry.dimensions params) points.entry.coordinates.now (levels (settings_of_lem points.entry.dimensions params) points.entry.coordinates.now))) }
 {
-    let n = points.coordinates.len() / points.dimensions;
+    let n = points.count();
     stretches::number_rows(lists.level_points, n);
     grow_over::grow_over(engine, points, params, n, lists, room, records)
 }

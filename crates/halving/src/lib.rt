@@ -30,6 +30,7 @@ fn part_rows(column: Column<'_>, m: usize, rows: &mut [usize], room: &mut [usize
 {
     let mut lo = 0;
     let mut hi = 0;
+    // by the index: what an iterator lends of the rows can't be written beside it
     for i in 0..rows.len() {
         let r = rows[i];
         if argsort::comes_before(column, r, m) {

@@ -1,5 +1,4 @@
 -- What the reader's answer says: the job that stands in the stream, or its refusal. A job is within the limits. Assumes nothing.
--- Holds: broken-read, whole-read, limits-read
 use mathlib.Core.Path.{◌≡◌, sym, ap, ◌∙◌}
 use Prim.Native.Nat.{ℕ}
 use mathlib.Core.List.{List}

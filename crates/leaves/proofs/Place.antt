@@ -1,4 +1,5 @@
 -- The boxes of a list are lent from some place on, or as a part, and come back with a stretch written. Assumes nothing.
+-- Holds: tail_all, lent-long, lent-back, lent_kept, tail-back
 use mathlib.Core.Path.{◌≡◌, sym, ap, ◌∙◌}
 use Prim.Native.Nat.{ℕ, ◌+◌, ◌-◌, ◌*◌, ◌≤◌}
 use native.Mathlib.Omega.{arith}

@@ -6,7 +6,6 @@ ghost use Rattle.lists.specs.Lists.{put, part};
 ghost use Rattle.definition.specs.Levels.{level_size_lem};
 ghost use Rattle.definition.specs.Tree.{reductions_left, most_fine};
 ghost use Rattle.definition.specs.Refusals.{most_points};
-ghost use Rattle.definition.specs.Number.{plus_zero};
 ghost use Rattle.definition.specs.Packed.{row_numbers, row_floats_lem, packed_level_points, packed_internals, packed_domains, packed_boxes, packed_borrowed};
 ghost use Rattle.definition.specs.Record.{whole_of, float_of};
 ghost use Rattle.fine_level.specs.Fine.{Given};
@@ -15,9 +14,9 @@ ghost use Rattle.levels_loop.specs.Planned.{settings_by, levels_by};
 ghost use Rattle.levels_loop.specs.Records.{records_by, RecordRoom};
 ghost use Rattle.tree_lists.specs.Lent.{SameLists, SameRoom, SameRecords};
 
-use fine_level::{Place, Plan, Written};
+use fine_level::{Parts, Place, Plan};
 use tree_answer::{DDMTree, MOST_LEVELS};
-use tree_lists::{LeafLists, Records, Room, TreeLists};
+use tree_lists::{Records, Room, TreeLists};
 
 // The most fine levels.
 const MOST_FINE: usize = MOST_LEVELS - 1;
@@ -39,46 +38,19 @@ fn next_size(a: usize, c: usize, k: u32, built: usize) -> usize
     level_sizes::level_size(a, c, left)
 }
 
-// Where the level after one stands: behind all that this one has written.
-fn place_after(place: Place, level: Written) -> Place
+// Where the level after one stands, which has `size` active rows: behind all that this one has written.
+fn place_after(place: Place, size: usize, level: Parts) -> Place
     requires { (place.from + place.a < 2 ^ 64) × (place.first + level.leaves < 2 ^ 64) × (place.bat + level.borrowed < 2 ^ 64) × (place.node + level.nodes < 2 ^ 64) }
-    ensures rows { (result.from ≡ place.from + place.a) × (result.a ≡ level.next) }
+    ensures rows { (result.from ≡ place.from + place.a) × (result.a ≡ size) }
     ensures parts { (result.first ≡ place.first + level.leaves) × (result.bat ≡ place.bat + level.borrowed) × (result.node ≡ place.node + level.nodes) }
 {
     Place {
         from: place.from + place.a,
-        a: level.next,
+        a: size,
         first: place.first + level.leaves,
         bat: place.bat + level.borrowed,
         node: place.node + level.nodes,
     }
-}
-
-// The coarse level at its place.
-fn last_level(dimensions: usize, place: Place, lists: &mut TreeLists<'_>)
-    requires { (place.from + place.a ≤ length lists.old.level_points.now) × (place.from + place.a ≤ length lists.old.internals.now) × (row_numbers * (place.first + 1) ≤ length lists.old.domains.now) × (row_floats_lem dimensions * (place.first + 1) ≤ length lists.old.boxes.now) × (dimensions ≤ 3) }
-    ensures same { SameLists lists.old lists.new }
-    ensures kept { (lists.new.level_points.now ≡ lists.old.level_points.now) × (lists.new.borrowed.now ≡ lists.old.borrowed.now) }
-    ensures internals { lists.new.internals.now ≡ put lists.old.internals.now place.from (part lists.old.level_points.now place.from place.a) }
-    ensures domains { lists.new.domains.now ≡ put lists.old.domains.now (row_numbers * place.first) (place.from ∷ place.a ∷ place.bat ∷ 0 ∷ 0 ∷ []) }
-    ensures boxes { lists.new.boxes.now ≡ put lists.old.boxes.now (row_floats_lem dimensions * place.first) (replicate (row_floats_lem dimensions) plus_zero) }
-{
-    let end = place.from + place.a;
-    let level_points: &mut [usize] = lists.level_points;
-    let active: &mut [usize] = &mut level_points[place.from..end];
-    let mut leaf_lists = LeafLists {
-        internals: &mut *lists.internals,
-        domains: &mut *lists.domains,
-        boxes: &mut *lists.boxes,
-    };
-    coarse_level::coarse_level(
-        dimensions,
-        active,
-        place.from,
-        place.first,
-        place.bat,
-        &mut leaf_lists,
-    );
 }
 
 // All levels over the n rows at the front of the level points. Each level is written behind the last: its active rows, its leaves'
@@ -117,16 +89,16 @@ pub fn all_levels(
     let mut rows = [0; MOST_LEVELS];
     let mut domains = [0; MOST_LEVELS];
     let mut built = 0;
-    // how many fine levels there are shows only as they are built
+    // how many fine levels there are shows only as they are built, and is asked behind the loop: a `for` would count beside `built`
     while is_fine(built, place.a, c) {
         let size = next_size(place.a, c, k, built);
         let level = fine_level::fine_level(plan, size, place, lists, room, records);
         rows[built] = place.a;
         domains[built] = level.leaves;
-        place = place_after(place, level);
+        place = place_after(place, size, level);
         built += 1;
     }
-    last_level(plan.points.dimensions, place, lists);
+    coarse_level::coarse_level(plan.points.dimensions, place, lists);
     rows[built] = place.a;
     domains[built] = 1;
     DDMTree {

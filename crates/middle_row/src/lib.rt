@@ -17,6 +17,7 @@ fn count_before(column: Column<'_>, rows: &[usize], p: usize) -> usize
     ensures { result ≡ count (side_in column.entry p true) rows.now }
 {
     let mut n = 0;
+    // by hand: with `filter` and `count` the cut of random points takes up to a fifth longer
     for &r in rows {
         if argsort::comes_before(column, r, p) {
             n += 1;
@@ -32,6 +33,7 @@ fn keep_front<F: Fn(usize) -> bool>(rows: &mut [usize], passes: F) -> usize
     ensures rows { (t : ℕ → Bool) → Tells F.Fn passes t → rows.new ≡ put rows.old 0 (keep t rows.old) }
 {
     let mut n = 0;
+    // by the index: what an iterator lends of the rows can't be written beside it, and `retain` is a `Vec`'s
     for t in 0..rows.len() {
         let r = rows[t];
         if passes(r) {
@@ -88,7 +90,7 @@ pub fn middle(column: Column<'_>, rows: &mut [usize]) -> usize
     };
     let mut left = 8 * count;
     let mut round = 0;
-    // a search that may end early: no counted loop
+    // two bounds end it, the rows that are left and those that may still be looked at: no counted loop
     while 32 < s.count && s.count <= left {
         let at = (s.count / 2 + round * 2654435761) % s.count;
         left -= s.count;

@@ -1,5 +1,4 @@
 -- Where reading stands after each read, and what the bytes that were read decide. Assumes nothing.
--- Holds: known-more, known-open, known-ended, front-decides
 use lib.Seq.{take-add, take-append-le, length-take-le}
 use native.Mathlib.Omega.{arith}
 use Rattle.std.proofs.Common.{◌≡◌, ℕ, ◌+◌, ◌≤◌, List, ◌++◌, length, take, drop, sym, ap, subst, ◌∙◌, append-nil, take_all, IfSome, None, Some}

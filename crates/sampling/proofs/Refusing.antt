@@ -1,10 +1,10 @@
 -- The refusals of a sampling, and what holds where it is accepted. Assumes nothing.
--- Holds: tests-dimension, tests-count, tests-choice, tests-lists, tests-finite, SampleAccepted, call-accepted, rows-numbered, call-ready, call-written, call-covered,
---   call-refused, call-sampled
+-- Holds: tests-dimension, tests-count, tests-choice, tests-lists, tests-finite, SampleAccepted, call-accepted, rows-numbered,
+--   call-ready, call-written, call-covered, call-refused, call-sampled
 use mathlib.Core.Path.{◌≡◌, refl, sym, ap, ap₂, ◌∙◌}
 use mathlib.Core.Bool.{Bool, true, false, not, ◌||◌}
 use mathlib.Core.List.{List, [], ◌∷◌, ◌++◌}
-use Prim.Native.Nat.{ℕ, zero, suc, ◌+◌, ◌*◌, ◌/◌, ◌≤◌, ◌<◌}
+use Prim.Native.Nat.{ℕ, zero, suc, ◌*◌, ◌/◌, ◌≤◌, ◌<◌}
 use native.Mathlib.Nat.{zero-add, div-mul-le_self}
 use native.Mathlib.Omega.{arith}
 use borrow.Author.Tests.{ltb-false, leb-false, eqb-false, not-false}
@@ -125,7 +125,7 @@ rows-numbered n w l e = ap (take n) (e ∙ put-zero w (from 0 n)) ∙ take_at (f
 
 module _ (d : ℕ) (cs : List Float) (wanted seed o f w : ℕ) (a : SampleAccepted d cs wanted seed o f w) (rows : List ℕ) (r : rows ≡ from 0 (length cs / d)) where
   -- what the sampling of a list of rows asks
-  pub call-ready : GoodRows d cs rows × (((0 < wanted) × (wanted ≤ length rows) × (seed < length rows)) × ((0 + wanted ≤ o) × (length rows ≤ f)))
+  pub call-ready : GoodRows d cs rows × (((0 < wanted) × (wanted ≤ length rows) × (seed < length rows)) × ((wanted ≤ o) × (length rows ≤ f)))
   call-ready =
       let n : length rows ≡ length cs / d = ap length r ∙ length_from 0 (length cs / d) in (
         rw r
@@ -143,10 +143,13 @@ module _ (d : ℕ) (cs : List Float) (wanted seed o f w : ℕ) (a : SampleAccept
       let s : get_or (from 0 (length cs / d)) seed 0 ≡ seed = get_d-from 0 (length cs / d) seed 0 a.seed-in ∙ zero-add seed in
       rw (r, s)
 
-  -- what it writes
-  pub call-written : (old new : List ℕ) → new ≡ put old 0 (sample d cs rows wanted (get_or rows seed 0)) → new ≡ written (sample_of d cs wanted seed) old
+  -- what it writes, to the first `wanted` places
+  pub call-written : (old front : List ℕ) → front ≡ sample d cs rows wanted (get_or rows seed 0) → length front ≡ wanted
+      → front ++ drop wanted old ≡ written (sample_of d cs wanted seed) old
   unfolding written
-  call-written old new h = h ∙ ap (put old 0) called ∙ put-zero old (sample_of d cs wanted seed)
+  call-written old front h n =
+      let e : front ≡ sample_of d cs wanted seed = h ∙ called in
+      ap (λ (k : ℕ). front ++ drop k old) (sym n) ∙ ap (λ (l : List ℕ). l ++ drop (length l) old) e
 
   -- its cover
   pub call-covered : (x : Float) → x ≡ cover_of d cs rows (sample d cs rows wanted (get_or rows seed 0)) → x ≡ sample_cover_lem d cs wanted seed

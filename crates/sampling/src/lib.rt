@@ -94,10 +94,8 @@ pub fn farthest_point_sampling(
     let cover = sampling_rounds::sample_rows(
         points,
         all,
-        wanted,
         LocalIdx(seed),
-        out,
-        0,
+        &mut out[..wanted],
         room.floats,
     );
     Ok(Sampled {

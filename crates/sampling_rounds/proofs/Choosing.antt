@@ -17,7 +17,7 @@ use Rattle.lists.specs.Lists.{keep, member, any_of, best, put}
 use Rattle.lists.proofs.Tests.{clash}
 use Rattle.lists.proofs.Map.{map_snoc}
 use Rattle.lists.proofs.Best.{best-snoc}
-use Rattle.lists.proofs.Put.{set-put, put-snoc, put-set}
+use Rattle.lists.proofs.Put.{set-put, put-snoc, put_whole}
 use Rattle.lists.proofs.Members.{mem-at, keep_at, member-last, member-other}
 use Rattle.lists.specs.Times.{times}
 use Rattle.lists.proofs.Times.{times-nil, mem-times, times-mem, others-count, member-zero, times_more}
@@ -78,11 +78,11 @@ module _ (d : ℕ) (cs : List Float) where
     row i = get_or rows i 0
 
     -- k rows are chosen, the last of them at the place `last`; the least squares are those to the chosen rows but the last
-    pub record Choosing (wanted seed : ℕ) (o out : List ℕ) (at : ℕ) (floats : List Float) (last k : ℕ) : Type 0 where
+    pub record Choosing (wanted seed : ℕ) (o out : List ℕ) (floats : List Float) (last k : ℕ) : Type 0 where
       pub prior : List ℕ
       pub many : length prior + 1 ≡ k
       pub within : last < length rows
-      pub written : out ≡ put o at (prior ++ row last ∷ [])
+      pub written : out ≡ put o 0 (prior ++ row last ∷ [])
       pub ahead : sample_more d cs rows (wanted - k) (prior ++ row last ∷ []) ≡ sample d cs rows wanted seed
       pub entries : (i : ℕ) → i < length rows → Entry (member (row i) (prior ++ row last ∷ [])) (get_or floats i nan) (reach prior (row i))
       pub own : (r : ℕ) → times r (prior ++ row last ∷ []) ≤ times r rows
@@ -104,21 +104,21 @@ module _ (d : ℕ) (cs : List Float) where
       row-times i h = mem-times rows (row i) (mem-at rows i 0 h)
 
       -- the seed at the place p is chosen
-      pub choosing-start : (wanted : ℕ) (o : List ℕ) (at p : ℕ) (l : List Float) → at < length o → p < length rows → get_or l p nan ≡ minus_one
-          → ((i : ℕ) → i < length rows → (i ≡ p → ⊥) → get_or l i nan ≡ inf false) → Choosing wanted (row p) (set o at (row p)) (set o at (row p)) at l p 1
+      pub choosing-start : (wanted : ℕ) (o : List ℕ) (p : ℕ) (l : List Float) → 0 < length o → p < length rows → get_or l p nan ≡ minus_one
+          → ((i : ℕ) → i < length rows → (i ≡ p → ⊥) → get_or l i nan ≡ inf false) → Choosing wanted (row p) (set o 0 (row p)) (set o 0 (row p)) l p 1
       unfolding sample reach best member any_of
-      choosing-start wanted o at p l h b m s =
+      choosing-start wanted o p l h b m s =
           record {
             prior = [];
             many = refl;
             within = b;
-            written = sym (set-set o at (row p) (row p)) ∙ set-put (set o at (row p)) at (row p) (rw (length-set o at (row p)) h);
+            written = sym (set-set o 0 (row p) (row p)) ∙ set-put (set o 0 (row p)) 0 (row p) (rw (length-set o 0 (row p)) h);
             ahead = refl;
             entries = marked [] p (λ i. inf false) l b (λ i q. alike-inf) m s;
             own = times_more rows [] (row p) (λ r. omega (arith, times-nil r)) (row-times p b) (times-nil (row p));
           }
 
-      module _ (wanted seed : ℕ) (o out : List ℕ) (at : ℕ) (floats : List Float) (last k : ℕ) (c : Choosing wanted seed o out at floats last k) where
+      module _ (wanted seed : ℕ) (o out : List ℕ) (floats : List Float) (last k : ℕ) (c : Choosing wanted seed o out floats last k) where
         chosen : List ℕ
         chosen = c.prior ++ row last ∷ []
 
@@ -189,8 +189,8 @@ module _ (d : ℕ) (cs : List Float) where
             ∙ sym (ap (λ (m : ℕ). sample_more d cs rows m chosen) n)
             ∙ c.ahead
 
-        pub choosing-more : (r : ℕ) (l : List Float) → k < wanted → at + k < length o → Chosen (lessened d cs rows last floats) (length rows) r l
-            → Choosing wanted seed o (set out (at + k) (row r)) at l r (k + 1)
+        pub choosing-more : (r : ℕ) (l : List Float) → k < wanted → k < length o → Chosen (lessened d cs rows last floats) (length rows) r l
+            → Choosing wanted seed o (set out k (row r)) l r (k + 1)
         unfolding chosen value
         choosing-more r l b q h =
             let u = due r l h in
@@ -198,7 +198,7 @@ module _ (d : ℕ) (cs : List Float) where
               prior = chosen;
               many = omega (arith, chosen-length);
               within = h.inside;
-              written = ap (λ (x : List ℕ). set x (at + k) (row r)) c.written ∙ put-snoc o at chosen (row r) (at + k) (ap (λ (x : ℕ). at + x) chosen-length) q;
+              written = ap (λ (x : List ℕ). set x k (row r)) c.written ∙ put-snoc o 0 chosen (row r) k (omega (arith, chosen-length)) q;
               ahead = more-ahead r b u.1;
               entries = marked chosen r value l h.inside values h.marked h.others;
               own = times_more rows chosen (row r) c.own (row-times r h.inside) (member-zero (row r) chosen u.0);
@@ -209,14 +209,10 @@ module _ (d : ℕ) (cs : List Float) where
         unfolding sample_more chosen
         done w = let n : wanted - k ≡ 0 = omega arith in sym (ap (λ (m : ℕ). sample_more d cs rows m chosen) n) ∙ c.ahead
 
-        -- the list was o₀ before the seed was written
-        pub choosing-end : (o₀ : List ℕ) (x : ℕ) → o ≡ set o₀ at x → wanted ≡ k → out ≡ put o₀ at (sample d cs rows wanted seed)
+        -- the list is filled
+        pub choosing-end : length o ≡ k → wanted ≡ k → out ≡ sample d cs rows wanted seed
         unfolding chosen
-        choosing-end o₀ x e w =
-            c.written
-            ∙ ap (λ (l : List ℕ). put l at chosen) e
-            ∙ put-set o₀ at x chosen (omega (arith, chosen-length, c.many))
-            ∙ ap (put o₀ at) (done w)
+        choosing-end n w = c.written ∙ put_whole o chosen (omega (arith, n, chosen-length)) ∙ done w
 
         -- the cover where all rows are chosen
         pub choosing-all : wanted ≡ k → k ≡ length rows → plus_zero ≡ cover_of d cs rows (sample d cs rows wanted seed)

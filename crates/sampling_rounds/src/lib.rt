@@ -4,7 +4,6 @@
 
 ghost use Rattle.std.specs.Prelude.{◌≡◌, true, ℕ, ◌+◌, ◌<◌, ◌≤◌, length, get_or};
 ghost use Rattle.std.specs.Float.{nan};
-ghost use Rattle.lists.specs.Lists.{put};
 ghost use Rattle.definition.specs.Sampling.{sample, cover_of};
 ghost use Rattle.root_laws.specs.Sorts.{good};
 ghost use Rattle.rows.specs.Rows.{GoodRows};
@@ -44,8 +43,7 @@ fn look_back(floats: &[f64], best: usize) -> usize
     if root::root(near) < top {
         low = near;
     }
-    for i in 0..best {
-        let value = floats[i];
+    for (i, &value) in floats[..best].iter().enumerate() {
         if low < value {
             if root::root(value) < top {
                 low = value;
@@ -145,25 +143,23 @@ impl<'a, 'b> Sampled<'a, 'b> {
     }
 }
 
-// Writes `wanted` of the rows to `out` from `at` on: the row at the place `seed`, and then repeatedly the first unchosen
-// row whose least distance to the chosen is greatest. Gives their cover: how far the worst left-out row is.
+// Fills `out` with some of the rows: the row at the place `seed`, and then repeatedly the first unchosen row whose least distance to the
+// chosen is greatest. Gives their cover: how far the worst left-out row is.
 pub fn sample_rows(
     points: Points<'_>,
     rows: &[usize],
-    wanted: usize,
     seed: LocalIdx,
     out: &mut [usize],
-    at: usize,
     floats: &mut [f64],
 ) -> f64
     requires rows { GoodRows points.dimensions points.coordinates.now rows.now }
-    requires wanted { (0 < wanted) × (wanted ≤ length rows.now) × (seed.0 < length rows.now) }
-    requires room { (at + wanted ≤ length out.old) × (length rows.now ≤ length floats.old) }
-    ensures sampled { out.new ≡ put out.old at (sample points.entry.dimensions points.entry.coordinates.now rows.now wanted (get_or rows.now seed.0 0)) }
-    ensures cover { result ≡ cover_of points.entry.dimensions points.entry.coordinates.now rows.now (sample points.entry.dimensions points.entry.coordinates.now rows.now wanted (get_or rows.now seed.0 0)) }
+    requires wanted { (0 < length out.old) × (length out.old ≤ length rows.now) × (seed.0 < length rows.now) }
+    requires room { length rows.now ≤ length floats.old }
+    ensures sampled { out.new ≡ sample points.entry.dimensions points.entry.coordinates.now rows.now (length out.old) (get_or rows.now seed.0 0) }
+    ensures cover { result ≡ cover_of points.entry.dimensions points.entry.coordinates.now rows.now (sample points.entry.dimensions points.entry.coordinates.now rows.now (length out.old) (get_or rows.now seed.0 0)) }
 {
     floats[..rows.len()].fill(f64::INFINITY);
-    out[at] = rows[seed.0];
+    out[0] = rows[seed.0];
     floats[seed.0] = -1.0;
     let mut sampled = Sampled {
         points,
@@ -171,11 +167,11 @@ pub fn sample_rows(
         squares: floats,
     };
     let mut last = seed;
-    for k in 1..wanted {
+    for k in 1..out.len() {
         last = sampled.next_place(last);
-        out[at + k] = rows[last.0];
+        out[k] = rows[last.0];
     }
-    if wanted == rows.len() {
+    if out.len() == rows.len() {
         return 0.0;
     }
     sampled.worst_distance(last)

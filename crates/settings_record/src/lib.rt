@@ -9,8 +9,7 @@ ghost use Rattle.bytes_out.specs.Writing.{Takes, Appends};
 ghost use Rattle.config.specs.Params.{threshold_policy, settings_are};
 
 use bytes_out::Writer;
-pub use config::Settings;
-use config::{DDMParams, SizePolicy};
+use config::{DDMParams, Settings, SizePolicy};
 
 // Where each field of the record begins, and where the record ends.
 const DIMENSION: usize = bytes_in::MARK;

@@ -1,5 +1,6 @@
 -- The front of a stream decides what it comes to: its settings, and 33 point records of three axes, are 878 bytes (`decisive-is`).
 -- What lies past them is not looked at: `front-decides` says so of the job, `front-printed` of the printout. Assumes nothing.
+-- Holds: whole_take, point-take, front-decides, front-printed, decisive-is
 use mathlib.Core.Path.{◌≡◌, refl, sym, ap, ap₂, ◌∙◌}
 use mathlib.Core.Bool.{Bool, true, false, ◌&&◌, cond}
 use mathlib.Core.Logic.{⊎_elim}

@@ -1,8 +1,8 @@
 -- The records one after the other: what the definition says at each step of the reading. `job-broken`, `job-low`, `job-high` and `job-right` are
 -- the settings; `Reading` is the state between two point records with its start (`begun`) and its steps (`reading-..`); `held-over` and
 -- `held-within` say what is made of the points. Assumes nothing.
--- Holds: settings_whole_lem, whole_long, job-broken, job-low, job-high, job-right, Reading, begun, spot, reading-cut, reading-full,
---   reading-more, reading-done, held-broken, held-over, held-within
+-- Holds: settings_whole_lem, whole_long, job-broken, job-low, job-high, job-right, Reading, begun, spot, place_fits, reading-cut,
+--   reading-full, reading-more, reading-counted, reading-done, held-broken, held-over, held-within
 use mathlib.Core.Path.{◌≡◌, refl, sym, ap, ◌∙◌}
 use mathlib.Core.Bool.{Bool, true, false, ◌&&◌}
 use Prim.Native.Nat.{ℕ, suc, ◌+◌, ◌-◌, ◌*◌, ◌/◌, min, ◌≤◌, ◌<◌}

@@ -1,52 +1,40 @@
 -- `coarse_points::coarse_points` meets its contract: the steps fit together as `Stages` says. Assumes nothing.
-use mathlib.Core.Path.{sym, ◌∙◌}
-use Prim.Native.Nat.{◌+◌, ◌≤◌}
+use mathlib.Core.Path.{sym, ap, ◌∙◌}
+use Prim.Native.Nat.{◌≤◌}
 use native.Mathlib.Omega.{arith}
 use borrow.Author.Rules.{rules}
 use lib.ListN.{length}
-use Rattle.lists.specs.Lists.{part}
-use Rattle.lists.proofs.Put.{length_part}
-use Rattle.coarse_points.proofs.Stages.{counts_all, leaves-fit, sent-size, up-size, covers_up, written-up}
+use lib.Seq.{length-take-le}
+use Rattle.lists.specs.Lists.{count}
+use Rattle.coarse_points.proofs.Stages.{counts_all, leaves-fit, sorted-up, covers_up, part-between}
 use Rattle.coarse_points.proofs.coarse_points.Goals as goal
 
 pub leaf_quotas-requires : goal.leaf_quotas-requires
 leaf_quotas-requires c = let a = c.args in
-    let p = c.requires in
-    let n = length_part a.level_points.now a.from a.a (omega (arith, p.room.1)) in (
+    let p = c.requires in (
       p.rows.leaves.rows,
-      p.room.2,
-      sym (counts_all _ _ _ _ _ _ _ p.rows ∙ n),
-      omega (arith, n, p.rows.rows.few),
+      p.room.1,
+      sym (counts_all _ _ _ _ _ _ _ p.rows),
+      p.rows.rows.few,
       p.room.0,
     )
 
-pub send_leaves-end-requires-clause-leaves : goal.send_leaves-end-requires-clause-leaves
-send_leaves-end-requires-clause-leaves c = let a = c.args in
+pub send_leaves-requires-clause-leaves : goal.send_leaves-requires-clause-leaves
+send_leaves-requires-clause-leaves c = let a = c.args in
     let p = c.requires in
-    let n = length_part a.level_points.now a.from a.a (omega (arith, p.room.1)) in
-    leaves-fit _ _ _ _ _ _ _ p.rows a.size (omega (arith, n, p.room.0)) _ (omega (arith, p.room.2)) c.leaf_quotas.ensures _ _ _ p.room.1 (omega (arith, n))
-
-pub sort_stretch-requires : goal.sort_stretch-requires
-sort_stretch-requires c = let a = c.args in
-    let p = c.requires in
-    let k = c.send_leaves-end.ensures.sent in
-    let n = length_part a.level_points.now a.from a.a (omega (arith, p.room.1)) in
-    let z = sent-size _ _ _ _ _ _ _ p.rows a.size (omega (arith, n, p.room.0)) _ (omega (arith, p.room.2)) c.leaf_quotas.ensures in
-    (omega (arith, k.0), omega (arith, k.0, z, p.room.1))
+    leaves-fit _ _ _ _ _ _ _ p.rows (length a.sent.now) p.room.0 c.leaf_quotas.new.wholes (omega (arith, p.room.1, c.leaf_quotas.auto.wholes))
+    c.leaf_quotas.ensures _ (omega (arith, c.split_at_mut-sampled.ensures.front_len))
 
 pub returns : goal.returns
 returns c = let a = c.args in
     let p = c.requires in
-    let sent = c.send_leaves-end.ensures in
-    let k = sent.sent in
-    let q = c.leaf_quotas.ensures in
-    let n = length_part a.level_points.now a.from a.a (omega (arith, p.room.1)) in
-    let h : a.size ≤ length (part a.level_points.now a.from a.a) = omega (arith, n, p.room.0) in
-    let z = sent-size _ _ _ _ _ _ _ p.rows a.size h _ (omega (arith, p.room.2)) q in
-    let u = up-size _ _ _ _ _ _ _ p.rows a.size h _ (omega (arith, p.room.2)) q in record {
+    let sent = c.send_leaves.ensures in
+    let long : a.leaves.count ≤ length c.leaf_quotas.new.wholes = omega (arith, p.room.1, c.leaf_quotas.auto.wholes) in
+    let halves = c.split_at_mut-sampled.ensures in
+    let behind = length-take-le a.leaves.count c.split_at_mut-sampled.result.1.now (omega (arith, p.room.2, halves.back_len)) in
+    let q = c.leaf_quotas.ensures in record {
       same = search rules;
-      number = (omega (arith, k.0, z, u), omega (arith, k.0, z));
-      list = written-up _ _ _ _ _ _ _ p.rows a.size h _ (omega (arith, p.room.2)) q a.level_points.now (a.from + a.a) _ _ _ p.room.1 k.1 (omega (arith, k.0))
-          c.sort_stretch.ensures;
-      covers = covers_up _ _ _ _ _ _ _ p.rows a.size h _ (omega (arith, p.room.2)) q _ sent.covers;
+      list = sorted-up _ _ _ _ _ _ _ p.rows (length a.sent.now) p.room.0 _ long q c.sort.new.list c.sort.ensures.0 (λ t. c.sort.ensures.1 t ∙ ap (count t) sent.sent);
+      covers = part-between c.send_leaves.new.floats c.send_leaves.new.covers _ (length a.active.now) a.leaves.count (omega (arith, c.send_leaves.auto.floats, halves.front_len)) (omega (arith, c.send_leaves.auto.covers, behind))
+          ∙ covers_up _ _ _ _ _ _ _ p.rows (length a.sent.now) p.room.0 _ long q _ sent.covers;
     }

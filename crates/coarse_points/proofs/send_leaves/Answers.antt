@@ -1,17 +1,16 @@
--- `coarse_points::send_leaves` meets its contract: what the leaves so far send stands from `at` to `end`, and their
--- covers behind the room. Assumes nothing.
-use mathlib.Core.Path.{◌≡◌, sym, ap, ◌∙◌}
+-- `coarse_points::send_leaves` meets its contract: what the leaves so far send stands in front, and so do their covers. Assumes nothing.
+use mathlib.Core.Path.{◌≡◌, refl, sym, ap, ◌∙◌}
 use mathlib.Core.List.{List}
-use Prim.Native.Nat.{ℕ, ◌+◌, ◌≤◌, ◌<◌}
+use Prim.Native.Nat.{ℕ, ◌≤◌, ◌<◌}
 use native.Mathlib.Omega.{arith}
 use Rattle.std.proofs.lemmas.List.{get_or-take}
 use lib.ListN.{length, get_or, take}
-use lib.Seq.{length-take-le}
+use lib.Seq.{length-take-le, take_all}
 use Rattle.lists.specs.Lists.{put}
-use Rattle.lists.proofs.Put.{put-nil}
+use Rattle.lists.proofs.Put.{put-nil, part-back}
 use Rattle.coarse_points.proofs.Sending.{sent-first}
-use Rattle.coarse_points.proofs.Covering.{leaf-lent, covers-first, covers-next}
-use Rattle.coarse_points.proofs.Stages.{lent-good, lent-size, leaf_room, leaf-end, leaf-list}
+use Rattle.coarse_points.proofs.Covering.{covers-first, covers-next}
+use Rattle.coarse_points.proofs.Stages.{lent-good, lent-size, part-size, leaf_room, leaf-end, leaf-list, all-sent}
 use Rattle.coarse_points.proofs.send_leaves.Goals as goal
 
 pub loop-l-init : goal.loop-l-init
@@ -19,9 +18,9 @@ loop-l-init c = let a = c.args in
     let P = a.points in
     let v = a.leaves in
     let e = sent-first P.dimensions P.coordinates.now v.internals.now v.domains.now v.first a.shares.now in (
-      omega (arith, ap length e),
-      sym (ap (put a.level_points.now a.at) e ∙ put-nil a.level_points.now a.at),
-      covers-first P.dimensions P.coordinates.now v.internals.now v.domains.now v.first a.shares.now a.floats.now a.a,
+      sym (ap length e),
+      sym (ap (put a.sent.now 0) e ∙ put-nil a.sent.now 0),
+      covers-first P.dimensions P.coordinates.now v.internals.now v.domains.now v.first a.shares.now a.covers.now,
     )
 
 -- a quota as the loop reads it, from the first m
@@ -50,26 +49,24 @@ sample_leaf-requires-clause-few c = let a = c.args in
     let i = c.loop-l in
     let p = c.requires.leaves in
     let h = turn a.leaves.count i.l a.shares.now p.listed c.loop-l-test.true in
+    let q = quota-is a.leaves.count i.l a.shares.now h in
     let f = p.each i.l h in
-    (f.axes, omega (arith, quota-is a.leaves.count i.l a.shares.now h, f.within, lent-size _ _ _ _ _ _ _ f _ c.own.ensures))
+    let long = part-size i.sent i.start (get_or (take a.leaves.count a.shares.now) i.l 0) (omega (arith, q, leaf_room _ _ _ _ _ _ _ _ _ p i.l h, i.invariant.0, i.auto.sent)) in
+    (f.axes, omega (arith, q, long, f.within, lent-size _ _ _ _ _ _ _ f _ c.own.ensures))
 
 pub sample_leaf-requires-clause-room : goal.sample_leaf-requires-clause-room
 sample_leaf-requires-clause-room c = let a = c.args in
     let i = c.loop-l in
     let p = c.requires.leaves in
-    let h = turn a.leaves.count i.l a.shares.now p.listed c.loop-l-test.true in
-    let f = p.each i.l h in
-    let fit : a.a ≤ length i.floats = omega (arith, c.requires.room) in (
-      omega (arith, quota-is a.leaves.count i.l a.shares.now h, leaf_room _ _ _ _ _ _ _ _ _ _ p i.l h, i.invariant.0),
-      omega (arith, lent-size _ _ _ _ _ _ _ f _ c.own.ensures, f.floats, length-take-le a.a i.floats fit),
-    )
+    let f = p.each i.l (turn a.leaves.count i.l a.shares.now p.listed c.loop-l-test.true) in
+    omega (arith, lent-size _ _ _ _ _ _ _ f _ c.own.ensures, f.floats)
 
 pub overflow_add-end : goal.overflow_add-end
 overflow_add-end c = let a = c.args in
     let i = c.loop-l in
     let p = c.requires.leaves in
     let h = turn a.leaves.count i.l a.shares.now p.listed c.loop-l-test.true in
-    omega (arith, quota-is a.leaves.count i.l a.shares.now h, leaf_room _ _ _ _ _ _ _ _ _ _ p i.l h, i.invariant.0)
+    omega (arith, quota-is a.leaves.count i.l a.shares.now h, leaf_room _ _ _ _ _ _ _ _ _ p i.l h, i.invariant.0)
 
 pub loop-l-preserved : goal.loop-l-preserved
 loop-l-preserved c = let a = c.args in
@@ -80,10 +77,37 @@ loop-l-preserved c = let a = c.args in
     let sl = c.sample_leaf in
     let h = turn v.count i.l a.shares.now p.listed c.loop-l-test.true in
     let q = quota-is v.count i.l a.shares.now h in
-    let r = leaf-lent P.dimensions P.coordinates.now _ _ _ c.own.ensures i.level_points _ i.end sl.result sl.ensures.sent sl.ensures.cover in
-    let fit : a.a + i.l < length i.floats = omega (arith, h, c.requires.room) in
-    let n = sl.auto.floats ∙ length-take-le a.a i.floats (omega (arith, fit)) in (
-      omega (arith, q, leaf-end _ _ _ _ _ _ _ _ _ _ p i.l, i.invariant.0),
-      (rw q at r.0) ∙ leaf-list _ _ _ _ _ _ _ _ _ _ p i.l i.end i.level_points h i.invariant.0 i.invariant.1,
-      covers-next P.dimensions P.coordinates.now v.internals.now v.domains.now v.first a.shares.now i.floats sl.new.floats a.a i.l sl.result n fit (rw q at r.1) i.invariant.2,
+    let n = get_or (take v.count a.shares.now) i.l 0 in
+    let long = part-size i.sent i.start n (omega (arith, q, leaf_room _ _ _ _ _ _ _ _ _ p i.l h, i.invariant.0, i.auto.sent)) in
+    let written = rw (c.own.ensures, long, q) at sl.ensures.sent in
+    let cover = rw (c.own.ensures, long, q) at sl.ensures.cover in (
+      omega (arith, q, leaf-end _ _ _ _ _ _ _ _ _ p i.l, i.invariant.0),
+      part-back i.sent i.start n sl.new.sent (sl.auto.sent ∙ long)
+          ∙ ap (put i.sent i.start) written
+          ∙ leaf-list _ _ _ _ _ _ _ _ _ p a.sent.now i.l i.start i.sent refl h i.invariant.0 i.invariant.1,
+      covers-next P.dimensions P.coordinates.now v.internals.now v.domains.now v.first a.shares.now i.covers i.l sl.result
+          (omega (arith, h, i.auto.covers, c.requires.room)) cover i.invariant.2,
     )
+
+pub offset_bounds-sent-start : goal.offset_bounds-sent-start
+offset_bounds-sent-start c = let a = c.args in
+    let i = c.loop-l in
+    let p = c.requires.leaves in
+    let h = turn a.leaves.count i.l a.shares.now p.listed c.loop-l-test.true in
+    omega (arith, leaf_room _ _ _ _ _ _ _ _ _ p i.l h, i.invariant.0, i.auto.sent, c.well_formed)
+
+pub slice_bounds-sample_leaf-end : goal.slice_bounds-sample_leaf-end
+slice_bounds-sample_leaf-end c = let a = c.args in
+    let i = c.loop-l in
+    let p = c.requires.leaves in
+    let h = turn a.leaves.count i.l a.shares.now p.listed c.loop-l-test.true in
+    omega (arith, quota-is a.leaves.count i.l a.shares.now h, leaf_room _ _ _ _ _ _ _ _ _ p i.l h, i.invariant.0, i.auto.sent)
+
+pub returns : goal.returns
+returns c = let a = c.args in
+    let i = c.loop-l in
+    let p = c.requires.leaves in
+    let all : i.l ≡ a.leaves.count = omega (arith, length-take-le a.leaves.count a.shares.now p.listed) in record {
+      sent = all-sent _ _ _ _ _ _ _ _ _ p a.sent.now i.sent refl (rw all at i.invariant.1);
+      covers = sym (take_all a.leaves.count i.covers (omega (arith, i.auto.covers, c.requires.room))) ∙ (rw all at i.invariant.2);
+    }

@@ -18,8 +18,8 @@ pub divide-parts-requires : goal.divide-parts-requires
 divide-parts-requires c = let p = c.requires in
     record { given_by = (omega (arith, p.a_in_bounds.0), p.a_in_bounds.2); fits_at = p.fits_at; room = p.room; record_fits = p.record_fits }
 
-pub send_up-next-requires : goal.send_up-next-requires
-send_up-next-requires c = let p = c.requires in
+pub send_up-requires : goal.send_up-requires
+send_up-requires c = let p = c.requires in
     let P = c.args in
     let d = P.plan.points.dimensions in
     let cs = P.plan.points.coordinates.now in
@@ -68,7 +68,7 @@ returns c = let p = c.requires in
     let rows : row_floats_lem d * (P.place.first + length (leaves_of d cs leaf active)) ≤ row_floats_lem d * (P.place.first + 2 * P.place.a) =
     mul-le-mul_left (row_floats_lem d) (omega (arith, few, n)) in
     let read = rw (← many) at (packed-read d cs leaf q active g _ _ _ _ _ (rw n p.fits_at.internals) (rw n p.fits_at.domains) _ _ internals domains) in
-    let up = c.send_up-next.ensures in
+    let up = c.send_up.ensures in
     let number = rw (read, level-next d cs leaf q active size) at (rw listed at up.number) in
     let list = rw (read, level-next d cs leaf q active size) at (rw listed at up.list) in
     let covered = rw read at up.boxes in
@@ -79,10 +79,10 @@ returns c = let p = c.requires in
       counts = (
         counts.0 ∙ sym (sent-number d cs leaf q size active),
         counts.1 ∙ ap (λ (x : List (List ℕ)). length (joined x)) (sym (sent-borrowed d cs leaf q size active)),
-        number.0,
         counts.2,
         counts.3,
       );
+      next = number;
       level_points = list;
       internals = up.kept.0 ∙ internals ∙ ap (λ (x : List (List ℕ)). put P.lists.now.internals.now P.place.from (joined x)) (sym (sent-own d cs leaf q size active));
       domains = up.kept.1 ∙ domains ∙ ap (put P.lists.now.domains.now (row_numbers * P.place.first)) (sym (sent-stretches d cs leaf q size active P.place.from P.place.bat));

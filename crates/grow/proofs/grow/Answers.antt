@@ -17,8 +17,8 @@ use Rattle.grow_over.proofs.Over.{points-whole}
 use Rattle.grow.proofs.Grown.{all_rows, all-space, over-all}
 use Rattle.grow.proofs.grow.Goals as goal
 
-pub nonzero_div-n : goal.nonzero_div-n
-nonzero_div-n c = let P = c.args in
+pub count-n-requires : goal.count-n-requires
+count-n-requires c = let P = c.args in
     let s = settings_of_lem P.points.dimensions P.params in
     let cs = P.points.coordinates.now in
     let old = lists_in P.lists.now in
@@ -31,7 +31,7 @@ number_rows-requires c = let P = c.args in
     let cs = P.points.coordinates.now in
     let old = lists_in P.lists.now in
     let acc = build-accepted s cs _ c.requires.wholes_value in
-    omega (arith, (all-space s cs old P.room.now.floats.now P.room.now.wholes.now acc P.lists.now.level_points.now refl).level_points)
+    omega (arith, c.count-n.ensures, (all-space s cs old P.room.now.floats.now P.room.now.wholes.now acc P.lists.now.level_points.now refl).level_points)
 
 pub grow_over-requires : goal.grow_over-requires
 grow_over-requires c = let P = c.args in
@@ -40,14 +40,17 @@ grow_over-requires c = let P = c.args in
     let old = lists_in P.lists.now in
     let acc = build-accepted s cs _ c.requires.wholes_value in
     let n = length cs / P.points.dimensions in
-    let first = c.number_rows.ensures in
+    let N = c.count-n.ensures in
+    let first = rw N at c.number_rows.ensures in
     let space = all-space s cs old P.room.now.floats.now P.room.now.wholes.now acc P.lists.now.level_points.now refl in
     let read : part (put P.lists.now.level_points.now 0 (from 0 n)) 0 n ≡ from 0 n = part-put-same P.lists.now.level_points.now 0 (from 0 n) n (omega arith) (length_from 0 n) in
-    let long = ap length first ∙ length-put P.lists.now.level_points.now 0 (from 0 n) (omega (arith, length_from 0 n, space.level_points)) in record {
+    let long = ap length first ∙ length-put P.lists.now.level_points.now 0 (from 0 n) (omega (arith, length_from 0 n, space.level_points)) in
+    rw N
+    (record {
       bound = (acc.passes-all.coarse-some, acc.passes-all.reaches, rw (first, read) (all_rows s cs old P.room.now.floats.now P.room.now.wholes.now acc));
       space = all-space s cs old P.room.now.floats.now P.room.now.wholes.now acc _ long;
       record_room = c.requires.record_room;
-    }
+    })
 
 pub returns : goal.returns
 returns c = let P = c.args in
@@ -56,20 +59,21 @@ returns c = let P = c.args in
     let old = lists_in P.lists.now in
     let acc = build-accepted s cs _ c.requires.wholes_value in
     let n = length cs / P.points.dimensions in
-    let first = c.number_rows.ensures in
+    let N = c.count-n.ensures in
+    let first = rw N at c.number_rows.ensures in
     let space = all-space s cs old P.room.now.floats.now P.room.now.wholes.now acc P.lists.now.level_points.now refl in
     let read : part (put P.lists.now.level_points.now 0 (from 0 n)) 0 n ≡ from 0 n = part-put-same P.lists.now.level_points.now 0 (from 0 n) n (omega arith) (length_from 0 n) in
     let w = c.grow_over.ensures in
     let e = over-all s cs in
     record {
       same = search rules;
-      counts = rw e at (rw (first, read) at w.counts);
-      level_points = points-whole s cs (from 0 n) P.lists.now.level_points.now _ _ (omega (arith, length_from 0 n, space.level_points)) refl (rw (first, read) at w.level_points)
+      counts = rw e at (rw (N, first, read) at w.counts);
+      level_points = points-whole s cs (from 0 n) P.lists.now.level_points.now _ _ (omega (arith, length_from 0 n, space.level_points)) refl (rw (N, first, read) at w.level_points)
           ∙ ap (λ (ls : List Level). put P.lists.now.level_points.now 0 (packed_level_points ls)) e;
-      internals = rw e at (rw (first, read) at w.internals);
-      domains = rw e at (rw (first, read) at w.domains);
-      boxes = rw e at (rw (first, read) at w.boxes);
-      borrowed = rw e at (rw (first, read) at w.borrowed);
-      cuts = rw e at (rw (first, read) at w.cuts);
-      planes = rw e at (rw (first, read) at w.planes);
+      internals = rw e at (rw (N, first, read) at w.internals);
+      domains = rw e at (rw (N, first, read) at w.domains);
+      boxes = rw e at (rw (N, first, read) at w.boxes);
+      borrowed = rw e at (rw (N, first, read) at w.borrowed);
+      cuts = rw e at (rw (N, first, read) at w.cuts);
+      planes = rw e at (rw (N, first, read) at w.planes);
     }

@@ -37,7 +37,7 @@ place_after-place-requires c = let v = c.loop-size.invariant.0 in
       omega (arith, (coarse-fits v.space).0, v.long.level_points),
       omega (arith, v.long.domains, first_fits _ _ v yes some _ counts.0),
       omega (arith, v.long.borrowed, bat-fits _ _ v yes some _ counts.1),
-      omega (arith, o.cuts.long, (noted-fits o (levels-left _ _ v yes some)).0, counts.4),
+      omega (arith, o.cuts.long, (noted-fits o (levels-left _ _ v yes some)).0, counts.3),
     )
 
 pub loop-size-smaller : goal.loop-size-smaller
@@ -51,18 +51,18 @@ loop-size-preserved c = let v = c.loop-size.invariant.0 in
     let w = c.fine_level-level.ensures in
     let p = c.place_after-place.ensures in
     let size = c.next_size-size.ensures in
-    let rest = next-rest _ _ v yes some size w.counts.0 w.counts.1 w.counts.2 w.level_points w.internals w.domains w.boxes w.borrowed in
-    let fewer = next-fewer _ _ v yes some size w.counts.0 w.counts.1 w.counts.2 w.level_points w.internals w.domains w.boxes w.borrowed in
+    let rest = next-rest _ _ v yes some size w.counts.0 w.counts.1 w.next w.level_points w.internals w.domains w.boxes w.borrowed in
+    let fewer = next-fewer _ _ v yes some size w.counts.0 w.counts.1 w.next w.level_points w.internals w.domains w.boxes w.borrowed in
     rw (p.rows.0, p.rows.1, p.parts.0, p.parts.1, p.parts.2) (
-      levels-next _ _ v yes some size w.counts.0 w.counts.1 w.counts.2 w.level_points w.internals w.domains w.boxes w.borrowed _ _ w.same.1.floats_len w.same.1.wholes_len,
-      noted-next c.loop-size.invariant.1 (levels-left _ _ v yes some) _ rest fewer w.counts.3 w.counts.4 w.cuts w.planes,
+      levels-next _ _ v yes some size w.counts.0 w.counts.1 w.next w.level_points w.internals w.domains w.boxes w.borrowed _ _ w.same.1.floats_len w.same.1.wholes_len,
+      noted-next c.loop-size.invariant.1 (levels-left _ _ v yes some) _ rest fewer w.counts.2 w.counts.3 w.cuts w.planes,
       search rules,
       search rules,
       search rules,
     )
 
-pub last_level-requires : goal.last_level-requires
-last_level-requires c = let v = c.loop-size.invariant.0 in
+pub coarse_level-requires : goal.coarse_level-requires
+coarse_level-requires c = let v = c.loop-size.invariant.0 in
     let f = coarse-fits v.space in
     (f.0, f.1, f.2, f.3, v.given.axes_few)
 
@@ -84,7 +84,7 @@ overflow_add-result c = omega (arith, c.loop-size.invariant.0.few)
 pub returns : goal.returns
 returns c = let v = c.loop-size.invariant.0 in
     let no = sym c.is_fine.ensures ∙ c.loop-size-test.false in
-    let w = c.last_level.ensures in
+    let w = c.coarse_level.ensures in
     let n = noted-end c.loop-size.invariant.1 (end_rest _ _ v no w.internals w.domains w.boxes) in
     record {
       same = search rules;

@@ -1,14 +1,13 @@
--- `overlaps::reach` meets its contract. Assumes nothing.
-use native.Mathlib.Omega.{arith}
-use borrow.Author.Count.{below_more}
+-- `overlaps::reach` meets its contract: `position` finds the first that is no less. Assumes nothing.
+use Rattle.std.proofs.Common.{nat_le, rules}
+use Rattle.std.proofs.lemmas.Iterator.{YieldsList-from_slice}
+use Rattle.std.proofs.lemmas.Iterator.Search.{position_from_yields_List}
+use Rattle.overlaps.proofs.Reaches.{reached}
 use Rattle.overlaps.proofs.reach.Goals as goal
 
-pub returns-then-limit-codes : goal.returns-then-limit-codes
-returns-then-limit-codes c = let v = c.loop-k in
-    record { start = omega arith; inside = omega arith; under = λ k a b. v.invariant k b a; stop = λ h. c.if-limit-codes.true }
-
-pub loop-k-preserved : goal.loop-k-preserved
-loop-k-preserved c = below_more _ _ c.loop-k.invariant (λ h. omega (arith, c.if-limit-codes.false))
-
 pub returns : goal.returns
-returns c = record { start = omega arith; inside = omega arith; under = λ k a b. c.loop-k.invariant k (omega arith) a; stop = λ h. absurd (omega arith) }
+returns c = let a = c.args in
+    let l = a.codes.now in
+    let p = c.position-passed in
+    let found = position_from_yields_List (nat_le a.limit) _ _ p.result p.ensures.ran (YieldsList-from_slice _ c.iter.ensures.rest) (λ x b q k. search rules) in
+    rw c.unwrap_or.ensures (reached l a.from a.limit p.result c.requires found)

@@ -4,6 +4,7 @@ use mathlib.Core.Path.{sym, ap, ◌∙◌}
 use Prim.Native.Nat.{◌/◌}
 use native.Mathlib.Omega.{arith}
 use lib.ListN.{length}
+use lib.Seq.{length-take-le}
 use Rattle.std.proofs.Common.{take-append-drop}
 use Rattle.std.proofs.lemmas.Result.{err_from_is_err_and}
 use Rattle.lists.proofs.From.{length_from}
@@ -19,7 +20,8 @@ pub sample_rows-cover-requires : goal.sample_rows-cover-requires
 sample_rows-cover-requires c = let v = c.in_ok-rows.ensures in
     let a = call-accepted _ _ _ _ _ _ _ (sym v.number) in
     let r = call-ready _ _ _ _ _ _ _ a _ (rows-numbered _ _ _ (rw v.rows at c.number_rows.ensures)) in
-    rw v.rows (record { rows = r.0; wanted = r.1.0; room = r.1.1 })
+    let n = length-take-le c.args.wanted c.args.out.now a.output in
+    rw v.rows (record { rows = r.0; wanted = rw n r.1.0; room = r.1.1.1 })
 
 pub returns-in_err-rows : goal.returns-in_err-rows
 returns-in_err-rows c =
@@ -41,9 +43,16 @@ returns c = let v = c.in_ok-rows.ensures in
     let a = call-accepted _ _ _ _ _ _ _ e in
     let n = rows-numbered _ _ _ (rw v.rows at c.number_rows.ensures) in
     let s = c.sample_rows-cover in
+    let size = length-take-le c.args.wanted c.args.out.now a.output in
     let kept = ap length (take-append-drop c.in_ok-rows.rows c.number_rows.new.wholes) ∙ c.number_rows.auto.wholes in
     record {
-      sampled = call-sampled _ _ _ _ _ _ _ s.result e (call-covered _ _ _ _ _ _ _ a _ n s.result (rw v.rows at s.ensures.cover)) _
-          (call-written _ _ _ _ _ _ _ a _ n _ _ (rw v.rows at s.ensures.sampled)) _ s.auto.floats _ kept;
+      sampled = call-sampled _ _ _ _ _ _ _ s.result e (call-covered _ _ _ _ _ _ _ a _ n s.result (rw (v.rows, size) at s.ensures.cover)) _
+          (call-written _ _ _ _ _ _ _ a _ n _ _ (rw (v.rows, size) at s.ensures.sampled) (s.auto.out ∙ size)) _ s.auto.floats _ kept;
       same = search rules;
     }
+
+pub slice_bounds-sample_rows-end : goal.slice_bounds-sample_rows-end
+slice_bounds-sample_rows-end c = (call-accepted _ _ _ _ _ _ _ (sym c.in_ok-rows.ensures.number)).output
+
+pub slice_bounds-sample_rows-end-2 : goal.slice_bounds-sample_rows-end-2
+slice_bounds-sample_rows-end-2 c = sym (length-take-le c.args.wanted c.args.out.now (call-accepted _ _ _ _ _ _ _ (sym c.in_ok-rows.ensures.number)).output)

@@ -53,11 +53,11 @@ loop-k-init c =
     let n = length a.rows.now in
     let e = c.fill.ensures.after (λ y e. e) in
     let floats = c.fill.new.self ++ drop n a.floats.now in
-    let q = long n a.floats.now _ r.1 e in (
-      choosing-start _ _ _ c.requires.rows a.wanted a.out.now a.at a.seed.0 (set floats a.seed.0 minus_one)
+    let q = long n a.floats.now _ r e in (
+      choosing-start _ _ _ c.requires.rows (length a.out.now) a.out.now a.seed.0 (set floats a.seed.0 minus_one)
           (omega (arith, c.requires)) c.requires.wanted.2
           (get_or-set_same floats a.seed.0 minus_one nan (omega (arith, q, c.requires)))
-          (λ i h k. get_or-set_other floats a.seed.0 i minus_one nan k ∙ filled n a.floats.now _ r.1 e i h),
+          (λ i h k. get_or-set_other floats a.seed.0 i minus_one nan k ∙ filled n a.floats.now _ r e i h),
       record { points = refl; rows = refl; squares = refl; squares_len = refl },
     )
 
@@ -66,13 +66,13 @@ unfolding of_bits
 next_place-last-requires-clause-ready c =
     let l = c.loop-k in
     let v = l.invariant.0 in
-    can-go _ _ l.invariant.1 l.last.0 c.requires.rows v.within (marked _ _ _ c.requires.room.1 (c.fill.ensures.after (λ y e. e)) _ _)
-    (choosing-kept _ _ _ c.requires.rows _ _ _ _ _ _ _ _ v)
+    can-go _ _ l.invariant.1 l.last.0 c.requires.rows v.within (marked _ _ _ c.requires.room (c.fill.ensures.after (λ y e. e)) _ _)
+    (choosing-kept _ _ _ c.requires.rows _ _ _ _ _ _ _ v)
 
 pub next_place-last-requires-clause-unchosen : goal.next_place-last-requires-clause-unchosen
 next_place-last-requires-clause-unchosen c =
     let v = c.loop-k.invariant in
-    some-left _ _ v.1 (choosing-open _ _ _ c.requires.rows _ _ _ _ _ _ _ _ v.0 (omega (arith, c.requires, c.loop-k-test.true)))
+    some-left _ _ v.1 (choosing-open _ _ _ c.requires.rows _ _ _ _ _ _ _ v.0 (omega (arith, length-set c.args.out.now 0 (get_or c.args.rows.now c.args.seed.0 0), c.requires, c.loop-k-test.true)))
 
 pub loop-k-preserved : goal.loop-k-preserved
 loop-k-preserved c =
@@ -81,34 +81,34 @@ loop-k-preserved c =
     let p = c.next_place-last in
     let v = l.invariant in
     let chosen = rw (v.1.points, v.1.rows) at p.ensures.chosen in (
-      choosing-more _ _ _ c.requires.rows _ _ _ _ _ _ _ _ v.0 p.result.0 p.new.self.squares.now h (simp length-set (omega (arith, h, c.requires))) chosen,
+      choosing-more _ _ _ c.requires.rows _ _ _ _ _ _ _ v.0 p.result.0 p.new.self.squares.now (omega (arith, length-set c.args.out.now 0 (get_or c.args.rows.now c.args.seed.0 0), h)) (simp length-set (omega (arith, length-set c.args.out.now 0 (get_or c.args.rows.now c.args.seed.0 0), h))) chosen,
       same-again _ _ v.1 _ p.ensures.same,
     )
 
-pub returns-then-wanted-rows-clause-sampled : goal.returns-then-wanted-rows-clause-sampled
-returns-then-wanted-rows-clause-sampled c = choosing-end _ _ _ c.requires.rows _ _ _ _ _ _ _ _ c.loop-k.invariant.0 c.args.out.now _ refl (omega arith)
+pub returns-then-out-rows-clause-sampled : goal.returns-then-out-rows-clause-sampled
+returns-then-out-rows-clause-sampled c = choosing-end _ _ _ c.requires.rows _ _ _ _ _ _ _ c.loop-k.invariant.0 (simp length-set (omega (arith, length-set c.args.out.now 0 (get_or c.args.rows.now c.args.seed.0 0)))) (omega (arith, length-set c.args.out.now 0 (get_or c.args.rows.now c.args.seed.0 0)))
 
-pub returns-then-wanted-rows-clause-cover : goal.returns-then-wanted-rows-clause-cover
-returns-then-wanted-rows-clause-cover c = choosing-all _ _ _ c.requires.rows _ _ _ _ _ _ _ _ c.loop-k.invariant.0 (omega arith) (omega arith)
+pub returns-then-out-rows-clause-cover : goal.returns-then-out-rows-clause-cover
+returns-then-out-rows-clause-cover c = choosing-all _ _ _ c.requires.rows _ _ _ _ _ _ _ c.loop-k.invariant.0 (omega (arith, length-set c.args.out.now 0 (get_or c.args.rows.now c.args.seed.0 0))) (omega (arith, length-set c.args.out.now 0 (get_or c.args.rows.now c.args.seed.0 0)))
 
 pub worst_distance-requires-clause-ready : goal.worst_distance-requires-clause-ready
 unfolding of_bits
 worst_distance-requires-clause-ready c =
     let l = c.loop-k in
     let v = l.invariant.0 in
-    can-go _ _ l.invariant.1 _ c.requires.rows (omega (arith, v.within, c.requires.wanted)) (marked _ _ _ c.requires.room.1 (c.fill.ensures.after (λ y e. e)) _ _)
-    (choosing-kept _ _ _ c.requires.rows _ _ _ _ _ _ _ _ v)
+    can-go _ _ l.invariant.1 _ c.requires.rows (omega (arith, v.within, c.requires.wanted)) (marked _ _ _ c.requires.room (c.fill.ensures.after (λ y e. e)) _ _)
+    (choosing-kept _ _ _ c.requires.rows _ _ _ _ _ _ _ v)
 
 pub worst_distance-requires-clause-unchosen : goal.worst_distance-requires-clause-unchosen
 worst_distance-requires-clause-unchosen c =
     let v = c.loop-k.invariant in
-    some-left _ _ v.1 (choosing-open _ _ _ c.requires.rows _ _ _ _ _ _ _ _ v.0 (omega arith))
+    some-left _ _ v.1 (choosing-open _ _ _ c.requires.rows _ _ _ _ _ _ _ v.0 (omega (arith, length-set c.args.out.now 0 (get_or c.args.rows.now c.args.seed.0 0))))
 
 pub returns-clause-sampled : goal.returns-clause-sampled
-returns-clause-sampled c = choosing-end _ _ _ c.requires.rows _ _ _ _ _ _ _ _ c.loop-k.invariant.0 c.args.out.now _ refl (omega arith)
+returns-clause-sampled c = choosing-end _ _ _ c.requires.rows _ _ _ _ _ _ _ c.loop-k.invariant.0 (simp length-set (omega (arith, length-set c.args.out.now 0 (get_or c.args.rows.now c.args.seed.0 0)))) (omega (arith, length-set c.args.out.now 0 (get_or c.args.rows.now c.args.seed.0 0)))
 
 pub returns-clause-cover : goal.returns-clause-cover
 returns-clause-cover c =
     let v = c.loop-k.invariant in
     let worst = rw (v.1.points, v.1.rows) at c.worst_distance.ensures.worst in
-    choosing-worst _ _ _ c.requires.rows _ _ _ _ _ _ _ _ v.0 c.worst_distance.result (omega arith) worst
+    choosing-worst _ _ _ c.requires.rows _ _ _ _ _ _ _ v.0 c.worst_distance.result (omega (arith, length-set c.args.out.now 0 (get_or c.args.rows.now c.args.seed.0 0))) worst

@@ -13,9 +13,9 @@ pub loop-i-preserved : goal.loop-i-preserved
 loop-i-preserved g c =
     let h = c.loop-i-test.true in
     elim c.if-better.branch [
-      | then-better w ↦ (omega arith, λ b d. rw w.best-is (place-yes (c.loop-i.invariant.1 b d) h (sym (d _ _ _ c.better.ensures) ∙ w.if-better.true)))
-      | else-better w ↦ (omega arith, λ b d. rw w.best-is (place-no (c.loop-i.invariant.1 b d) h (sym (d _ _ _ c.better.ensures) ∙ w.if-better.false)))
+      | then-better w ↦ (omega arith, λ b d. rw w.best-is (place-yes _ _ (c.loop-i.invariant.1 b d) h (sym (d _ _ _ c.better.ensures) ∙ w.if-better.true)))
+      | else-better w ↦ (omega arith, λ b d. rw w.best-is (place-no _ _ (c.loop-i.invariant.1 b d) h (sym (d _ _ _ c.better.ensures) ∙ w.if-better.false)))
     ]
 
 pub returns : goal.returns
-returns g c = λ b d. place_end (c.loop-i.invariant.1 b d) c.loop-i-test.false
+returns g c = λ b d. place_end _ _ (c.loop-i.invariant.1 b d) c.loop-i-test.false

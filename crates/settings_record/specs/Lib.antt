@@ -1,2 +1,0 @@
--- What the contracts of the settings record cite beside the definition.
-pub mod Reading
