@@ -89,7 +89,7 @@ pub fn all_levels(
     let mut rows = [0; MOST_LEVELS];
     let mut domains = [0; MOST_LEVELS];
     let mut built = 0;
-    // how many fine levels there are shows only as they are built
+    // how many fine levels there are shows only as they are built, and is asked behind the loop: a `for` would count beside `built`
     while is_fine(built, place.a, c) {
         let size = next_size(place.a, c, k, built);
         let level = fine_level::fine_level(plan, size, place, lists, room, records);

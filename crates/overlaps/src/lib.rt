@@ -17,7 +17,8 @@ use packed::LevelLeaves;
 use points::Points;
 
 // The leaves of a level that borrow: their own rows and their domain rows, which are the `count` from number `first` on, and the list that takes
-// the borrowed rows, from `at` on. The domain rows are written too, so that they are lent by `&mut`.
+// the borrowed rows, from `at` on. The domain rows are written too, so that they are lent by `&mut`. Whole lists and places, since a domain row
+// holds places in the whole list of own rows, and a part of a list in such a value is not covered by the kit's borrow checker.
 #[derive(Drop)]
 pub struct Borrowing<'a> {
     pub internals: &'a [usize],

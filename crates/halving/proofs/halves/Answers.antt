@@ -1,9 +1,9 @@
 -- `halving::halves` meets its contract. Assumes nothing.
-use mathlib.Core.Path.{◌≡◌, sym, ap, ◌∙◌}
+use mathlib.Core.Path.{◌≡◌, ap, ◌∙◌}
 use Prim.Native.Nat.{◌-◌}
 use native.Mathlib.Omega.{arith}
 use borrow.Author.Rules.{rules}
-use lib.ListN.{length, drop, length-drop}
+use lib.ListN.{length, drop, length-drop, length-take}
 use lib.Seq.{length-take-le}
 use Rattle.lists.specs.Lists.{put, part}
 use Rattle.lists.proofs.Put.{mid_back}
@@ -48,9 +48,7 @@ pub copy_from_slice-requires : goal.copy_from_slice-requires
 copy_from_slice-requires c = let p = c.requires in
     let f = c.part_rows-lo in
     let h = low-most c.middle_of-m.ensures f.ensures.number in
-    let n = length f.new.rows - f.result in
-    length-take-le n (drop f.result f.new.rows) (simp length-drop (omega arith))
-    ∙ sym (length-take-le n f.new.room (omega (arith, p.3, c.middle_of-m.auto.room, f.auto.rows, f.auto.room)))
+    simp (length-take, length-drop) (omega (arith, h, p.3, c.middle_of-m.auto.room, f.auto.rows, f.auto.room))
 
 pub returns : goal.returns
 unfolding part
