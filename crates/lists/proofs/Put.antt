@@ -3,8 +3,8 @@
 --   set-put, put-def, put_next, put-next-at, put-longer, put-over, put-snoc, get_d-put-in, get_d-put-before, get_d-put-after,
 --   part-put-in, part-whole, part-put-same, part-put-after, part-take, part-put-before, part-part, part-append, part-nil,
 --   part-snoc, part-cons, part-drop, get_d_part, part-around, put-part, put-left, put_right, put-tail, put-comm, part-first,
---   part-second, take-put-front, view-put, part-lent, copy_more, set-two, put-before, put-set, get_d-put-at,
---   front-put, put_whole, part-grown, mid_back, part-back, read_more, put-same-more, put-again, spliced, put-spliced,
+--   part-second, take-put-front, view-put, part-lent, put-before, put-set, get_d-put-at,
+--   front-put, put_whole, part-grown, mid_back, part-back, put-same-more, put-again, spliced, put-spliced,
 --   map-spliced
 use mathlib.Core.Path.{◌≡◌, refl, sym, ap, ◌∙◌, ap₂}
 use Prim.Native.Nat.{ℕ, zero, suc, ◌+◌, ◌-◌, ◌≤◌, ◌<◌}
@@ -12,8 +12,8 @@ use native.Mathlib.Nat.{not-suc-le-zero, suc-add, zero-add, add-zero, add_assoc}
 use native.Mathlib.Numerals.{add-one}
 use native.Mathlib.Omega.{arith}
 use mathlib.Core.List.{List, [], ◌∷◌, ◌++◌, append_assoc, append-nil, map}
-use lib.ListN.{length, get_or, set, take, drop, length-append, length-drop, take-append-drop, get_or-append, length-set, replicate, length-replicate, replicate-append-replicate}
-use lib.Seq.{length-take-le, take_all, drop-append-add, take-append-le, drop-append-le, get_or-drop, get_or-take, drop-drop, take_at, drop_at, set_split, take-add, take-length, take-take, take-suc, take-append-add, drop-cons, take-set-le, drop-set-lt, take-suc-set}
+use lib.ListN.{length, get_or, set, take, drop, length-append, length-drop, take-append-drop, get_or-append, replicate, length-replicate, replicate-append-replicate}
+use lib.Seq.{length-take-le, take_all, drop-append-add, take-append-le, drop-append-le, get_or-drop, get_or-take, drop-drop, take_at, drop_at, set_split, take-add, take-length, take-take, take-suc, take-append-add, drop-cons, take-set-le, drop-set-lt}
 use borrow.Rule.Slice.PartMut.{put_mid}
 use Rattle.lists.specs.Lists.{put, part}
 use Rattle.lists.proofs.Take.{drop-take}
@@ -237,20 +237,7 @@ module _ {A : Type 0} where
   unfolding part
   part-lent l at n = let e : at + n - at ≡ n = omega arith in rw e
 
-  -- ---- the turn of a loop that copies a stretch of l to `to`: into another list, and within l to a stretch apart
-  pub copy_more : (out : List A) (to : ℕ) (l : List A) (at i : ℕ) (d : A) → at + i < length l → to + i < length out
-      → set (put out to (part l at i)) (to + i) (get_or l (at + i) d) ≡ put out to (part l at (i + 1))
-  copy_more out to l at i d h g =
-      put-snoc out to (part l at i) (get_or l (at + i) d) (to + i) (omega (arith, length_part l at i (omega arith))) g
-      ∙ ap (put out to) (sym (part-snoc l at i d h) ∙ ap (part l at) (sym (add-one i)))
-
-  -- ---- two stores next to each other, one in front of a stretch, and one that a stretch is written over
-  pub set-two : (l : List A) (k : ℕ) (a b : A) → k + 2 ≤ length l → set (set l k a) (k + 1) b ≡ put l k (a ∷ b ∷ [])
-  set-two l k a b h =
-      set-put (set l k a) (k + 1) b (simp length-set (omega arith))
-      ∙ ap (λ (r : List A). put r (k + 1) (b ∷ [])) (set-put l k a (omega arith))
-      ∙ put-next-at l k (a ∷ []) (b ∷ []) (k + 1) (omega arith) refl
-
+  -- ---- a store in front of a stretch, and one that a stretch is written over
   pub put-before : (l : List A) (k : ℕ) (x : A) (xs : List A) → k + 1 + length xs ≤ length l → set (put l (k + 1) xs) k x ≡ put l k (x ∷ xs)
   put-before l k x xs h =
       set-put (put l (k + 1) xs) k x (omega (arith, length-put l (k + 1) xs h))
@@ -289,10 +276,6 @@ module _ {A : Type 0} where
 
   pub part-back : (l : List A) (at n : ℕ) (ys : List A) → length ys ≡ n → put_mid at (at + n - at) l ys ≡ put l at ys
   part-back l at n ys e = mid_back l at (at + n - at) ys (omega arith)
-
-  -- ---- one element more of a stretch that is read or written one after the other
-  pub read_more : (l m : List A) (at k : ℕ) (d : A) → k < length m → at + k < length l → take k m ≡ part l at k → take (k + 1) (set m k (get_or l (at + k) d)) ≡ part l at (k + 1)
-  read_more l m at k d h g e = rw (add-one, take-suc-set m k (get_or l (at + k) d) h, e, part-snoc l at k d g)
 
   -- one element more of a stretch of one value
   pub put-same-more : (l : List A) (at i : ℕ) (x : A) → at + i < length l → set (put l at (replicate i x)) (at + i) x ≡ put l at (replicate (i + 1) x)
