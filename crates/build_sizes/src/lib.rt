@@ -82,7 +82,8 @@ pub fn stated_sizes(dimensions: usize, n: usize, neighbours: usize) -> BuildSize
     }
 }
 
-// The lengths, asked alone. Refusals in the build's order: 1, 5, 6, 8.
+// The lengths, asked alone. Refusals in the build's order: 1, 5, 6, 8. The number of points comes as a number and not by its coordinates, so
+// that `check_count` does not fit.
 #[tactic(auto, unfolding(definition::specs::Outcome::sizes_answer, definition::specs::Outcome::number_of, definition::specs::Outcome::place_of, definition::specs::Outcome::value_of, definition::specs::Refusals::sizes_verdict, definition::specs::Refusals::verdict,))]
 pub fn build_sizes(n: usize, dimensions: usize, neighbours: u32) -> Result<BuildSizes, Refusal>
     ensures { sizes_report result ≡ sizes_answer dimensions n neighbours }

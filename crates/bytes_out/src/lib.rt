@@ -25,7 +25,8 @@ pub fn bits_of(x: f64) -> u64
     }
 }
 
-// What stands in records with a fixed number of bytes: numbers, and floats.
+// What stands in records with a fixed number of bytes: numbers, and floats. A trait apart from that of bytes_in: what reads a file cites no
+// writer, and each has laws of its own.
 pub trait Field: Copy {
     ghost bytes: { Self → List ℕ };
 

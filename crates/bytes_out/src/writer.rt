@@ -1,4 +1,5 @@
-// A writer: a lent list of bytes and the next place in it. What is appended stands behind what was appended before.
+// A writer: a lent list of bytes and the next place in it. What is appended stands behind what was appended before. No Vec, since the library
+// takes no memory; and no `Cursor` of the library's, each of whose writes answers a result, though the room is promised.
 
 ghost use Rattle.std.specs.Prelude.{[], ◌∷◌, map};
 ghost use Rattle.lists.specs.Lists.{joined};

@@ -23,7 +23,7 @@ use Rattle.definition.specs.Cut.{Domain}
 use Rattle.definition.proofs.Cuts.{rows_of, domain_sizes}
 use Rattle.definition.proofs.Sampling.{sent-length}
 use Rattle.definition.proofs.Next.{sents, sents-times}
-use Rattle.sort.specs.Heap.{Sorted}
+use Rattle.sort.specs.Order.{Sorted}
 use Rattle.packed.specs.Reading.{own_at, read_own}
 use Rattle.packed.proofs.OwnRows.{read_length, read_at}
 use Rattle.coarse_points.specs.Sent.{sent_at}

@@ -26,7 +26,7 @@ use Rattle.definition.specs.Tree.{next_active}
 use Rattle.definition.specs.Fair.{Fair}
 use Rattle.definition.proofs.Fairness.{fair-for, quotas-held, quotas-length}
 use Rattle.rows.specs.Rows.{GoodRow, GoodRows}
-use Rattle.sort.specs.Heap.{Sorted}
+use Rattle.sort.specs.Order.{Sorted}
 use Rattle.packed.specs.Reading.{own_start, own_count, own_at, read_own}
 use Rattle.packed.proofs.OwnRows.{read_length, read_at}
 use Rattle.coarse_points.specs.Sent.{sent_rows, sent_covers, counts_at, sent_at, covers_at, SendsUp, LeafFits, LeavesFit}

@@ -14,7 +14,8 @@ pub enum SizePolicy {
 }
 
 impl SizePolicy {
-    // The policy that stands for a number, with its threshold: 0 is Auto, any other number Fixed.
+    // The policy that stands for a number, with its threshold: 0 is Auto, any other number Fixed. It is no `From` of a pair, which would not say
+    // which of its numbers is which.
     pub fn of(kind: usize, threshold: u32) -> SizePolicy
         ensures { threshold_policy result ≡ policy_from kind threshold }
     {
@@ -34,7 +35,8 @@ pub struct DDMParams {
     pub coarse_threshold: SizePolicy,
 }
 
-// The number of axes, and the settings of the build on them.
+// The number of axes, and the settings of the build on them. The builds take points and settings apart, since the points bring their own
+// number of axes, and it would stand twice.
 #[derive(Clone, Copy)]
 pub struct Settings {
     pub dimensions: usize,

@@ -25,7 +25,7 @@ fn extent_on(column: Column<'_>, rows: &[usize]) -> f64
     extents::upper_bound(column, rows) - extents::lower_bound(column, rows)
 }
 
-// The first axis with the longest extent of the rows.
+// The first axis with the longest extent of the rows. Not by `argmax` of distances, which looks at a list: each extent is asked for once here.
 pub fn longest_axis(points: Points<'_>, rows: &[usize]) -> usize
     requires { (0 < points.dimensions) × (0 < length rows.now) × All (Inside points.dimensions points.coordinates.now) rows.now }
     ensures { result ≡ longest_axis_lem points.entry.dimensions points.entry.coordinates.now rows.now }

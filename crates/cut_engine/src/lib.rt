@@ -16,7 +16,8 @@ use points::Points;
 use tree_lists::{LeafLists, Records, Room, Start};
 
 // How a level is cut: domains wait in a queue, or the left half is cut completely before the right. An enum, as document 02 names it for
-// this place, and matched in one function only.
+// this place, and matched in one function only. The records stand beside it and not in it: an engine is a setting of a plan and is copied, and
+// records are lent on by `&mut`. The queue is lent two empty lists.
 #[derive(Clone, Copy)]
 pub enum Engine {
     Queue,
@@ -32,7 +33,8 @@ pub struct Cut {
 
 // The leaves of the active rows, by this engine. Their rows go to the internals from `start.from` on, packed; start, count and depth of each
 // to the domain rows from the first on, and their boxes to `boxes`, behind `start.skip` floats, from the first on. The record goes to `cuts`
-// and `planes` from `start.node` on; the queue writes none. Both engines are lent the same values, each as it is lent to here.
+// and `planes` from `start.node` on; the queue writes none. Both engines are lent the same values one by one: one struct
+// of them would be taken apart again in each engine, since two of its lists are lent as parts.
 pub fn cut_level(
     engine: Engine,
     points: Points<'_>,

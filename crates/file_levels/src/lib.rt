@@ -105,6 +105,8 @@ pub fn check_level(
     })
 }
 
+// The loop is not the one of list_levels: there the counts are given, and the starts in four lists go on; here each record tells its own.
+
 // Whether the levels from a place on pass: the first one has the n listed rows, each next one some of those above, but not all of them,
 // and the first level with one domain is the last, at most the fourth, with nothing after it.
 pub fn check_levels(

@@ -12,7 +12,8 @@ ghost use Rattle.leaf_rows.specs.Asked.{which_of};
 use packed::DomainRow;
 use refusal::Refusal;
 
-// What is asked for: a leaf's own rows, or its borrowed rows.
+// What is asked for: a leaf's own rows, or its borrowed rows. An enum with a meaning of its own, matched in one method; both lists, which rows
+// and the domain row stay four parameters below, as the public call is asked with them.
 #[derive(Clone, Copy)]
 pub enum Which {
     Own,

@@ -19,7 +19,7 @@ pub struct LeavesPassed {
 }
 
 // How far the leaves have passed with one more, which has at most the rows left, where its depth and its rows pass; its own rows are then out
-// of those left.
+// of those left. Level and sets stay two values: the level is a copy, and the sets are made its rows before its leaves are tested.
 pub fn check_leaf<O: Rows, B: Rows>(
     level: LeafLevel,
     passed: LeavesPassed,

@@ -53,7 +53,8 @@ fn take_packed(rows: &mut [usize], wholes: &[usize])
 // Cuts the rows into the leaves of a level, which stand in their place in the end, packed. The domain rows from the first on get start
 // and count of each, where the rows stand from `start.from` on in their list, and its depth; `boxes` gets their boxes from the first on. The
 // answer is their number. Of the room: `wholes` holds one number a row for the ordering, one a row for the packed leaves, and the queue,
-// three for each cut; `floats` the boxes of the queue. All past these is as found. The lists come one by one: two of them are parts of the
+// three for each cut; `floats` the boxes of the queue. All past these is as found. The whole numbers stay one list: the contracts say of the
+// whole room what is left as found, and its parts move with the number of rows. The lists come one by one: two of them are parts of the
 // caller's, and the borrow checker does not cover a part of a list in a struct (tried).
 fn cut_leaves(
     points: Points<'_>,

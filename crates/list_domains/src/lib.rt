@@ -111,6 +111,7 @@ pub fn check_domain(
 
 // Whether the next `count` domain rows, behind those of the levels before, pass, and have just the rows that their level lists as their own
 // rows; where they do, where their borrowed rows end. The loop of file_domains carries other values, and says why there are two.
+// A number of rows, and no slice: no list has those of one level as a part of its own.
 pub fn check_domains(
     tree: Packed<'_>,
     before: ListsPassed,

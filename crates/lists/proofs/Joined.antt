@@ -1,7 +1,7 @@
 -- Lists one after the other: their length and counts, one more list, and each list found again as a stretch. Assumes nothing.
--- Holds: joined-nil, joined-cons, joined-one, joined-append, joined_snoc, length-joined, count-joined, joined_at,
---   joined-fits, get_d-joined, even-lengths, joined-even, joined-map-append, joined-map-snoc, joined-map-more, joined-map-even,
---   parts-front, two-lists, sum-joined
+-- Holds: joined-nil, joined-cons, joined-one, joined-append, joined_snoc, length-joined, count-joined, joined_at, joined-fits,
+--   get_d-joined, even-lengths, joined-even, joined-map-append, joined-map-snoc, joined-map-more, joined-map-even, parts-front,
+--   two-lists, sum-joined
 use mathlib.Core.Path.{◌≡◌, refl, sym, ap, ◌∙◌}
 use Prim.Native.Nat.{ℕ, zero, suc, ◌+◌, ◌*◌, ◌≤◌, ◌<◌}
 use native.Mathlib.Nat.{zero-add, add_assoc, mul-suc, not-suc-le-zero, mul-zero}

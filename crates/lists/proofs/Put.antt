@@ -3,9 +3,8 @@
 --   set-put, put-def, put_next, put-next-at, put-longer, put-over, put-snoc, get_d-put-in, get_d-put-before, get_d-put-after,
 --   part-put-in, part-whole, part-put-same, part-put-after, part-take, part-put-before, part-part, part-append, part-nil,
 --   part-snoc, part-cons, part-drop, get_d_part, part-around, put-part, put-left, put_right, put-tail, put-comm, part-first,
---   part-second, take-put-front, view-put, part-lent, put-before, put-set, get_d-put-at,
---   front-put, put_whole, part-grown, mid_back, part-back, put-same-more, put-again, spliced, put-spliced,
---   map-spliced
+--   part-second, take-put-front, view-put, part-lent, put-before, put-set, get_d-put-at, front-put, put_whole, part-grown,
+--   mid_back, part-back, put-same-more, put-again, spliced, put-spliced, map-spliced
 use mathlib.Core.Path.{◌≡◌, refl, sym, ap, ◌∙◌, ap₂}
 use Prim.Native.Nat.{ℕ, zero, suc, ◌+◌, ◌-◌, ◌≤◌, ◌<◌}
 use native.Mathlib.Nat.{not-suc-le-zero, suc-add, zero-add, add-zero, add_assoc}

@@ -1,4 +1,5 @@
-// Sets of rows, one bit for each row in a list of words: 16,384 words hold 1,048,576 rows.
+// Sets of rows, one bit for each row in a list of words: 16,384 words hold 1,048,576 rows. The functions take the words, and no type of their
+// own: which rows are marked is a test that the caller's contract names, and no value holds it.
 #![tactic(auto)]
 
 ghost use Rattle.std.specs.Prelude.{◌≡◌, Bool, false, not, ◌&&◌, ◌||◌, ℕ, ◌*◌, ◌≤◌, ◌<◌, eqb, ltb, length};

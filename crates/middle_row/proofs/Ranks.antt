@@ -30,7 +30,7 @@ use Rattle.definition.proofs.Cuts.{finite-known}
 use Rattle.definition.proofs.Halves.{rank-keyed, length-keyed, first_rows, other-rows, sortable, Middle, key-at}
 use Rattle.rows.specs.Rows.{FiniteAt, FiniteOn}
 use Rattle.argsort.specs.Rows.{key_on, NoLater}
-use Rattle.sort.specs.Heap.{Sorted}
+use Rattle.sort.specs.Order.{Sorted}
 use Rattle.argsort.proofs.Orders.{row-or, not-both, sorted_before}
 use Rattle.middle_row.specs.Middle.{MiddleRow, Ranked}
 

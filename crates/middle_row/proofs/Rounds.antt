@@ -22,7 +22,7 @@ use Rattle.lists.specs.Same.{Same}
 use Rattle.lists.proofs.Same.{same_length}
 use Rattle.rows.specs.Rows.{row_limit, FiniteOn, GoodRows}
 use Rattle.argsort.specs.Rows.{NoLater}
-use Rattle.sort.specs.Heap.{Sorted}
+use Rattle.sort.specs.Order.{Sorted}
 use Rattle.middle_row.specs.Middle.{on_side, MiddleRow, Ranked, Round, Narrows}
 use Rattle.rows.proofs.Good.{good-mem, good-keep, good-once, good-finite, good-place, good-small}
 use Rattle.middle_row.proofs.Ranks.{ahead_of, ranked-low, ranked-high, sides, ranked-sorted, ranked-middle}

@@ -16,7 +16,8 @@ const POSITIONS: usize = rows::MOST_LEAVES;
 // Room for the nearest rows: the neighbours of a row.
 const NEAREST: usize = rows::MOST_NEIGHBOURS as usize;
 
-// A leaf and a position as one number: in order of the leaves, and then of the positions.
+// A leaf and a position as one number: in order of the leaves, and then of the positions. One number and no pair: the room that is lent is whole
+// numbers, and the sort orders them by leaf and then by position.
 pub fn code(leaf: usize, position: usize) -> usize
     requires { (leaf ≤ most_leaves) × (position < most_leaves) }
     ensures { result ≡ code leaf position }
@@ -32,7 +33,8 @@ pub fn position_of(code: usize) -> usize
 }
 
 // The row at position p takes those at the positions `near`, besides itself. Where two leaves own the two rows, each leaf gets the other's row:
-// their numbers are written from n on. The owners of the active rows stand at the front of `wholes`.
+// their numbers are written from n on. The owners of the active rows stand at the front of `wholes`. Where a pair goes depends on the owners of
+// those before it, so that its place is counted.
 fn send(near: &[usize], p: usize, wholes: &mut [usize], n: usize) -> usize
     requires { (a : ℕ) × PairRoom near.now a p wholes.old n }
     ensures { (result ≡ n + length (pairs_of (λ i. get_or wholes.old i 0) p near.now))

@@ -11,7 +11,7 @@ use lib.Seq.{get_or-set_same, get_or-set_other, get_or-take, length-take-le}
 use Rattle.lists.specs.Ascends.{Ascends}
 use Rattle.lists.proofs.Ascends.{ascends-by-index}
 use Rattle.lists.proofs.Members.{mem-at, mem_index}
-use Rattle.sort.specs.Heap.{Sorted}
+use Rattle.sort.specs.Order.{Sorted}
 use Rattle.overlaps.specs.Codes.{Distinct}
 
 -- k below i + 1 is i or below i

@@ -5,7 +5,7 @@ ghost use Rattle.std.specs.Prelude.{◌≡◌, ℕ, ◌+◌, ◌*◌, ◌<◌, �
 ghost use mathlib.Core.List.{List, map, Memᴰ};
 ghost use Rattle.lists.specs.Lists.{put, joined};
 ghost use Rattle.rows.specs.Rows.{most_leaves};
-ghost use Rattle.sort.specs.Heap.{Sorted};
+ghost use Rattle.sort.specs.Order.{Sorted};
 ghost use Rattle.definition.specs.Packed.{row_numbers};
 ghost use Rattle.packed.specs.Reading.{read_own};
 ghost use Rattle.overlaps.specs.Codes.{codes_from, coded_rows, Distinct, Reached, Positions, Encoded};
@@ -111,7 +111,7 @@ fn reach(codes: &[usize], from: usize, limit: usize) -> usize
 }
 
 // Writes where the borrowed rows of each leaf start, counted from `bat` on, and how many they are, to the last two columns of the m
-// domain rows from `first` on. The numbers stand leaf by leaf.
+// domain rows from `first` on, which are no list of their own. The numbers stand leaf by leaf.
 fn write_columns(codes: &[usize], domains: &mut [usize], first: usize, m: usize, bat: usize)
     requires { (m ≤ most_leaves) × (row_numbers * (first + m) ≤ length domains.old) × (bat + length codes.now < 18446744073709551616) }
     ensures { (ls : List (List ℕ)) → Positions m most_leaves ls → codes.now ≡ codes_from 0 ls

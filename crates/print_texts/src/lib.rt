@@ -19,8 +19,8 @@ fn digit_of(n: u8) -> u8
     if n < 10 { b'0' + n } else { b'a' - 10 + n }
 }
 
-// A number in decimal. The digits are put by hand, here and below: `write!` is no plainer, since it needs a writer of the library's and
-// answers a result.
+// A number in decimal. The digits are put by hand, here and below: `write!` answers a result that each caller would take apart, though the room
+// is promised.
 fn write_decimal(n: usize, out: &mut Writer<'_>)
     requires { Takes out.old (decimal n) }
     ensures { Appends out.old out.new (decimal n) }
@@ -47,7 +47,7 @@ fn write_hex(k: usize, n: u64, out: &mut Writer<'_>)
     out.byte(low);
 }
 
-// What is printed in lists: the rows, and the floats.
+// What is printed in lists: the rows, and the floats. It is no `Field` of bytes_out: the same types are written otherwise in print.
 trait Printed: Copy {
     ghost text: { Self → List ℕ };
 
@@ -106,7 +106,7 @@ pub fn write_floats(floats: &[f64], out: &mut Writer<'_>)
     write_each(floats, out);
 }
 
-// A text and a number.
+// A text and a number. Three functions, and not one over `Printed`: a number follows its text without a space, and rows may be none.
 pub fn write_numbered(label: &[u8], n: usize, out: &mut Writer<'_>)
     requires { Takes out.old (label.now ++ decimal n) }
     ensures { Appends out.old out.new (label.now ++ decimal n) }

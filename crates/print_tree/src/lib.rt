@@ -61,7 +61,8 @@ fn write_leaf(coarse: bool, i: usize, j: usize, tree: Packed<'_>, out: &mut Writ
     write_domain(i, tree.leaf(j), coarse, out);
 }
 
-// The lines of m fine domains, from the domain row number j on.
+// The lines of m fine domains, from the domain row number j on. A number of rows, here and below, and no slice: no list has those of one level
+// as a part of its own.
 fn write_leaves(j: usize, m: usize, tree: Packed<'_>, out: &mut Writer<'_>)
     requires by_index { (i : ℕ) → i < m → RowFits (packed_of tree) (j + i) }
     requires room_for { Takes out.old (fine_lines 0 (read_leaves (packed_of tree) j m)) }
@@ -92,7 +93,7 @@ fn write_coarse(t: usize, rows: &[usize], j: usize, tree: Packed<'_>, out: &mut 
     write_leaf(true, 0, j, tree, out);
 }
 
-// The lines of all levels.
+// The lines of all levels. Rows and domain rows of a level start where those above end, so both starts go along.
 fn write_levels(tree: PackedTree<'_>, out: &mut Writer<'_>)
     requires stands { Stands (packed_of tree.leaves) tree.level_points.now tree.counts.rows tree.counts.domains tree.counts.levels }
     requires room_for { Takes out.old (levels_text 0 (read_levels (packed_of tree.leaves) tree.level_points.now tree.counts.rows tree.counts.domains tree.counts.levels)) }

@@ -34,7 +34,7 @@ pub enum Refusal {
 }
 
 impl Refusal {
-    // Its number.
+    // Its number. A method, and no discriminant or `From`: two cases carry a place, and the name says what the number is.
     pub fn number(self) -> usize
         ensures { result ≡ refusal_number self }
     {

@@ -9,7 +9,8 @@ ghost use Rattle.root.specs.Answers.{root_report};
 
 use refusal::Refusal;
 
-// A pattern of a finite value is a `u64` below infinity's, which three inner functions ask for; a type for it would serve these alone.
+// A pattern of a finite value is a `u64` below infinity's, which three inner functions ask for. A type for it would be made anew, by the same
+// proof, at each of their calls: they are passed sums and shifts of patterns.
 
 // A significand m with its leading digit at bit 52, and an exponent.
 #[derive(Clone, Copy)]

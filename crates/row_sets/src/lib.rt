@@ -15,7 +15,8 @@ pub use level_rows::LevelRows;
 // The words of a set with a bit for each row of the largest tree, 1,048,576 rows.
 pub const WORDS: usize = 16_384;
 
-// Rows in a place of their own: how many they are, and each by its index.
+// Rows in a place of their own: how many they are, and each by its index. The loops below go by the index: a trait's method can't answer with an
+// iterator that has no name, and one for each kind of rows would need laws of its own.
 pub trait Rows {
     ghost rows: { Self → List ℕ };
 

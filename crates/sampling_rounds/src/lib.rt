@@ -1,5 +1,6 @@
 // The sampling of a list of rows. In a round each row's least squared distance to the chosen rows is brought up to date,
-// and the farthest row is chosen. -1 stands for the square of a chosen row: it is below every squared distance.
+// and the farthest row is chosen. -1 stands for the square of a chosen row: it is below every squared distance. -1 and no Option: the squares
+// stand in lent floats, and a value below them all needs no case of its own.
 #![tactic(auto)]
 
 ghost use Rattle.std.specs.Prelude.{◌≡◌, true, ℕ, ◌+◌, ◌<◌, ◌≤◌, length, get_or};

@@ -26,7 +26,8 @@ pub fn any_short(table: Table<'_>, lent: BuildSizes, neighbours: usize) -> bool
         || table.is_short()
 }
 
-// The coordinates of the live slots: 10 at the place of the first that is not finite.
+// The coordinates of the live slots: 10 at the place of the first that is not finite. Not by `check_finite`, whose place would count from the
+// slot's own first coordinate.
 pub fn judge_slots(table: Table<'_>) -> Result<(), Refusal>
     requires { (table.head.slots ≤ length table.flags.now) × (table.head.slots * table.points.dimensions ≤ length table.points.coordinates.now) × (table.head.slots ≤ most_points) × (table.points.dimensions ≤ 3) }
     ensures { verdict_of result ≡ verdict (rows_not_finite table.entry.points.dimensions table.entry.points.coordinates.now (keep (flagged table.entry.flags.now) (from 0 table.entry.head.slots)) ∷ []) }

@@ -1,2 +1,2 @@
 -- What the contracts of sorting cite.
-pub mod Heap
+pub mod Order

@@ -15,7 +15,8 @@ use cut_nodes::Next;
 use points::Points;
 use tree_lists::{Records, Room};
 
-// What a cut reads: the points, the leaf threshold, and how many whole numbers stand before the table of the leaves.
+// What a cut reads: the points, the leaf threshold, and how many whole numbers stand before the table of the leaves. The table stands behind
+// the ordering's room in one list, since the contracts say of the whole room what is left as found.
 #[derive(Clone, Copy)]
 pub struct Level<'a> {
     pub points: Points<'a>,

@@ -39,7 +39,8 @@ fn put_front(points: Points<'_>, params: DDMParams, out: &mut Writer<'_>)
     put_points(points, n, out);
 }
 
-// The domains of m domain rows from the row number j on. The flag, here and below, is the definition's own: `domain_records` takes it too. That
+// The domains of m domain rows from the row number j on. A number of rows, and no slice: no list has those of one level as a part of its own.
+// The flag, here and below, is the definition's own: `domain_records` takes it too. That
 // each of these rows lies within the lists is asked here and in print_tree, and is no type's promise: the rows are those that the tree's counts
 // name, and counts and lists are lent apart.
 fn put_domains(tree: Packed<'_>, j: usize, m: usize, coarse: bool, out: &mut Writer<'_>)
@@ -69,7 +70,8 @@ fn put_whole_level(
     put_domains(tree, j, m, coarse, out);
 }
 
-// The levels, by the row and domain counts per level; the last one is the coarse one.
+// The levels, by the row and domain counts per level; the last one is the coarse one. Rows and domain rows of a level start where those above
+// end, so both starts go along.
 fn put_levels(tree: PackedTree<'_>, out: &mut Writer<'_>)
     requires stands { Stands (packed_of tree.leaves) tree.level_points.now tree.counts.rows tree.counts.domains tree.counts.levels }
     requires room_for { Takes out.old (joined (tree_records (levels_in tree.counts tree.level_points.now (packed_of tree.leaves)))) }

@@ -13,7 +13,7 @@ pub fn put_values<T: Copy>(list: &mut [T], at: usize, values: &[T])
     list[at..at + values.len()].copy_from_slice(values);
 }
 
-// Writes the numbers below `count` to the front of the list. A count and no slice, for the same reason.
+// Writes the numbers below `count` to the front of the list. A count and no slice: the callers' contracts speak of the whole list.
 pub fn number_rows(wholes: &mut [usize], count: usize)
     requires { count ≤ length wholes.old }
     ensures { wholes.new ≡ put wholes.old 0 (from 0 count) }

@@ -18,7 +18,9 @@ pub struct Head {
 }
 
 // A table of wells as it is read: its head, a flag for each slot, and the slots' coordinates with the number of axes. It is passed by value:
-// a contract reads it by specs/Tables.antt, as `table_in table` in a `requires` and as `table_in table.entry` in an `ensures`.
+// a contract reads it by specs/Tables.antt, as `table_in table` in a `requires` and as `table_in table.entry` in an `ensures`. That the slot
+// count is within the flags is no invariant: a caller's table may be unsound, and `sound` tells. A flag is a byte, 0 for a retired slot and any
+// other for a live one: C lends the list.
 #[derive(Clone, Copy)]
 pub struct Table<'a> {
     pub head: Head,

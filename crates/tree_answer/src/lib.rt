@@ -11,21 +11,13 @@ use tree_lists::TreeRead;
 // The most levels that a tree has: three fine ones and the coarse one.
 pub const MOST_LEVELS: usize = 4;
 
-// How many levels the tree has, and how many rows and domains each of them has.
+// How many levels the tree has, and how many rows and domains each of them has. Arrays of four beside the number of levels: the counts go by
+// value to a slot of C and back, and the library has no heap for lists of their length.
 #[derive(Clone, Copy)]
 pub struct DDMTree {
     pub levels: usize,
     pub rows: [usize; MOST_LEVELS],
     pub domains: [usize; MOST_LEVELS],
-}
-
-impl DDMTree {
-    // No counts: what a caller is told of a refused call.
-    pub fn none() -> DDMTree
-        ensures { counts_given result ≡ zero_counts }
-    {
-        DDMTree::default()
-    }
 }
 
 // The library has no zero of an array, so this is not derived.

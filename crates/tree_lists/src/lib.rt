@@ -26,7 +26,8 @@ pub struct LeafLists<'a> {
 }
 
 // Where the cut of a level writes: the rows of its leaves go to the internals from `from` on, their domain rows and boxes from the `first`
-// on, and the nodes of its record from `node` on. The boxes stand packed, behind `skip` floats that belong to no box.
+// on, and the nodes of its record from `node` on. The boxes stand packed, behind `skip` floats that belong to no box. That each list has room
+// from there on is asked by the engines: it relates start and lists to the rows, which are lent apart.
 #[derive(Clone, Copy)]
 pub struct Start {
     pub from: usize,
