@@ -32,7 +32,8 @@ pub struct Front {
     pub next: usize,
 }
 
-// Where the record of row i begins; where n of them end.
+// Where the record of row i begins; where n of them end. That a number has four bytes is asked here and below, and is no type's promise: it is
+// multiplied and compared as the counts of points are, which are `usize`.
 fn row_place(dimensions: usize, i: usize) -> usize
     requires { (dimensions ≤ 3) × (i < 2 ^ 32) }
     ensures { result ≡ point_place dimensions i }

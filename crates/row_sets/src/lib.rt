@@ -67,6 +67,7 @@ pub fn mark_rows<R: Rows>(rows: &R, words: &mut [usize])
 
 // Takes the rows out of both sets, where they ascend and are all left, and says whether they are. One pass asks for a row and takes it out: tried as
 // `rows_marked` and then a loop that unmarks, the test of 1,048,576 rows in leaves of 63 took a third longer.
+// The sets come as two lists and no `LevelRows`: nothing is asked of them together.
 pub fn take_rows<R: Rows>(rows: &R, left: &mut [usize], listed: &mut [usize]) -> bool
     ensures { (p q : ℕ → Bool) → Marked left.old p → Marked listed.old q
         → (result ≡ in_order_lem 0 p (R.rows rows.now))
