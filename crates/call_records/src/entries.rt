@@ -5,7 +5,7 @@ ghost use Rattle.call_records.specs.Reads.{Reads};
 
 use crate::fields::Fields;
 
-// An entry of a list: a number, a float or a byte.
+// An entry of a list: a number, a float or a byte. It is no `Field` of bytes_in: a number has eight bytes here, and a byte is an entry too.
 pub trait Entry: Copy {
     // The bytes of an entry.
     ghost SIZE: { ℕ };

@@ -14,7 +14,8 @@ use std::io;
 use std::io::{Read, Write};
 use std::process::ExitCode;
 
-// The printout of the bytes, at the front of `text`. ddm_reload has one that calls `reload`: they share the `unwrap` alone.
+// The printout of the bytes, at the front of `text`. ddm_reload has one that calls `reload`: they share the `unwrap` alone. The text is a
+// slice, with its least length asked: an array would ask for one length.
 fn print_bytes(bytes: &[u8], text: &mut [u8]) -> usize
     requires { most_bytes ≤ length text.old }
     ensures fits { result ≤ length text.new }

@@ -54,7 +54,8 @@ fn place_after(place: Place, size: usize, level: Parts) -> Place
 }
 
 // All levels over the n rows at the front of the level points. Each level is written behind the last: its active rows, its leaves'
-// rows, its domain rows, their boxes, the borrowed rows, and the nodes of its record that this engine writes.
+// rows, its domain rows, their boxes, the borrowed rows, and the nodes of its record that this engine writes. The threshold c and the number k of
+// reductions come beside the plan: a fine level is handed its size, and needs neither.
 pub fn all_levels(
     plan: Plan<'_>,
     c: usize,

@@ -36,7 +36,7 @@ struct Cursor {
 // contract would turn an enum back into it. Bytes, place and axes stay side by side, as in file_levels: the place moves on from record to record.
 
 // Writes the floats that stand at `at` in a domain's record to the floats of its row: its box and its cover; before the coarse domain's
-// cover +0 for each bound of the box that it does not have. The whole list and a place in it: the contract speaks of the whole list.
+// cover +0 for each bound of the box that it does not have.
 fn put_row_floats(bytes: &[u8], at: usize, dimensions: usize, coarse: bool, row: &mut [f64])
     requires { (dimensions ≤ 3) × (at + float_size * record_floats_lem dimensions coarse ≤ length bytes.now) × (length row.old ≡ row_floats_lem dimensions) }
     ensures { row.new ≡ floats_read dimensions coarse at bytes.now }

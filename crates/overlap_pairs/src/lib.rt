@@ -34,7 +34,8 @@ pub fn position_of(code: usize) -> usize
 
 // The row at position p takes those at the positions `near`, besides itself. Where two leaves own the two rows, each leaf gets the other's row:
 // their numbers are written from n on. The owners of the active rows stand at the front of `wholes`. Where a pair goes depends on the owners of
-// those before it, so that its place is counted.
+// those before it, so that its place is counted. Owners and numbers stay in one list, as they are lent: as two, each function here would take a
+// parameter more.
 fn send(near: &[usize], p: usize, wholes: &mut [usize], n: usize) -> usize
     requires { (a : ℕ) × PairRoom near.now a p wholes.old n }
     ensures { (result ≡ n + length (pairs_of (λ i. get_or wholes.old i 0) p near.now))

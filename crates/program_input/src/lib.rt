@@ -46,7 +46,7 @@ impl<'a> Input<'a> {
     }
 }
 
-// A list of N zeros to read to.
+// A list of N zeros to read to, for the long ones: a program's proof goes by these clauses, and not by a literal of so many entries.
 pub fn room<const N: usize>() -> [u8; N]
     ensures long { length result ≡ N }
     ensures zeros { result ≡ replicate N 0 }

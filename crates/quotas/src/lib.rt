@@ -38,7 +38,7 @@ impl Terms {
         self.rest * w.saturating_sub(self.first)
     }
 
-    // The leftover seats: the rest less each leaf's share, rounded down.
+    // The leftover seats: the rest less each leaf's share, rounded down. A loop, for the reason that `count_above` says.
     fn leftover(self, sizes: &[usize]) -> usize
         requires { Sharing sizes.now self.first self.rest self.pool }
         ensures { result ≡ leftover (capacities sizes.now self.first) self.rest }

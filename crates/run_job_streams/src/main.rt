@@ -11,7 +11,8 @@ use std::io;
 // The room for a file.
 const FILE: usize = 1835008;
 
-// How many streams were printed, and how many of the printouts are not the stored ones.
+// How many streams were printed, and how many of the printouts are not the stored ones. The replay is not the one of record_file: a record has two
+// lengths of two bytes here, and the whole file is in memory.
 #[derive(Clone, Copy)]
 struct Tally {
     streams: u64,

@@ -100,6 +100,7 @@ impl<'a, 'b> Sampled<'a, 'b> {
         let mut place = 0;
         let mut most = -1.0;
         let mut second = -1.0;
+        // the squares by the index: of a zip with `squares.iter_mut()` a proof does not know what was written
         for (i, &other) in rows.iter().enumerate() {
             let square = distances::distance_sq(points, row, GlobalIdx(other));
             let value = lesser_of(square, squares[i]);
