@@ -1,6 +1,5 @@
 -- Laws of the definition that demand 3 rests on, line by line; and the tables of examples.
 pub mod Order
-pub mod Policies
 pub mod Halves
 pub mod Steps
 pub mod Cuts
