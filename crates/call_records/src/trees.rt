@@ -74,7 +74,8 @@ impl<'a> Fields<'a> {
         Some(self.byte()? as usize == report.number && self.number()? == report.place)
     }
 
-    // Whether the answer of a call stands next. A refused one has no counts.
+    // Whether the answer of a call stands next. A refused one has no counts. They are compared one by one as they are read, and not by `==` of a
+    // tree: where one differs, the rest is not read.
     pub fn answer_agrees(&mut self, answer: Result<DDMTree, Refusal>) -> Option<bool>
         ensures { IfSome result (λ same. same ≡ true → self.new.rest.now ≡ drop 41 self.old.rest.now) }
     {

@@ -35,10 +35,9 @@ impl TryFrom<u8> for Kind {
 // Whether the call of a record has the record's outcome. `None` says that it is no whole record of a call.
 fn outcome_agrees(record: &[u8]) -> Option<bool> {
     let mut fields = Fields::of(record);
-    match Kind::try_from(fields.byte()?) {
-        Ok(Kind::Load) => replay_loads::agrees(&mut fields),
-        Ok(Kind::Store) => replay_stores::agrees(&mut fields),
-        Err(UnknownKind) => None,
+    match Kind::try_from(fields.byte()?).ok()? {
+        Kind::Load => replay_loads::agrees(&mut fields),
+        Kind::Store => replay_stores::agrees(&mut fields),
     }
 }
 

@@ -45,7 +45,7 @@ impl TryFrom<u8> for Kind {
 // entries than there is room for.
 fn outcome_agrees(record: &[u8]) -> Option<bool> {
     let mut fields = Fields::of(record);
-    let kind = Kind::try_from(fields.byte()?);
+    let kind = Kind::try_from(fields.byte()?).ok()?;
     let settings = fields.settings()?;
     let mut room = [9.0; COORDINATES];
     let coordinates = fields.list(&mut room)?;
@@ -57,7 +57,7 @@ fn outcome_agrees(record: &[u8]) -> Option<bool> {
     };
     let dimensions = settings.dimensions;
     match kind {
-        Ok(Kind::Add) => {
+        Kind::Add => {
             let mut wells = Wells {
                 flags,
                 coordinates,
@@ -65,14 +65,14 @@ fn outcome_agrees(record: &[u8]) -> Option<bool> {
             };
             replay_edits::add_agrees(&mut fields, head, &mut wells)
         }
-        Ok(Kind::Retire) => {
+        Kind::Retire => {
             let points = Points {
                 coordinates,
                 dimensions,
             };
             replay_edits::retire_agrees(&mut fields, head, flags, points)
         }
-        Ok(Kind::Build) => {
+        Kind::Build => {
             let points = Points {
                 coordinates,
                 dimensions,
@@ -84,7 +84,6 @@ fn outcome_agrees(record: &[u8]) -> Option<bool> {
             };
             replay_builds::agrees(&mut fields, table, settings.params)
         }
-        Err(UnknownKind) => None,
     }
 }
 
