@@ -29,7 +29,9 @@ impl Front {
     }
 }
 
-// What was read: the list that it was read to, and where reading stopped.
+// What was read: the list that it was read to, and where reading stopped. The whole list, and no part of it: that an input whose end was not
+// seen has filled the list is said by its length. `Stopped` is asked by each that reads it: tried as a ghost field here, it proves in this crate
+// and in ddm_tree, but the check of ddm_reload, which makes two inputs, runs out of antt's stack and gives no verdict.
 #[derive(Clone, Copy)]
 pub struct Input<'a> {
     pub bytes: &'a [u8],
