@@ -94,13 +94,11 @@ pub fn read_count<R: Read>(reader: &mut R, input: &mut [u8]) -> io::Result<usize
 
 // Opens the file that the argument number i names.
 pub fn open_argument<R: Env + Files + Alloc>(rt: &R, i: usize) -> io::Result<R::File> {
-    match env::args(rt)?.nth(i) {
-        Some(path) => fs::open(rt, path.as_str()),
-        None => Err(io::Error::new(
-            ErrorKind::InvalidInput,
-            "the argument that names the file is missing",
-        )),
-    }
+    let path = env::args(rt)?.nth(i).ok_or(io::Error::new(
+        ErrorKind::InvalidInput,
+        "the argument that names the file is missing",
+    ))?;
+    fs::open(rt, path.as_str())
 }
 
 // What failed of a program's input or output, and why.
