@@ -69,7 +69,7 @@ pub fn bits_are_nan(bits: u64) -> bool
     INFINITY < bits % SIGN
 }
 
-// The float with these bits; every pattern of not-a-number is the one value.
+// The float with these bits; every pattern of not-a-number is the one value, since `from_bits` takes none.
 pub fn float_of(bits: u64) -> f64
     ensures { result ≡ of_bits binary64 bits }
 {
@@ -93,7 +93,7 @@ pub fn record_at(input: &[u8], at: usize, size: usize, mark: [u8; MARK]) -> bool
     requires { (at ≤ length input.now) × (mark_size ≤ size) }
     ensures { result ≡ whole (mark_read mark) size (drop at input.now) }
 {
-    size <= input.len() - at && input[at] == mark[0] && input[at + 1] == mark[1]
+    size <= input.len() - at && input[at..].starts_with(&mark)
 }
 
 // The bytes of a point's record on so many axes: the mark's, and a float for each axis.

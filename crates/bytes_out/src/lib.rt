@@ -25,8 +25,8 @@ pub fn bits_of(x: f64) -> u64
     }
 }
 
-// What stands in records with a fixed number of bytes: numbers, and floats. A trait apart from that of bytes_in: what reads a file cites no
-// writer, and each has laws of its own.
+// What stands in records with a fixed number of bytes: numbers, and floats. A trait apart from that of bytes_in: each has laws of its own, and
+// bytes_in stands below this crate, so that one trait of both would ask it for the writer.
 pub trait Field: Copy {
     ghost bytes: { Self → List ℕ };
 

@@ -1,2 +1,3 @@
 -- Laws on the fields of a record.
 pub mod Widths
+pub mod Same

@@ -1,8 +1,9 @@
 -- What it is to read fields of a record. Definitions only.
-use Rattle.std.specs.Prelude.{◌≡◌, ℕ, ◌+◌, ◌*◌, List, length, take, drop, ◌≤◌, ◌<◌, Option, MatchOption}
+use Rattle.std.specs.Prelude.{◌≡◌, ℕ, ◌+◌, ◌*◌, List, length, take, drop, map, cond, ltb, ◌≤◌, ◌<◌, Option, MatchOption}
 use Rattle.definition.specs.Levels.{Policy, policy_from}
 use Rattle.definition.specs.Tree.{Settings}
 use Rattle.formats.specs.Bytes.{field, number_at, number_size}
+use Rattle.lists.specs.Lists.{from}
 
 -- a field of k bytes is read: none where fewer are left, and then all of them stay; else the field has the value of what is left, and
 -- what stands behind it stays
@@ -24,6 +25,18 @@ bytes_read bs = take (number_at 0 bs) (drop number_size bs)
 -- a list with its count before it, of entries of w bytes each
 abbrev pub list_size : ℕ → List ℕ → ℕ
 list_size w bs = number_size + w * number_at 0 bs
+
+-- the bits of its i-th entry
+abbrev pub entry_bits : ℕ → List ℕ → ℕ → ℕ
+entry_bits w bs i = field w (number_size + w * i) bs
+
+-- the values of its entries, one after the other
+abbrev pub entries_read : {X : Type 0} → ℕ → (ℕ → X) → List ℕ → List X
+entries_read w value bs = map (λ i. value (entry_bits w bs i)) (from 0 (number_at 0 bs))
+
+-- what a list that agrees with it has as the bits of its i-th entry: those of the entry there, and those of 9 past its front
+abbrev pub bits_wanted : ℕ → ℕ → List ℕ → ℕ → ℕ
+bits_wanted w nine bs i = cond (ltb i (number_at 0 bs)) (entry_bits w bs i) nine
 
 -- what is left behind such a list that has its length as a number before it
 abbrev pub filled_left : ℕ → List ℕ → List ℕ

@@ -1,6 +1,9 @@
 // What a record says of a tree: the answer of the call that made it, and its five lists.
 ghost use Rattle.std.specs.Prelude.{◌≡◌, true, ◌+◌, length, drop, IfSome};
+ghost use Rattle.refusal.specs.Refusals.{answer_of};
 ghost use Rattle.formats.specs.Bytes.{field, number_at, number_size};
+ghost use Rattle.tree_lists.specs.Lent.{arrays_held};
+ghost use Rattle.call_records.specs.Nines.{nine_lists};
 ghost use Rattle.call_records.specs.Reads.{filled_left, numbers_left};
 
 use crate::fields::Fields;
@@ -18,7 +21,9 @@ pub const FLOATS: usize = 512;
 pub const WHOLES: usize = 1024;
 
 // Lists that hold 9.
-pub fn nines() -> Lists {
+pub fn nines() -> Lists
+    ensures { arrays_held result ≡ nine_lists }
+{
     Lists::filled(NINE, 9.0)
 }
 
@@ -87,6 +92,17 @@ impl<'a> Fields<'a> {
                 && self.counts()? == tree.rows
                 && self.counts()? == tree.domains,
         )
+    }
+
+    // The same of a call whose answer is a number, which is 0 where the call is refused.
+    pub fn number_agrees(&mut self, answer: Result<usize, Refusal>) -> Option<bool>
+        ensures number { IfSome result (λ same. same ≡ true → field 1 0 self.old.rest.now ≡ (answer_of (λ n. n) 0 answer).number) }
+        ensures place { IfSome result (λ same. same ≡ true → number_at 1 self.old.rest.now ≡ (answer_of (λ n. n) 0 answer).place) }
+        ensures value { IfSome result (λ same. same ≡ true → number_at 5 self.old.rest.now ≡ (answer_of (λ n. n) 0 answer).value) }
+        ensures left { IfSome result (λ same. same ≡ true → self.new.rest.now ≡ drop 9 self.old.rest.now) }
+    {
+        let report = Report::of(answer);
+        Some(self.report_agrees(&report)? && self.number()? == report.value)
     }
 
     // Whether the five lists stand next, and the record ends there.

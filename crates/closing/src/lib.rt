@@ -55,6 +55,7 @@ fn move_down(slots: usize, wells: &mut Wells<'_>, rename: &mut [usize])
     ensures rename { rename.new ≡ put rename.old 0 (renames wells.old.flags.now slots slots) }
 {
     let mut to = 0;
+    // by the index: the slots that are moved are read in the lists that are written
     for i in 0..slots {
         to = move_slot(i, to, slots, wells, rename);
     }

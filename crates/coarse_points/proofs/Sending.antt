@@ -58,16 +58,15 @@ module _ (d : ℕ) (cs : List Float) (I D : List ℕ) (first : ℕ) (shares : Li
       ∙ sum-below-same n (λ l. length (sends l)) (λ l. get_or shares l 0) (λ l _. sent-length d cs (own_at I D (first + l)) (get_or shares l 0))
 
   -- the same as the definition has it, quota by quota
-  pub sent-zip : (m : ℕ) (ws : List ℕ) → length ws ≡ m → ((l : ℕ) → l < m → get_or shares l 0 ≡ get_or ws l 0)
-      → sent_at d cs I D first shares m ≡ joined (zip_with (sent_by d cs) (read_own I D first m) ws)
-  sent-zip m ws e h =
+  pub sent-zip : (m : ℕ) → length shares ≡ m → sent_at d cs I D first shares m ≡ joined (zip_with (sent_by d cs) (read_own I D first m) shares)
+  sent-zip m e =
       ap joined
       (ap (λ (k : ℕ). map sends (from 0 k)) (sym (read_length I D first m))
-      ∙ zip-from-at sends (sent_by d cs) [] 0 (read_own I D first m) ws 0 (e ∙ sym (read_length I D first m))
+      ∙ zip-from-at sends (sent_by d cs) [] 0 (read_own I D first m) shares 0 (e ∙ sym (read_length I D first m))
       (λ i l. each i (omega (arith, read_length I D first m))))
     where
-      each : (i : ℕ) → i < m → sends (0 + i) ≡ sent_by d cs (get_or (read_own I D first m) i []) (get_or ws i 0)
-      each i l = let z : 0 + i ≡ i = omega arith in rw (z, read_at I D first m i l, h i l)
+      each : (i : ℕ) → i < m → sends (0 + i) ≡ sent_by d cs (get_or (read_own I D first m) i []) (get_or shares i 0)
+      each i l = let z : 0 + i ≡ i = omega arith in rw (z, read_at I D first m i l)
 
 -- ---- own rows as the rows of domains
 abbrev wrap : List ℕ → Domain

@@ -1,13 +1,13 @@
 -- How the steps fit together: sizes, quotas, what each leaf sends, and the sorted rows behind the active ones. Assumes nothing.
--- Holds: counts_all, leaves-fit, sorted-up, covers_up, quotas-front, lent-good, lent-size, part-between, part-size, leaf_room,
---   leaf-end, leaf-list, all-sent
+-- Holds: counts_all, leaves-fit, sorted-up, covers_up, lent-good, lent-size, part-between, part-size, leaf_room, leaf-end,
+--   leaf-list, all-sent
 use mathlib.Core.Path.{◌≡◌, sym, ap, ◌∙◌}
 use mathlib.Core.List.{List, [], ◌++◌, map, zip_with, map-map}
 use Prim.Native.Nat.{ℕ, ◌+◌, ◌-◌, ◌≤◌, ◌<◌}
 use native.Mathlib.Nat.{zero-add}
 use native.Mathlib.Omega.{arith}
 use lib.ListN.{length, get_or, take, drop}
-use lib.Seq.{get_or-take, length-take-le, take_at, drop_at}
+use lib.Seq.{take_at, drop_at}
 use lib.Ieee.{Float}
 use Rattle.lists.specs.Lists.{total, from, joined, keep, member, part, put}
 use Rattle.lists.specs.Ascends.{All}
@@ -15,16 +15,16 @@ use Rattle.lists.proofs.All.{all-at, joined-all}
 use Rattle.lists.proofs.Put.{length_part, part-lent, put_next, put_whole}
 use Rattle.lists.proofs.From.{map-below-same, length-map-from, get_d-map-below}
 use Rattle.lists.proofs.Joined.{length-joined}
-use Rattle.lists.proofs.Sums.{sum-below-same, sum-below-suc, sum-below-part, sum-below-at, total-index}
+use Rattle.lists.proofs.Sums.{sum-below-suc, sum-below-part, sum-below-at, total-index}
 use Rattle.lists.specs.Times.{times, Once}
 use Rattle.lists.proofs.Ascends.{ascends-once}
 use Rattle.lists.specs.Same.{Same}
 use Rattle.lists.proofs.Same.{same_length, same-each, same-times, same_once}
-use Rattle.definition.specs.Quotas.{quotas_for}
+use Rattle.definition.specs.Quotas.{quotas, quotas_for}
 use Rattle.definition.specs.Sampling.{sent_by}
 use Rattle.definition.specs.Tree.{next_active}
 use Rattle.definition.specs.Fair.{Fair}
-use Rattle.definition.proofs.Fairness.{fair-for, quotas-held, quotas-length}
+use Rattle.definition.proofs.Fairness.{fair-for, quotas-held}
 use Rattle.rows.specs.Rows.{GoodRow, GoodRows}
 use Rattle.sort.specs.Order.{Sorted}
 use Rattle.packed.specs.Reading.{own_start, own_count, own_at, read_own}
@@ -72,34 +72,28 @@ module _ (d : ℕ) (cs : List Float) (active I D : List ℕ) (first m : ℕ) (s 
   own-once : Once (joined own)
   own-once = same_once (joined own) active s.leaves.shared (ascends-once active s.leaves.ascends)
 
-  -- ---- `size` seats, whose quotas stand at the front of the working list
-  module _ (size : ℕ) (held : size ≤ length active) (wholes : List ℕ) (long : m ≤ length wholes)
-      (e : take m wholes ≡ quotas_for (counts_at D first m) size) where
-    abbrev ws : List ℕ
-    ws = quotas_for counts size
-
+  -- ---- `size` seats, shared out
+  module _ (size : ℕ) (held : size ≤ length active) (shares : List ℕ) (e : shares ≡ quotas_for (counts_at D first m) size) where
     seats : size ≤ total counts
     seats = omega (arith, counts_all)
 
-    fair : Fair counts size ws
-    fair = fair-for counts size seats
+    fair : Fair counts size shares
+    fair = rw e (fair-for counts size seats)
 
-    many : length ws ≡ m
+    many : length shares ≡ m
     many = fair.entries ∙ length-map-from (λ l. own_count D (first + l)) 0 m
 
-    read : (l : ℕ) → l < m → get_or wholes l 0 ≡ get_or ws l 0
-    read l h = sym (get_or-take m wholes l 0 h) ∙ ap (λ (z : List ℕ). get_or z l 0) e
+    as-quotas : quotas counts size ≡ shares
+    as-quotas = quotas-held counts size seats ∙ sym e
 
-    within : (l : ℕ) → l < m → get_or wholes l 0 ≤ own_count D (first + l)
-    within l h = omega (arith, read l h, fair.within l, get_d-map-below (λ l. own_count D (first + l)) m l 0 h)
+    within : (l : ℕ) → l < m → get_or shares l 0 ≤ own_count D (first + l)
+    within l h = omega (arith, fair.within l, get_d-map-below (λ l. own_count D (first + l)) m l 0 h)
 
-    sum : total (map (λ l. get_or wholes l 0) (from 0 m)) ≡ size
-    sum =
-        sum-below-same m (λ l. get_or wholes l 0) (λ l. get_or ws l 0) read
-        ∙ ap (λ (k : ℕ). total (map (λ l. get_or ws l 0) (from 0 k))) (sym many) ∙ sym (total-index ws) ∙ fair.sum
+    sum : total (map (λ l. get_or shares l 0) (from 0 m)) ≡ size
+    sum = ap (λ (k : ℕ). total (map (λ l. get_or shares l 0) (from 0 k))) (sym many) ∙ sym (total-index shares) ∙ fair.sum
 
     -- what sampling asks
-    pub leaves-fit : (k : ℕ) → length active ≤ k → LeavesFit d cs I D first m wholes size k
+    pub leaves-fit : (k : ℕ) → length active ≤ k → LeavesFit d cs I D first m shares size k
     leaves-fit k g = record {
       each = λ l h. record {
         axes = s.axes;
@@ -109,39 +103,32 @@ module _ (d : ℕ) (cs : List Float) (active I D : List ℕ) (first m : ℕ) (s 
         floats = omega (arith, count-few l h);
         within = within l h;
       };
-      listed = long;
+      listed = many;
       fits = sum;
     }
 
     -- ---- what is sent, and what becomes of it
     abbrev sent : List ℕ
-    sent = sent_at d cs I D first wholes m
+    sent = sent_at d cs I D first shares m
 
-    as-defined : sent ≡ joined (zip_with (sent_by d cs) own ws)
-    as-defined = sent-zip d cs I D first wholes m ws many read
+    as-defined : sent ≡ joined (zip_with (sent_by d cs) own shares)
+    as-defined = sent-zip d cs I D first shares m many
 
     sent-some : (r : ℕ) → times r sent ≤ times r active
     sent-some r =
-        let w : (i : ℕ) → i < length own → get_or ws i 0 ≤ get_or (map length own) i 0 = λ i l. rw sizes-read (fair.within i) in
-        omega (arith, ap (times r) as-defined, sent-times d cs own ws w own-once r, same-times (joined own) active s.leaves.shared r)
+        let w : (i : ℕ) → i < length own → get_or shares i 0 ≤ get_or (map length own) i 0 = λ i l. rw sizes-read (fair.within i) in
+        omega (arith, ap (times r) as-defined, sent-times d cs own shares w own-once r, same-times (joined own) active s.leaves.shared r)
 
     up_is : keep (λ i. member i sent) active ≡ sent_rows d cs active own size
     unfolding sent_rows next_active
-    up_is = rw (as-defined, sizes-read, quotas-held counts size seats)
+    up_is = rw (as-defined, sizes-read, as-quotas)
 
-    pub sorted-up : (ys : List ℕ) → Sorted (λ x y. x ≤ y) ys → Same ys (sent_at d cs I D first wholes m) → ys ≡ sent_rows d cs active (read_own I D first m) size
+    pub sorted-up : (ys : List ℕ) → Sorted (λ x y. x ≤ y) ys → Same ys (sent_at d cs I D first shares m) → ys ≡ sent_rows d cs active (read_own I D first m) size
     sorted-up ys o h = sorted-next active s.leaves.ascends sent sent-some ys o h ∙ up_is
 
-    pub covers_up : (xs : List Float) → xs ≡ covers_at d cs I D first wholes m → xs ≡ sent_covers d cs (read_own I D first m) size
+    pub covers_up : (xs : List Float) → xs ≡ covers_at d cs I D first shares m → xs ≡ sent_covers d cs (read_own I D first m) size
     unfolding sent_covers
-    covers_up xs h = h ∙ covers-zip d cs I D first wholes m ws many read ∙ rw (sizes-read, quotas-held counts size seats)
-
--- ---- the quotas at the front of the working list
-pub quotas-front : (sizes mid new : List ℕ) (m size : ℕ) → m ≤ length mid → take m mid ≡ sizes → size ≤ total sizes
-    → new ≡ quotas_for (take m mid) size → take m (new ++ drop m mid) ≡ quotas_for sizes size
-quotas-front sizes mid new m size h e g q =
-    let n : length new ≡ m = ap length q ∙ quotas-length (take m mid) size (rw e g) ∙ length-take-le m mid h in
-    take_at new (drop m mid) m n ∙ q ∙ ap (λ (z : List ℕ). quotas_for z size) e
+    covers_up xs h = h ∙ covers-zip d cs I D first shares m many ∙ rw (sizes-read, as-quotas)
 
 -- ---- one leaf's own rows, as they are lent
 module _ (d : ℕ) (cs : List Float) (I D : List ℕ) (r quota k : ℕ) (f : LeafFits d cs I D r quota k) (rows : List ℕ) (e : rows ≡ own_at I D r) where

@@ -52,5 +52,5 @@ pub record LeafFits (d : ℕ) (cs : List Float) (I D : List ℕ) (r quota k : �
 -- the same of m leaves with these quotas, which add up to n
 pub record LeavesFit (d : ℕ) (cs : List Float) (I D : List ℕ) (first m : ℕ) (shares : List ℕ) (n k : ℕ) : Type 0 where
   pub each : (l : ℕ) → l < m → LeafFits d cs I D (first + l) (get_or shares l 0) k
-  pub listed : m ≤ length shares
+  pub listed : length shares ≡ m
   pub fits : total (map (λ l. get_or shares l 0) (from 0 m)) ≡ n

@@ -1,7 +1,7 @@
 // The rows that the leaves of a level send up: the active rows of the next level.
 #![tactic(auto)]
 
-ghost use Rattle.std.specs.Prelude.{◌≡◌, ◌+◌, ◌*◌, ◌≤◌, ◌<◌, length, take};
+ghost use Rattle.std.specs.Prelude.{◌≡◌, ◌+◌, ◌*◌, ◌≤◌, ◌<◌, length};
 ghost use Rattle.lists.specs.Lists.{total, part};
 ghost use Rattle.definition.specs.Quotas.{quotas_for};
 ghost use Rattle.definition.specs.Sampling.{sent_by, leaf_cover};
@@ -16,25 +16,25 @@ use packed::LevelLeaves;
 use points::Points;
 use tree_lists::Room;
 
-// Copies the sizes of the leaves to the front of the working list: each stands among the other numbers of its domain row, so that there is
-// no stretch to be copied.
-fn copy_sizes(leaves: LevelLeaves<'_>, wholes: &mut [usize])
-    requires { (row_numbers * (leaves.first + leaves.count) ≤ length leaves.domains.now) × (leaves.count ≤ length wholes.old) }
-    ensures { take leaves.entry.count wholes.new ≡ counts_at leaves.entry.domains.now leaves.entry.first leaves.entry.count }
+// Fills `shares` with the sizes of the leaves: each stands among the other numbers of its domain row, so that there is no stretch to be
+// copied.
+fn copy_sizes(leaves: LevelLeaves<'_>, shares: &mut [usize])
+    requires { (row_numbers * (leaves.first + leaves.count) ≤ length leaves.domains.now) × (length shares.old ≡ leaves.count) }
+    ensures { shares.new ≡ counts_at leaves.entry.domains.now leaves.entry.first leaves.entry.count }
 {
-    for (l, size) in wholes[..leaves.count].iter_mut().enumerate() {
+    for (l, size) in shares.iter_mut().enumerate() {
         *size = leaves.row(l).internal_count;
     }
 }
 
-// The quotas of the leaves, which have `a` rows in all, at the front of the working list: `size` of the rows go up.
-fn leaf_quotas(leaves: LevelLeaves<'_>, a: usize, size: usize, wholes: &mut [usize])
-    requires { (row_numbers * (leaves.first + leaves.count) ≤ length leaves.domains.now) × (leaves.count ≤ length wholes.old)
+// Fills `shares` with the quotas of the leaves, which have `a` rows in all: `size` of the rows go up.
+fn leaf_quotas(leaves: LevelLeaves<'_>, a: usize, size: usize, shares: &mut [usize])
+    requires { (row_numbers * (leaves.first + leaves.count) ≤ length leaves.domains.now) × (length shares.old ≡ leaves.count)
         × (a ≡ total (counts_at leaves.domains.now leaves.first leaves.count)) × (a ≤ most_points) × (size ≤ a) }
-    ensures { take leaves.entry.count wholes.new ≡ quotas_for (counts_at leaves.entry.domains.now leaves.entry.first leaves.entry.count) size }
+    ensures { shares.new ≡ quotas_for (counts_at leaves.entry.domains.now leaves.entry.first leaves.entry.count) size }
 {
-    copy_sizes(leaves, wholes);
-    quotas::share_in_place(&mut wholes[..leaves.count], a, size);
+    copy_sizes(leaves, shares);
+    quotas::share_in_place(shares, a, size);
 }
 
 // Fills `sent` with rows of a leaf, chosen from the row nearest their centroid on. Gives the cover of what is sent: +infinity where there
@@ -72,8 +72,10 @@ fn send_leaves(
     ensures covers { covers.new ≡ covers_at points.entry.dimensions points.entry.coordinates.now leaves.entry.internals.now leaves.entry.domains.now leaves.entry.first shares.now leaves.entry.count }
 {
     let mut start = 0;
-    for (l, &quota) in shares[..leaves.count].iter().enumerate() {
+    for (l, &quota) in shares.iter().enumerate() {
         let end = start + quota;
+        // by the index: tried as a zip with `covers.iter_mut()`, of which a proof does not know what was written; and where a leaf's part
+        // starts goes along
         covers[l] = sample_leaf(points, leaves.own(l), &mut sent[start..end], floats);
         start = end;
     }
@@ -95,14 +97,14 @@ pub fn coarse_points(
     ensures covers { part room.new.floats.now (length active.now) leaves.entry.count ≡ sent_covers points.entry.dimensions points.entry.coordinates.now (own_of leaves.entry) (length sent.old) }
 {
     let floats: &mut [f64] = room.floats;
-    let wholes: &mut [usize] = room.wholes;
+    let shares: &mut [usize] = &mut room.wholes[..leaves.count];
     let a = active.len();
-    leaf_quotas(leaves, a, sent.len(), wholes);
+    leaf_quotas(leaves, a, sent.len(), shares);
     let (sampled, covers) = floats.split_at_mut(a);
     send_leaves(
         points,
         leaves,
-        wholes,
+        shares,
         sent,
         sampled,
         &mut covers[..leaves.count],

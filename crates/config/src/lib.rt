@@ -35,8 +35,8 @@ pub struct DDMParams {
     pub coarse_threshold: SizePolicy,
 }
 
-// The number of axes, and the settings of the build on them. The builds take points and settings apart, since the points bring their own
-// number of axes, and it would stand twice.
+// The number of axes, and the settings of the build on them. The builds take points and settings apart: here the number of axes would stand
+// twice, and a pair of both, as a stream's job is, would be taken apart again in each call, and doesn't fit the builds over a table.
 #[derive(Clone, Copy)]
 pub struct Settings {
     pub dimensions: usize,

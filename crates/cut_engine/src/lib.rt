@@ -34,7 +34,8 @@ pub struct Cut {
 // The leaves of the active rows, by this engine. Their rows go to the internals from `start.from` on, packed; start, count and depth of each
 // to the domain rows from the first on, and their boxes to `boxes`, behind `start.skip` floats, from the first on. The record goes to `cuts`
 // and `planes` from `start.node` on; the queue writes none. Both engines are lent the same values one by one: one struct
-// of them would be taken apart again in each engine, since two of its lists are lent as parts.
+// of them would be taken apart again in each engine, since two of its lists are lent as parts. The leaf threshold is a plain number that is not 0,
+// here and in both: of a `NonZero` each contract and each comparison would take the number out again.
 pub fn cut_level(
     engine: Engine,
     points: Points<'_>,

@@ -27,8 +27,8 @@ pub struct Next {
     pub leaves: usize,
 }
 
-// Writes a leaf of `count` rows: its entry, its box, and its node, which has no number yet. Count, depth and box come one by one: the rows are
-// cut as a slice, so that a domain's count is its length, and no value holds the three.
+// Writes a leaf of `count` rows: its entry, its box, and its node, which has no number yet. Count, depth and box come one by one, here and below:
+// the rows are cut as a slice, so that a domain's count is its length, and no value holds the three.
 fn put_leaf(
     count: usize,
     depth: usize,

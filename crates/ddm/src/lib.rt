@@ -1,5 +1,6 @@
 // The library: the build of a multilevel domain tree over points, or over the live slots of a table of wells, written to lists that the
-// caller lends; the table's edits; the tree stored and loaded; and the other calls.
+// caller lends; the table's edits; the tree stored and loaded; and the other calls. The library has no heap: memory is the caller's, so that
+// every list is lent.
 #![tactic(auto)]
 
 ghost use Rattle.config.specs.Params.{settings_of_lem};

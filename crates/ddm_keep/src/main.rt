@@ -23,7 +23,8 @@ use std::process::ExitCode;
 // The room for the line of a refusal: none has over 53 bytes (`refusal-long` of stream_laws).
 const LINE: usize = 64;
 
-// The file of the bytes' tree, at the front of `file`, or a refusal. The answer is how many bytes the file has.
+// The file of the bytes' tree, at the front of `file`, or a refusal. The answer is how many bytes the file has. A function of its own, for its one
+// clause: what `reply_to` promises goes by it. The file is a slice, with its least length asked: an array would ask for one length.
 fn keep_bytes(bytes: &[u8], file: &mut [u8]) -> Result<usize, Refusal>
     requires { most_file_bytes ≤ length file.old }
     ensures { Found (kept bytes.now) file.new result }
@@ -31,7 +32,8 @@ fn keep_bytes(bytes: &[u8], file: &mut [u8]) -> Result<usize, Refusal>
     keep::keep(bytes, file)
 }
 
-// The same for what was read. The list that was read to holds the decisive bytes of every stream.
+// The same for what was read. The list that was read to holds the decisive bytes of every stream. Each program has a function of its own here:
+// what is promised is its own program's file.
 fn reply_to(input: Input<'_>, file: &mut [u8]) -> Result<usize, Refusal>
     requires { Stopped (length input.bytes.now) input.front × (decisive ≤ length input.bytes.now) × (most_file_bytes ≤ length file.old) }
     ensures { Replies input.entry.front input.entry.bytes.now file.new result }

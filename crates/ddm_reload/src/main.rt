@@ -41,7 +41,7 @@ fn read_argument<R: Env + Files + Alloc>(
 }
 
 // What is printed for the bytes of a stream and of a file, at the front of `text`. ddm_tree has one that calls `printout`: they share the
-// `unwrap` alone.
+// `unwrap` alone. The text is a slice, with its least length asked, as in ddm_tree.
 fn print_bytes(stream: &[u8], file: &[u8], text: &mut [u8]) -> usize
     requires { most_bytes ≤ length text.old }
     ensures fits { result ≤ length text.new }
@@ -51,7 +51,8 @@ fn print_bytes(stream: &[u8], file: &[u8], text: &mut [u8]) -> usize
     reload::reload(stream, file, text).unwrap()
 }
 
-// What is printed for the two inputs that were read, at the front of `text`. The lists that were read to hold the bytes that decide it.
+// What is printed for the two inputs that were read, at the front of `text`. The lists that were read to hold the bytes that decide it. Each
+// program has a function of its own here: what is promised is its own program's text.
 fn reply_to(job: Input<'_>, tree: Input<'_>, text: &mut [u8]) -> usize
     requires job_value { Stopped (length job.bytes.now) job.front × (decisive ≤ length job.bytes.now) }
     requires tree_value { Stopped (length tree.bytes.now) tree.front × (most_file < length tree.bytes.now) }

@@ -25,7 +25,8 @@ fn print_bytes(bytes: &[u8], text: &mut [u8]) -> usize
     printout::printout(bytes, text).unwrap()
 }
 
-// The printout for what was read, at the front of `text`. The list that was read to holds the decisive bytes of every stream.
+// The printout for what was read, at the front of `text`. The list that was read to holds the decisive bytes of every stream. Each program has
+// a function of its own here: what is promised is its own program's text.
 fn reply_to(input: Input<'_>, text: &mut [u8]) -> usize
     requires { Stopped (length input.bytes.now) input.front × (decisive ≤ length input.bytes.now) × (most_bytes ≤ length text.old) }
     ensures fits { result ≤ length text.new }

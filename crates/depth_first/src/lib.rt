@@ -71,7 +71,9 @@ fn cut_leaves(
 
 // The leaves of the active rows, as `leaves::leaves` has them: their rows go to the internals from `start.from` on, packed; start, count and
 // depth of each to the domain rows from the first on, and their boxes to `boxes`, behind `start.skip` floats, from the first on. The record of
-// the cuts goes to both its lists from `start.node` on. The answer is the number of leaves.
+// the cuts goes to both its lists from `start.node` on. The answer is the number of leaves. The lines that take the rows to their place stand in
+// both: taken to `cut_level`, which calls both, they would stand once, and both would promise of parts of the lists what each says here of the
+// whole ones.
 pub fn leaves(
     points: Points<'_>,
     leaf: usize,

@@ -49,6 +49,7 @@ pub fn get_pointarray_extents(points: Points<'_>, rows: &[usize]) -> Extents
 {
     let mut lower = [0.0; 3];
     let mut upper = [0.0; 3];
+    // by the axis: it names the column, and both bounds are written at it
     for axis in 0..points.dimensions {
         let column = points.column(axis);
         lower[axis] = lower_bound(column, rows);

@@ -63,9 +63,8 @@ pub fn check_domain(
 }
 
 // Whether m domain records from a place on stand there whole and pass, and have each row of the level once. A number of records, and no slice: each
-// has its own length. This loop and that of list_domains stay
-// two: this one carries the place of the next record and a sum of borrowed rows, that one where the next two stretches start, and a loop over both
-// would be passed a closure whose contract says either.
+// has its own length. This loop and that of list_domains stay two: this one carries the place of the next record and a sum of borrowed rows, that
+// one where the next two stretches start, and a loop over both would be passed a closure whose contract says either.
 pub fn check_domains(
     bytes: &[u8],
     at: usize,

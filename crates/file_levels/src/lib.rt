@@ -62,8 +62,9 @@ pub fn level_at(bytes: &[u8], at: usize) -> Option<LevelHead>
     })
 }
 
-// Bytes, place and axes stay side by side, here and in file_domains and load_lists: the place moves on from record to record, and the
-// definition speaks of the bytes from a place on.
+// Bytes, place and axes stay side by side, here and in file_domains and load_lists: the place moves on from record to record, and the places in a
+// record (`Fetched`) are places in the whole file. That a place lies within the bytes is asked of each: `FileReader` takes any place and refuses,
+// and a type that promised it would ask more.
 
 // Whether the level at a place stands there whole, has at least `least` and fewer than `below` rows, and passes against the listed rows of
 // the level above. Where it does, its rows are the listed ones. What list_levels does alike are the calls of `narrow` and of `check_domains`: there
@@ -105,7 +106,7 @@ pub fn check_level(
     })
 }
 
-// The loop is not the one of list_levels: there the counts are given, and the starts in four lists go on; here each record tells its own.
+// The loop is not the one of list_levels: there the counts are given, and three starts in the lists go on; here each record tells its own.
 
 // Whether the levels from a place on pass: the first one has the n listed rows, each next one some of those above, but not all of them,
 // and the first level with one domain is the last, at most the fourth, with nothing after it.

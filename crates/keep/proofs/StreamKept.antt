@@ -11,7 +11,7 @@ use Rattle.reload_laws.specs.Sizes.{most_file_bytes}
 use Rattle.std.specs.Prelude.{Result, Ok, Err}
 use Rattle.refusal.specs.declared.Refusal.{Refusal}
 use Rattle.refusal.specs.Refusals.{as_refusal}
-use Rattle.stream_reader.specs.declared.Job.{Job}
+use Rattle.stream_reader.specs.declared.job.Job.{Job}
 use Rattle.stream_reader.specs.Reading.{job_is, job_of}
 use Rattle.job_room.proofs.JobRead.{broken-read, whole-read}
 use Rattle.keep.specs.Keeping.{keep_answer, keep_output, keep_report}

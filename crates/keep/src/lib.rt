@@ -3,9 +3,8 @@
 
 ghost use Rattle.std.specs.Prelude.{◌≡◌, ◌≤◌, length};
 ghost use Rattle.stored.specs.Programs.{kept_job, kept};
-ghost use Rattle.stream_laws.specs.Sizes.{JobLimits};
 ghost use Rattle.reload_laws.specs.Sizes.{most_file_bytes};
-ghost use Rattle.stream_reader.specs.Reading.{job_settings, job_is};
+ghost use Rattle.stream_reader.specs.Reading.{job_is};
 ghost use Rattle.keep.specs.Keeping.{keep_answer, keep_output, keep_report};
 
 use job_room::JobRoom;
@@ -15,9 +14,10 @@ use stream_reader::Job;
 // The room that suffices for every file (`kept-fits` of reload_laws).
 pub const MOST_FILE_BYTES: usize = 32768;
 
-// The file of a job's tree, or the build's refusal. The lists suffice for the largest job. The answer is how many bytes the file has.
+// The file of a job's tree, or the build's refusal. The lists suffice for the largest job, and `file` is a slice whose length `keep` has tested.
+// The answer is how many bytes the file has.
 fn keep_job(job: Job<'_>, file: &mut [u8]) -> Result<usize, Refusal>
-    requires { JobLimits (job_settings job) job.points.coordinates.now × (most_file_bytes ≤ length file.old) }
+    requires { most_file_bytes ≤ length file.old }
     ensures answer { keep_report result ≡ keep_answer (kept_job (job_is job.entry)) file.old }
     ensures output { file.new ≡ keep_output (kept_job (job_is job.entry)) file.old }
 {

@@ -20,8 +20,8 @@ fn size_fits(rows: usize, own: usize, depth: usize) -> bool
     least <= own && own - least <= 1
 }
 
-// The level of a leaf, as far as the tests of its leaves ask: how many rows it has, and whether it is the coarse one. The flag is the definition's
-// own: its tests take it too, and each contract would turn an enum back into it.
+// The level of a leaf, as far as the tests of its leaves ask: how many rows it has, and whether it is the coarse one. The flag stays: the words of
+// tree_tests for a leaf's tests take it too, and each contract would turn an enum back into it.
 #[derive(Clone, Copy)]
 pub struct LeafLevel {
     pub rows: usize,

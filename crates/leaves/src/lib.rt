@@ -121,8 +121,8 @@ fn cut_leaves(
 }
 
 // The leaves of the active rows. Their rows go to the internals from `start.from` on, packed; start, count and depth of each to the domain
-// rows from the first on, and their boxes to `boxes`, behind `start.skip` floats, from the first on. The answer is their number. Of the working room it touches the
-// stated fronts and nothing more.
+// rows from the first on, and their boxes to `boxes`, behind `start.skip` floats, from the first on. The answer is their number. Of the working
+// room it touches the stated fronts and nothing more.
 pub fn leaves(
     points: Points<'_>,
     leaf: usize,

@@ -29,8 +29,8 @@ pub fn resolved_coarse_threshold(policy: SizePolicy, n: usize) -> u32
     }
 }
 
-// The least k with c * f^k at least n, or 4 where three reductions do not do. A product is formed only while the last one is
-// below n, so it fits for every c and f of 32 bits.
+// The least k with c * f^k at least n, or 4 where three reductions do not do: no `None`, since the definition's `reductions` is 4 there. A product
+// is formed only while the last one is below n, so it fits for every c and f of 32 bits.
 pub fn get_num_level_reductions(n: usize, c: u32, f: u32) -> u32
     requires { n ≤ most_points }
     ensures { result ≡ reductions n c f }

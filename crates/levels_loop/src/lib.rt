@@ -16,7 +16,7 @@ ghost use Rattle.tree_lists.specs.Lent.{SameLists, SameRoom, SameRecords};
 
 use fine_level::{Parts, Place, Plan};
 use tree_answer::{DDMTree, MOST_LEVELS};
-use tree_lists::{Records, Room, TreeLists};
+use tree_lists::{LeafLists, Records, Room, TreeLists};
 
 // The most fine levels.
 const MOST_FINE: usize = MOST_LEVELS - 1;
@@ -33,8 +33,7 @@ fn next_size(a: usize, c: usize, k: u32, built: usize) -> usize
     requires { (a ≤ most_points) × (1 ≤ c) × (c < a) × (k ≤ 3) }
     ensures { result ≡ level_size_lem a c (reductions_left k built) }
 {
-    let most = k as usize;
-    let left = if built < most { k - built as u32 } else { 1 };
+    let left = (k as usize).saturating_sub(built).max(1) as u32;
     level_sizes::level_size(a, c, left)
 }
 
@@ -99,7 +98,14 @@ pub fn all_levels(
         place = place_after(place, size, level);
         built += 1;
     }
-    coarse_level::coarse_level(plan.points.dimensions, place, lists);
+    // by `&mut`, though it is only read: while one of the lists is lent by `&`, the check covers no loan of another
+    let active = &mut lists.level_points[place.from..place.from + place.a];
+    let mut leaf_lists = LeafLists {
+        internals: &mut *lists.internals,
+        domains: &mut *lists.domains,
+        boxes: &mut *lists.boxes,
+    };
+    coarse_level::coarse_level(plan.points.dimensions, place, active, &mut leaf_lists);
     rows[built] = place.a;
     domains[built] = 1;
     DDMTree {

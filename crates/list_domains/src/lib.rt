@@ -73,6 +73,9 @@ fn stretches_fit(row: DomainRow, most: usize, so_far: SoFar) -> bool
 }
 
 // How far the leaves have passed with the domain row number j and its leaf, where these pass. All borrowed rows are to end by `borrowed_most`.
+// That the lists have room for the row (`Ready`) is asked here and below: it relates the tree to how far its leaves have passed, two values. The
+// most borrowed rows go beside the tree, here and in list_levels, and cut no list of it: of a tree with a shorter list each clause would be led back
+// to the one that is lent.
 pub fn check_domain(
     tree: Packed<'_>,
     j: usize,
@@ -111,7 +114,7 @@ pub fn check_domain(
 
 // Whether the next `count` domain rows, behind those of the levels before, pass, and have just the rows that their level lists as their own
 // rows; where they do, where their borrowed rows end. The loop of file_domains carries other values, and says why there are two.
-// A number of rows, and no slice: no list has those of one level as a part of its own.
+// A number of rows, and no slice: a leaf stands in four lists, and the number of its row finds it in each.
 pub fn check_domains(
     tree: Packed<'_>,
     before: ListsPassed,

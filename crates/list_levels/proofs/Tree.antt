@@ -1,13 +1,13 @@
 -- A tree that stands in lists with counts passes the tests by counts exactly where the lists are its packed lists and it is sound; and the
 -- totals of its counts are the lengths of its packed lists. Assumes nothing.
--- Holds: TreeHeld, tree-passes, rows-total, domains-total, borrowed-total
+-- Holds: four-counted, TreeHeld, tree-passes, rows-total, domains-total, borrowed-total
 use mathlib.Core.Path.{◌≡◌, refl, sym, ap, subst, ◌∙◌}
 use mathlib.Core.Bool.{Bool, true, ◌&&◌, true≢false}
 use mathlib.Core.List.{List, map, map-map}
 use Prim.Native.Nat.{ℕ, zero, suc, ◌+◌, ◌*◌, ◌≤◌, ◌<◌}
 use native.Mathlib.Nat.{mul-le-mul_right, zero-add}
 use native.Mathlib.Omega.{arith}
-use borrow.Author.Tests.{leb-true, ltb-true, le-leb, lt-ltb, eq-eqb}
+use borrow.Author.Tests.{leb-true, ltb-true, eqb-true, le-leb, lt-ltb, eq-eqb}
 use lib.Dec.{leb, ltb, eqb}
 use lib.ListN.{length, get_or}
 use Rattle.lists.specs.Lists.{total, from, joined, part}
@@ -19,6 +19,7 @@ use Rattle.definition.specs.Tree.{Settings, Leaf, Level}
 use Rattle.definition.specs.Packed.{Counts, counts_of, row_numbers, most_levels, most_rows, per_level, leaves_in_lem, packed_level_points, packed_internals, packed_domains, packed_borrowed, stretches, build_stated}
 use Rattle.definition.specs.Outcome.{TreeLists}
 use Rattle.definition_laws.proofs.Fit.{length-points, length-domains}
+use Rattle.packed.proofs.Counts.{counts-length}
 use Rattle.packed.specs.Reading.{Packed, packed, read_leaves, up_to, points_at, read_level, read_levels}
 use Rattle.stored.specs.Sound.{same, sound}
 use Rattle.stored.specs.Outcome.{tree_held, leads, packs}
@@ -28,14 +29,26 @@ use Rattle.tree_tests.proofs.Limits.{sound-counted}
 use Rattle.tree_tests.proofs.Lengths.{own_total, borrowed_total}
 use Rattle.list_domains.specs.InLists.{borrowed_end}
 use Rattle.list_domains.proofs.AsPacked.{AsPacked, leaves-length, own-joined, borrowed-joined, borrowed_end_is}
-use Rattle.list_levels.specs.InLists.{count_fits_lem, none_beyond_lem, counts_stand_lem, held_levels_pass, held_tree_passes}
+use Rattle.list_levels.specs.InLists.{count_fits_lem, none_beyond_lem, four_counts_lem, counts_stand_lem, held_levels_pass, held_tree_passes}
 use Rattle.list_levels.specs.Passed.{Long}
 use Rattle.list_levels.proofs.Levels.{LevelsHeld, levels_held, counts_from_lem, leaves-held, levels-held, held-levels}
 use Rattle.list_levels.proofs.Fronts.{front-leads, leads-front, whole-count, points-joined}
 use Rattle.list_levels.proofs.PerLevel.{zero-beyond, entry_in, entry_past, per-level-is}
 
+-- ---- the counts of four levels
+module _ (levels : ℕ) (counts : List ℕ) where
+  pub four-counted : four_counts_lem levels counts ≡ true → (length counts ≡ most_levels) × (levels ≤ most_levels) × (none_beyond_lem levels counts ≡ true)
+  unfolding four_counts_lem
+  four-counted h =
+      let f = three-pass (eqb (length counts) most_levels) (leb levels most_levels) (none_beyond_lem levels counts) h in
+      (eqb-true (length counts) most_levels f.0, leb-true levels most_levels f.1, f.2)
+
+  counted-four : length counts ≡ most_levels → levels ≤ most_levels → none_beyond_lem levels counts ≡ true → four_counts_lem levels counts ≡ true
+  unfolding four_counts_lem
+  counted-four e few h = and-of (and-of (eq-eqb (length counts) most_levels e) (le-leb levels most_levels few)) h
+
 -- ---- the tree
-module _ (s : Settings) (n : ℕ) (c : Counts) (l : TreeLists) (four-rows : length c.rows ≡ most_levels) (four-domains : length c.domains ≡ most_levels)
+module _ (s : Settings) (n : ℕ) (c : Counts) (l : TreeLists)
     (long : Long (packed l.internals l.domains l.boxes l.borrowed s.dimension) l.level_points n (6 * n * (s.neighbours + 1))) where
   abbrev d : ℕ
   d = s.dimension
@@ -75,6 +88,8 @@ module _ (s : Settings) (n : ℕ) (c : Counts) (l : TreeLists) (four-rows : leng
 
   -- ---- what either side comes to
   pub record TreeHeld : Type 0 where
+    pub four-rows : length c.rows ≡ most_levels
+    pub four-domains : length c.domains ≡ most_levels
     pub some : 1 ≤ c.levels
     pub few : c.levels ≤ most_levels
     pub rows_end : none_beyond_lem c.levels c.rows ≡ true
@@ -100,21 +115,27 @@ module _ (s : Settings) (n : ℕ) (c : Counts) (l : TreeLists) (four-rows : leng
   unfolding held_tree_passes counts_stand_lem build_stated
   tests-to h =
       let a = ltb 0 c.levels in
-      let b = leb c.levels most_levels in
-      let e = none_beyond_lem c.levels c.rows in
-      let f = none_beyond_lem c.levels c.domains in
       let g = held_levels_pass p l.level_points c n most 0 n (λ i. ltb i n) 0 c.levels in
-      let q = three-pass (a && b && e) f g h in
-      let r = three-pass a b e q.0 in
-      let some = ltb-true 0 c.levels r.0 in
-      let few = leb-true c.levels most_levels r.1 in
-      record { some = some; few = few; rows_end = r.2; domains-end = q.1; held = levels-to c.levels some few q.2 }
+      let q = three-pass (a && four_counts_lem c.levels c.rows) (four_counts_lem c.levels c.domains) g h in
+      let r = four-counted c.levels c.rows (and-snd a (four_counts_lem c.levels c.rows) q.0) in
+      let t = four-counted c.levels c.domains q.1 in
+      let some = ltb-true 0 c.levels (and-fst a (four_counts_lem c.levels c.rows) q.0) in
+      record {
+        four-rows = r.0;
+        four-domains = t.0;
+        some = some;
+        few = r.1;
+        rows_end = r.2;
+        domains-end = t.2;
+        held = levels-to c.levels some r.1 q.2;
+      }
 
   tests-back : TreeHeld → held_tree_passes d n s.neighbours c l ≡ true
   unfolding held_tree_passes counts_stand_lem build_stated
   tests-back t =
       and-of
-      (and-of (and-of (and-of (lt-ltb 0 c.levels t.some) (le-leb c.levels most_levels t.few)) t.rows_end) t.domains-end)
+      (and-of (and-of (lt-ltb 0 c.levels t.some) (counted-four c.levels c.rows t.four-rows t.few t.rows_end))
+      (counted-four c.levels c.domains t.four-domains t.few t.domains-end))
       (levels-back c.levels t.some t.held)
 
   -- ---- packed lists and sound
@@ -156,11 +177,11 @@ module _ (s : Settings) (n : ℕ) (c : Counts) (l : TreeLists) (four-rows : leng
 
     rows_are : c.rows ≡ per_level (λ l. length l.points) ls
     unfolding tree_held read_levels read_level
-    rows_are = per-level-is (λ l. length l.points) (read_level p l.level_points c.rows c.domains) c.levels t.few refl c.rows four-rows (λ i h. t.held.sizes i (omega arith) (omega arith)) t.rows_end
+    rows_are = per-level-is (λ l. length l.points) (read_level p l.level_points c.rows c.domains) c.levels t.few refl c.rows t.four-rows (λ i h. t.held.sizes i (omega arith) (omega arith)) t.rows_end
 
     domains-are : c.domains ≡ per_level (λ l. length l.leaves) ls
     unfolding tree_held read_levels read_level
-    domains-are = per-level-is (λ l. length l.leaves) (read_level p l.level_points c.rows c.domains) c.levels t.few refl c.domains four-domains (λ i h. leaves-length p (up_to c.domains i) (get_or c.domains i 0)) t.domains-end
+    domains-are = per-level-is (λ l. length l.leaves) (read_level p l.level_points c.rows c.domains) c.levels t.few refl c.domains t.four-domains (λ i h. leaves-length p (up_to c.domains i) (get_or c.domains i 0)) t.domains-end
 
     is-packed : packs c l ls ≡ true
     unfolding packs counts_of
@@ -244,6 +265,8 @@ module _ (s : Settings) (n : ℕ) (c : Counts) (l : TreeLists) (four-rows : leng
     unfolding total count_fits_lem tree_held read_levels
     stored-to =
         record {
+          four-rows = ap length counted.0 ∙ counts-length (λ l. length l.points) ls;
+          four-domains = ap length counted.1 ∙ counts-length (λ l. length l.leaves) ls;
           some = some-levels c.levels (λ a. eqb a n) (λ i. ltb i n) passes.1;
           few = few_levels;
           rows_end = rows-past;

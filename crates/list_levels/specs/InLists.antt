@@ -1,6 +1,6 @@
 -- The tests of a tree that stands in packed lists, one level after the other, by counts alone: no number is added before it is held against
 -- what is left of its limit. Inner contracts cite them; `tree-passes` says that they come to `packs` and `sound`. Definitions only.
-use Rattle.std.specs.Prelude.{ℕ, zero, suc, ◌-◌, Bool, true, not, ◌&&◌, cond, List, get_or, drop, leb, ltb, eqb}
+use Rattle.std.specs.Prelude.{ℕ, zero, suc, ◌-◌, Bool, true, not, ◌&&◌, cond, List, length, get_or, drop, leb, ltb, eqb}
 use Rattle.lists.specs.Lists.{part}
 use Rattle.definition.specs.Packed.{Counts, most_levels, most_rows, build_stated}
 use Rattle.definition.specs.Outcome.{TreeLists}
@@ -28,9 +28,13 @@ all_zero counts = all_of (λ x. eqb x 0) counts
 abbrev pub none_beyond_lem : ℕ → List ℕ → Bool
 none_beyond_lem levels counts = all_zero (drop levels counts)
 
--- one to four levels
+-- a count for each level that there can be, no more levels, and no count beyond the last one
+unfoldable pub four_counts_lem : ℕ → List ℕ → Bool
+four_counts_lem levels counts = eqb (length counts) most_levels && leb levels most_levels && none_beyond_lem levels counts
+
+-- one to four levels, with their counts
 unfoldable pub counts_stand_lem : Counts → Bool
-counts_stand_lem c = ltb 0 c.levels && leb c.levels most_levels && none_beyond_lem c.levels c.rows && none_beyond_lem c.levels c.domains
+counts_stand_lem c = ltb 0 c.levels && four_counts_lem c.levels c.rows && four_counts_lem c.levels c.domains
 
 -- ---- a level: its rows stand at a, are so many, and are among those above; its m domain rows begin with the row number j, and its borrowed
 -- rows start at b

@@ -1,20 +1,20 @@
 // The levels of a tree that stand in packed lists, tested one after the other, and the whole tree.
 #![tactic(auto)]
 
-ghost use Rattle.std.specs.Prelude.{◌≡◌, false, ◌&&◌, ◌*◌, ◌+◌, ◌≤◌, ◌<◌, leb, eqb, get_or};
+ghost use Rattle.std.specs.Prelude.{◌≡◌, false, ◌&&◌, ◌*◌, ◌+◌, ◌≤◌, ◌<◌, leb, eqb, length, get_or};
 ghost use Rattle.definition.specs.Tree.{Settings};
 ghost use Rattle.definition.specs.Packed.{build_stated};
 ghost use Rattle.definition.specs.Refusals.{most_points, most_neighbours};
 ghost use Rattle.packed.specs.View.{packed_of};
 ghost use Rattle.stored.specs.Outcome.{lists_short_lem};
-ghost use Rattle.tree_answer.specs.Answers.{counts_given, lists_of};
-ghost use Rattle.list_levels.specs.InLists.{count_fits_lem, one_only, all_zero, counts_stand_lem};
+ghost use Rattle.tree_answer.specs.Answers.{tree_counts, lists_of};
+ghost use Rattle.list_levels.specs.InLists.{count_fits_lem, one_only, all_zero, four_counts_lem, counts_stand_lem};
 ghost use Rattle.list_levels.specs.Passed.{LevelReady, NextReady, LevelsReady, LevelPassed, NextPassed, LevelsPassed, TreePassed};
 
 use leaf_depths::LeafLevel;
 use list_domains::ListsPassed;
 use row_sets::{LevelRows, WORDS};
-use tree_answer::{DDMTree, PackedTree};
+use tree_answer::{MOST_LEVELS, PackedTree};
 
 // Whether a level's rows are listed above, and its domain rows pass with these rows listed; where they do, where its borrowed rows end. They
 // stand behind those of the levels before.
@@ -74,18 +74,18 @@ fn next_level(
     sets: &mut LevelRows<'_>,
 ) -> Option<ListsPassed>
     requires ready { NextReady (packed_of tree.leaves) tree.level_points.now n borrowed_most above done }
-    requires counted { t < 4 }
-    ensures { NextPassed (eqb (t + 1) tree.entry.counts.levels) (packed_of tree.entry.leaves) tree.entry.level_points.now n borrowed_most t above
-        (get_or tree.entry.counts.rows t 0) (get_or tree.entry.counts.domains t 0) done sets.old.listed.now sets.new.listed.now result }
+    requires counted { (t < length tree.rows.now) × (t < length tree.domains.now) }
+    ensures { NextPassed (eqb (t + 1) tree.entry.levels) (packed_of tree.entry.leaves) tree.entry.level_points.now n borrowed_most t above
+        (get_or tree.entry.rows.now t 0) (get_or tree.entry.domains.now t 0) done sets.old.listed.now sets.new.listed.now result }
 {
     let level = LeafLevel {
-        rows: tree.counts.rows[t],
-        coarse: t + 1 == tree.counts.levels,
+        rows: tree.rows[t],
+        coarse: t + 1 == tree.levels,
     };
     if !count_fits(t, n, above, level.rows) {
         return None;
     }
-    let count = tree.counts.domains[t];
+    let count = tree.domains[t];
     if !domains_fit(level.coarse, count, rows::most_domains(n) - done.domains) {
         return None;
     }
@@ -104,8 +104,8 @@ pub fn check_levels(
     borrowed_most: usize,
     sets: &mut LevelRows<'_>,
 ) -> Option<ListsPassed>
-    requires { LevelsReady (packed_of tree.leaves) tree.level_points.now (counts_given tree.counts) n borrowed_most sets.old.listed.now }
-    ensures { LevelsPassed (packed_of tree.entry.leaves) tree.entry.level_points.now (counts_given tree.entry.counts) n borrowed_most result }
+    requires { LevelsReady (packed_of tree.leaves) tree.level_points.now (tree_counts tree) n borrowed_most sets.old.listed.now }
+    ensures { LevelsPassed (packed_of tree.entry.leaves) tree.entry.level_points.now (tree_counts tree.entry) n borrowed_most result }
 {
     let mut done = ListsPassed {
         rows: 0,
@@ -113,22 +113,28 @@ pub fn check_levels(
         borrowed: 0,
     };
     let mut above = n;
-    for t in 0..tree.counts.levels {
+    for t in 0..tree.levels {
         done = next_level(tree, n, borrowed_most, t, above, done, sets)?;
-        above = tree.counts.rows[t];
+        above = tree.rows[t];
     }
     Some(done)
 }
 
-// Whether there are one to four levels, and no count stands beyond the last one.
-fn counts_stand(counts: DDMTree) -> bool
-    ensures { result ≡ counts_stand_lem (counts_given counts) }
+// Whether there is a count for each level that there can be, no more levels are told, and no count stands beyond the last one: counts of any other
+// length are no tree's.
+#[tactic(auto, using(std::proofs::lemmas::Bool::Decides::nat_tests, std::proofs::lemmas::List::take_rest), unfolding(crate::specs::InLists::four_counts_lem))]
+fn four_counts(levels: usize, counts: &[usize]) -> bool
+    ensures { result ≡ four_counts_lem levels counts.now }
 {
-    let levels = counts.levels;
-    if levels == 0 || counts.rows.len() < levels {
-        return false;
-    }
-    all_zero(&counts.rows[levels..]) && all_zero(&counts.domains[levels..])
+    counts.len() == MOST_LEVELS && levels <= MOST_LEVELS && all_zero(&counts[levels..])
+}
+
+// Whether there are one to four levels, and their counts stand.
+#[tactic(auto, using(std::proofs::lemmas::Bool::Decides::nat_tests), unfolding(crate::specs::InLists::counts_stand_lem))]
+fn counts_stand(tree: PackedTree<'_>) -> bool
+    ensures { result ≡ counts_stand_lem (tree_counts tree.entry) }
+{
+    0 < tree.levels && four_counts(tree.levels, tree.rows) && four_counts(tree.levels, tree.domains)
 }
 
 // The tree in the lists with these counts, where it passes the tests of a stored tree over n rows.
@@ -137,11 +143,11 @@ pub fn check_lists(tree: PackedTree<'_>, n: usize, neighbours: usize) -> Option<
         × (lists_short_lem (lists_of tree.level_points.now tree.leaves.internals.now tree.leaves.domains.now tree.leaves.boxes.now tree.leaves.borrowed.now)
         (build_stated tree.leaves.dimensions n neighbours) ≡ false) }
     ensures { (s : Settings) → s.dimension ≡ tree.entry.leaves.dimensions → s.neighbours ≡ neighbours
-        → TreePassed s n (counts_given tree.entry.counts)
+        → TreePassed s n (tree_counts tree.entry)
         (lists_of tree.entry.level_points.now tree.entry.leaves.internals.now tree.entry.leaves.domains.now tree.entry.leaves.boxes.now
         tree.entry.leaves.borrowed.now) result }
 {
-    if !counts_stand(tree.counts) {
+    if !counts_stand(tree) {
         return None;
     }
     let mut left = [0; WORDS];

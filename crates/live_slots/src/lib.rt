@@ -12,7 +12,8 @@ pub fn list_live(table: Table<'_>, rows: &mut [usize])
     requires { (table.head.slots ≤ length table.flags.now) × (length (keep (flagged table.flags.now) (from 0 table.head.slots)) ≤ length rows.old) }
     ensures { rows.new ≡ put rows.old 0 (keep (flagged table.entry.flags.now) (from 0 table.entry.head.slots)) }
 {
-    // The place is counted beside the slots: of a zip of `rows.iter_mut()` with the filtered flags a proof does not know what was written.
+    // The place is counted beside the slots: tried as a zip of `rows.iter_mut()` with the filtered flags, of which a proof does not know what was
+    // written.
     let mut n = 0;
     for (i, &flag) in table.flags[..table.head.slots].iter().enumerate() {
         if flag != 0 {

@@ -177,6 +177,7 @@ pub fn put_levels(bytes: &[u8], at: usize, dimensions: usize, lists: &mut TreeLi
     let mut levels = 0;
     let mut rows = [0; MOST_LEVELS];
     let mut counts = [0; MOST_LEVELS];
+    // by the level, which is also how many there are: both arrays are written at it
     for level in 0..MOST_LEVELS {
         let c = next;
         next = put_level(bytes, dimensions, c, lists);

@@ -44,7 +44,8 @@ fn keep_front<F: Fn(usize) -> bool>(rows: &mut [usize], passes: F) -> usize
     n
 }
 
-// Where the search stands: among the first `count` rows of a list, the row is looked for that has `rank` of them before it.
+// Where the search stands: among the first `count` rows of a list, the row is looked for that has `rank` of them before it. A count and no
+// slice: the rows stay lent as one list, since what is promised is of the whole of it.
 #[derive(Clone, Copy)]
 struct Search {
     count: usize,

@@ -1,2 +1,4 @@
 -- What the contracts of the scan cite.
+pub mod OneProof
 pub mod Near
+pub mod Finds

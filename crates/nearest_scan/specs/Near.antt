@@ -7,8 +7,6 @@ use Rattle.lists.specs.Ascends.{All}
 use Rattle.definition.specs.Points.{rows_sq}
 use Rattle.definition.specs.Keys.{Key, before}
 use Rattle.definition.specs.Overlaps.{nearest}
-use Rattle.rows.specs.Rows.{GoodRows}
-use Rattle.nearest_scan.specs.declared.Scan.{Scan}
 
 -- `spot` is where the value goes among the first n, which do not descend: behind it all are greater
 pub record Spot (values : List Float) (n : ℕ) (value : Float) (spot : ℕ) : Type 0 where
@@ -40,11 +38,3 @@ module _ (d : ℕ) (cs : List Float) (active : List ℕ) (row : ℕ) where
     pub ordered : Ordered sooner near
     pub taken : (p : ℕ → Bool) → count p (row ∷ map (λ q. get_or active q 0) near) ≡ count p (nearest d cs neighbours active row)
     pub values : far ≡ map apart near
-
--- the rows that a scan goes over are good
-abbrev pub GoodScan : Scan → Type 0
-GoodScan s = GoodRows s.points.dimensions s.points.coordinates.now s.active.now
-
--- what a scan finds for the row
-abbrev pub FoundBy : Scan → ℕ → List ℕ → List Float → Type 0
-FoundBy s row near far = Found s.points.dimensions s.points.coordinates.now s.active.now row s.neighbours near far

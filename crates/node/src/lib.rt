@@ -72,8 +72,8 @@ pub fn put_entry(wholes: &mut [usize], at: usize, entry: Entry)
     stretches::put_values(wholes, at, &[entry.depth, entry.count, entry.place]);
 }
 
-// The node at a place of both lists: what a reader of the record in Rattle goes by; C, Rust and Python read the two lists. Two slices: who reads a record holds its lists to read only, and `Records` of tree_lists holds them to
-// be written.
+// The node at a place of both lists: what a reader of the record in Rattle goes by; C, Rust and Python read the two lists. Two slices: who reads a
+// record holds its lists to read only, and `Records` of tree_lists holds them to be written.
 pub fn node_at(cuts: &[usize], planes: &[f64], at: usize) -> Node
     requires { (at < length cuts.now) × (at < length planes.now) }
     ensures { as_node result ≡ node_of (get_or cuts.now at 0) (get_or planes.now at nan) }

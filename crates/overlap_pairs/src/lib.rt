@@ -5,7 +5,6 @@ ghost use Rattle.std.specs.Prelude.{◌≡◌, ℕ, ◌+◌, ◌*◌, ◌%◌, �
 ghost use Rattle.lists.specs.Lists.{put};
 ghost use Rattle.definition.specs.Refusals.{most_neighbours};
 ghost use Rattle.rows.specs.Rows.{most_leaves};
-ghost use Rattle.nearest_scan.specs.Near.{GoodScan};
 ghost use Rattle.overlap_pairs.specs.Pairs.{code, pairs_of, PairRoom, TakenBy, Owners, CollectedBy};
 
 use nearest_scan::Scan;
@@ -54,19 +53,22 @@ fn send(near: &[usize], p: usize, wholes: &mut [usize], n: usize) -> usize
     end
 }
 
-// What the row at position p sends.
+// What the row at position p sends. That there are so many neighbours at most is asked here and below, and is no promise of `Scan`: `nearest` asks
+// it of its own room alone.
 fn send_row(scan: Scan<'_>, p: usize, wholes: &mut [usize], n: usize) -> usize
-    requires { GoodScan scan × (scan.neighbours ≤ most_neighbours) × (p < length scan.active.now) × Owners (length scan.active.now) wholes.old
+    requires { (scan.neighbours ≤ most_neighbours) × (p < length scan.active.now) × Owners (length scan.active.now) wholes.old
         × (length scan.active.now ≤ n) × (n + 2 * scan.neighbours ≤ length wholes.old) }
     ensures { TakenBy scan.entry p wholes.old wholes.new n result }
 {
-    let near = scan.nearest::<NEAREST>(scan.active[p]);
-    send(near.found(), p, wholes, n)
+    let mut positions = [0; NEAREST];
+    let mut squares = [0.0; NEAREST];
+    let found = scan.nearest(scan.active[p], &mut positions, &mut squares);
+    send(&positions[..found], p, wholes, n)
 }
 
 // What all active rows send, behind their owners: the answer is where it ends.
 pub fn collect(scan: Scan<'_>, wholes: &mut [usize]) -> usize
-    requires { GoodScan scan × (scan.neighbours ≤ most_neighbours) × Owners (length scan.active.now) wholes.old
+    requires { (scan.neighbours ≤ most_neighbours) × Owners (length scan.active.now) wholes.old
         × (length scan.active.now + length scan.active.now * (2 * scan.neighbours) ≤ length wholes.old) }
     ensures { CollectedBy scan.entry wholes.old (length scan.entry.active.now) wholes.new result }
 {

@@ -94,7 +94,7 @@ fn write_rows(codes: &[usize], active: &[usize], borrowed: &mut [usize], bat: us
     requires { (bat + length codes.now ≤ length borrowed.old) × ((k : ℕ) → k < length codes.now → get_or codes.now k 0 % most_leaves < length active.now) }
     ensures { borrowed.new ≡ put borrowed.old bat (coded_rows active.now codes.now) }
 {
-    // by the index: of a zip with `borrowed.iter_mut()` a proof does not know what was written
+    // by the index: tried as a zip with `borrowed.iter_mut()`, of which a proof does not know what was written
     for (k, &c) in codes.iter().enumerate() {
         borrowed[bat + k] = active[position_of(c)];
     }

@@ -38,7 +38,8 @@ pub struct DomainRow {
 // A tree's packed lists, as they stand in the lent memory: the leaves' own rows, the domain rows, the boxes with the covers, the
 // borrowed rows, and the number of axes. They are passed by value, as `tree: Packed<'_>`. A contract reads them by
 // specs/View.antt: `packed_of tree` in a `requires`, `packed_of tree.entry` in an `ensures`, `packed_of l.tree` in an invariant
-// and `packed_of c.args.tree` in an answer are the same record that `packed` makes of the five.
+// and `packed_of c.args.tree` in an answer are the same record that `packed` makes of the five. It is no `TreeRead` of tree_lists: a leaf has no
+// level points and needs the axes, and what reads a stored tree cites no lists that a build is lent.
 #[derive(Clone, Copy)]
 pub struct Packed<'a> {
     pub internals: &'a [usize],
@@ -127,7 +128,7 @@ pub fn floats_before(dimensions: usize, k: usize) -> usize
     row_floats(dimensions) * k
 }
 
-// The domain row number k, by value.
+// The domain row number k, by value. That the list has room for the row is asked here and below: list and number come apart.
 pub fn read_row(domains: &[usize], k: usize) -> DomainRow
     requires { row_numbers * (k + 1) ≤ length domains.now }
     ensures { IsRow result domains.now k }

@@ -10,7 +10,8 @@ ghost use Rattle.points.specs.Columns.{HasRow, value_of};
 // The points as they are lent: the coordinates of the first one, then those of the second, and so on, `dimensions` of them for each. They are
 // passed by value: a contract reads `points.coordinates.now` in a `requires`, and `points.entry.coordinates.now` in an `ensures`.
 // That there are one to three axes, and that a row stands inside, is asked by the functions that need it: the public calls take any points and
-// refuse, so that this type can't promise it.
+// refuse, so that this type can't promise it. A second type for points that were tested would be made where a call's tests have passed, and
+// unmade wherever a function takes any.
 #[derive(Clone, Copy)]
 pub struct Points<'a> {
     pub coordinates: &'a [f64],

@@ -10,8 +10,7 @@ use Rattle.lists.specs.Lists.{joined}
 use Rattle.lists.proofs.Joined.{joined-one}
 use Rattle.formats.specs.Printout.{rows_text, floats_text, ascii, decimal, refusal_text}
 use Rattle.print_texts.specs.Texts.{row_text, float_text}
-use Rattle.refusal.specs.declared.Refusal.{Refusal}
-use Rattle.refusal.specs.Refusals.{refusal_number, refusal_place, as_refusal}
+use Rattle.print_texts.specs.Refusals.{refusal_of}
 
 pub floats-text : (xs : List Float) → floats_text xs ≡ joined (map float_text xs)
 unfolding floats_text
@@ -32,7 +31,6 @@ rows-listed [] h = absurd (omega arith)
 rows-listed (x ∷ xs) h = refl
 
 -- ---- a refusal's line
-pub refusal-parts : (r : Refusal) (k p : ℕ) → k ≡ refusal_number r → p ≡ refusal_place r
-    → refusal_text (as_refusal r) ≡ (ascii "refused " ++ decimal k) ++ (ascii " at " ++ decimal p) ++ ascii "\n"
+pub refusal-parts : (k p : ℕ) → refusal_text (refusal_of k p) ≡ (ascii "refused " ++ decimal k) ++ (ascii " at " ++ decimal p) ++ ascii "\n"
 unfolding refusal_text
-refusal-parts r k p e h = rw (e, h) (simp append_assoc)
+refusal-parts k p = simp append_assoc

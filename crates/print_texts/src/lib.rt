@@ -6,12 +6,14 @@ ghost use Rattle.lists.specs.Lists.{joined};
 ghost use Rattle.formats.specs.Printout.{digit_of_lem, decimal, hex_onto, rows_text, floats_text, refusal_text};
 ghost use Rattle.bytes_out.specs.Writing.{Takes, Appends};
 ghost use Rattle.refusal.specs.Refusals.{as_refusal};
+ghost use Rattle.print_texts.specs.Refusals.{refusal_of};
 ghost use Rattle.print_texts.specs.Texts.{row_text, float_text};
 
 use bytes_out::Writer;
 use refusal::Refusal;
 
-// The digit of a number below 16.
+// The digit of a number below 16. Digits are put by hand, here and below: `write!` answers a result that each caller would take apart, though
+// the room is promised.
 fn digit_of(n: u8) -> u8
     requires { n < 16 }
     ensures { result ≡ digit_of_lem n }
@@ -19,8 +21,7 @@ fn digit_of(n: u8) -> u8
     if n < 10 { b'0' + n } else { b'a' - 10 + n }
 }
 
-// A number in decimal. The digits are put by hand, here and below: `write!` answers a result that each caller would take apart, though the room
-// is promised.
+// A number in decimal.
 fn write_decimal(n: usize, out: &mut Writer<'_>)
     requires { Takes out.old (decimal n) }
     ensures { Appends out.old out.new (decimal n) }
@@ -133,12 +134,20 @@ pub fn write_valued(label: &[u8], x: f64, out: &mut Writer<'_>)
     x.write(out);
 }
 
+// The line of a refusal with this number and this place. Numbers, and no `Refusal`: that type has places for some refusals only, and asks more.
+pub fn write_refused(number: usize, place: usize, out: &mut Writer<'_>)
+    requires { Takes out.old (refusal_text (refusal_of number place)) }
+    ensures { Appends out.old out.new (refusal_text (refusal_of number place)) }
+{
+    write_numbered(b"refused ", number, out);
+    write_numbered(b" at ", place, out);
+    out.byte(b'\n');
+}
+
 // The line of a refusal.
 pub fn write_refusal(refusal: Refusal, out: &mut Writer<'_>)
     requires { Takes out.old (refusal_text (as_refusal refusal)) }
     ensures { Appends out.old out.new (refusal_text (as_refusal refusal)) }
 {
-    write_numbered(b"refused ", refusal.number(), out);
-    write_numbered(b" at ", refusal.place(), out);
-    out.byte(b'\n');
+    write_refused(refusal.number(), refusal.place(), out);
 }

@@ -6,7 +6,7 @@ use Rattle.refusal.specs.declared.Refusal.{Refusal}
 use Rattle.refusal.specs.Refusals.{as_refusal}
 use Rattle.tree_lists.specs.declared.TreeRead.{TreeRead}
 use Rattle.tree_answer.specs.declared.DDMTree.{DDMTree}
-use Rattle.tree_answer.specs.Answers.{packed_tree}
+use Rattle.tree_answer.specs.Answers.{packed_leaves}
 use Rattle.formats.specs.Printout.{ascii, floats_text, level_line, domain_line, fine_lines, tree_text, refusal_text}
 
 -- the text of a box; a dash for the coarse domain's
@@ -32,11 +32,11 @@ coarse_level_text t rows p j = points_line t rows ++ leaf_line false 0 p j
 
 -- an accepted call's tree stands there
 abbrev pub AnswerStands : Result DDMTree Refusal → TreeRead → ℕ → Type 0
-AnswerStands (Ok t) lists d = Stands (packed_of (packed_tree t lists d).leaves) lists.level_points.now t.rows t.domains t.levels
+AnswerStands (Ok t) lists d = Stands (packed_of (packed_leaves lists d)) lists.level_points.now t.rows t.domains t.levels
 AnswerStands (Err r) lists d = Unit {0}
 
 -- the tree's text, or the refusal's
 abbrev pub answer_text : Result DDMTree Refusal → TreeRead → ℕ → List ℕ
 answer_text (Ok t) lists d =
-    tree_text (read_levels (packed_of (packed_tree t lists d).leaves) lists.level_points.now t.rows t.domains t.levels)
+    tree_text (read_levels (packed_of (packed_leaves lists d)) lists.level_points.now t.rows t.domains t.levels)
 answer_text (Err r) lists d = refusal_text (as_refusal r)

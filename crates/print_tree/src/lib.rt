@@ -61,8 +61,9 @@ fn write_leaf(coarse: bool, i: usize, j: usize, tree: Packed<'_>, out: &mut Writ
     write_domain(i, tree.leaf(j), coarse, out);
 }
 
-// The lines of m fine domains, from the domain row number j on. A number of rows, here and below, and no slice: no list has those of one level
-// as a part of its own.
+// The lines of m fine domains, from the domain row number j on. A number of rows, here and below, and no slice: a leaf stands in four lists, and the
+// number of its row finds it in each. Tree, first row and number are no value of their own: it would be made once for each level, and taken apart
+// one call later.
 fn write_leaves(j: usize, m: usize, tree: Packed<'_>, out: &mut Writer<'_>)
     requires by_index { (i : ℕ) → i < m → RowFits (packed_of tree) (j + i) }
     requires room_for { Takes out.old (fine_lines 0 (read_leaves (packed_of tree) j m)) }
@@ -93,36 +94,36 @@ fn write_coarse(t: usize, rows: &[usize], j: usize, tree: Packed<'_>, out: &mut 
     write_leaf(true, 0, j, tree, out);
 }
 
-// The lines of all levels. Rows and domain rows of a level start where those above end, so both starts go along.
+// The lines of all levels. Rows and domain rows of a level start where those above end, so both starts go along. The walk of store_bytes is its
+// own: what is called for a level differs, and the last one is taken apart here.
 fn write_levels(tree: PackedTree<'_>, out: &mut Writer<'_>)
-    requires stands { Stands (packed_of tree.leaves) tree.level_points.now tree.counts.rows tree.counts.domains tree.counts.levels }
-    requires room_for { Takes out.old (levels_text 0 (read_levels (packed_of tree.leaves) tree.level_points.now tree.counts.rows tree.counts.domains tree.counts.levels)) }
+    requires stands { Stands (packed_of tree.leaves) tree.level_points.now tree.rows.now tree.domains.now tree.levels }
+    requires room_for { Takes out.old (levels_text 0 (read_levels (packed_of tree.leaves) tree.level_points.now tree.rows.now tree.domains.now tree.levels)) }
     ensures { Appends out.old out.new (levels_text 0
-        (read_levels (packed_of tree.entry.leaves) tree.entry.level_points.now tree.entry.counts.rows tree.entry.counts.domains tree.entry.counts.levels)) }
+        (read_levels (packed_of tree.entry.leaves) tree.entry.level_points.now tree.entry.rows.now tree.entry.domains.now tree.entry.levels)) }
 {
-    let counts = tree.counts;
-    let last = counts.levels - 1;
+    let last = tree.levels - 1;
     let mut a = 0;
     let mut j = 0;
     for t in 0..last {
-        let e = a + counts.rows[t];
-        let m = counts.domains[t];
+        let e = a + tree.rows[t];
+        let m = tree.domains[t];
         write_fine(t, &tree.level_points[a..e], j, m, tree.leaves, out);
         a = e;
         j += m;
     }
-    let e = a + counts.rows[last];
+    let e = a + tree.rows[last];
     write_coarse(last, &tree.level_points[a..e], j, tree.leaves, out);
 }
 
 // The whole tree: its levels with their row and domain counts, and the packed lists.
 pub fn write_tree(tree: PackedTree<'_>, out: &mut Writer<'_>)
-    requires stands { Stands (packed_of tree.leaves) tree.level_points.now tree.counts.rows tree.counts.domains tree.counts.levels }
-    requires room_for { Takes out.old (tree_text (read_levels (packed_of tree.leaves) tree.level_points.now tree.counts.rows tree.counts.domains tree.counts.levels)) }
+    requires stands { Stands (packed_of tree.leaves) tree.level_points.now tree.rows.now tree.domains.now tree.levels }
+    requires room_for { Takes out.old (tree_text (read_levels (packed_of tree.leaves) tree.level_points.now tree.rows.now tree.domains.now tree.levels)) }
     ensures { Appends out.old out.new (tree_text
-        (read_levels (packed_of tree.entry.leaves) tree.entry.level_points.now tree.entry.counts.rows tree.entry.counts.domains tree.entry.counts.levels)) }
+        (read_levels (packed_of tree.entry.leaves) tree.entry.level_points.now tree.entry.rows.now tree.entry.domains.now tree.entry.levels)) }
 {
-    print_texts::write_numbered(b"levels ", tree.counts.levels, out);
+    print_texts::write_numbered(b"levels ", tree.levels, out);
     out.byte(b'\n');
     write_levels(tree, out);
 }
@@ -139,7 +140,7 @@ pub fn write_answer(
     ensures { Appends out.old out.new (answer_text answer lists.entry dimensions) }
 {
     match answer {
-        Ok(counts) => write_tree(PackedTree::of(counts, lists, dimensions), out),
+        Ok(counts) => write_tree(PackedTree::of(&counts, lists, dimensions), out),
         Err(refusal) => print_texts::write_refusal(refusal, out),
     }
 }

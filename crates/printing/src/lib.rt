@@ -1,4 +1,4 @@
-// The numbers of a list in print, for the programs that run stored edges.
+// The numbers of a list in print, for the program that runs edges.
 #![tactic(auto)]
 
 ghost use Rattle.std.specs.Prelude.{◌≡◌, min, length, take, Some};

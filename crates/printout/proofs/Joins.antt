@@ -26,7 +26,7 @@ use Rattle.packed.proofs.Counts.{no_level}
 use Rattle.packed.proofs.Unpacked.{Packs, levels-are, tree-back, tree-stands}
 use Rattle.refusal.specs.declared.Refusal.{Refusal}
 use Rattle.refusal.specs.Refusals.{as_refusal}
-use Rattle.stream_reader.specs.declared.Job.{Job}
+use Rattle.stream_reader.specs.declared.job.Job.{Job}
 use Rattle.stream_reader.specs.Reading.{job_is, job_of}
 use Rattle.job_room.proofs.Lists.{build-as-stated}
 use Rattle.job_room.proofs.JobRead.{broken-read, whole-read}

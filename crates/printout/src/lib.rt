@@ -3,8 +3,8 @@
 
 ghost use Rattle.std.specs.Prelude.{◌≡◌, ◌+◌, ◌≤◌, length};
 ghost use Rattle.formats.specs.Printout.{job_text, printout as printed};
-ghost use Rattle.stream_laws.specs.Sizes.{JobLimits, most_bytes};
-ghost use Rattle.stream_reader.specs.Reading.{job_settings, job_is};
+ghost use Rattle.stream_laws.specs.Sizes.{most_bytes};
+ghost use Rattle.stream_reader.specs.Reading.{job_is};
 ghost use Rattle.bytes_out.specs.Writing.{Appends};
 ghost use Rattle.job_room.specs.Printing.{print_answer_lem, print_output, printed_answer};
 
@@ -15,7 +15,7 @@ use stream_reader::Job;
 
 // The text of a job: of its tree, or of the build's refusal. The lists suffice for the largest job.
 fn write_job(job: Job<'_>, out: &mut Writer<'_>)
-    requires { JobLimits (job_settings job) job.points.coordinates.now × (out.old.at + most_bytes ≤ length out.old.bytes.now) }
+    requires { out.old.at + most_bytes ≤ length out.old.bytes.now }
     ensures { Appends out.old out.new (job_text (job_is job.entry)) }
 {
     let mut lists = job_room::zero_lists();
@@ -28,8 +28,8 @@ fn write_job(job: Job<'_>, out: &mut Writer<'_>)
 
 // The printout of a stream that is lent room for every printout.
 // This and the next one stand in reload too, over its own text: one function for both would be lent `write_job` as a closure over a job and a
-// writer. Its contract would say of every job within the limits, and of every writer with room, that the closure may be called and what it
-// appends, and that a broken job's text is its refusal's: three clauses over a ghost text, for this match and the test below.
+// writer. Its contract would say of every job, and of every writer with room, that the closure may be called and what it appends, and that a
+// broken job's text is its refusal's: three clauses over a ghost text, for this match and the test below.
 fn write_printout(input: &[u8], output: &mut Writer<'_>)
     requires { output.old.at + most_bytes ≤ length output.old.bytes.now }
     ensures { Appends output.old output.new (printed input.now) }

@@ -1,8 +1,9 @@
 // What the programs read: a reader's bytes up to a list's room, and what the input may be when this much of it was read.
 #![tactic(auto)]
 
-ghost use Rattle.std.specs.Prelude.{◌≡◌, ◌-◌, ◌≤◌, length, take, drop, replicate, IfOk, IfSome};
+ghost use Rattle.std.specs.Prelude.{◌≡◌, ◌-◌, ◌≤◌, length, take, drop, replicate, IfErr, IfOk, IfSome, OnOk};
 ghost use Rattle.std.specs.Io.KnownBytes.{Consumes, ReadConsumes};
+ghost use Rattle.std.specs.Process.{exit_status};
 ghost use Rattle.program_input.specs.Input.{front_count, Stopped, MayBe};
 
 use std::io::{ErrorKind, Read};
@@ -109,7 +110,10 @@ pub struct Failure<'a> {
 }
 
 // The status that a program ends with. What failed, and why, is said on standard error.
-pub fn end<R: Eprint>(rt: &R, done: Result<(), Failure<'_>>) -> ExitCode {
+pub fn end<R: Eprint>(rt: &R, done: Result<(), Failure<'_>>) -> ExitCode
+    ensures ended { OnOk done.entry (exit_status result ≡ 0) }
+    ensures failed { IfErr done.entry (λ failure. exit_status result ≡ 1) }
+{
     match done {
         Ok(()) => ExitCode::SUCCESS,
         Err(Failure { what, error }) => {

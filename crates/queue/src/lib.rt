@@ -9,7 +9,8 @@ ghost use Rattle.queue.specs.Rows.{two_halves, two_own};
 // How many whole numbers the queue has of a domain that waits: start and count of its stretch, and its depth.
 pub const WAITING: usize = 3;
 
-// The stretch of rows that a domain has: its start and its count, and the domain's depth.
+// The stretch of rows that a domain has: its start and its count, and the domain's depth. That it ends below 2^64 is asked by each that halves
+// it, and is no promise of the type: `waiting_at` reads any three numbers.
 #[derive(Clone, Copy)]
 pub struct Stretch {
     pub start: usize,

@@ -1,11 +1,12 @@
 // A file of stored calls, read and replayed record by record: a length of 4 bytes, and as many bytes.
 #![tactic(auto)]
 
-ghost use Rattle.std.specs.Prelude.{◌≤◌, length, IfOk, IfSome};
+ghost use Rattle.std.specs.Prelude.{◌≤◌, length, Some, IfOk, IfSome};
+ghost use Rattle.record_file.specs.Tallies.{FirstOf, tally_text};
 
 use program_input::Front;
-use std::io;
-use std::io::{ErrorKind, Read, Write};
+use std::io::{ErrorKind, Read};
+use std::{fmt, io};
 
 // More records than this are not replayed.
 const MOST: u64 = 100000;
@@ -51,6 +52,9 @@ pub fn replay<R: Read, F: Fn(&[u8]) -> Option<bool>>(
     agrees: F,
 ) -> Tally
     requires { F.IsAlwaysCallable agrees }
+    ensures most { result.calls ≤ 100000 }
+    ensures differ { result.differ ≤ result.calls }
+    ensures first { FirstOf result.calls result.differ result.first }
 {
     let mut tally = Tally {
         calls: 0,
@@ -76,18 +80,20 @@ pub fn replay<R: Read, F: Fn(&[u8]) -> Option<bool>>(
     tally
 }
 
-impl Tally {
-    // Writes the number of calls, and how many of them differ.
-    pub fn print<W: Write>(self, to: &mut W) -> io::Result<()> {
+// The number of calls, and how many of them differ.
+impl fmt::Display for Tally {
+    ghost output = { λ t. Some (tally_text t.calls t.differ t.first) };
+
+    fn fmt<W: fmt::Write>(&self, f: &mut fmt::Formatter<W>) -> fmt::Result {
         let Tally {
             calls,
             differ,
             first,
-        } = self;
-        write!(to, "{calls} calls, {differ} differ")?;
+        } = *self;
+        write!(f, "{calls} calls, {differ} differ")?;
         if let Some(first) = first {
-            write!(to, ", the first is call {first}")?;
+            write!(f, ", the first is call {first}")?;
         }
-        to.write_all(b"\n")
+        Ok(())
     }
 }

@@ -3,7 +3,7 @@
 
 ghost use Rattle.std.specs.Prelude.{◌≡◌};
 ghost use Rattle.refusal.specs.Refusals.{refusal_number, refusal_place};
-ghost use Rattle.refusal.specs.Reports.{Reports};
+ghost use Rattle.refusal.specs.Reports.{NoValue, Reports};
 
 // The refusals of all calls, in the order of their numbers.
 #[derive(Clone, Copy)]
@@ -78,6 +78,7 @@ impl Refusal {
 }
 
 // What is told of an answer: the refusal's number, 0 for none, its place, and the value, which is the type's zero where the call is refused.
+// No Result: the slots of C, the stored calls and the edges in print, which it is told to, have none.
 #[derive(Clone, Copy)]
 pub struct Report<T> {
     pub number: usize,
@@ -86,6 +87,18 @@ pub struct Report<T> {
 }
 
 impl<T: Default> Report<T> {
+    // What is told of a refusal with this number and this place. Numbers, and no `Refusal`: that type has places for some refusals only, and asks
+    // more.
+    pub fn refused(number: usize, place: usize) -> Report<T>
+        ensures { NoValue T.is_default number place result }
+    {
+        Report {
+            number,
+            place,
+            value: T::default(),
+        }
+    }
+
     // What is told of this answer.
     pub fn of(answer: Result<T, Refusal>) -> Report<T>
         ensures { Reports T.is_default answer result }
@@ -96,11 +109,7 @@ impl<T: Default> Report<T> {
                 place: 0,
                 value,
             },
-            Err(refusal) => Report {
-                number: refusal.number(),
-                place: refusal.place(),
-                value: T::default(),
-            },
+            Err(refusal) => Report::refused(refusal.number(), refusal.place()),
         }
     }
 }

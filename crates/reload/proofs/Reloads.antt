@@ -19,7 +19,7 @@ use Rattle.std.specs.Prelude.{Result, Ok, Err}
 use Rattle.refusal.specs.declared.Refusal.{Refusal}
 use Rattle.refusal.specs.declared.Refusal.TheVariants.{LargeJob}
 use Rattle.refusal.specs.Refusals.{as_refusal}
-use Rattle.stream_reader.specs.declared.Job.{Job}
+use Rattle.stream_reader.specs.declared.job.Job.{Job}
 use Rattle.stream_reader.specs.Reading.{job_is, job_of}
 use Rattle.job_room.proofs.JobRead.{broken-read, whole-read}
 use Rattle.job_room.proofs.Printing.{text-room}

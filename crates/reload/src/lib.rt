@@ -4,7 +4,7 @@
 
 ghost use Rattle.std.specs.Prelude.{◌≡◌, ◌+◌, ◌≤◌, length};
 ghost use Rattle.stored.specs.Programs.{reloaded_for, reloaded};
-ghost use Rattle.stream_laws.specs.Sizes.{JobLimits, most_bytes};
+ghost use Rattle.stream_laws.specs.Sizes.{most_bytes};
 ghost use Rattle.stream_reader.specs.Reading.{job_settings, job_is};
 ghost use Rattle.bytes_out.specs.Writing.{Takes, Appends};
 ghost use Rattle.job_room.specs.Printing.{print_answer_lem, print_output, printed_answer};
@@ -19,7 +19,7 @@ pub const MOST_FILE: usize = 1048576;
 
 // The text of the tree that is loaded for a job, or of the loader's refusal. The lists suffice for the largest job.
 fn write_loaded(job: Job<'_>, file: &[u8], out: &mut Writer<'_>)
-    requires { JobLimits (job_settings job) job.points.coordinates.now × Takes out.old (loaded_text (job_settings job) job.points.coordinates.now file.now) }
+    requires { Takes out.old (loaded_text (job_settings job) job.points.coordinates.now file.now) }
     ensures { Appends out.old out.new (loaded_text (job_settings job.entry) job.entry.points.coordinates.now file.now) }
 {
     let mut lists = job_room::zero_lists();
@@ -30,7 +30,7 @@ fn write_loaded(job: Job<'_>, file: &[u8], out: &mut Writer<'_>)
 
 // The text for a job that was read: a large one's refusal where the file is too long.
 fn write_job(job: Job<'_>, file: &[u8], out: &mut Writer<'_>)
-    requires { JobLimits (job_settings job) job.points.coordinates.now × (out.old.at + most_bytes ≤ length out.old.bytes.now) }
+    requires { out.old.at + most_bytes ≤ length out.old.bytes.now }
     ensures { Appends out.old out.new (reloaded_for (job_is job.entry) file.now) }
 {
     if MOST_FILE < file.len() {
@@ -42,8 +42,8 @@ fn write_job(job: Job<'_>, file: &[u8], out: &mut Writer<'_>)
 
 // The text for a stream and a file that is lent room for every text.
 // This and the next one stand in printout too, over its own text: one function for both would be lent `write_job` as a closure over a job and a
-// writer. Its contract would say of every job within the limits, and of every writer with room, that the closure may be called and what it
-// appends, and that a broken job's text is its refusal's: three clauses over a ghost text, for this match and the test below.
+// writer. Its contract would say of every job, and of every writer with room, that the closure may be called and what it appends, and that a
+// broken job's text is its refusal's: three clauses over a ghost text, for this match and the test below.
 fn write_reloaded(stream: &[u8], file: &[u8], output: &mut Writer<'_>)
     requires { output.old.at + most_bytes ≤ length output.old.bytes.now }
     ensures { Appends output.old output.new (reloaded stream.now file.now) }

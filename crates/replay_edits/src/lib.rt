@@ -3,7 +3,7 @@
 
 use call_records::Fields;
 use points::Points;
-use refusal::{Refusal, Report};
+use refusal::Refusal;
 use table::{Head, Table, Wells};
 
 // The most coordinates of a point.
@@ -15,10 +15,8 @@ fn outcome_agrees(
     answer: Result<usize, Refusal>,
     table: Table<'_>,
 ) -> Option<bool> {
-    let report = Report::of(answer);
     Some(
-        fields.report_agrees(&report)?
-            && fields.number()? == report.value
+        fields.number_agrees(answer)?
             && fields.count()? == table.head.slots
             && fields.count()? == table.head.live
             && fields.agrees(table.points.coordinates)?

@@ -5,8 +5,8 @@ use call_records::Fields;
 use points::Points;
 
 // Whether the load that stands next has the outcome behind it. `None` says that the record is cut, or that a list has more entries than
-// there is room for. Settings and points are read as in replay_stores: one function of both would be lent the room and answer two values, for
-// three lines.
+// there is room for. Settings and points are read as in replay_stores: one function of both would be lent the room, and be longer than the two
+// statements that it saves.
 pub fn agrees(fields: &mut Fields<'_>) -> Option<bool> {
     let settings = fields.settings()?;
     let mut room = [9.0; call_records::POINTS];

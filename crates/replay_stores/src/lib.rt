@@ -3,7 +3,7 @@
 
 use call_records::Fields;
 use points::Points;
-use refusal::{Refusal, Report};
+use refusal::Refusal;
 use tree_answer::DDMTree;
 
 // The most entries of a file list in the stored calls.
@@ -35,13 +35,7 @@ fn outcome_agrees(
     answer: Result<usize, Refusal>,
     file: &[u8],
 ) -> Option<bool> {
-    let report = Report::of(answer);
-    Some(
-        fields.report_agrees(&report)?
-            && fields.number()? == report.value
-            && fields.agrees(file)?
-            && fields.ended(),
-    )
+    Some(fields.number_agrees(answer)? && fields.agrees(file)? && fields.ended())
 }
 
 // Whether the store that stands next has the outcome behind it. `None` says that the record is cut, or that a list has more entries than

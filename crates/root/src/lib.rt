@@ -9,8 +9,8 @@ ghost use Rattle.root.specs.Answers.{root_report};
 
 use refusal::Refusal;
 
-// A pattern of a finite value is a `u64` below infinity's, which three inner functions ask for. A type for it would be made anew, by the same
-// proof, at each of their calls: they are passed sums and shifts of patterns.
+// A pattern of a finite value is a `u64` below infinity's, which three inner functions ask for. It is no type of its own: that would be made at
+// three places (a root's argument, and the two guesses, each a significand and a constant) and handed on at one, from root_bits to leading.
 
 // A significand m with its leading digit at bit 52, and an exponent.
 #[derive(Clone, Copy)]

@@ -28,7 +28,8 @@ impl<'a> LevelRows<'a> {
     }
 
     // Whether a domain's own rows ascend and are left, and its borrowed rows ascend and are listed rows of others; takes the own rows
-    // out of those left.
+    // out of those left. That what is left is listed is asked here and by those who call this, and is no promise of the type, which would ask more:
+    // `narrow` takes any two sets of as many words.
     pub fn rows_pass<O: Rows, B: Rows>(&mut self, own: &O, borrowed: &B) -> bool
         requires { LeftIsListed self.old.left.now self.old.listed.now }
         ensures { (p q : ℕ → Bool) → Marked self.old.left.now p → Marked self.old.listed.now q

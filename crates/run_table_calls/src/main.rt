@@ -24,7 +24,7 @@ enum Kind {
     Build,
 }
 
-// A code that names no kind of record.
+// A code that names no kind of record. Each program has its own, since the codes are.
 #[derive(Clone, Copy)]
 struct UnknownKind;
 
@@ -87,11 +87,11 @@ fn outcome_agrees(record: &[u8]) -> Option<bool> {
     }
 }
 
-// Room and test are the program's own, the rest is record_file's. One function over both would be passed the file and the output too, and
-// leave these five lines in each program.
+// Room and test are the program's own, the rest is record_file's. One function over both would be generic over the runtime, the room's length and
+// the test, and be no shorter than the three lines that it would save in each.
 fn main(rt: HostRuntime) -> io::Result<()> {
     let mut file = program_input::open_argument(&rt, 1)?;
     let mut room = [0u8; ROOM];
     let tally = record_file::replay(&mut file, &mut room, outcome_agrees);
-    tally.print(&mut rt.stdout())
+    println!(rt; "{tally}")
 }

@@ -84,6 +84,8 @@ struct Sampled<'a, 'b> {
     squares: &'b mut [f64],
 }
 
+// That a round can be made (`Ready`) is asked by each that makes one, and is no promise of the type: it asks of the row that was chosen last too,
+// and the squares change in a round, so that it would be shown again at the end of each method.
 impl<'a, 'b> Sampled<'a, 'b> {
     // Takes the squared distances to the row at `last` into the least ones, and gives the greatest of these.
     fn lessen(&mut self, last: LocalIdx) -> Peak
@@ -100,7 +102,7 @@ impl<'a, 'b> Sampled<'a, 'b> {
         let mut place = 0;
         let mut most = -1.0;
         let mut second = -1.0;
-        // the squares by the index: of a zip with `squares.iter_mut()` a proof does not know what was written
+        // the squares by the index: tried as a zip with `squares.iter_mut()`, of which a proof does not know what was written
         for (i, &other) in rows.iter().enumerate() {
             let square = distances::distance_sq(points, row, GlobalIdx(other));
             let value = lesser_of(square, squares[i]);
@@ -169,6 +171,7 @@ pub fn sample_rows(
         squares: floats,
     };
     let mut last = seed;
+    // by the index: what is said of a round is how many rows are chosen, at the front of the whole list
     for k in 1..out.len() {
         last = sampled.next_place(last);
         out[k] = rows[last.0];

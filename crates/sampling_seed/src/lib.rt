@@ -27,6 +27,7 @@ fn get_centroid(points: Points<'_>, rows: &[usize]) -> [f64; 3]
     ensures { (a : ℕ) → a < points.entry.dimensions → get_or result a nan ≡ centroid points.entry.dimensions points.entry.coordinates.now rows.now a }
 {
     let mut center = [0.0; 3];
+    // by the axis: it names the column, and the center is written at it
     for axis in 0..points.dimensions {
         center[axis] = centroid_axis(points.column(axis), rows);
     }

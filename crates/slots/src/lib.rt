@@ -75,6 +75,21 @@ pub fn params_of(leaf: u32, neighbours: u32, factor: u32, policy: u32, threshold
     }
 }
 
+// A place, and a tree's levels with the rows and the domains of each, to the front of a slot.
+pub fn put_counts(res: &mut [usize], place: usize, counts: DDMTree)
+    requires { 10 ≤ length res.old }
+    ensures { res.new ≡ put res.old 0 (place ∷ counts.levels ∷ counts.rows ++ counts.domains) }
+{
+    let DDMTree {
+        levels,
+        rows,
+        domains,
+    } = counts;
+    stretches::put_values(res, 0, &[place, levels]);
+    stretches::put_values(res, 2, &rows);
+    stretches::put_values(res, 6, &domains);
+}
+
 // What a build or a load answers, to the front of a slot: place, levels, the rows of each level and the domains of each level, which are 0
 // where the call is refused. What it returns is the refusal's number.
 pub fn put_tree(res: &mut [usize], answer: Result<DDMTree, Refusal>) -> usize
@@ -83,14 +98,7 @@ pub fn put_tree(res: &mut [usize], answer: Result<DDMTree, Refusal>) -> usize
     ensures number { result ≡ (tree_answer_lem answer).number }
 {
     let told = Report::of(answer);
-    let DDMTree {
-        levels,
-        rows,
-        domains,
-    } = told.value;
-    stretches::put_values(res, 0, &[told.place, levels]);
-    stretches::put_values(res, 2, &rows);
-    stretches::put_values(res, 6, &domains);
+    put_counts(res, told.place, told.value);
     told.number
 }
 

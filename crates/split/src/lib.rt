@@ -25,7 +25,8 @@ pub struct Level<'a> {
 }
 
 // Cuts a domain and then, where its halves are large, each of them, the left one completely before the right one; otherwise its halves are
-// leaves. The rows end as those of the leaves from left to right. What falls from call to call is their number.
+// leaves. The rows end as those of the leaves from left to right. What falls from call to call is their number. Depth and box come beside the
+// rows, and are no value with their count: the rows are cut as a slice, whose length it is.
 pub fn split(
     level: Level<'_>,
     rows: &mut [usize],

@@ -54,7 +54,7 @@ fn store_sound(
         (lists_read tree.entry) file.old file.new (store_report result) }
 {
     let dimensions = points.dimensions;
-    let tree = PackedTree::of(counts, tree, dimensions);
+    let tree = PackedTree::of(&counts, tree, dimensions);
     let n = points.count();
     let neighbours = params.overlap_knn as usize;
     let passed = list_levels::check_lists(tree, n, neighbours).ok_or(Refusal::NoSoundTree)?;

@@ -3,8 +3,8 @@ use Rattle.std.specs.Prelude.{ℕ, Bool, List, ◌++◌, map, Float}
 use Rattle.lists.specs.Lists.{joined}
 use Rattle.definition.specs.Tree.{Settings, Leaf, Level}
 use Rattle.packed.specs.Reading.{Packed, read_levels}
-use Rattle.tree_answer.specs.declared.DDMTree.{DDMTree}
-use Rattle.tree_answer.specs.Answers.{counts_given, lists_of}
+use Rattle.definition.specs.Packed.{Counts}
+use Rattle.tree_answer.specs.Answers.{lists_of}
 use Rattle.stored.specs.File.{level_bytes, file_bytes}
 use Rattle.stored.specs.Outcome.{tree_held}
 use Rattle.store_records.specs.Records.{domain_record}
@@ -21,11 +21,11 @@ unfoldable pub level_records : Bool → Level → List ℕ
 level_records coarse l = level_bytes l ++ domain_records coarse l.leaves
 
 -- the levels that stand in the lists with these counts
-abbrev pub levels_in : DDMTree → List ℕ → Packed → List Level
+abbrev pub levels_in : Counts → List ℕ → Packed → List Level
 levels_in counts level_points p = read_levels p level_points counts.rows counts.domains counts.levels
 
 -- the file of the tree that stands there, for these settings and points
-abbrev pub file_of : Settings → List Float → DDMTree → List ℕ → Packed → List ℕ
+abbrev pub file_of : Settings → List Float → Counts → List ℕ → Packed → List ℕ
 file_of s cs counts level_points p =
     file_bytes s cs
-    (tree_held p.dimension (counts_given counts) (lists_of level_points p.internals p.domains p.boxes p.borrowed))
+    (tree_held p.dimension counts (lists_of level_points p.internals p.domains p.boxes p.borrowed))

@@ -72,7 +72,7 @@ pub fn put_level(rows: &[usize], domain_count: usize, out: &mut Writer<'_>)
     out.fields(rows);
 }
 
-// The domain of the domain row number j. The flag is the definition's own: `domain_record` takes it too.
+// The domain of the domain row number j. The flag stays: an Option of the bounds is no plainer, since each contract would take it apart again.
 pub fn put_domain(tree: Packed<'_>, j: usize, coarse: bool, out: &mut Writer<'_>)
     requires row_fits { RowFits (packed_of tree) j }
     requires room_for { Takes out.old (domain_record coarse (read_leaf (packed_of tree) j)) }

@@ -1,25 +1,26 @@
--- The records one after the other: what the definition says at each step of the reading. `job-broken`, `job-low`, `job-high` and `job-right` are
--- the settings; `Reading` is the state between two point records with its start (`begun`) and its steps (`reading-..`); `held-over` and
+-- The records one after the other: what the definition says at each step of the reading. `job-broken`, `job-wrong` and `job-right` are the
+-- settings; `Reading` is the state between two point records with its start (`begun`) and its steps (`reading-..`); `held-over` and
 -- `held-within` say what is made of the points. Assumes nothing.
--- Holds: settings_whole_lem, whole_long, job-broken, job-low, job-high, job-right, Reading, begun, spot, place_fits, reading-cut,
+-- Holds: settings_whole_lem, whole_long, job-broken, job-wrong, job-right, Reading, begun, spot, place_fits, reading-cut,
 --   reading-full, reading-more, reading-counted, reading-done, held-broken, held-over, held-within
 use mathlib.Core.Path.{◌≡◌, refl, sym, ap, ◌∙◌}
-use mathlib.Core.Bool.{Bool, true, false, ◌&&◌}
+use mathlib.Core.Bool.{Bool, true, false, ◌&&◌, cond}
 use Prim.Native.Nat.{ℕ, suc, ◌+◌, ◌-◌, ◌*◌, ◌/◌, min, ◌≤◌, ◌<◌}
 use native.Mathlib.Nat.{mul-le-mul, suc-mul, zero-mul, mul-div_cancel}
 use native.Mathlib.Numerals.{add-one}
 use native.Mathlib.Omega.{arith}
-use mathlib.Core.List.{List, [], ◌++◌}
+use mathlib.Core.List.{List, [], ◌∷◌, ◌++◌}
 use lib.ListN.{length, take, drop, length-append}
 use lib.Seq.{take_at, drop_at}
 use Rattle.std.proofs.lemmas.List.{take_min, drop_min}
 use lib.Ieee.{Float}
-use borrow.Author.Tests.{le-ltb, lt-ltb, le-leb, lt-leb}
+use borrow.Author.Tests.{le-ltb, lt-ltb, le-leb}
 use Rattle.lists.specs.Lists.{put}
 use Rattle.lists.proofs.Put.{take-put-end}
 use Rattle.lists.proofs.Tests.{and-fst}
 use Rattle.definition.specs.Tree as tree
 use Rattle.definition.specs.Refusals as refusals
+use Rattle.definition.specs.Refusals.{accepted, refused, verdict, on, wrong_dimension_lem}
 use Rattle.formats.specs.Bytes.{floats_at, whole, mark_size, value_at}
 use Rattle.formats.specs.Stream.{Job, settings_mark, settings_size, policy_fits_lem, dimension_field, settings_in, point_mark, point_size_lem, job, broken, broken_at, too_large, stream_points, stream_neighbours, read_points, held, job_in}
 use Rattle.stream_laws.proofs.Stream.{length-coordinates, stream_end, stream-cut, stream-full, stream-more}
@@ -43,17 +44,17 @@ module _ (bs : List ℕ) where
     unfolding settings_in
     dimension-is = ap (λ (r : tree.Settings). r.dimension) e
 
-    pub job-low : s.dimension ≡ 0 → broken (record { number = 1; place = 0 }) ≡ job_in bs
-    unfolding job_in
-    job-low h = let z : value_at dimension_field bs ≡ 0 = sym dimension-is ∙ h in rw (w, z)
+    -- a number of axes that is refused
+    pub job-wrong : (r : refusals.Refusal) → refused r ≡ verdict (on (wrong_dimension_lem s.dimension) 1 ∷ []) → broken r ≡ job_in bs
+    unfolding job_in verdict
+    job-wrong r f = go (wrong_dimension_lem (value_at dimension_field bs)) refl (rw dimension-is at f)
+      where
+        go : (b : Bool) → wrong_dimension_lem (value_at dimension_field bs) ≡ b → refused r ≡ cond b (refused (record { number = 1; place = 0 })) accepted
+            → broken r ≡ job_in bs
+        go true g f = rw (w, g) cc
+        go false g f = cc
 
-    pub job-high : 3 < s.dimension → broken (record { number = 1; place = 0 }) ≡ job_in bs
-    unfolding job_in
-    job-high h =
-        let g : 3 < value_at dimension_field bs = omega (arith, dimension-is) in
-        rw (w, le-leb 1 (value_at dimension_field bs) (omega arith), lt-leb (value_at dimension_field bs) 3 g)
-
-    pub job-right : (s.dimension ≡ 0 → ⊥) → s.dimension ≤ 3 → job_in bs ≡ held (read_points s stream_points settings_size (drop settings_size bs) [])
+    pub job-right : 1 ≤ s.dimension → s.dimension ≤ 3 → job_in bs ≡ held (read_points s stream_points settings_size (drop settings_size bs) [])
     unfolding job_in
     job-right h g =
         let l : 1 ≤ value_at dimension_field bs = omega (arith, dimension-is) in

@@ -8,7 +8,7 @@ use Rattle.formats.specs.Stream as stream
 use Rattle.formats.specs.Stream.{job, broken, stream_points}
 use Rattle.refusal.specs.declared.Refusal.{Refusal}
 use Rattle.refusal.specs.Refusals.{as_refusal}
-use Rattle.stream_reader.specs.declared.Job.{Job}
+use Rattle.stream_reader.specs.declared.job.Job.{Job}
 
 -- what the point records came to, the coordinates being at the front of cs
 abbrev pub points_of : Settings → Result ℕ Refusal → List Float → stream.Job

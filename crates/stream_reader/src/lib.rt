@@ -8,21 +8,18 @@ ghost use Rattle.config.specs.Params.{settings_are};
 ghost use Rattle.stream_reader.specs.Reading.{points_of, job_of, Within};
 
 use bytes_in::marks;
-use config::{DDMParams, Settings};
+use config::Settings;
 use points::Points;
 use refusal::Refusal;
+
+mod job;
+
+pub use job::Job;
 
 // The most points, and the most neighbours, that a stream may have.
 pub const MOST_POINTS: usize = 32;
 
 pub const MOST_NEIGHBOURS: u32 = 16;
-
-// A job: its points, and the settings of its build.
-#[derive(Clone, Copy)]
-pub struct Job<'a> {
-    pub points: Points<'a>,
-    pub params: DDMParams,
-}
 
 // Whether a whole settings record stands at the beginning.
 fn settings_whole(input: &[u8]) -> bool
@@ -69,9 +66,7 @@ pub fn read_job<'a>(input: &[u8], coordinates: &'a mut [f64]) -> Result<Job<'a>,
     }
     let settings = settings_record::settings_of(input);
     let Settings { dimensions, params } = settings;
-    if dimensions == 0 || 3 < dimensions {
-        return Err(Refusal::WrongDimension);
-    }
+    point_checks::check_dimension(dimensions)?;
     let count = read_points(&input[settings_record::SIZE..], settings, coordinates)?;
     if MOST_NEIGHBOURS < params.overlap_knn {
         return Err(Refusal::LargeJob);

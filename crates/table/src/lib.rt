@@ -1,5 +1,5 @@
 // The table of wells with its head where the caller keeps it: each call is the edit, and the head after it. `added`, `retired` and `closed`
-// answer that head; these write it where it is kept, as the callers of C do.
+// answer that head; these write it where it is kept, the form that document 02 names. The library has promised both.
 #![tactic(auto)]
 
 ghost use Rattle.std.specs.Prelude.{◌≡◌};

@@ -68,8 +68,8 @@ pub fn added(head: Head, wells: &mut Wells<'_>, point: &[f64]) -> Result<Edited,
     })
 }
 
-// Retires a slot of the table, and answers the head after it: 1, 11, 27 and 22 are tried before anything is written. It takes no `Wells`: the coordinates are only read, and
-// a caller may have them by `&` alone.
+// Retires a slot of the table, and answers the head after it: 1, 11, 27 and 22 are tried before anything is written. It takes no `Wells`: the
+// coordinates are only read, and a caller may have them by `&` alone.
 pub fn retired(
     head: Head,
     flags: &mut [u8],

@@ -5,12 +5,17 @@ use Rattle.definition.specs.Outcome.{Answer, TreeLists, zero_counts}
 use Rattle.tree_lists.specs.declared.TreeRead.{TreeRead}
 use Rattle.tree_answer.specs.declared.DDMTree.{DDMTree}
 use Rattle.tree_answer.specs.declared.PackedTree.{PackedTree}
+use Rattle.packed.specs.declared.Packed.{Packed}
 use Rattle.refusal.specs.declared.Refusal.{Refusal}
 use Rattle.refusal.specs.Refusals.{answer_of}
 
 -- the counts, as the definition names them
 abbrev pub counts_given : DDMTree → Counts
 counts_given t = record { levels = t.levels; rows = t.rows; domains = t.domains }
+
+-- the same of a tree that is lent whole
+abbrev pub tree_counts : PackedTree → Counts
+tree_counts t = record { levels = t.levels; rows = t.rows.now; domains = t.domains.now }
 
 -- the answer: number and place of a refusal, and the counts
 abbrev pub tree_answer_lem : Result DDMTree Refusal → Answer Counts
@@ -21,11 +26,7 @@ abbrev pub lists_of : List ℕ → List ℕ → List ℕ → List Float → List
 lists_of level_points internals domains boxes borrowed =
     record { level_points = level_points; internals = internals; domains = domains; boxes = boxes; borrowed = borrowed }
 
--- a tree by its counts, the lists that hold it, and its axes
-abbrev pub packed_tree : DDMTree → TreeRead → ℕ → PackedTree
-packed_tree counts lists d =
-    record {
-      counts = counts;
-      level_points = lists.level_points;
-      leaves = record { internals = lists.internals; domains = lists.domains; boxes = lists.boxes; borrowed = lists.borrowed; dimensions = d };
-    }
+-- the leaves in the lists of a tree on d axes
+abbrev pub packed_leaves : TreeRead → ℕ → Packed
+packed_leaves lists d =
+    record { internals = lists.internals; domains = lists.domains; boxes = lists.boxes; borrowed = lists.borrowed; dimensions = d }

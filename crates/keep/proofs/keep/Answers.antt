@@ -2,7 +2,6 @@
 use native.Mathlib.Omega.{arith}
 use Rattle.std.proofs.lemmas.Result.{err_from_is_err_and}
 use Rattle.stored.specs.Programs.{kept}
-use Rattle.job_room.proofs.JobRead.{limits-read}
 use Rattle.keep.proofs.Outcomes.{answer-short, output-short}
 use Rattle.keep.proofs.StreamKept.{broken-answer, broken-output, whole-answer, whole-output}
 use Rattle.keep.proofs.keep.Goals as goal
@@ -24,10 +23,6 @@ returns-in_err-job c = let a = c.args in
       answer = rw (p.1, p.2) (broken-answer _ a.stream.now same a.file.now _ c.in_err-job.was (omega (arith, long)));
       output = broken-output _ a.stream.now same a.file.now _ c.in_err-job.was (omega (arith, long));
     }
-
-pub keep_job-requires : goal.keep_job-requires
-keep_job-requires c =
-    (limits-read _ c.args.stream.now c.read_job.ensures.same _ c.in_ok-job.was, omega (arith, c.if-file-lt-MOST_FILE_BYTES.false))
 
 pub returns : goal.returns
 returns c = let a = c.args in

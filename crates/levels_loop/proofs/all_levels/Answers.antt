@@ -1,8 +1,13 @@
 -- `levels_loop::all_levels` meets its contract. The loop's invariant: what is written, with what the levels that are left will write, is what
 -- is due. The measure: how many more fine levels may be built. Assumes nothing.
-use mathlib.Core.Path.{sym, ◌∙◌}
+use mathlib.Core.Path.{◌≡◌, sym, ap, ◌∙◌}
+use mathlib.Core.List.{List, ◌++◌}
+use Prim.Native.Nat.{ℕ}
 use native.Mathlib.Omega.{arith}
 use borrow.Author.Rules.{rules}
+use lib.ListN.{take, drop}
+use Rattle.std.proofs.Common.{take-append-drop}
+use Rattle.lists.proofs.Put.{part-lent, length_part}
 use Rattle.levels_loop.proofs.Spaces.{coarse-fits}
 use Rattle.levels_loop.proofs.Loop.{levels-first, levels-next, rows_few, built-below, level-above, level_points_fit, level-fits, level-room, size_few, first_fits, bat-fits, end-points, end-internals, end-domains, end-boxes, end-borrowed, end-rows, end-counts, end-number, end_rest, levels-left, next-rest, next-fewer}
 use Rattle.levels_loop.proofs.Noted.{noted-first, noted-fits, noted-next, noted-end}
@@ -64,7 +69,9 @@ loop-size-preserved c = let v = c.loop-size.invariant.0 in
 pub coarse_level-requires : goal.coarse_level-requires
 coarse_level-requires c = let v = c.loop-size.invariant.0 in
     let f = coarse-fits v.space in
-    (f.0, f.1, f.2, f.3, v.given.axes_few)
+    let P = c.loop-size.lists.level_points.now in
+    let p = c.loop-size.place in
+    rw (part-lent P p.from p.a, length_part P p.from p.a f.0) (f.1, f.2, f.3, v.given.axes_few)
 
 pub offset_bounds-rows-built-2 : goal.offset_bounds-rows-built-2
 offset_bounds-rows-built-2 c = omega (arith, c.loop-size.invariant.0.few)
@@ -84,16 +91,26 @@ overflow_add-result c = omega (arith, c.loop-size.invariant.0.few)
 pub returns : goal.returns
 returns c = let v = c.loop-size.invariant.0 in
     let no = sym c.is_fine.ensures ∙ c.loop-size-test.false in
-    let w = c.coarse_level.ensures in
-    let n = noted-end c.loop-size.invariant.1 (end_rest _ _ v no w.internals w.domains w.boxes) in
+    let P = c.loop-size.lists.level_points.now in
+    let p = c.loop-size.place in
+    let w = rw (part-lent P p.from p.a) at c.coarse_level.ensures in
+    let rows = rw (length_part P p.from p.a (coarse-fits v.space).0) at w.domains in
+    let n = noted-end c.loop-size.invariant.1 (end_rest _ _ v no w.internals rows w.boxes) in
     record {
       same = search rules;
-      counts = (end-number _ _ v no w.internals w.domains w.boxes, end-rows _ _ v no w.internals w.domains w.boxes, end-counts _ _ v no w.internals w.domains w.boxes);
-      level_points = w.kept.0 ∙ end-points _ _ v no w.internals w.domains w.boxes;
-      internals = end-internals _ _ v no w.internals w.domains w.boxes;
-      domains = end-domains _ _ v no w.internals w.domains w.boxes;
-      boxes = end-boxes _ _ v no w.internals w.domains w.boxes;
-      borrowed = w.kept.1 ∙ end-borrowed _ _ v no w.internals w.domains w.boxes;
+      counts = (end-number _ _ v no w.internals rows w.boxes, end-rows _ _ v no w.internals rows w.boxes, end-counts _ _ v no w.internals rows w.boxes);
+      level_points =
+          ap (λ (z : List ℕ). take p.from P ++ z) (take-append-drop _ (drop p.from P)) ∙ take-append-drop p.from P ∙ end-points _ _ v no w.internals rows w.boxes;
+      internals =
+          let back : _ ≡ c.coarse_level.new.lists.internals.now = search rules in
+          back ∙ end-internals _ _ v no w.internals rows w.boxes;
+      domains =
+          let back : _ ≡ c.coarse_level.new.lists.domains.now = search rules in
+          back ∙ end-domains _ _ v no w.internals rows w.boxes;
+      boxes =
+          let back : _ ≡ c.coarse_level.new.lists.boxes.now = search rules in
+          back ∙ end-boxes _ _ v no w.internals rows w.boxes;
+      borrowed = end-borrowed _ _ v no w.internals rows w.boxes;
       cuts = n.0;
       planes = n.1;
     }

@@ -37,7 +37,6 @@ collect-end-requires c = let p = c.requires in
     let W = c.owners.new.wholes in
     let o = owned c.level.result _ _ _ _ c.level.ensures _ _ c.owners.ensures in
     let e : length W ≡ length a.wholes.now = omega arith in (
-      p.stage.rows,
       p.stage.near,
       stage-owners a.points.dimensions a.points.coordinates.now a.neighbours a.active.now v.internals.now v.domains.now v.first v.count p.stage W o (omega (arith, p.neighbours_in_bounds.0)),
       omega (arith, e, p.neighbours_in_bounds.0, sent-fits (length a.active.now) a.neighbours),

@@ -18,9 +18,9 @@ loop-t-init c = let start = c in
     let a = start.args in
     let p = packed_of a.tree.leaves in
     let s = start.requires.stands in (
-      total-none a.tree.counts.rows,
-      total-none a.tree.counts.domains,
-      spelt_as (sym (front-none p a.tree.level_points.now a.tree.counts.rows a.tree.counts.domains))
+      total-none a.tree.rows.now,
+      total-none a.tree.domains.now,
+      spelt_as (sym (front-none p a.tree.level_points.now a.tree.rows.now a.tree.domains.now))
           (nothing_yet _ (omega (arith, c.requires.room_for.fits))),
     )
 
@@ -32,7 +32,7 @@ overflow_add-e c = let start = c in
     let v = c.loop-t in
     omega (
       arith,
-      rows_inside p a.tree.level_points.now a.tree.counts.rows a.tree.counts.domains v.t v.a v.j v.invariant.0 v.invariant.1 a.tree.counts.levels s
+      rows_inside p a.tree.level_points.now a.tree.rows.now a.tree.domains.now v.t v.a v.j v.invariant.0 v.invariant.1 a.tree.levels s
           (omega (arith, s.some, c.loop-t-test.true)),
       start.well_formed,
     )
@@ -45,7 +45,7 @@ offset_bounds-tree-a c = let start = c in
     let v = c.loop-t in
     omega (
       arith,
-      rows_inside p a.tree.level_points.now a.tree.counts.rows a.tree.counts.domains v.t v.a v.j v.invariant.0 v.invariant.1 a.tree.counts.levels s
+      rows_inside p a.tree.level_points.now a.tree.rows.now a.tree.domains.now v.t v.a v.j v.invariant.0 v.invariant.1 a.tree.levels s
           (omega (arith, s.some, c.loop-t-test.true)),
       start.well_formed,
     )
@@ -56,7 +56,7 @@ slice_bounds-write_fine-end c = let start = c in
     let p = packed_of a.tree.leaves in
     let s = start.requires.stands in
     let v = c.loop-t in
-    rows_inside p a.tree.level_points.now a.tree.counts.rows a.tree.counts.domains v.t v.a v.j v.invariant.0 v.invariant.1 a.tree.counts.levels s (omega (arith, s.some, c.loop-t-test.true))
+    rows_inside p a.tree.level_points.now a.tree.rows.now a.tree.domains.now v.t v.a v.j v.invariant.0 v.invariant.1 a.tree.levels s (omega (arith, s.some, c.loop-t-test.true))
 
 pub write_fine-requires : goal.write_fine-requires
 write_fine-requires c = let start = c in
@@ -64,13 +64,13 @@ write_fine-requires c = let start = c in
     let p = packed_of a.tree.leaves in
     let s = start.requires.stands in
     let v = c.loop-t in
-    let r = takes_first _ _ (takes_as (levels-whole p a.tree.level_points.now a.tree.counts.rows a.tree.counts.domains a.tree.counts.levels (a.tree.counts.levels - 1) s refl) start.requires.room_for) in
-    let g = grown_room (front_text p a.tree.level_points.now a.tree.counts.rows a.tree.counts.domains) (fine_at p a.tree.level_points.now a.tree.counts.rows a.tree.counts.domains)
-    (front-grows p a.tree.level_points.now a.tree.counts.rows a.tree.counts.domains) (a.tree.counts.levels - 1) v.t (omega arith) r v.invariant.2 in record {
-      by_index = row_fits p a.tree.level_points.now a.tree.counts.rows a.tree.counts.domains v.t v.a v.j v.invariant.0 v.invariant.1 a.tree.counts.levels s
+    let r = takes_first _ _ (takes_as (levels-whole p a.tree.level_points.now a.tree.rows.now a.tree.domains.now a.tree.levels (a.tree.levels - 1) s refl) start.requires.room_for) in
+    let g = grown_room (front_text p a.tree.level_points.now a.tree.rows.now a.tree.domains.now) (fine_at p a.tree.level_points.now a.tree.rows.now a.tree.domains.now)
+    (front-grows p a.tree.level_points.now a.tree.rows.now a.tree.domains.now) (a.tree.levels - 1) v.t (omega arith) r v.invariant.2 in record {
+      by_index = row_fits p a.tree.level_points.now a.tree.rows.now a.tree.domains.now v.t v.a v.j v.invariant.0 v.invariant.1 a.tree.levels s
           (omega (arith, s.some, c.loop-t-test.true));
       room_for = takes_as
-          (fine-here p a.tree.level_points.now a.tree.counts.rows a.tree.counts.domains v.t v.a v.j v.invariant.0 v.invariant.1) g;
+          (fine-here p a.tree.level_points.now a.tree.rows.now a.tree.domains.now v.t v.a v.j v.invariant.0 v.invariant.1) g;
     }
 
 pub overflow_add-j : goal.overflow_add-j
@@ -81,7 +81,7 @@ overflow_add-j c = let start = c in
     let v = c.loop-t in
     omega (
       arith,
-      domains-inside p a.tree.level_points.now a.tree.counts.rows a.tree.counts.domains v.t v.a v.j v.invariant.0 v.invariant.1 a.tree.counts.levels s
+      domains-inside p a.tree.level_points.now a.tree.rows.now a.tree.domains.now v.t v.a v.j v.invariant.0 v.invariant.1 a.tree.levels s
           (omega (arith, s.some, c.loop-t-test.true)),
       start.well_formed,
     )
@@ -91,13 +91,13 @@ loop-t-preserved c = let start = c in
     let a = start.args in
     let p = packed_of a.tree.leaves in
     let v = c.loop-t in
-    let g = grown (front_text p a.tree.level_points.now a.tree.counts.rows a.tree.counts.domains) (fine_at p a.tree.level_points.now a.tree.counts.rows a.tree.counts.domains)
-    (front-grows p a.tree.level_points.now a.tree.counts.rows a.tree.counts.domains) v.t v.invariant.2 in (
-      ap (λ (k : ℕ). k + get_or a.tree.counts.rows v.t 0) v.invariant.0 ∙ sym (total-step a.tree.counts.rows v.t),
-      ap (λ (k : ℕ). k + get_or a.tree.counts.domains
-          v.t 0) v.invariant.1 ∙ sym (total-step a.tree.counts.domains v.t),
+    let g = grown (front_text p a.tree.level_points.now a.tree.rows.now a.tree.domains.now) (fine_at p a.tree.level_points.now a.tree.rows.now a.tree.domains.now)
+    (front-grows p a.tree.level_points.now a.tree.rows.now a.tree.domains.now) v.t v.invariant.2 in (
+      ap (λ (k : ℕ). k + get_or a.tree.rows.now v.t 0) v.invariant.0 ∙ sym (total-step a.tree.rows.now v.t),
+      ap (λ (k : ℕ). k + get_or a.tree.domains.now
+          v.t 0) v.invariant.1 ∙ sym (total-step a.tree.domains.now v.t),
       g (spelt_as
-          (sym (fine-here p a.tree.level_points.now a.tree.counts.rows a.tree.counts.domains v.t v.a v.j v.invariant.0 v.invariant.1))
+          (sym (fine-here p a.tree.level_points.now a.tree.rows.now a.tree.domains.now v.t v.a v.j v.invariant.0 v.invariant.1))
           c.write_fine.ensures),
     )
 
@@ -107,10 +107,10 @@ overflow_add-e-2 c = let start = c in
     let p = packed_of a.tree.leaves in
     let s = start.requires.stands in
     let v = c.loop-t in
-    let e : v.t ≡ a.tree.counts.levels - 1 = omega (arith, v.auto.t-end, c.loop-t-test.false) in
-    let ea : v.a ≡ total (take (a.tree.counts.levels - 1) a.tree.counts.rows) = v.invariant.0 ∙ ap (λ (k : ℕ). total (take k a.tree.counts.rows)) e in
-    let ej : v.j ≡ total (take (a.tree.counts.levels - 1) a.tree.counts.domains) = v.invariant.1 ∙ ap (λ (k : ℕ). total (take k a.tree.counts.domains)) e in
-    omega (arith, rows_inside p a.tree.level_points.now a.tree.counts.rows a.tree.counts.domains (a.tree.counts.levels - 1) v.a v.j ea ej a.tree.counts.levels s (omega (arith, s.some)), start.well_formed)
+    let e : v.t ≡ a.tree.levels - 1 = omega (arith, v.auto.t-end, c.loop-t-test.false) in
+    let ea : v.a ≡ total (take (a.tree.levels - 1) a.tree.rows.now) = v.invariant.0 ∙ ap (λ (k : ℕ). total (take k a.tree.rows.now)) e in
+    let ej : v.j ≡ total (take (a.tree.levels - 1) a.tree.domains.now) = v.invariant.1 ∙ ap (λ (k : ℕ). total (take k a.tree.domains.now)) e in
+    omega (arith, rows_inside p a.tree.level_points.now a.tree.rows.now a.tree.domains.now (a.tree.levels - 1) v.a v.j ea ej a.tree.levels s (omega (arith, s.some)), start.well_formed)
 
 pub offset_bounds-tree-a-2 : goal.offset_bounds-tree-a-2
 offset_bounds-tree-a-2 c = let start = c in
@@ -118,10 +118,10 @@ offset_bounds-tree-a-2 c = let start = c in
     let p = packed_of a.tree.leaves in
     let s = start.requires.stands in
     let v = c.loop-t in
-    let e : v.t ≡ a.tree.counts.levels - 1 = omega (arith, v.auto.t-end, c.loop-t-test.false) in
-    let ea : v.a ≡ total (take (a.tree.counts.levels - 1) a.tree.counts.rows) = v.invariant.0 ∙ ap (λ (k : ℕ). total (take k a.tree.counts.rows)) e in
-    let ej : v.j ≡ total (take (a.tree.counts.levels - 1) a.tree.counts.domains) = v.invariant.1 ∙ ap (λ (k : ℕ). total (take k a.tree.counts.domains)) e in
-    omega (arith, rows_inside p a.tree.level_points.now a.tree.counts.rows a.tree.counts.domains (a.tree.counts.levels - 1) v.a v.j ea ej a.tree.counts.levels s (omega (arith, s.some)), start.well_formed)
+    let e : v.t ≡ a.tree.levels - 1 = omega (arith, v.auto.t-end, c.loop-t-test.false) in
+    let ea : v.a ≡ total (take (a.tree.levels - 1) a.tree.rows.now) = v.invariant.0 ∙ ap (λ (k : ℕ). total (take k a.tree.rows.now)) e in
+    let ej : v.j ≡ total (take (a.tree.levels - 1) a.tree.domains.now) = v.invariant.1 ∙ ap (λ (k : ℕ). total (take k a.tree.domains.now)) e in
+    omega (arith, rows_inside p a.tree.level_points.now a.tree.rows.now a.tree.domains.now (a.tree.levels - 1) v.a v.j ea ej a.tree.levels s (omega (arith, s.some)), start.well_formed)
 
 pub slice_bounds-write_coarse-end : goal.slice_bounds-write_coarse-end
 slice_bounds-write_coarse-end c = let start = c in
@@ -129,10 +129,10 @@ slice_bounds-write_coarse-end c = let start = c in
     let p = packed_of a.tree.leaves in
     let s = start.requires.stands in
     let v = c.loop-t in
-    let e : v.t ≡ a.tree.counts.levels - 1 = omega (arith, v.auto.t-end, c.loop-t-test.false) in
-    let ea : v.a ≡ total (take (a.tree.counts.levels - 1) a.tree.counts.rows) = v.invariant.0 ∙ ap (λ (k : ℕ). total (take k a.tree.counts.rows)) e in
-    let ej : v.j ≡ total (take (a.tree.counts.levels - 1) a.tree.counts.domains) = v.invariant.1 ∙ ap (λ (k : ℕ). total (take k a.tree.counts.domains)) e in
-    rows_inside p a.tree.level_points.now a.tree.counts.rows a.tree.counts.domains (a.tree.counts.levels - 1) v.a v.j ea ej a.tree.counts.levels s (omega (arith, s.some))
+    let e : v.t ≡ a.tree.levels - 1 = omega (arith, v.auto.t-end, c.loop-t-test.false) in
+    let ea : v.a ≡ total (take (a.tree.levels - 1) a.tree.rows.now) = v.invariant.0 ∙ ap (λ (k : ℕ). total (take k a.tree.rows.now)) e in
+    let ej : v.j ≡ total (take (a.tree.levels - 1) a.tree.domains.now) = v.invariant.1 ∙ ap (λ (k : ℕ). total (take k a.tree.domains.now)) e in
+    rows_inside p a.tree.level_points.now a.tree.rows.now a.tree.domains.now (a.tree.levels - 1) v.a v.j ea ej a.tree.levels s (omega (arith, s.some))
 
 pub write_coarse-requires : goal.write_coarse-requires
 write_coarse-requires c = let start = c in
@@ -140,14 +140,14 @@ write_coarse-requires c = let start = c in
     let p = packed_of a.tree.leaves in
     let s = start.requires.stands in
     let v = c.loop-t in
-    let e : v.t ≡ a.tree.counts.levels - 1 = omega (arith, v.auto.t-end, c.loop-t-test.false) in
-    let ea : v.a ≡ total (take (a.tree.counts.levels - 1) a.tree.counts.rows) = v.invariant.0 ∙ ap (λ (k : ℕ). total (take k a.tree.counts.rows)) e in
-    let ej : v.j ≡ total (take (a.tree.counts.levels - 1) a.tree.counts.domains) = v.invariant.1 ∙ ap (λ (k : ℕ). total (take k a.tree.counts.domains)) e in
-    let w = spelt_as (ap (front_text p a.tree.level_points.now a.tree.counts.rows a.tree.counts.domains) e) v.invariant.2 in
-    let r = takes_next w (takes_as (levels-whole p a.tree.level_points.now a.tree.counts.rows a.tree.counts.domains a.tree.counts.levels (a.tree.counts.levels - 1) s refl) start.requires.room_for) in record {
-      row_fits = rw add-zero at (row_fits p a.tree.level_points.now a.tree.counts.rows a.tree.counts.domains (a.tree.counts.levels - 1) v.a v.j ea ej a.tree.counts.levels s
+    let e : v.t ≡ a.tree.levels - 1 = omega (arith, v.auto.t-end, c.loop-t-test.false) in
+    let ea : v.a ≡ total (take (a.tree.levels - 1) a.tree.rows.now) = v.invariant.0 ∙ ap (λ (k : ℕ). total (take k a.tree.rows.now)) e in
+    let ej : v.j ≡ total (take (a.tree.levels - 1) a.tree.domains.now) = v.invariant.1 ∙ ap (λ (k : ℕ). total (take k a.tree.domains.now)) e in
+    let w = spelt_as (ap (front_text p a.tree.level_points.now a.tree.rows.now a.tree.domains.now) e) v.invariant.2 in
+    let r = takes_next w (takes_as (levels-whole p a.tree.level_points.now a.tree.rows.now a.tree.domains.now a.tree.levels (a.tree.levels - 1) s refl) start.requires.room_for) in record {
+      row_fits = rw add-zero at (row_fits p a.tree.level_points.now a.tree.rows.now a.tree.domains.now (a.tree.levels - 1) v.a v.j ea ej a.tree.levels s
           (omega (arith, s.some)) 0 (omega (arith, s.coarse)));
-      room_for = takes_as (coarse-here p a.tree.level_points.now a.tree.counts.rows a.tree.counts.domains (a.tree.counts.levels - 1)
+      room_for = takes_as (coarse-here p a.tree.level_points.now a.tree.rows.now a.tree.domains.now (a.tree.levels - 1)
           v.a v.j ea ej) r;
     }
 
@@ -157,9 +157,9 @@ returns c = let start = c in
     let p = packed_of a.tree.leaves in
     let s = start.requires.stands in
     let v = c.loop-t in
-    let e : v.t ≡ a.tree.counts.levels - 1 = omega (arith, v.auto.t-end, c.loop-t-test.false) in
-    let ea : v.a ≡ total (take (a.tree.counts.levels - 1) a.tree.counts.rows) = v.invariant.0 ∙ ap (λ (k : ℕ). total (take k a.tree.counts.rows)) e in
-    let ej : v.j ≡ total (take (a.tree.counts.levels - 1) a.tree.counts.domains) = v.invariant.1 ∙ ap (λ (k : ℕ). total (take k a.tree.counts.domains)) e in
-    let w = spelt_as (ap (front_text p a.tree.level_points.now a.tree.counts.rows a.tree.counts.domains) e) v.invariant.2 in
-    spelt_as (sym (levels-whole p a.tree.level_points.now a.tree.counts.rows a.tree.counts.domains a.tree.counts.levels (a.tree.counts.levels - 1) s refl))
-    (w ▸ spelt_as (sym (coarse-here p a.tree.level_points.now a.tree.counts.rows a.tree.counts.domains (a.tree.counts.levels - 1) v.a v.j ea ej)) c.write_coarse.ensures)
+    let e : v.t ≡ a.tree.levels - 1 = omega (arith, v.auto.t-end, c.loop-t-test.false) in
+    let ea : v.a ≡ total (take (a.tree.levels - 1) a.tree.rows.now) = v.invariant.0 ∙ ap (λ (k : ℕ). total (take k a.tree.rows.now)) e in
+    let ej : v.j ≡ total (take (a.tree.levels - 1) a.tree.domains.now) = v.invariant.1 ∙ ap (λ (k : ℕ). total (take k a.tree.domains.now)) e in
+    let w = spelt_as (ap (front_text p a.tree.level_points.now a.tree.rows.now a.tree.domains.now) e) v.invariant.2 in
+    spelt_as (sym (levels-whole p a.tree.level_points.now a.tree.rows.now a.tree.domains.now a.tree.levels (a.tree.levels - 1) s refl))
+    (w ▸ spelt_as (sym (coarse-here p a.tree.level_points.now a.tree.rows.now a.tree.domains.now (a.tree.levels - 1) v.a v.j ea ej)) c.write_coarse.ensures)

@@ -7,4 +7,4 @@ use mathlib.Core.Path.{◌≡◌}
 use Rattle.print_tree.proofs.write_levels.Given as goal
 
 abbrev pub invariant-loop-t : goal.invariant-loop-t
-invariant-loop-t l = (l.a ≡ total (take l.t l.tree.counts.rows)) × (l.j ≡ total (take l.t l.tree.counts.domains)) × Appends l.initial.out l.out (front_text (packed_of l.tree.leaves) l.tree.level_points.now l.tree.counts.rows l.tree.counts.domains l.t)
+invariant-loop-t l = (l.a ≡ total (take l.t l.tree.rows.now)) × (l.j ≡ total (take l.t l.tree.domains.now)) × Appends l.initial.out l.out (front_text (packed_of l.tree.leaves) l.tree.level_points.now l.tree.rows.now l.tree.domains.now l.t)

@@ -13,30 +13,30 @@ pub write_numbered-requires : goal.write_numbered-requires
 unfolding ascii
 write_numbered-requires c = let a = c.args in
     let p = packed_of a.tree.leaves in
-    let ls = read_levels p a.tree.level_points.now a.tree.counts.rows a.tree.counts.domains a.tree.counts.levels in
-    let n = how-many p a.tree.level_points.now a.tree.counts.rows a.tree.counts.domains a.tree.counts.levels in
-    record { fits = omega (arith, tree-long a.tree.counts.levels ls n, c.requires.room_for.fits) }
+    let ls = read_levels p a.tree.level_points.now a.tree.rows.now a.tree.domains.now a.tree.levels in
+    let n = how-many p a.tree.level_points.now a.tree.rows.now a.tree.domains.now a.tree.levels in
+    record { fits = omega (arith, tree-long a.tree.levels ls n, c.requires.room_for.fits) }
 
 pub byte-requires : goal.byte-requires
 unfolding ascii
 byte-requires c = let a = c.args in
     let p = packed_of a.tree.leaves in
-    let ls = read_levels p a.tree.level_points.now a.tree.counts.rows a.tree.counts.domains a.tree.counts.levels in
-    let n = how-many p a.tree.level_points.now a.tree.counts.rows a.tree.counts.domains a.tree.counts.levels in
-    record { fits = omega (arith, tree-long a.tree.counts.levels ls n, c.requires.room_for.fits) }
+    let ls = read_levels p a.tree.level_points.now a.tree.rows.now a.tree.domains.now a.tree.levels in
+    let n = how-many p a.tree.level_points.now a.tree.rows.now a.tree.domains.now a.tree.levels in
+    record { fits = omega (arith, tree-long a.tree.levels ls n, c.requires.room_for.fits) }
 
 pub write_levels-requires : goal.write_levels-requires
 unfolding ascii
 write_levels-requires c = let a = c.args in
     let p = packed_of a.tree.leaves in
-    let ls = read_levels p a.tree.level_points.now a.tree.counts.rows a.tree.counts.domains a.tree.counts.levels in
-    let n = how-many p a.tree.level_points.now a.tree.counts.rows a.tree.counts.domains a.tree.counts.levels in
-    record { stands = c.requires.stands; room_for = record { fits = omega (arith, tree-long a.tree.counts.levels ls n, c.requires.room_for.fits) } }
+    let ls = read_levels p a.tree.level_points.now a.tree.rows.now a.tree.domains.now a.tree.levels in
+    let n = how-many p a.tree.level_points.now a.tree.rows.now a.tree.domains.now a.tree.levels in
+    record { stands = c.requires.stands; room_for = record { fits = omega (arith, tree-long a.tree.levels ls n, c.requires.room_for.fits) } }
 
 pub returns : goal.returns
 unfolding ascii
 returns c = let a = c.args in
     let p = packed_of a.tree.leaves in
-    let ls = read_levels p a.tree.level_points.now a.tree.counts.rows a.tree.counts.domains a.tree.counts.levels in
-    let n = how-many p a.tree.level_points.now a.tree.counts.rows a.tree.counts.domains a.tree.counts.levels in
-    spelt_as (sym (tree-parts a.tree.counts.levels ls n)) (c.write_numbered.ensures ▸ c.byte.ensures ▸ c.write_levels.ensures)
+    let ls = read_levels p a.tree.level_points.now a.tree.rows.now a.tree.domains.now a.tree.levels in
+    let n = how-many p a.tree.level_points.now a.tree.rows.now a.tree.domains.now a.tree.levels in
+    spelt_as (sym (tree-parts a.tree.levels ls n)) (c.write_numbered.ensures ▸ c.byte.ensures ▸ c.write_levels.ensures)

@@ -14,8 +14,8 @@ write_answer-requires c =
     let lent = lent-sizes (lists_in c.lend-lists.result) c.lend-room.result.floats.now c.lend-room.result.wholes.now (c.lend-lists.ensures ∙ c.zero_lists-lists.ensures) (c.lend-room.ensures.floats ∙ c.zeros-room.ensures.floats) (c.lend-room.ensures.wholes ∙ c.zeros-room.ensures.wholes) in
     let w = c.build-answer.ensures.built in
     record {
-      stands = answer-stands s cs (lists_in c.lend-lists.result) _ _ c.requires.0 lent _ (c.read.ensures ∙ w.lists) _ w.answers;
-      room_for = takes_as (answer-printed s cs (lists_in c.lend-lists.result) _ _ c.requires.0 lent _ (c.read.ensures ∙ w.lists) _ w.answers) (room_for s cs c.requires.0 c.requires.1);
+      stands = answer-stands s cs (lists_in c.lend-lists.result) _ _ c.args.job.limits lent _ (c.read.ensures ∙ w.lists) _ w.answers;
+      room_for = takes_as (answer-printed s cs (lists_in c.lend-lists.result) _ _ c.args.job.limits lent _ (c.read.ensures ∙ w.lists) _ w.answers) (room_for s cs c.args.job.limits c.requires);
     }
 
 pub returns : goal.returns
@@ -24,4 +24,4 @@ returns c =
     let cs = c.args.job.points.coordinates.now in
     let lent = lent-sizes (lists_in c.lend-lists.result) c.lend-room.result.floats.now c.lend-room.result.wholes.now (c.lend-lists.ensures ∙ c.zero_lists-lists.ensures) (c.lend-room.ensures.floats ∙ c.zeros-room.ensures.floats) (c.lend-room.ensures.wholes ∙ c.zeros-room.ensures.wholes) in
     let w = c.build-answer.ensures.built in
-    spelt_as (sym (answer-printed s cs (lists_in c.lend-lists.result) _ _ c.requires.0 lent _ (c.read.ensures ∙ w.lists) _ w.answers)) c.write_answer.ensures
+    spelt_as (sym (answer-printed s cs (lists_in c.lend-lists.result) _ _ c.args.job.limits lent _ (c.read.ensures ∙ w.lists) _ w.answers)) c.write_answer.ensures

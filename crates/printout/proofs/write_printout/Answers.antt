@@ -1,18 +1,11 @@
 -- `printout::write_printout` meets its contract. Assumes nothing.
 use Rattle.bytes_out.proofs.Writing.{spelt_as}
-use Rattle.job_room.proofs.JobRead.{limits-read}
 use Rattle.job_room.proofs.Printing.{refusal-room}
 use Rattle.printout.proofs.Joins.{broken-printed, whole-printed}
 use Rattle.printout.proofs.write_printout.Goals as goal
 
 pub write_refusal-requires : goal.write_refusal-requires
 write_refusal-requires c = refusal-room _ c.requires
-
-pub write_job-requires : goal.write_job-requires
-write_job-requires c = let start = c in
-    let told = c.in-Ok.is in
-    let same = c.read_job.ensures.same in
-    (limits-read _ start.args.input.now same _ told, start.requires)
 
 pub returns-in-Err : goal.returns-in-Err
 returns-in-Err c = let start = c in

@@ -8,7 +8,7 @@ use Rattle.reload.proofs.Reloads.{too_long, not-too-long, loaded-room}
 use Rattle.reload.proofs.write_job.Goals as goal
 
 pub write_refusal-requires : goal.write_refusal-requires
-write_refusal-requires c = refusal-room LargeJob c.requires.1
+write_refusal-requires c = refusal-room LargeJob c.requires
 
 pub returns-then-file-gt-MOST_FILE : goal.returns-then-file-gt-MOST_FILE
 returns-then-file-gt-MOST_FILE c = let start = c in
@@ -22,7 +22,7 @@ write_loaded-requires c = let start = c in
     let s = job_settings start.args.job in
     let cs = start.args.job.points.coordinates.now in
     let bs = start.args.file.now in
-    (start.requires.0, loaded-room s cs bs start.requires.0 start.requires.1 (omega (arith, c.if-file-gt-MOST_FILE.false)))
+    loaded-room s cs bs start.args.job.limits start.requires (omega (arith, c.if-file-gt-MOST_FILE.false))
 
 pub returns : goal.returns
 returns c = let start = c in

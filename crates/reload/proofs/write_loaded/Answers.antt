@@ -11,8 +11,8 @@ write_answer-requires c =
     let cs = c.args.job.points.coordinates.now in
     let w = rw (c.lend-lists.ensures ∙ c.zero_lists-lists.ensures, sym c.read.ensures) at c.load_tree-answer.ensures.loaded in
     record {
-      stands = answer-stands s cs c.args.file.now c.requires.0 _ _ w;
-      room_for = takes_as (answer-printed s cs c.args.file.now c.requires.0 _ _ w) c.requires.1;
+      stands = answer-stands s cs c.args.file.now c.args.job.limits _ _ w;
+      room_for = takes_as (answer-printed s cs c.args.file.now c.args.job.limits _ _ w) c.requires;
     }
 
 pub returns : goal.returns
@@ -20,4 +20,4 @@ returns c =
     let s = job_settings c.args.job in
     let cs = c.args.job.points.coordinates.now in
     let w = rw (c.lend-lists.ensures ∙ c.zero_lists-lists.ensures, sym c.read.ensures) at c.load_tree-answer.ensures.loaded in
-    spelt_as (sym (answer-printed s cs c.args.file.now c.requires.0 _ _ w)) c.write_answer.ensures
+    spelt_as (sym (answer-printed s cs c.args.file.now c.args.job.limits _ _ w)) c.write_answer.ensures

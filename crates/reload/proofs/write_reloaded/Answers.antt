@@ -1,16 +1,11 @@
 -- `reload::write_reloaded` meets its contract. Assumes nothing.
 use Rattle.bytes_out.proofs.Writing.{spelt_as}
-use Rattle.job_room.proofs.JobRead.{limits-read}
 use Rattle.job_room.proofs.Printing.{refusal-room}
 use Rattle.reload.proofs.Reloads.{broken-reloaded, whole-reloaded}
 use Rattle.reload.proofs.write_reloaded.Goals as goal
 
 pub write_refusal-requires : goal.write_refusal-requires
 write_refusal-requires c = refusal-room _ c.requires
-
-pub write_job-requires : goal.write_job-requires
-write_job-requires c = let start = c in
-    (limits-read _ start.args.stream.now c.read_job.ensures.same _ c.in-Ok.is, start.requires)
 
 pub returns-in-Err : goal.returns-in-Err
 returns-in-Err c = let start = c in

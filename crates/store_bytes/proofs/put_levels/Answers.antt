@@ -19,7 +19,7 @@ loop-t-init c = let start = c in
     let p = packed_of a.tree.leaves in (
       sym total-nil,
       sym total-nil,
-      all_left _ (levels-all p a.tree.level_points.now a.tree.counts.rows a.tree.counts.domains a.tree.counts.levels) start.requires.room_for,
+      all_left _ (levels-all p a.tree.level_points.now a.tree.rows.now a.tree.domains.now a.tree.levels) start.requires.room_for,
     )
 
 pub offset_bounds-tree-a : goal.offset_bounds-tree-a
@@ -27,22 +27,22 @@ offset_bounds-tree-a c = let start = c in
     let a = start.args in
     let p = packed_of a.tree.leaves in
     let v = c.loop-t in
-    omega (arith, rows_inside p a.tree.level_points.now a.tree.counts.rows a.tree.counts.domains v.t v.a v.j v.invariant.0 v.invariant.1 a.tree.counts.levels start.requires.stands c.loop-t-test.true, start.well_formed)
+    omega (arith, rows_inside p a.tree.level_points.now a.tree.rows.now a.tree.domains.now v.t v.a v.j v.invariant.0 v.invariant.1 a.tree.levels start.requires.stands c.loop-t-test.true, start.well_formed)
 
 pub slice_bounds-put_whole_level-end : goal.slice_bounds-put_whole_level-end
 slice_bounds-put_whole_level-end c = let start = c in
     let a = start.args in
     let p = packed_of a.tree.leaves in
     let v = c.loop-t in
-    rows_inside p a.tree.level_points.now a.tree.counts.rows a.tree.counts.domains v.t v.a v.j v.invariant.0 v.invariant.1 a.tree.counts.levels start.requires.stands c.loop-t-test.true
+    rows_inside p a.tree.level_points.now a.tree.rows.now a.tree.domains.now v.t v.a v.j v.invariant.0 v.invariant.1 a.tree.levels start.requires.stands c.loop-t-test.true
 
 pub put_whole_level-requires : goal.put_whole_level-requires
 put_whole_level-requires c = let start = c in
     let a = start.args in
     let p = packed_of a.tree.leaves in
     let v = c.loop-t in
-    let w = left_as _ (turn-here p a.tree.level_points.now a.tree.counts.rows a.tree.counts.domains v.t v.a v.j v.invariant.0 v.invariant.1 a.tree.counts.levels start.requires.stands c.loop-t-test.true) v.invariant.2 in record {
-      by_index = row_fits p a.tree.level_points.now a.tree.counts.rows a.tree.counts.domains v.t v.a v.j v.invariant.0 v.invariant.1 a.tree.counts.levels start.requires.stands c.loop-t-test.true;
+    let w = left_as _ (turn-here p a.tree.level_points.now a.tree.rows.now a.tree.domains.now v.t v.a v.j v.invariant.0 v.invariant.1 a.tree.levels start.requires.stands c.loop-t-test.true) v.invariant.2 in record {
+      by_index = row_fits p a.tree.level_points.now a.tree.rows.now a.tree.domains.now v.t v.a v.j v.invariant.0 v.invariant.1 a.tree.levels start.requires.stands c.loop-t-test.true;
       room_for = takes_part w;
     }
 
@@ -51,23 +51,23 @@ overflow_add-e c = let start = c in
     let a = start.args in
     let p = packed_of a.tree.leaves in
     let v = c.loop-t in
-    omega (arith, rows_inside p a.tree.level_points.now a.tree.counts.rows a.tree.counts.domains v.t v.a v.j v.invariant.0 v.invariant.1 a.tree.counts.levels start.requires.stands c.loop-t-test.true, start.well_formed)
+    omega (arith, rows_inside p a.tree.level_points.now a.tree.rows.now a.tree.domains.now v.t v.a v.j v.invariant.0 v.invariant.1 a.tree.levels start.requires.stands c.loop-t-test.true, start.well_formed)
 
 pub overflow_add-j : goal.overflow_add-j
 overflow_add-j c = let start = c in
     let a = start.args in
     let p = packed_of a.tree.leaves in
     let v = c.loop-t in
-    omega (arith, domains-inside p a.tree.level_points.now a.tree.counts.rows a.tree.counts.domains v.t v.a v.j v.invariant.0 v.invariant.1 a.tree.counts.levels start.requires.stands c.loop-t-test.true, start.well_formed)
+    omega (arith, domains-inside p a.tree.level_points.now a.tree.rows.now a.tree.domains.now v.t v.a v.j v.invariant.0 v.invariant.1 a.tree.levels start.requires.stands c.loop-t-test.true, start.well_formed)
 
 pub loop-t-preserved : goal.loop-t-preserved
 loop-t-preserved c = let start = c in
     let a = start.args in
     let p = packed_of a.tree.leaves in
     let v = c.loop-t in
-    let w = left_as _ (turn-here p a.tree.level_points.now a.tree.counts.rows a.tree.counts.domains v.t v.a v.j v.invariant.0 v.invariant.1 a.tree.counts.levels start.requires.stands c.loop-t-test.true) v.invariant.2 in (
-      ap (λ (k : ℕ). k + get_or a.tree.counts.rows v.t 0) v.invariant.0 ∙ sym (total-step a.tree.counts.rows v.t),
-      ap (λ (k : ℕ). k + get_or a.tree.counts.domains v.t 0) v.invariant.1 ∙ sym (total-step a.tree.counts.domains v.t),
+    let w = left_as _ (turn-here p a.tree.level_points.now a.tree.rows.now a.tree.domains.now v.t v.a v.j v.invariant.0 v.invariant.1 a.tree.levels start.requires.stands c.loop-t-test.true) v.invariant.2 in (
+      ap (λ (k : ℕ). k + get_or a.tree.rows.now v.t 0) v.invariant.0 ∙ sym (total-step a.tree.rows.now v.t),
+      ap (λ (k : ℕ). k + get_or a.tree.domains.now v.t 0) v.invariant.1 ∙ sym (total-step a.tree.domains.now v.t),
       part_done w c.put_whole_level.ensures,
     )
 
@@ -76,4 +76,4 @@ returns c = let start = c in
     let a = start.args in
     let p = packed_of a.tree.leaves in
     let v = c.loop-t in
-    nothing_left (left_as [] (no-level (read_level p a.tree.level_points.now a.tree.counts.rows a.tree.counts.domains) v.t a.tree.counts.levels (search rules)) v.invariant.2)
+    nothing_left (left_as [] (no-level (read_level p a.tree.level_points.now a.tree.rows.now a.tree.domains.now) v.t a.tree.levels (search rules)) v.invariant.2)

@@ -11,6 +11,6 @@ use Rattle.store_bytes.proofs.put_levels.Given as goal
 
 abbrev pub invariant-loop-t : goal.invariant-loop-t
 invariant-loop-t l = let p = packed_of l.tree.leaves in
-    (l.a ≡ total (take l.t l.tree.counts.rows)) × (l.j ≡ total (take l.t l.tree.counts.domains))
-    × Left l.initial.out l.out (joined (tree_records (read_levels p l.tree.level_points.now l.tree.counts.rows l.tree.counts.domains l.tree.counts.levels)))
-    (tree_records (map (read_level p l.tree.level_points.now l.tree.counts.rows l.tree.counts.domains) (from l.t (l.tree.counts.levels - l.t))))
+    (l.a ≡ total (take l.t l.tree.rows.now)) × (l.j ≡ total (take l.t l.tree.domains.now))
+    × Left l.initial.out l.out (joined (tree_records (read_levels p l.tree.level_points.now l.tree.rows.now l.tree.domains.now l.tree.levels)))
+    (tree_records (map (read_level p l.tree.level_points.now l.tree.rows.now l.tree.domains.now) (from l.t (l.tree.levels - l.t))))

@@ -1,6 +1,6 @@
 -- `stream_reader::read_job` meets its contract. Assumes nothing.
 use Rattle.std.proofs.lemmas.Result.{err_from_is_err_and}
-use Rattle.stream_reader.proofs.Records.{job-broken, job-low, job-high, job-right, held-broken, held-over, held-within}
+use Rattle.stream_reader.proofs.Records.{job-broken, job-wrong, job-right, held-broken, held-over, held-within}
 use Rattle.config.specs.Params.{settings_are}
 use Rattle.formats.specs.Stream.{Job, settings_size, stream_points, read_points, held, job_in}
 use mathlib.Core.List.{List, []}
@@ -10,29 +10,26 @@ use native.Mathlib.Omega.{arith}
 use Prim.Native.Nat.{ℕ, ◌-◌, ◌*◌}
 use mathlib.Core.Path.{◌≡◌, sym, ap, ◌∙◌}
 use Rattle.stream_reader.proofs.read_job.Goals as goal
-use Rattle.stream_reader.proofs.read_job.Goals.{Else-dimensions-gt3, then-dimensions-eq0-via-then-dimensions-eq0, then-dimensions-eq0-via-else-dimensions-eq0+then-dimensions-gt3}
+use Rattle.stream_reader.proofs.read_job.Goals.{In_ok-check_dimension}
 
 pub returns-then-not-settings_whole-clause-same : goal.returns-then-not-settings_whole-clause-same
 returns-then-not-settings_whole-clause-same c = job-broken c.args.input.now (sym c.settings_whole.ensures ∙ c.if-not-settings_whole.true)
 
-pub returns-then-dimensions-eq0-clause-same : goal.returns-then-dimensions-eq0-clause-same
-returns-then-dimensions-eq0-clause-same c =
-    elim c.then-dimensions-eq0.branch [
-      | then-dimensions-eq0-via-then-dimensions-eq0 w ↦
-          job-low c.args.input.now (sym c.settings_whole.ensures ∙ c.if-not-settings_whole.false) _ c.settings_of-settings.ensures w.if-dimensions-eq0.true
-      | then-dimensions-eq0-via-else-dimensions-eq0+then-dimensions-gt3 w ↦
-          job-high c.args.input.now (sym c.settings_whole.ensures ∙ c.if-not-settings_whole.false) _ c.settings_of-settings.ensures w.if-dimensions-gt3.true
-    ]
+pub returns-in_err-check_dimension-clause-same : goal.returns-in_err-check_dimension-clause-same
+returns-in_err-check_dimension-clause-same c =
+    let p = err_from_is_err_and c.from_residual.result c.from_residual.ensures.1 in
+    rw (p.1, p.2) (job-wrong c.args.input.now (sym c.settings_whole.ensures ∙ c.if-not-settings_whole.false) _ c.settings_of-settings.ensures _
+    c.in_err-check_dimension.ensures.number)
 
 -- the points that are read decide the job
-module _ (c : Else-dimensions-gt3) where
+module _ (c : In_ok-check_dimension) where
   abbrev points : Job
   points = read_points (settings_are c.settings_of-settings.result) stream_points settings_size (drop settings_size c.args.input.now) []
 
   by-points : job_in c.args.input.now ≡ held points
   by-points =
-      job-right c.args.input.now (sym c.settings_whole.ensures ∙ c.if-not-settings_whole.false) _ c.settings_of-settings.ensures c.if-dimensions-eq0.false
-      c.if-dimensions-gt3.false
+      job-right c.args.input.now (sym c.settings_whole.ensures ∙ c.if-not-settings_whole.false) _ c.settings_of-settings.ensures
+      c.in_ok-check_dimension.ensures.fine.0 c.in_ok-check_dimension.ensures.fine.1
 
   -- the records that are lent are all behind the settings
   all-records : read_points (settings_are c.settings_of-settings.result) stream_points settings_size
@@ -43,18 +40,18 @@ module _ (c : Else-dimensions-gt3) where
 
 pub returns-in_err-count-clause-same : goal.returns-in_err-count-clause-same
 returns-in_err-count-clause-same c =
-    let p = err_from_is_err_and c.from_residual.result c.from_residual.ensures.1 in
-    let at = (goal.at.returns-in_err-count-clause-same c).Else-dimensions-gt3 in
+    let p = err_from_is_err_and c.from_residual-in_err-count.result c.from_residual-in_err-count.ensures.1 in
+    let at = (goal.at.returns-in_err-count-clause-same c).In_ok-check_dimension in
     rw (p.1, p.2) (held-broken (settings_are c.settings_of-settings.result) c.args.input.now (points at) (by-points at) _ (c.in_err-count.ensures.same ∙ all-records at))
 
 pub returns-then-params-gt-MOST_NEIGHBOURS-clause-same : goal.returns-then-params-gt-MOST_NEIGHBOURS-clause-same
 returns-then-params-gt-MOST_NEIGHBOURS-clause-same c =
-    let at = (goal.at.returns-then-params-gt-MOST_NEIGHBOURS-clause-same c).Else-dimensions-gt3 in
+    let at = (goal.at.returns-then-params-gt-MOST_NEIGHBOURS-clause-same c).In_ok-check_dimension in
     held-over (settings_are c.settings_of-settings.result) c.args.input.now (points at) (by-points at)
     (take (c.in_ok-count.count * c.settings_of-settings.result.dimensions) c.read_points.new.coordinates) (c.in_ok-count.ensures.same ∙ all-records at) c.if-params-gt-MOST_NEIGHBOURS.true
 
 pub returns-clause-same : goal.returns-clause-same
 returns-clause-same c =
-    let at = (goal.at.returns-clause-same c).Else-dimensions-gt3 in
+    let at = (goal.at.returns-clause-same c).In_ok-check_dimension in
     held-within (settings_are c.settings_of-settings.result) c.args.input.now (points at) (by-points at)
     (take (c.in_ok-count.count * c.settings_of-settings.result.dimensions) c.read_points.new.coordinates) (c.in_ok-count.ensures.same ∙ all-records at) c.if-params-gt-MOST_NEIGHBOURS.false

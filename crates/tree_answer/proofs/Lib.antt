@@ -1,0 +1,2 @@
+-- Laws on the counts of a tree.
+pub mod Zeros
