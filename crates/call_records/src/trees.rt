@@ -1,8 +1,9 @@
 // What a record says of a tree: the answer of the call that made it, and its five lists.
 ghost use Rattle.std.specs.Prelude.{◌≡◌, true, ◌+◌, length, drop, IfSome};
 ghost use Rattle.refusal.specs.Refusals.{answer_of};
-ghost use Rattle.formats.specs.Bytes.{field, number_at, number_size};
+ghost use Rattle.formats.specs.Bytes.{field, number_at, numbers_at, number_size};
 ghost use Rattle.tree_lists.specs.Lent.{arrays_held};
+ghost use Rattle.tree_answer.specs.Answers.{tree_answer_lem};
 ghost use Rattle.call_records.specs.Nines.{nine_lists};
 ghost use Rattle.call_records.specs.Reads.{filled_left, numbers_left};
 
@@ -82,7 +83,12 @@ impl<'a> Fields<'a> {
     // Whether the answer of a call stands next. A refused one has no counts. They are compared one by one as they are read, and not by `==` of a
     // tree: where one differs, the rest is not read.
     pub fn answer_agrees(&mut self, answer: Result<DDMTree, Refusal>) -> Option<bool>
-        ensures { IfSome result (λ same. same ≡ true → self.new.rest.now ≡ drop 41 self.old.rest.now) }
+        ensures number { IfSome result (λ same. same ≡ true → field 1 0 self.old.rest.now ≡ (tree_answer_lem answer).number) }
+        ensures place { IfSome result (λ same. same ≡ true → number_at 1 self.old.rest.now ≡ (tree_answer_lem answer).place) }
+        ensures levels { IfSome result (λ same. same ≡ true → number_at 5 self.old.rest.now ≡ (tree_answer_lem answer).value.levels) }
+        ensures rows { IfSome result (λ same. same ≡ true → numbers_at 4 0 (drop 9 self.old.rest.now) ≡ (tree_answer_lem answer).value.rows) }
+        ensures domains { IfSome result (λ same. same ≡ true → numbers_at 4 0 (drop 25 self.old.rest.now) ≡ (tree_answer_lem answer).value.domains) }
+        ensures left { IfSome result (λ same. same ≡ true → self.new.rest.now ≡ drop 41 self.old.rest.now) }
     {
         let report = Report::of(answer);
         let tree = report.value;
