@@ -74,6 +74,9 @@ static void tables() {
     EXPECT(ddm_tree_own(tree, 0, 0).count == 1 && ddm_tree_own(tree, 0, 0).rows[0] == 1);
     ddm_tree_free(tree);
     EXPECT(ddm_retire(&head, flags, 2, coordinates, 2, 1, 0) == 22);
+    std::size_t rename[2] = {9, 9}, closed[DDM_CLOSE_SLOT];
+    EXPECT(ddm_close(&head, flags, 2, coordinates, 2, 1, rename, 2, closed, DDM_CLOSE_SLOT) == 0 && closed[DDM_CLOSE_SLOTS] == 1);
+    EXPECT(rename[0] == 2 && rename[1] == 0 && head.slots == 1 && head.live == 1 && flags[1] == 0 && coordinates[0] == 3.0);
 }
 
 int main() {

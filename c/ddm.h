@@ -6,8 +6,8 @@
  * call's lists overlap. Every function but ddm_version returns a refusal number, 0 for none; ddm_refusal_text says it in words.
  * Counts and values go to the slot `result`, which is no lent list: a refusal writes zeros there (and the place, where one is named)
  * and touches nothing else. A slot that is too short is refused with 11 before anything else is looked at, and then it is not written
- * either. ddm_sample has two slots, `cover` and `result`: both are written or neither. ddm_add and ddm_retire change a table where the
- * caller keeps it, and a refused one leaves it as it was.
+ * either. ddm_sample has two slots, `cover` and `result`: both are written or neither. ddm_add, ddm_retire and ddm_close change a table
+ * where the caller keeps it, and a refused one leaves it as it was.
  *
  * Threads. There is no global state: any number of calls may run at once, as long as no list is lent to two of them. Points may be
  * shared, since they are only read.
@@ -34,7 +34,7 @@ extern "C" {
 
 /* major * 10000 + minor * 100 + patch, of this header; ddm_version gives that of the library. Another minor version may have wider rows
  * and more lists, so that a program which loads the shared library tests ddm_version() / 100 == DDM_VERSION / 100 first. */
-#define DDM_VERSION 700
+#define DDM_VERSION 800
 
 /* ---- limits and settings */
 
@@ -81,7 +81,7 @@ extern "C" {
 /* The entries that each of the two lists needs, for n points. */
 #define DDM_RECORD_ENTRIES(n) (12 * (n))
 
-/* ---- the table of wells that ddm_add and ddm_retire edit and ddm_build_slots builds over */
+/* ---- the table of wells that ddm_add, ddm_retire and ddm_close edit and ddm_build_slots builds over */
 
 /* The head, which stays where the caller keeps it: how many slots have been given out, and how many of them are live. A table without wells
  * has 0 and 0. The table itself is two lists:
@@ -89,7 +89,7 @@ extern "C" {
  *   coordinates  those of slot i start at i * dimensions; at least as many as the capacity asks for
  * The capacity is flags_len, held to DDM_MOST_POINTS: what stands behind it is neither read nor written. What stands in slots that are not
  * live may be anything, a NaN too. Each call brings the dimension, which has to be the same in all of them. An edit takes one pass over the
- * flags below the slot count. */
+ * flags below the slot count, and closing goes over the coordinates below it too. */
 typedef struct ddm_head {
     size_t slots, live;
 } ddm_head;
@@ -123,6 +123,11 @@ typedef struct ddm_head {
 #define DDM_ADD_PLACE 0
 #define DDM_ADD_TAKEN 1
 #define DDM_ADD_SLOT 2
+
+/* That of ddm_close: the place of a refusal, which is 0 since none names one, and the slot count after closing. */
+#define DDM_CLOSE_PLACE 0
+#define DDM_CLOSE_SLOTS 1
+#define DDM_CLOSE_SLOT 2
 
 /* The writer's: the place of a refusal, the bytes written. */
 #define DDM_STORE_PLACE 0
@@ -181,6 +186,16 @@ size_t ddm_add(ddm_head *head, uint8_t *flags, size_t flags_len, double *coordin
 size_t ddm_retire(ddm_head *head, uint8_t *flags, size_t flags_len, const double *coordinates, size_t coordinates_len,
                   size_t dimensions, size_t slot);
 
+/* Closes the gaps of the table: live wells move down, in order, so that none is retired, and the slot count becomes the live count, which
+ * is the answer (result: DDM_CLOSE_SLOT). Coordinates are moved bit for bit. From the live count to the old slot count coordinates become
+ * +0 and flags 0; below, flags become 1, whatever stood there.
+ *   rename  at least as many entries as the old slot count: for each old slot the new one, or the old slot count for a retired one
+ * What stands at or above the old slot count stays as it was, in all three lists. A tree that was built before needs no new build: with
+ * each row looked up in `rename` it is the tree that ddm_build_slots would build now, with the same leaves, boxes, covers and depths.
+ * Refusals 1, 11 (also for a short rename list), 27, in this order. A refused call leaves the table and the list as they were. */
+size_t ddm_close(ddm_head *head, uint8_t *flags, size_t flags_len, double *coordinates, size_t coordinates_len, size_t dimensions,
+                 size_t *rename, size_t rename_len, size_t *result, size_t result_len);
+
 /* Builds the tree over the live slots of the table with the head {slots, live}, in slot order: rows in every list are slots, and n is the
  * live count, in the lengths of the lists too. The table is only read. All else is as for ddm_build. Refusals 27, 1 to 6, 9, 11, 10, in
  * this order; 6 where no slot is live, 11 for short coordinates too, and 10 for live slots alone, its place counted in `coordinates`. */
@@ -194,7 +209,8 @@ size_t ddm_build_slots(size_t slots, size_t live, const uint8_t *flags, size_t f
 /* Writes a tree as the bytes of a file, with the points and settings that it was built or loaded for. tree: the slot that the build or
  * load wrote (DDM_BUILD_SLOT; a shorter one is refused with 11 before all but the result slot). The lists are those of the tree, as long as
  * for a build; file has at least ddm_file_size bytes, and what stands past them stays as it was. result: DDM_STORE_SLOT. Refusals 1 to 9,
- * 11, 10, 20, and 11 for a short file, in this order. A tree over slots is refused with 20, unless they are 0 to n - 1. */
+ * 11, 10, 20, and 11 for a short file, in this order. A tree over slots is refused with 20, unless they are 0 to n - 1, as they are after
+ * ddm_close. */
 size_t ddm_store(const double *points, size_t points_len, size_t dimensions, uint32_t leaf_threshold, uint32_t overlap_knn,
                  uint32_t coarse_reduction_factor, uint32_t policy, uint32_t coarse_threshold, const size_t *tree, size_t tree_len,
                  const size_t *level_points, size_t level_points_len, const size_t *internals, size_t internals_len,

@@ -14,8 +14,8 @@
  *   ddm_tree_free(tree);
  *
  * ddm_tree_build_depth_first builds the same tree and keeps its cuts: ddm_tree_record. ddm_tree_build_slots builds over the live slots of
- * a table, which ddm_add and ddm_retire edit. ddm_tree_store gives a tree as the bytes of a file, which holds no cuts, and ddm_tree_load
- * takes them for the same points and settings.
+ * a table, which ddm_add and ddm_retire edit; after ddm_close its rows are looked up in the list from old slot to new. ddm_tree_store gives
+ * a tree as the bytes of a file, which holds no cuts, and ddm_tree_load takes them for the same points and settings.
  *
  * The lists come from calloc, so that what the build does not touch costs nothing; afterwards the working room is given back and the
  * others are cut to what they hold. A tree is only read by the functions that walk it: any number of threads may do so at once. A level

@@ -1,5 +1,5 @@
-/* The table of wells by ddm.h: edits against a plain model, the build over its live slots against ddm_build of the live points, the
- * refusals in their order, and that a refused call writes nothing.
+/* The table of wells by ddm.h: edits and closing against a plain model, the build over its live slots against ddm_build of the live points,
+ * the build before closing against the one after it, the refusals in their order, and that a refused call writes nothing.
  *
  *   cc -O2 -o table c/table.c target/staticlib/libddm_c.a && ./table
  */
@@ -83,17 +83,17 @@ static size_t plain_live(const table *t) {
     return live;
 }
 
-/* 1, 11, 27; tables here are all smaller than the most points. */
-static size_t plain_test(const table *t) {
+/* 1, 11, 27; `lacking` where another list is too short. Tables here are all smaller than the most points. */
+static size_t plain_test(const table *t, int lacking) {
     if (t->d < 1 || t->d > AXES)
         return 1;
-    if (t->coordinates_len < t->flags_len * t->d)
+    if (lacking || t->coordinates_len < t->flags_len * t->d)
         return 11;
     return t->head.slots > t->flags_len || t->head.live != plain_live(t) ? 27 : 0;
 }
 
 static size_t plain_add(table *t, const double *point, size_t point_len, size_t *place, size_t *slot) {
-    const size_t refused = plain_test(t);
+    const size_t refused = plain_test(t, 0);
     size_t free = 0;
     *place = *slot = 0;
     if (refused)
@@ -118,13 +118,35 @@ static size_t plain_add(table *t, const double *point, size_t point_len, size_t 
 }
 
 static size_t plain_retire(table *t, size_t slot) {
-    const size_t refused = plain_test(t);
+    const size_t refused = plain_test(t, 0);
     if (refused)
         return refused;
     if (slot >= t->head.slots || !t->flags[slot])
         return 22;
     t->flags[slot] = 0;
     t->head.live--;
+    return 0;
+}
+
+/* Writes the closed table beside the one that was. */
+static size_t plain_close(table *t, size_t *rename, size_t rename_len, size_t *slots) {
+    const size_t refused = plain_test(t, rename_len < t->head.slots), point = t->d * sizeof *t->coordinates;
+    const table before = *t;
+    size_t live = 0;
+    *slots = 0;
+    if (refused)
+        return refused;
+    memset(t->flags, 0, t->head.slots);
+    memset(t->coordinates, 0, t->head.slots * point);
+    for (size_t i = 0; i < before.head.slots; i++) {
+        rename[i] = before.head.slots;
+        if (!before.flags[i])
+            continue;
+        rename[i] = live++;
+        t->flags[rename[i]] = 1;
+        memcpy(t->coordinates + rename[i] * t->d, before.coordinates + i * t->d, point);
+    }
+    t->head.slots = t->head.live = *slots = live;
     return 0;
 }
 
@@ -156,6 +178,24 @@ static size_t retire(table *t, size_t slot) {
     return number;
 }
 
+/* The list of the last closing, and the slot count that it answered with. */
+static size_t names[MOST + 2 * SPARE], remaining;
+
+static size_t close_gaps(table *t, size_t names_len) {
+    size_t slot[DDM_CLOSE_SLOT + SPARE], due[MOST + 2 * SPARE], number, expected;
+    table plain = *t;
+    memset(slot, FILL, sizeof slot), memset(names, FILL, sizeof names), memset(due, FILL, sizeof due);
+    number = ddm_close(&t->head, t->flags, t->flags_len, t->coordinates, t->coordinates_len, t->d, names, names_len, slot, DDM_CLOSE_SLOT);
+    EXPECT(number == plain_close(&plain, due, names_len, &expected));
+    remaining = slot[DDM_CLOSE_SLOTS];
+    EXPECT(remaining == expected && slot[DDM_CLOSE_PLACE] == 0);
+    EXPECT(memcmp(names, due, sizeof names) == 0);
+    for (size_t i = DDM_CLOSE_SLOT * ROOM; i < sizeof slot; i++)
+        EXPECT(((unsigned char *)slot)[i] == FILL);
+    EXPECT(same_table(t, &plain));
+    return number;
+}
+
 /* Whether adding this point is refused with this number at this place, and leaves the table. */
 static int refused_add(table t, const double *point, size_t point_len, size_t number, size_t at) {
     const table before = t;
@@ -165,6 +205,14 @@ static int refused_add(table t, const double *point, size_t point_len, size_t nu
 static int refused_retire(table t, size_t slot, size_t number) {
     const table before = t;
     return retire(&t, slot) == number && same_table(&t, &before);
+}
+
+static int refused_close(table t, size_t names_len, size_t number) {
+    const table before = t;
+    int right = close_gaps(&t, names_len) == number && remaining == 0 && same_table(&t, &before);
+    for (size_t i = 0; i < sizeof names; i++)
+        right = right && ((unsigned char *)names)[i] == FILL;
+    return right;
 }
 
 /* ---- edits one by one */
@@ -194,8 +242,9 @@ static void no_capacity(void) {
     for (size_t d = 1; d <= AXES; d++) {
         table t = empty(d, 0);
         EXPECT(refused_add(t, &point, d == 1 ? 1 : 0, d == 1 ? 21 : 7, 0) && refused_retire(t, 0, 22));
+        EXPECT(close_gaps(&t, 0) == 0 && same_head(t.head, (ddm_head){0, 0}) && close_gaps(&t, SPARE) == 0);
         t.head.slots = 1;
-        EXPECT(refused_add(t, &point, 1, 27, 0) && refused_retire(t, 0, 27));
+        EXPECT(refused_add(t, &point, 1, 27, 0) && refused_retire(t, 0, 27) && refused_close(t, 1, 27) && refused_close(t, 0, 11));
     }
 }
 
@@ -223,6 +272,88 @@ static void long_coordinates(void) {
         for (size_t i = 0; i < MOST; i++)
             EXPECT(add(&t, point, AXES) == 0 && taken == i);
         EXPECT(add(&t, point, AXES) == 21 && isnan(t.coordinates[AXES * MOST]) && retire(&t, MOST - 1) == 0);
+    }
+}
+
+/* ---- closing */
+
+static double of_bits(uint64_t bits) {
+    double x;
+    memcpy(&x, &bits, sizeof x);
+    return x;
+}
+
+/* Zeros of both signs, the least number, infinities, and NaNs of both kinds and signs with their payloads. */
+static const uint64_t odd_bits[9] = {0x0, 0x8000000000000000, 0x1, 0x7ff0000000000000, 0xfff0000000000000,
+                                     0x7ff8000000000000, 0x7ff0000000000001, 0xfff8dead0000beef, 0xffffffffffffffff};
+
+static double odd_float(void) {
+    return of_bits(odd_bits[below(9)]);
+}
+
+/* Gaps in front, between and at the end, with flags and floats of all kinds, by hand. */
+static void closed_by_hand(void) {
+    const uint8_t flags[7] = {0, 2, 0, 255, 1, 0, 0}, flags_after[9] = {1, 1, 1, 0, 0, 0, 0, 77, 0};
+    const size_t renamed[9] = {7, 0, 7, 1, 2, 7, 7};
+    const double live[6] = {-0.0, of_bits(0x7ff0dead0000beef), 3.5, of_bits(0xfff8000000000001), 5e-324, -7.0};
+    table t = with_flags(2, 9, flags, 7);
+    t.flags[7] = 77, t.flags[8] = 0;
+    t.coordinates[0] = -0.0, t.coordinates[t.d * 2] = 8.0, t.coordinates[t.d * 6] = -0.0;
+    memcpy(t.coordinates + t.d, live, sizeof *live * 2);
+    memcpy(t.coordinates + t.d * 3, live + 2, sizeof live - sizeof *live * 2);
+    t.coordinates[t.d * 7] = 70.0, t.coordinates[t.d * 9 - 1] = -0.0;
+    EXPECT(close_gaps(&t, 9) == 0 && remaining == 3 && same_head(t.head, (ddm_head){3, 3}));
+    EXPECT(memcmp(names, renamed, sizeof *names * 7) == 0);
+    for (size_t i = 7 * ROOM; i < sizeof names; i++)
+        EXPECT(((unsigned char *)names)[i] == FILL);
+    EXPECT(memcmp(t.flags, flags_after, sizeof flags_after) == 0 && t.flags[9] == FILL);
+    EXPECT(memcmp(t.coordinates, live, sizeof live) == 0);
+    for (size_t i = 6; i < t.d * 7; i++)
+        EXPECT(t.coordinates[i] == 0.0 && !signbit(t.coordinates[i]));
+    EXPECT(t.coordinates[t.d * 7] == 70.0 && isnan(t.coordinates[t.d * 7 + 1]) && signbit(t.coordinates[t.d * 9 - 1]));
+    /* the next new slot is the one behind the wells that are left; retired slots are given out again as ever */
+    EXPECT(add(&t, live + 4, 2) == 0 && taken == 3 && retire(&t, 1) == 0 && add(&t, live + 4, 2) == 0 && taken == 1);
+}
+
+/* Every choice of live and retired slots, in each dimension: no gap, all gaps, gaps in front, at the end and between; with a list as long
+ * as the slot count and with longer ones, twice over. */
+static void closed_patterns(void) {
+    const uint8_t kinds[4] = {1, 2, 128, 255};
+    for (size_t slots = 0; slots <= 6; slots++)
+        for (size_t pattern = 0; pattern < (size_t)1 << slots; pattern++)
+            for (size_t d = 1; d <= AXES; d++) {
+                uint8_t flags[6];
+                size_t live = 0;
+                table t;
+                for (size_t i = 0; i < slots; i++) {
+                    flags[i] = pattern >> i & 1 ? kinds[below(4)] : 0;
+                    live += flags[i] != 0;
+                }
+                t = with_flags(d, slots + below(SPARE + 1), flags, slots);
+                for (size_t i = 0; i < sizeof t.coordinates / sizeof *t.coordinates; i++)
+                    if (below(3) == 0)
+                        t.coordinates[i] = odd_float();
+                EXPECT(close_gaps(&t, slots + below(SPARE + 1)) == 0 && remaining == live);
+                EXPECT(close_gaps(&t, live + below(SPARE + 1)) == 0 && remaining == live);
+                for (size_t i = 0; i < live; i++)
+                    EXPECT(names[i] == i && t.flags[i] == 1);
+            }
+}
+
+/* Both kinds of 11 are one test, and a longer coordinate list or rename list is taken. */
+static void closed_lengths(void) {
+    const uint8_t flags[5] = {1, 0, 2, 0, 1};
+    for (size_t d = 1; d <= AXES; d++)
+        for (size_t names_len = 0; names_len <= 5 + SPARE; names_len++)
+            for (size_t fewer = 0; fewer <= d; fewer++) {
+                table t = with_flags(d, 6, flags, 5);
+                t.coordinates_len -= fewer;
+                EXPECT(fewer || names_len < 5 ? refused_close(t, names_len, 11) : close_gaps(&t, names_len) == 0);
+            }
+    for (size_t more = 0; more <= SPARE; more++) {
+        table t = with_flags(AXES, MOST, flags, 5);
+        t.coordinates_len += more;
+        EXPECT(close_gaps(&t, 5) == 0 && remaining == 3 && isnan(t.coordinates[AXES * MOST]));
     }
 }
 
@@ -276,6 +407,35 @@ static void retire_in_order(void) {
     EXPECT(refused_retire(t, 3, 22) && retire(&t, 2) == 0 && retire(&t, 2) == 22);
 }
 
+/* Every choice of the conditions 1, 11 by the coordinates, 11 by the rename list, and 27. */
+static void close_in_order(void) {
+    const size_t wrong_d[3] = {0, AXES + 1, (size_t)-1};
+    const ddm_head heads[6] = {{3, 2}, {4, 2}, {3, 1}, {3, 3}, {3, (size_t)-1}, {1, 2}};
+    const uint8_t flags[3] = {1, 0, 255};
+    for (size_t d = 1; d <= AXES; d++)
+        for (size_t i = 0; i < 6; i++)
+            for (size_t mask = 0; mask < 8; mask++)
+                for (size_t k = 0; k < 3; k++) {
+                    table t = with_flags(d, 3, flags, 3);
+                    const size_t number = mask & 4 ? 1 : mask & 3 ? 11 : i ? 27 : 0;
+                    t.head = heads[i];
+                    if (mask & 4)
+                        t.d = wrong_d[k];
+                    if (mask & 2)
+                        t.coordinates_len -= 1 + below(d);
+                    if (number)
+                        EXPECT(refused_close(t, t.head.slots - (mask & 1), number));
+                    else
+                        EXPECT(close_gaps(&t, t.head.slots) == 0 && remaining == 2);
+                }
+    /* no list is as long as these slot counts */
+    table t = with_flags(1, 3, flags, 3);
+    t.head.slots = (size_t)-1;
+    EXPECT(refused_close(t, MOST, 11) && refused_close(t, 0, 11));
+    t.head.slots = (size_t)1 << 63;
+    EXPECT(refused_close(t, MOST, 11));
+}
+
 /* A short result slot comes before all else, and then it is not written either. */
 static void short_slots(void) {
     const double point = 1.0;
@@ -288,6 +448,16 @@ static void short_slots(void) {
             EXPECT(ddm_add(&t.head, t.flags, 1, t.coordinates, 1, d, &point, 1, slot, entries) == 11 && same_table(&t, &before));
             for (size_t i = 0; i < sizeof slot; i++)
                 EXPECT(((unsigned char *)slot)[i] == FILL);
+        }
+    for (size_t d = 1; d <= 4; d += 3)
+        for (size_t entries = 0; entries < DDM_CLOSE_SLOT; entries++) {
+            table t = with_flags(1, 2, (const uint8_t[2]){0, 1}, 2);
+            const table before = t;
+            size_t slot[DDM_CLOSE_SLOT], rename[2];
+            memset(slot, FILL, sizeof slot), memset(rename, FILL, sizeof rename);
+            EXPECT(ddm_close(&t.head, t.flags, 2, t.coordinates, 2, d, rename, 2, slot, entries) == 11 && same_table(&t, &before));
+            for (size_t i = 0; i < sizeof slot; i++)
+                EXPECT(((unsigned char *)slot)[i] == FILL && ((unsigned char *)rename)[i] == FILL);
         }
 }
 
@@ -315,14 +485,17 @@ static table random_table(void) {
     return t;
 }
 
+/* What a random edit is. */
+enum { RETIRING, ADDING, CLOSING, KINDS };
+
 static void sequences(void) {
     const size_t numbers[8] = {0, 1, 7, 10, 11, 21, 22, 27};
-    size_t seen[2][28] = {{0}, {0}};
+    size_t seen[KINDS][28] = {{0}, {0}, {0}};
     for (size_t i = 0; i < 1000; i++) {
         table t = random_table();
         for (size_t edit = 0; edit < 60; edit++) {
             const table kept = t;
-            const uint64_t harm = below(40), adding = below(2);
+            const uint64_t harm = below(40), kind = below(8) ? below(CLOSING) : CLOSING;
             double point[AXES + 1];
             size_t number;
             random_point(point);
@@ -334,9 +507,12 @@ static void sequences(void) {
                 t.head.live += below(2) ? 1 : (size_t)-1;
             if (harm == 3)
                 t.head.slots = below(t.flags_len + 3);
-            number = adding ? add(&t, point, harm == 4 ? below(AXES + 2) : t.d)
-                            : retire(&t, below(t.head.slots + 1 + (harm == 5 ? SPARE : 0)));
-            seen[adding][number]++;
+            if (kind == CLOSING)
+                number = close_gaps(&t, harm == 6 ? below(t.head.slots + 1) : t.head.slots + below(SPARE));
+            else
+                number = kind == ADDING ? add(&t, point, harm == 4 ? below(AXES + 2) : t.d)
+                                        : retire(&t, below(t.head.slots + 1 + (harm == 5 ? SPARE : 0)));
+            seen[kind][number]++;
             /* the caller mends what was wrong */
             t.d = kept.d, t.coordinates_len = kept.coordinates_len;
             if (number)
@@ -346,8 +522,9 @@ static void sequences(void) {
     }
     for (size_t i = 0; i < 8; i++) {
         const size_t number = numbers[i];
-        EXPECT(seen[1][number] > 50 || number == 22);
-        EXPECT(seen[0][number] > 50 || number == 7 || number == 10 || number == 21);
+        EXPECT(seen[ADDING][number] > 50 || number == 22);
+        EXPECT(seen[RETIRING][number] > 50 || number == 7 || number == 10 || number == 21);
+        EXPECT(seen[CLOSING][number] > 50 || number == 7 || number == 10 || number == 21 || number == 22);
     }
 }
 
@@ -428,17 +605,17 @@ static compacted compact(const table *t) {
     return c;
 }
 
-/* Renames the first entries of a list of rows. */
-static void rename_rows(void *list, size_t entries, const compacted *c) {
+/* Renames the first entries of a list of rows, each below `many`. */
+static void rename_rows(void *list, size_t entries, const size_t *by, size_t many) {
     for (size_t i = 0; i < entries; i++) {
         size_t *row = (size_t *)list + i;
-        EXPECT(*row < c->n);
-        *row = *row < c->n ? c->slots[*row] : 0;
+        EXPECT(*row < many);
+        *row = *row < many ? by[*row] : 0;
     }
 }
 
 /* Renames the rows in the lists of an accepted build. */
-static void rename_all(lent *l, const compacted *c) {
+static void rename_all(lent *l, const size_t *by, size_t many) {
     const size_t *domains = l->lists[DDM_SIZES_DOMAINS], *last;
     size_t rows = 0, leaves = 0;
     for (size_t level = 0; level < DDM_MOST_LEVELS; level++) {
@@ -446,9 +623,24 @@ static void rename_all(lent *l, const compacted *c) {
         leaves += l->result[DDM_SLOT_DOMAINS + level];
     }
     last = domains + DDM_ROW_NUMBERS * (leaves - 1);
-    rename_rows(l->lists[DDM_SIZES_LEVEL_POINTS], rows, c);
-    rename_rows(l->lists[DDM_SIZES_INTERNALS], rows, c);
-    rename_rows(l->lists[DDM_SIZES_BORROWED], last[DDM_COLUMN_BORROWED_START] + last[DDM_COLUMN_BORROWED_COUNT], c);
+    rename_rows(l->lists[DDM_SIZES_LEVEL_POINTS], rows, by, many);
+    rename_rows(l->lists[DDM_SIZES_INTERNALS], rows, by, many);
+    rename_rows(l->lists[DDM_SIZES_BORROWED], last[DDM_COLUMN_BORROWED_START] + last[DDM_COLUMN_BORROWED_COUNT], by, many);
+}
+
+/* The outcome of a build that gave this number, its rows and the place of 10 renamed by this list, against that of another: the slots are
+ * the same, and the lists to their ends. */
+static void same_renamed(lent *one, const lent *other, size_t number, size_t d, const size_t *by, size_t many) {
+    size_t *where = one->result + DDM_SLOT_PLACE;
+    if (number == 10)
+        *where = by[*where / d] * d + *where % d;
+    if (!number)
+        rename_all(one, by, many);
+    EXPECT(memcmp(one->result, other->result, sizeof other->result) == 0);
+    for (size_t i = 0; i < DDM_SIZES_FLOATS; i++)
+        EXPECT(memcmp(one->lists[i], other->lists[i], (other->sizes[i] + SPARE) * ROOM) == 0);
+    for (size_t i = DDM_SIZES_FLOATS; i < DDM_SIZES_SLOT; i++)
+        EXPECT(untouched_from(other, i, number ? 0 : other->sizes[i]));
 }
 
 /* Both builds, with so many entries fewer of one list: the same refusal and slot, its place in the lent list; and the same lists to their
@@ -457,21 +649,29 @@ static size_t both_builds(const table *t, settings s, size_t list, size_t fewer)
     const compacted c = compact(t);
     const table before = *t;
     lent points = lend(c.n, t->d, s.near), slots = lend(c.n, t->d, s.near);
-    size_t number, *where = points.result + DDM_SLOT_PLACE;
+    size_t number;
     points.sizes[list] -= fewer, slots.sizes[list] -= fewer;
     number = build(c.points, c.n, t->d, s, &points);
     EXPECT(build_slots(t, s, &slots, DDM_BUILD_SLOT) == number && same_table(t, &before));
     points.sizes[list] += fewer, slots.sizes[list] += fewer;
-    if (number == 10)
-        *where = c.slots[*where / t->d] * t->d + *where % t->d;
-    if (!number)
-        rename_all(&points, &c);
-    EXPECT(memcmp(points.result, slots.result, sizeof slots.result) == 0);
-    for (size_t i = 0; i < DDM_SIZES_FLOATS; i++)
-        EXPECT(memcmp(points.lists[i], slots.lists[i], (slots.sizes[i] + SPARE) * ROOM) == 0);
-    for (size_t i = DDM_SIZES_FLOATS; i < DDM_SIZES_SLOT; i++)
-        EXPECT(untouched_from(&slots, i, number ? 0 : slots.sizes[i]));
+    same_renamed(&points, &slots, number, t->d, c.slots, c.n);
     give_back(&points), give_back(&slots);
+    return number;
+}
+
+/* The build before closing and the build after it, with so many entries fewer of one list: the same refusal and slot, and the same lists to
+ * their ends, rows and the place of 10 renamed by the list that closing wrote. The table is closed then. Gives the number. */
+static size_t builds_about_closing(table *t, settings s, size_t list, size_t fewer) {
+    const size_t slots = t->head.slots;
+    lent before = lend(t->head.live, t->d, s.near), after = lend(t->head.live, t->d, s.near);
+    size_t number;
+    before.sizes[list] -= fewer, after.sizes[list] -= fewer;
+    number = build_slots(t, s, &before, DDM_BUILD_SLOT);
+    EXPECT(close_gaps(t, slots + below(SPARE)) == 0);
+    EXPECT(build_slots(t, s, &after, DDM_BUILD_SLOT) == number);
+    before.sizes[list] += fewer, after.sizes[list] += fewer;
+    same_renamed(&before, &after, number, t->d, names, slots);
+    give_back(&before), give_back(&after);
     return number;
 }
 
@@ -491,6 +691,7 @@ static settings random_settings(size_t n) {
     return s;
 }
 
+/* Every build is made before closing, after it, and over the points alone. */
 static void random_builds(void) {
     size_t seen[12] = {0};
     for (size_t i = 0; i < 2000; i++) {
@@ -502,13 +703,16 @@ static void random_builds(void) {
         if (below(5) == 0)
             for (size_t retired = t.head.slots - t.head.live; retired; retired--)
                 EXPECT(add(&t, (double[AXES]){0.0, 1.0, 2.0}, t.d) == 0);
-        seen[both_builds(&t, random_settings(t.head.live), below(DDM_SIZES_SLOT), below(8) == 0)]++;
+        const settings s = random_settings(t.head.live);
+        const size_t list = below(DDM_SIZES_SLOT), fewer = below(8) == 0, number = both_builds(&t, s, list, fewer);
+        EXPECT(builds_about_closing(&t, s, list, fewer) == number && both_builds(&t, s, list, fewer) == number);
+        seen[number]++;
     }
     EXPECT(seen[0] > 500 && seen[2] > 10 && seen[3] > 10 && seen[4] > 10 && seen[6] > 10 && seen[9] > 10 && seen[10] > 10);
     EXPECT(seen[11] > 10);
 }
 
-/* Edits and builds in turn, as an office has them. */
+/* Edits, closings and builds in turn, as an office has them. */
 static void edited_builds(void) {
     const settings s = {2, 3, 3, DDM_POLICY_FIXED, 4};
     for (size_t i = 0; i < 20; i++) {
@@ -520,6 +724,8 @@ static void edited_builds(void) {
             else
                 (void)retire(&t, below(t.head.slots + 1));
             EXPECT(both_builds(&t, s, 0, 0) == (t.head.live ? 0 : 6));
+            if (below(12) == 0)
+                EXPECT(builds_about_closing(&t, s, 0, 0) == (t.head.live ? 0 : 6));
         }
     }
 }
@@ -641,6 +847,16 @@ static size_t large_retire(ddm_head *head, size_t slot) {
     return ddm_retire(head, large_flags, DDM_MOST_POINTS + 1, large_coordinates, DDM_MOST_POINTS, 1, slot);
 }
 
+static size_t large_names[DDM_MOST_POINTS + 1];
+
+static size_t large_close(ddm_head *head, size_t names_len) {
+    size_t slot[DDM_CLOSE_SLOT];
+    const size_t number = ddm_close(head, large_flags, DDM_MOST_POINTS + 1, large_coordinates, DDM_MOST_POINTS, 1, large_names, names_len,
+                                    slot, DDM_CLOSE_SLOT);
+    remaining = slot[DDM_CLOSE_SLOTS];
+    return number;
+}
+
 static size_t large_build(ddm_head head, settings s, lent *l) {
     return ddm_build_slots(head.slots, head.live, large_flags, DDM_MOST_POINTS + 1, large_coordinates, DDM_MOST_POINTS, 1, s.leaf, s.near,
                            s.factor, s.policy, s.threshold, LISTS, l->result, DDM_BUILD_SLOT);
@@ -672,6 +888,20 @@ static void largest(void) {
     EXPECT(memcmp(l.lists[DDM_SIZES_LEVEL_POINTS], rows, sizeof rows) == 0);
     EXPECT(large_add(&head, 0.0, DDM_MOST_POINTS) == 0 && taken == 0 && same_head(head, (ddm_head){DDM_MOST_POINTS, 4}));
     give_back(&l);
+    /* closed: the four in front, and +0 behind them; flag and coordinate behind the capacity stay, and so does what the list has more */
+    large_names[last] = large_names[DDM_MOST_POINTS] = 777;
+    past.live = 4;
+    EXPECT(large_close(&head, last) == 11 && large_close(&past, DDM_MOST_POINTS) == 11 && large_close(&past, DDM_MOST_POINTS + 1) == 27);
+    EXPECT(large_names[last] == 777 && large_flags[last] == 1 && large_coordinates[last] == 5.0 && head.slots == DDM_MOST_POINTS);
+    large_coordinates[8] = -1.0;
+    EXPECT(large_close(&head, DDM_MOST_POINTS + 1) == 0 && remaining == 4 && same_head(head, (ddm_head){4, 4}));
+    EXPECT(large_names[0] == 0 && large_names[7] == 1 && large_names[500000] == 2 && large_names[last] == 3);
+    EXPECT(large_names[DDM_MOST_POINTS] == 777 && large_flags[DDM_MOST_POINTS] == 1 && isnan(large_coordinates[DDM_MOST_POINTS]));
+    EXPECT(large_coordinates[0] == 0.0 && large_coordinates[1] == 1.0 && large_coordinates[2] == 2.0 && large_coordinates[3] == 5.0);
+    for (size_t i = 0; i <= last; i++) {
+        EXPECT(large_flags[i] == (i < 4) && (i < 4 || (large_coordinates[i] == 0.0 && !signbit(large_coordinates[i]))));
+        EXPECT(i == 0 || i == 7 || i == 500000 || i == last || large_names[i] == DDM_MOST_POINTS);
+    }
 }
 
 int main(void) {
@@ -680,8 +910,12 @@ int main(void) {
     no_capacity();
     odd_flags();
     long_coordinates();
+    closed_by_hand();
+    closed_patterns();
+    closed_lengths();
     add_in_order();
     retire_in_order();
+    close_in_order();
     short_slots();
     sequences();
     random_builds();

@@ -1,13 +1,13 @@
 #!/usr/bin/env python3
-"""Writes crates/run_table_calls/data/calls: calls of add, retire and the build over slots, each with its complete outcome.
+"""Writes crates/run_table_calls/data/calls: calls of add, retire, close and the build over slots, each with its complete outcome.
 
 Run from the project's root; it takes no input, and each run writes the same file. The answers come from tools/table_model.py, which
 follows document 02 in plain Python and shares nothing with the Rattle code.
 
-A record: its length after these 4 bytes; a kind, 1 add, 2 retire or 3 build; the 18 settings bytes (an edit uses the dimension alone); the
-coordinates; the flags; slot count and live count; then
-  edit: the point to add, or the slot to retire; number, place, slot; slot count and live count after it; the coordinates after it; the flags
-    after it
+A record: its length after these 4 bytes; a kind, 1 add, 2 retire, 3 build or 4 close; the 18 settings bytes (an edit uses the dimension
+alone); the coordinates; the flags; slot count and live count; then
+  edit: the point to add, the slot to retire, or the rename list that closing is lent and the same list after it; number, place, slot (of
+    closing the new slot count); slot count and live count after it; the coordinates after it; the flags after it
   build: the lengths of the seven lists; number, place, levels, four row counts, four domain counts; the five lists' fronts
 Numbers have 4 bytes but for kind, dimension, policy and refusal number (1), slot and live counts, the slot to retire, entries of the lists
 and floats' bits (8), all little-endian; lists and fronts have their count before them, and a flag is one byte. Before a build each list
@@ -26,9 +26,9 @@ from table_model import Table
 
 PATH = "crates/run_table_calls/data/calls"
 STDOUT = "crates/run_table_calls/stdout"
-MOST_BYTES = 400_000
+MOST_BYTES = 650_000
 # The room of crates/run_table_calls.
-MOST_FLAGS, MOST_COORDINATES, MOST_POINT, MOST_LIVE, MOST_NEIGHBOURS, MOST_BORROWED = 40, 130, 5, 16, 3, 400
+MOST_FLAGS, MOST_COORDINATES, MOST_POINT, MOST_LIVE, MOST_NEIGHBOURS, MOST_BORROWED, MOST_RENAME = 40, 130, 5, 16, 3, 400, 44
 LISTS = stored_model.LISTS + ("floats", "wholes")
 LONG = 2 ** 64 - 1
 SIGN = 1 << 63
@@ -41,6 +41,8 @@ ODD = NANS + [INFINITY, SIGN + INFINITY]
 Wells = collections.namedtuple("Wells", "flags coordinates slots live")
 Add = collections.namedtuple("Add", "d wells point")
 Retire = collections.namedtuple("Retire", "d wells slot")
+# rename: the list as it is lent.
+Close = collections.namedtuple("Close", "d wells rename")
 # lent: the lists' lengths by name.
 Build = collections.namedtuple("Build", "settings wells lent")
 
@@ -81,14 +83,36 @@ def edited(call):
         return r.number, r.place, 0, table
 
 
+def closed(call):
+    """Number, place, slot count, the table after closing, and the rename list."""
+    table, rename = table_of(call.wells), list(call.rename)
+    try:
+        return 0, 0, table_model.close(table, call.d, rename), table, rename
+    except model.Refused as r:
+        return r.number, r.place, 0, table, rename
+
+
+def outcome(number, place, value, table):
+    """The end of an edit's record."""
+    after = wells_of(table)
+    return (struct.pack("<BIIQQ", number, place, value, after.slots, after.live) + counted(after.coordinates, "Q")
+            + counted(after.flags, "B"))
+
+
 def edit_record(call):
     adds = isinstance(call, Add)
     assert not adds or len(call.point) <= MOST_POINT
-    number, place, taken, table = edited(call)
-    after = wells_of(table)
+    number, *rest = edited(call)
     out = [head(1 if adds else 2, (call.d, 0, 0, 0, 0, 0), call.wells), counted(call.point, "Q") if adds else struct.pack("<Q", call.slot),
-           struct.pack("<BIIQQ", number, place, taken, after.slots, after.live), counted(after.coordinates, "Q"), counted(after.flags, "B")]
+           outcome(number, *rest)]
     return number, b"".join(out)
+
+
+def close_record(call):
+    assert len(call.rename) <= MOST_RENAME
+    number, place, slots, table, rename = closed(call)
+    return number, (head(4, (call.d, 0, 0, 0, 0, 0), call.wells) + counted(call.rename, "Q") + counted(rename, "Q")
+                    + outcome(number, place, slots, table))
 
 
 def bits_of_levels(d, levels):
@@ -115,7 +139,7 @@ def build_record(call):
 
 def recorded(call):
     """A call's kind, its refusal number, and its record."""
-    number, body = build_record(call) if isinstance(call, Build) else edit_record(call)
+    number, body = {Build: build_record, Close: close_record}.get(type(call), edit_record)(call)
     return type(call).__name__.lower(), number, body
 
 
@@ -434,12 +458,166 @@ def large_builds(rng):
         yield Build((d, 2, neighbours, 3, 1, 2), wells_with(rng, d, flags + [0, 1, 2, 255], 36, 10), lengths(d, MOST_LIVE, neighbours))
 
 
+# ---- closing
+
+def rename_of(rng, entries):
+    """A rename list with anything in it: slots, the list's own fill, and numbers that are no slots."""
+    return [rng.choice((0, 1, 9, 777, rng.randrange(8), rng.randrange(LONG), LONG)) for _ in range(entries)]
+
+
+def closing(rng, d, wells, longer=0):
+    return Close(d, wells, rename_of(rng, wells.slots + longer))
+
+
+def with_live_odd(rng, d, wells):
+    """The table with a zero of either sign or a float that is not a number in some of its live slots: they are moved as they are."""
+    for i in range(wells.slots):
+        if wells.flags[i]:
+            wells = with_coordinate(wells, i * d + rng.randrange(d), rng.choice((0, SIGN, SIGN, 1) + tuple(ODD)))
+    return wells
+
+
+def close_patterns(rng):
+    """Every choice of live and retired slots in a table of at most five, with any flags above the slot count: no gap, all gaps, gaps in
+    front, at the end and between. The rename list is as long as the slot count, or longer."""
+    for slots in range(6):
+        for at, pattern in enumerate(itertools.product((0, 1), repeat=slots)):
+            flags = [live and rng.choice((1, 2, 255)) for live in pattern] + [rng.choice((0, 1, 2, 255)) for _ in range(rng.randint(0, 2))]
+            d = 1 + at % 3 if slots < 4 else rng.randint(1, 3)
+            wells = wells_with(rng, d, flags, slots, rng.choice((0, 0, 2)))
+            yield closing(rng, d, wells if at % 2 else with_live_odd(rng, d, wells), rng.choice((0, 0, 1, 3)))
+
+
+def close_dimensions(rng):
+    """The same gaps in each dimension, in tables with and without anything above the slot count; and wrong dimensions."""
+    for d in (1, 2, 3):
+        for pattern in ([1, 1, 1], [0, 0, 0], [0, 1, 1], [1, 1, 0], [1, 0, 1], [0, 1, 0], [2, 0, 255], [255, 2, 2]):
+            for above in ([], [rng.choice((0, 1)), 255]):
+                yield closing(rng, d, wells_with(rng, d, pattern + above, 3), rng.choice((0, 2)))
+    for d in (0, 4, 5, 64, 255):
+        for wells in (wells_with(rng, 3, [1, 0, 2], 3), Wells([], [], 0, 0)):
+            yield closing(rng, d, wells)
+    # tables lent with another dimension than they were kept with
+    for kept, d in itertools.product((1, 2, 3), repeat=2):
+        yield closing(rng, d, wells_with(rng, kept, [1, 0, 1], 3))
+
+
+def close_odd_coordinates(rng):
+    """Odd floats of each kind, and zeros of either sign, at each place of a table: in live slots, in retired ones, above the slot count."""
+    for d in (1, 2, 3):
+        wells = wells_with(rng, d, [0, 1, 0, 255, 2], 4, 2)
+        for at in range(len(wells.coordinates)):
+            for bits in (rng.choice(NANS), rng.choice((0, SIGN, INFINITY, SIGN + INFINITY))):
+                yield closing(rng, d, with_coordinate(wells, at, bits))
+
+
+def close_renames(rng):
+    """Rename lists of each length about the slot count, in tables with and without gaps: short, exact, longer."""
+    for d, flags, slots in ((1, [1, 0, 2, 1], 3), (2, [255, 1, 1], 3), (3, [0, 0], 2), (1, [0, 1, 1, 0, 1], 5), (2, [1, 1], 0)):
+        for entries in range(slots + 4):
+            yield Close(d, wells_with(rng, d, flags, slots), rename_of(rng, entries))
+    for slots in (MOST_RENAME + 1, 1 << 32, 1 << 63, LONG):
+        yield Close(1, Wells([1, 1], [0, 0], slots, 2), rename_of(rng, 5))
+
+
+def close_conditions(rng):
+    """Every choice of the conditions that closing is refused under: 1, 11 by the coordinates and by the rename list, 27 of each kind."""
+    for d, short, fewer, head_of in itertools.product((1, 2, 3, 0, 4), (False, True), (False, True), (0, 1, 2, 3, 4)):
+        flags = [rng.choice((1, 2, 255)), 0, rng.choice((1, 255)), rng.choice((0, 1))]
+        wells = wells_with(rng, d if 1 <= d <= 3 else 1, flags, 3)
+        wells = shorter(wells) if short else wells
+        if head_of:
+            # the last one's live count takes in a flag above the slot count
+            heads = list(unsound(wells)) + [wells._replace(flags=flags[:3] + [1], live=wells.live + 1)]
+            wells = heads[head_of - 1]
+        yield closing(rng, d, wells, -1 if fewer else rng.choice((0, 0, 1)))
+
+
+def close_heads(rng):
+    """Heads that are far off, with rename lists that are long enough where there can be such."""
+    for d, flags, slots in ((1, [1, 2, 255], 3), (2, [0, 2, 1, 1], 2), (3, [2, 2], 2), (1, [0, 0, 9], 2)):
+        for wells in far_off(wells_with(rng, d, flags, slots)):
+            yield Close(d, wells, rename_of(rng, min(wells.slots, 6)))
+
+
+def close_capacities(rng):
+    """No capacity, and coordinates that are short by each count, exact, and longer."""
+    for d, longer, (slots, live) in itertools.product((0, 1, 2, 3, 4), (0, 3), ((0, 0), (1, 0), (0, 1))):
+        wells = Wells([], [rng.choice(ODD) for _ in range(longer)], slots, live)
+        yield closing(rng, d, wells, rng.choice((0, 1)))
+    for d in (1, 2, 3):
+        for by in range(-2, 2 * d + 1):
+            yield closing(rng, d, shorter(wells_with(rng, d, [1, 0, 0], 2, max(0, -by)), max(0, by)))
+
+
+def closing_sequences(rng):
+    """Random edits and closings, each on the table as the call before left it."""
+    for d, capacity in ((1, 2), (1, 5), (2, 4), (3, 3)):
+        table = table_of(wells_with(rng, d, some_flags(rng, capacity, 0), 0, rng.choice((0, 0, 2))))
+        for _ in range(24):
+            wells, kind = wells_of(table), rng.random()
+            if kind < 0.3:
+                call = closing(rng, d, wells, rng.choice((0, 0, 0, 1, -1)) if table.slots else 0)
+            elif kind < 0.7 or not table.live:
+                call = Add(d, wells, point_of(rng, d))
+            else:
+                call = Retire(d, wells, rng.choice(table.live_slots()))
+            yield call
+            table = closed(call)[3] if isinstance(call, Close) else edited(call)[3]
+
+
+def random_closings(rng):
+    for _ in range(200):
+        d, capacity = rng.randint(1, 3), rng.randint(1, 6)
+        slots = rng.randint(0, capacity)
+        wells = wells_with(rng, d, some_flags(rng, capacity, slots, rng.choice((0.2, 0.5, 0.8))), slots, rng.choice((0, 0, 1)))
+        wells = with_live_odd(rng, d, wells) if rng.random() < 0.3 else wells
+        if rng.random() < 0.05:
+            wells = rng.choice(list(unsound(wells)))
+        yield closing(rng, d, wells, rng.choice((0, 0, 1, 3)) if rng.random() < 0.95 or not slots else -1)
+
+
+def large_closings(rng):
+    """Tables of 40 slots: full, all retired, half empty, one live at either end."""
+    for d, flags in ((3, [1] * 40), (1, [0] * 40), (3, some_flags(rng, 40, 40, 0.5)), (1, [255] + [0] * 39), (2, [0] * 39 + [2])):
+        yield closing(rng, d, wells_with(rng, d, flags, 40), rng.choice((0, MOST_RENAME - 40)))
+    yield closing(rng, 3, wells_with(rng, 3, some_flags(rng, 40, 20), 20, 10))
+
+
+def builds_about_closing(rng):
+    """A build, a closing, and the same build after it; now and then with a live coordinate that is not finite, or a list too short."""
+    for _ in range(30):
+        d, neighbours = rng.randint(1, 3), rng.randint(0, 2)
+        live, gaps = rng.choice((0, 1, 2, 3, 3, 4, 4, 5, 5)), rng.randint(1, 4)
+        flags = [rng.choice((1, 2, 255)) for _ in range(live)] + [0] * gaps
+        rng.shuffle(flags)
+        wells = wells_with(rng, d, flags + [rng.choice((0, 1, 255)) for _ in range(rng.randint(0, 1))], live + gaps)
+        if live and rng.random() < 0.25:
+            places = [i * d + a for i in range(wells.slots) if wells.flags[i] for a in range(d)]
+            wells = with_coordinate(wells, rng.choice(places), rng.choice(ODD))
+        settings = (d, rng.randint(1, 2), neighbours, rng.randint(2, 3), 1, rng.randint(1, 3))
+        lent = lengths(d, live, neighbours, rng.choice(LISTS) if rng.random() < 0.15 else None)
+        call = closing(rng, d, wells)
+        yield Build(settings, wells, lent)
+        yield call
+        yield Build(settings, wells_of(closed(call)[3]), lent)
+
+
+# The parts of each request, drawn by a generator of its own: those of a later one leave the calls before them as they are.
+PARTS = {
+    7: (flag_patterns, capacities_of_none, add_conditions, odd_points, retire_conditions, odd_heads, dimensions, short_and_long, sequences,
+        large_tables, build_conditions, short_lists, odd_coordinates, level_rules, same_places, random_builds, large_builds),
+    8: (close_patterns, close_dimensions, close_odd_coordinates, close_renames, close_conditions, close_heads, close_capacities,
+        closing_sequences, random_closings, large_closings, builds_about_closing),
+}
+
+
 def calls():
-    rng = random.Random(7)
-    for part in (flag_patterns, capacities_of_none, add_conditions, odd_points, retire_conditions, odd_heads, dimensions, short_and_long, sequences,
-                 large_tables, build_conditions, short_lists, odd_coordinates, level_rules, same_places, random_builds, large_builds):
-        for call in part(rng):
-            yield part.__name__, call
+    for request, parts in PARTS.items():
+        rng = random.Random(request)
+        for part in parts:
+            for call in part(rng):
+                yield part.__name__, call
 
 
 def main():

@@ -1,4 +1,4 @@
-"""Request 7 of document 02 as plain Python: the table of wells, its edits, and the build over its live slots.
+"""Requests 7 and 8 of document 02 as plain Python: the table of wells, its edits, closing its gaps, and the build over its live slots.
 
 It follows the paper's words over tools/model.py and shares nothing with the Rattle code. A refused call raises `model.Refused` and leaves
 the table as it was.
@@ -38,9 +38,12 @@ def check_head(table):
         raise model.Refused(27)
 
 
-def check_table(table, d):
+def check_table(table, d, short=False):
+    """1, 11 and 27; `short` where another lent list is too short."""
     if not 1 <= d <= 3:
         raise model.Refused(1)
+    if short:
+        raise model.Refused(11)
     check_coordinates(table, d)
     check_head(table)
 
@@ -73,6 +76,22 @@ def retire(table, d, slot):
         raise model.Refused(22)
     table.flags[slot] = 0
     table.live -= 1
+
+
+def close(table, d, rename):
+    """Closes the gaps: live wells move down, in order, and none is retired then. The new slot count.
+
+    The front of `rename` gets the new slot of each old one, and for a retired slot the slot count before the move."""
+    check_table(table, d, len(rename) < table.slots)
+    slots, wells = table.slots, table.live_slots()
+    gaps = slots - len(wells)
+    new = {old: at for at, old in enumerate(wells)}
+    rename[:slots] = [new.get(old, slots) for old in range(slots)]
+    moved = [x for old in wells for x in table.coordinates[old * d:(old + 1) * d]]
+    table.coordinates[:slots * d] = moved + [0.0] * (gaps * d)
+    table.flags[:slots] = [1] * len(wells) + [0] * gaps
+    table.slots = table.live
+    return table.slots
 
 
 # ---- the build over slots

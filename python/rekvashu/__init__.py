@@ -9,7 +9,8 @@
 `rekvashu.build(.., engine="depth-first")` builds the same tree and keeps its cuts: `level.cuts` has them from the root downwards.
 
 `rekvashu.Table(capacity, dimension)` is a table of wells that is edited between builds: `table.add(point)` answers with the well's slot,
-`table.retire(slot)` frees it, and `table.build(..)` builds over the live slots.
+`table.retire(slot)` frees it, `table.build(..)` builds over the live slots, and `table.close()` closes the gaps and gives a list from old
+slot to new.
 
 `tree.to_bytes()` gives a tree as the bytes of a file, and `rekvashu.load(points, data, ..)` takes them for the same points and settings.
 

@@ -59,6 +59,9 @@ QUOTA_WRITTEN, QUOTA_SEATS, QUOTA_SLOT = 0, 1, 2
 # The slot of adding a well: place, the slot of the table that it takes.
 ADD_PLACE, ADD_TAKEN, ADD_SLOT = 0, 1, 2
 
+# The slot of closing a table's gaps: place, slot count after it.
+CLOSE_PLACE, CLOSE_SLOTS, CLOSE_SLOT = 0, 1, 2
+
 # The writer's slot: place, bytes written.
 STORE_PLACE, STORE_BYTES, STORE_SLOT = 0, 1, 2
 

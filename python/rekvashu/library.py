@@ -31,6 +31,7 @@ FUNCTIONS = {
     "ddm_build_depth_first": POINTS + [UINT32] * 5 + TREE + FLOATS + WHOLES + WHOLES + FLOATS + WHOLES,
     "ddm_add": HEAD + BYTES + POINTS + FLOATS + WHOLES,
     "ddm_retire": HEAD + BYTES + POINTS + [SIZE],
+    "ddm_close": HEAD + BYTES + POINTS + WHOLES + WHOLES,
     "ddm_build_slots": [SIZE] * 2 + BYTES + POINTS + [UINT32] * 5 + TREE + FLOATS + WHOLES + WHOLES,
     "ddm_store": POINTS + [UINT32] * 5 + WHOLES + TREE + BYTES + WHOLES,
     "ddm_load": POINTS + [UINT32] * 5 + BYTES + TREE + WHOLES,

@@ -13,8 +13,9 @@ from .settings import size
 class Table:
     """A table of wells, of which `capacity` (held to 1,048,576) can be live at once.
 
-    A well keeps its slot until it is retired; the slot then goes to the next well that is added, the lowest retired one first. `len(table)`
-    is the number of live wells. A Refusal says what the library refused, and leaves the table as it was."""
+    A well keeps its slot until it is retired; the slot then goes to the next well that is added, the lowest retired one first. `close`
+    moves the live wells down, so that no slot is retired. `len(table)` is the number of live wells. A Refusal says what the library
+    refused, and leaves the table as it was."""
 
     def __init__(self, capacity, dimension):
         capacity, dimension = min(size("capacity", capacity), settings.MOST_POINTS), size("dimension", dimension)
@@ -40,9 +41,20 @@ class Table:
         """Retires the well in this slot."""
         passed(library.load().ddm_retire(self._head, *self._lent(), size("slot", slot)))
 
+    def close(self):
+        """Closes the gaps: the live wells move down, in order, so that `slots` is then `len(table)`. A list from old slot to new, which has
+        for each retired slot the slot count before the move.
+
+        A tree that was built before needs no new build: with each row looked up in the list it is the tree that `build` would build now,
+        with the same leaves, boxes, covers and depths."""
+        rename, result = Lent(ctypes.c_size_t, self.slots), slot_of(layout.CLOSE_SLOT)
+        number = library.load().ddm_close(self._head, *self._lent(), rename.c, rename.entries, result, len(result))
+        passed(number, result[layout.CLOSE_PLACE])
+        return rename.c[:rename.entries]
+
     def build(self, leaf=settings.LEAF, neighbours=settings.NEIGHBOURS, factor=settings.FACTOR, coarse=settings.COARSE):
         """The tree over the live slots, in slot order: rows in it are slots. It stays as it is when the table is edited. `to_bytes` refuses
-        it (20), unless the live slots are 0 to n - 1."""
+        it (20), unless the live slots are 0 to n - 1, as they are after `close`."""
         return tree_by(self._build_into, layout.LISTS, self._live_points(), params_of(leaf, neighbours, factor, coarse), neighbours)
 
     def _build_into(self, given, params, lists):
@@ -74,7 +86,7 @@ class Table:
 
     @property
     def slots(self):
-        """How many slots have been given out. Retiring does not lower it."""
+        """How many slots have been given out. Only closing lowers it."""
         return self._head.slots
 
     @property

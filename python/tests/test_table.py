@@ -73,7 +73,12 @@ class Edits(unittest.TestCase):
             d, capacity, kind = r.randint(1, 3), r.randint(0, 12), r.randint(0, 3)
             table, plainly = rekvashu.Table(capacity, d), empty(capacity, d)
             for _ in range(50):
-                if r.random() < 0.6:
+                edit = r.random()
+                if edit < 0.1:
+                    names = [None] * plainly.slots
+                    table_model.close(plainly, d, names)
+                    due, found = (0, 0, names), outcome(table.close)
+                elif edit < 0.6:
                     point = [coordinate(r, kind) for _ in range(d if r.random() < 0.95 else r.randint(0, 4))]
                     if point and r.random() < 0.05:
                         point[r.randrange(len(point))] = r.choice([math.nan, math.inf, -math.inf])
@@ -88,6 +93,79 @@ class Edits(unittest.TestCase):
                     well = plainly.coordinates[slot * d:(slot + 1) * d] if slot in plainly.live_slots() else None
                     self.assertEqual(table.point(slot) and bits(table.point(slot)), well and bits(well))
         self.assertEqual(numbers, {0, 7, 10, 21, 22})
+
+
+def renamed(levels, names):
+    """What `seen` gives of a tree, with each row named by this list."""
+    def name(rows):
+        return [names[row] for row in rows]
+    return [(name(points), [(name(own), name(borrowed), *rest) for own, borrowed, *rest in leaves]) for points, leaves in levels]
+
+
+class Closing(unittest.TestCase):
+    @both
+    def test_gaps(self):
+        table = rekvashu.Table(7, 2)
+        self.assertEqual(table.close(), [])
+        for x in (0.0, 1.0, -0.0, 3.0, 4.0, 5.0):
+            table.add([x, -x])
+        self.assertEqual(table.close(), [0, 1, 2, 3, 4, 5])
+        for slot in (0, 3, 5):
+            table.retire(slot)
+        names = table.close()
+        self.assertEqual((type(names), names), (list, [6, 0, 1, 6, 2, 6]))
+        self.assertEqual((table.slots, len(table), table.capacity, table.live), (3, 3, 7, [0, 1, 2]))
+        self.assertEqual([table.point(slot) and bits(table.point(slot)) for slot in range(4)],
+                         [bits([1.0, -1.0]), bits([-0.0, 0.0]), bits([4.0, -4.0]), None])
+        self.assertEqual((list(table._flags.c), list(table._coordinates.c[6:])), ([1] * 3 + [0] * 4, [0.0] * 8))
+        self.assertEqual(table.add([9, 9]), 3)
+        for slot in range(4):
+            table.retire(slot)
+        self.assertEqual((table.close(), table.slots, len(table)), ([4] * 4, 0, 0))
+        self.assertEqual(rekvashu.Table(0, 3).close(), [])
+
+    @both
+    def test_flags_and_coordinates_of_others(self):
+        """Any flag but 0 is live and becomes 1, a float that is not a number is moved too, and what stands from the old slot count on
+        stays."""
+        table = rekvashu.Table(8, 1)
+        table._head.slots, table._head.live = 6, 3
+        table._flags.c[:] = [0, 2, 0, 255, 128, 0, 77, 0]
+        table._coordinates.c[:] = [5.0, math.nan, math.inf, -0.0, 3.0, math.nan, -7.0, -0.0]
+        self.assertEqual(table.close(), [6, 0, 6, 1, 2, 6])
+        self.assertEqual(list(table._flags.c), [1, 1, 1, 0, 0, 0, 77, 0])
+        self.assertEqual(bits(table._coordinates.c), bits([math.nan, -0.0, 3.0, 0.0, 0.0, 0.0, -7.0, -0.0]))
+        # a head that does not fit, and coordinates that are short
+        table._head.live = 2
+        self.assertEqual(outcome(table.close), (27, 0, None))
+        table._coordinates.entries = 7
+        self.assertEqual(outcome(table.close), (11, 0, None))
+        table._dimension = 4
+        self.assertEqual((outcome(table.close), table.slots, list(table._flags.c[:4])), ((1, 0, None), 3, [1, 1, 1, 0]))
+
+    @both
+    def test_the_build_before_renamed_is_the_build_after(self):
+        r = random.Random(37)
+        numbers = set()
+        for _ in range(100):
+            d, capacity, kind = r.randint(1, 3), r.randint(1, 60), r.randint(0, 3)
+            table = rekvashu.Table(capacity, d)
+            for _ in range(r.randint(0, capacity)):
+                table.add([coordinate(r, kind) for _ in range(d)])
+            for slot in r.sample(table.live, r.randint(0, len(table))):
+                table.retire(slot)
+            settings = (r.randint(0, 9), r.randint(0, 6), r.randint(2, 4), r.choice(["auto", r.randint(0, 9)]))
+            number, place, tree = outcome(table.build, *settings)
+            names = table.close()
+            number_after, place_after, after = outcome(table.build, *settings)
+            self.assertEqual((number, place), (number_after, place_after))
+            numbers.add(number)
+            if number == 0:
+                self.assertEqual(renamed(seen(tree), names), seen(after))
+                # the slots are 0 to n - 1 now
+                points = [x for slot in table.live for x in table.point(slot)]
+                self.assertEqual(after.to_bytes(), rekvashu.build(points, *settings, dimension=d).to_bytes())
+        self.assertTrue({0, 2, 6} <= numbers)
 
 
 class Build(unittest.TestCase):

@@ -24,7 +24,7 @@ const fn whole(digits: &str) -> usize {
 /// The version of the linked library: major * 10,000 + minor * 100 + patch.
 ///
 /// ```
-/// assert!(rekvashu::version() >= 700);
+/// assert!(rekvashu::version() >= 800);
 /// ```
 pub fn version() -> usize {
     sys::version()

@@ -25,6 +25,7 @@
 //! [`build_depth_first`] builds the same tree and keeps its cuts, which [`Level::nodes`] gives from the root downwards.
 //!
 //! A [`Table`] of wells is edited between builds: wells are added and retired, and the tree is built over those that are live.
+//! [`Table::close`] closes the gaps that retired wells leave, and says how the slots of a tree built before are named now.
 //!
 //! [`Tree::to_bytes`] gives a tree as the bytes of a file, with the points and settings that it was built for, and [`load`] takes them: a tree
 //! is handed out only where the file is whole and sound and the present points and settings are its own, bit for bit.

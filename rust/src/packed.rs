@@ -75,6 +75,11 @@ pub const ADD_PLACE: usize = 0;
 pub const ADD_TAKEN: usize = 1;
 pub const ADD_SLOT: usize = 2;
 
+/// The slot of closing a table's gaps: the place of a refusal, the slot count after it.
+pub const CLOSE_PLACE: usize = 0;
+pub const CLOSE_SLOTS: usize = 1;
+pub const CLOSE_SLOT: usize = 2;
+
 /// The writer's slot: the place of a refusal, the bytes written.
 pub const STORE_PLACE: usize = 0;
 pub const STORE_BYTES: usize = 1;
@@ -148,6 +153,9 @@ mod tests {
             ("ADD_PLACE", ADD_PLACE),
             ("ADD_TAKEN", ADD_TAKEN),
             ("ADD_SLOT", ADD_SLOT),
+            ("CLOSE_PLACE", CLOSE_PLACE),
+            ("CLOSE_SLOTS", CLOSE_SLOTS),
+            ("CLOSE_SLOT", CLOSE_SLOT),
             ("STORE_PLACE", STORE_PLACE),
             ("STORE_BYTES", STORE_BYTES),
             ("STORE_SLOT", STORE_SLOT),

@@ -39,6 +39,10 @@ extern "C" {
         head: *mut Head, flags: *mut u8, flags_len: usize, coordinates: *const f64, coordinates_len: usize, dimensions: usize,
         slot: usize,
     ) -> usize;
+    fn ddm_close(
+        head: *mut Head, flags: *mut u8, flags_len: usize, coordinates: *mut f64, coordinates_len: usize, dimensions: usize,
+        rename: *mut usize, rename_len: usize, result: *mut usize, result_len: usize,
+    ) -> usize;
     fn ddm_build_slots(
         slots: usize, live: usize, flags: *const u8, flags_len: usize, coordinates: *const f64, coordinates_len: usize,
         dimensions: usize, leaf_threshold: u32, overlap_knn: u32, coarse_reduction_factor: u32, policy: u32, coarse_threshold: u32,
@@ -194,6 +198,25 @@ pub fn add(
 /// Retires a slot of a table.
 pub fn retire(head: &mut Head, flags: &mut [u8], coordinates: &[f64], dimensions: usize, slot: usize) -> usize {
     unsafe { ddm_retire(head, flags.as_mut_ptr(), flags.len(), coordinates.as_ptr(), coordinates.len(), dimensions, slot) }
+}
+
+/// Closes the gaps of a table, writes the list from old slot to new to `rename`, and after an accepted call gives that its length.
+pub fn close(
+    head: &mut Head, flags: &mut [u8], coordinates: &mut [f64], dimensions: usize, rename: &mut Vec<usize>,
+    result: &mut [usize; CLOSE_SLOT],
+) -> usize {
+    let slots = head.slots;
+    let number = unsafe {
+        ddm_close(
+            head, flags.as_mut_ptr(), flags.len(), coordinates.as_mut_ptr(), coordinates.len(), dimensions, rename.as_mut_ptr(),
+            rename.capacity(), result.as_mut_ptr(), result.len(),
+        )
+    };
+    if number == 0 {
+        // an accepted call writes one entry for each slot that there was
+        unsafe { written(rename, slots) };
+    }
+    number
 }
 
 /// Loads into the five lists of a tree, and after an accepted call gives each its length.

@@ -7,8 +7,8 @@ use crate::{build_sizes, DDMParams, Error, Tree};
 
 /// A table of wells: they are added and retired, and a tree is built over those that are live, in which slots are the rows.
 ///
-/// A well keeps its slot until it is retired; the slot then goes to the next well that is added, the lowest retired one first. An edit
-/// takes one pass over the slots given out.
+/// A well keeps its slot until it is retired; the slot then goes to the next well that is added, the lowest retired one first.
+/// [`close`](Table::close) moves the live wells down, so that no slot is retired. An edit takes one pass over the slots given out.
 ///
 /// ```
 /// use rekvashu::{DDMParams, Table};
@@ -58,6 +58,39 @@ impl Table {
         }
     }
 
+    /// Closes the gaps: the live wells move down, in order, so that [`slots`](Table::slots) is then [`len`](Table::len). The answer goes
+    /// from old slot to new, and has for each retired slot the slot count before the move.
+    ///
+    /// A tree that was built before needs no new build: with each row looked up in the answer it is the tree that
+    /// [`build`](Table::build) would build now, with the same leaves, boxes, covers and depths. Nothing is refused.
+    ///
+    /// ```
+    /// use rekvashu::{DDMParams, Table};
+    ///
+    /// let mut table = Table::new(1000, 1)?;
+    /// for x in [0.0, 1.0, 3.0, 7.0] {
+    ///     table.add(&[x])?;
+    /// }
+    /// table.retire(1)?;
+    /// let tree = table.build(DDMParams::default())?;
+    /// let new = table.close()?;
+    /// assert_eq!(new, [0, 4, 1, 2]);
+    /// let rows: Vec<usize> = tree.level(0).unwrap().rows().iter().map(|&old| new[old]).collect();
+    /// assert_eq!(rows, table.build(DDMParams::default())?.level(0).unwrap().rows());
+    /// # Ok::<(), rekvashu::Error>(())
+    /// ```
+    pub fn close(&mut self) -> Result<Vec<usize>, Error> {
+        let mut rename = reserved(self.slots())?;
+        let mut slot = [0; CLOSE_SLOT];
+        match sys::close(&mut self.head, &mut self.flags, &mut self.coordinates, self.dimension, &mut rename, &mut slot) {
+            0 => {
+                debug_assert_eq!(slot[CLOSE_SLOTS], self.slots());
+                Ok(rename)
+            }
+            number => Err(refused(number, slot[CLOSE_PLACE])),
+        }
+    }
+
     /// The live slots, ascending.
     pub fn live(&self) -> impl DoubleEndedIterator<Item = usize> + Clone + '_ {
         (0..self.head.slots).filter(|&slot| self.flags[slot] != 0)
@@ -79,7 +112,7 @@ impl Table {
         self.len() == 0
     }
 
-    /// How many slots have been given out. Retiring does not lower it.
+    /// How many slots have been given out. Only closing lowers it.
     pub fn slots(&self) -> usize {
         self.head.slots
     }
@@ -95,7 +128,8 @@ impl Table {
     }
 
     /// Builds the tree over the live slots, in slot order: rows in the tree are slots, and n is the number of live wells.
-    /// [`Tree::to_bytes`] refuses such a tree with 20, unless the live slots are 0 to n - 1. Refusals 2 to 6, 9.
+    /// [`Tree::to_bytes`] refuses such a tree with 20, unless the live slots are 0 to n - 1, as they are after [`close`](Table::close).
+    /// Refusals 2 to 6, 9.
     pub fn build(&self, params: DDMParams) -> Result<Tree, Error> {
         let call = |lists: &mut _, slot: &mut _| {
             sys::build_slots(self.head, &self.flags, &self.coordinates, self.dimension, params, lists, slot)

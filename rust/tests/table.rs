@@ -1,4 +1,5 @@
-//! The table of wells against a plain one: sequences of edits, refusals, and the build over its live slots.
+//! The table of wells against a plain one: sequences of edits and closings, refusals, the build over its live slots, and the build before
+//! closing against the one after it.
 mod plain;
 
 use plain::random::Random;
@@ -10,7 +11,7 @@ use rekvashu::{build, DDMParams, Error, Refusal, SizePolicy, Table};
 #[allow(dead_code)]
 mod packed;
 
-use packed::{ADD_PLACE, ADD_SLOT, ADD_TAKEN};
+use packed::{ADD_PLACE, ADD_SLOT, ADD_TAKEN, CLOSE_PLACE, CLOSE_SLOT, CLOSE_SLOTS};
 
 // the archive comes with the crate
 extern "C" {
@@ -21,6 +22,10 @@ extern "C" {
     fn ddm_retire(
         head: *mut [usize; 2], flags: *mut u8, flags_len: usize, coordinates: *const f64, coordinates_len: usize, dimensions: usize,
         slot: usize,
+    ) -> usize;
+    fn ddm_close(
+        head: *mut [usize; 2], flags: *mut u8, flags_len: usize, coordinates: *mut f64, coordinates_len: usize, dimensions: usize,
+        rename: *mut usize, rename_len: usize, result: *mut usize, result_len: usize,
     ) -> usize;
 }
 
@@ -104,16 +109,41 @@ fn same_builds(ours: &Table, theirs: &table::Table, d: usize, params: DDMParams)
     }
 }
 
+/// Closes both tables: the same list, and the tree built before, its rows renamed by the list, is the one built after. The refusal's number
+/// of the builds, 0 for none.
+fn same_closing(ours: &mut Table, theirs: &mut table::Table, d: usize, params: DDMParams) -> usize {
+    let before = ours.build(params);
+    let mut due = vec![usize::MAX; theirs.slots];
+    assert_eq!(theirs.close(d, &mut due), Ok(theirs.live));
+    let names = ours.close().unwrap();
+    assert_eq!(names, due, "{theirs:?}");
+    match (before, ours.build(params)) {
+        (Ok(before), Ok(after)) => {
+            let renamed = renamed(trees::levels(&before), &names);
+            assert_eq!(lists(&renamed, d), lists(&trees::levels(&after), d), "{names:?} {params:?}");
+            0
+        }
+        (Err(before), Err(after)) => {
+            assert_eq!(before, after);
+            before.refusal().unwrap().number
+        }
+        (before, after) => panic!("{:?}, {:?}", before.err(), after.err()),
+    }
+}
+
 #[test]
 fn random_edits_and_builds() {
     let mut random = Random(0x5eed_0070);
     let mut seen = [0; 23];
+    let mut about_closing = [0; 23];
     for _ in 0..300 {
         let (d, capacity) = (1 + random.below(3), random.below(40));
         let (mut ours, mut theirs) = (Table::new(capacity, d).unwrap(), empty(capacity, d));
         assert_eq!((ours.capacity(), ours.dimension()), (capacity, d));
         for _ in 0..100 {
-            if random.below(5) < 3 {
+            if random.below(15) == 0 {
+                about_closing[same_closing(&mut ours, &mut theirs, d, settings(&mut random))] += 1;
+            } else if random.below(5) < 3 {
                 let point = point(&mut random, d);
                 let due = theirs.add(d, &point);
                 seen[due.err().map_or(0, |(number, _)| number)] += 1;
@@ -133,14 +163,21 @@ fn random_edits_and_builds() {
     // each outcome came up often enough to be tested
     println!("outcomes 0 to 22: {seen:?}");
     assert!([0, 2, 6, 7, 9, 10, 21, 22].iter().all(|number| seen[*number] > 30), "{seen:?}");
+    println!("builds about closing: {about_closing:?}");
+    assert!([0, 2, 6, 9].iter().all(|number| about_closing[*number] > 20), "{about_closing:?}");
 }
+
+/// The numbers of the edits among the lent tables.
+const RETIRING: usize = 0;
+const ADDING: usize = 1;
+const CLOSING: usize = 2;
 
 /// Edits of lent lists, whose head, flags and coordinates may be wrong: the library's answer and table are the plain ones.
 #[test]
 fn random_edits_of_lent_tables() {
     let mut random = Random(0x5eed_0071);
-    let mut seen = [[0; 28]; 2];
-    for _ in 0..20_000 {
+    let mut seen = [[0; 28]; 3];
+    for _ in 0..30_000 {
         let (capacity, slots) = (random.below(9), random.below(12));
         let mut d = 1 + random.below(3);
         let flags: Vec<u8> = (0..capacity).map(|_| [0, 1, 1, 2, 255][random.below(5)]).collect();
@@ -154,8 +191,8 @@ fn random_edits_of_lent_tables() {
         }
         let (mut head, mut flags, mut coordinates) = ([theirs.slots, theirs.live], theirs.flags.clone(), theirs.coordinates.clone());
         let (point, slot) = (point(&mut random, d.clamp(1, 3)), random.below(slots + 2));
-        let adding = random.below(2);
-        if adding == 1 {
+        let kind = random.below(3);
+        if kind == ADDING {
             let mut result = [usize::MAX; ADD_SLOT];
             let number = unsafe {
                 ddm_add(
@@ -165,21 +202,37 @@ fn random_edits_of_lent_tables() {
             };
             let due = theirs.add(d, &point).map_or_else(|(number, place)| (number, place, 0), |slot| (0, 0, slot));
             assert_eq!((number, result[ADD_PLACE], result[ADD_TAKEN]), due, "{d} {point:?} {theirs:?}");
-            seen[adding][number] += 1;
+            seen[kind][number] += 1;
+        } else if kind == CLOSING {
+            let mut result = [usize::MAX; CLOSE_SLOT];
+            let entries = (theirs.slots + random.below(3)).saturating_sub(random.below(10) / 8);
+            let mut names: Vec<usize> = (0..entries).map(|i| 777 + i).collect();
+            let mut expected = names.clone();
+            let number = unsafe {
+                ddm_close(
+                    &mut head, flags.as_mut_ptr(), flags.len(), coordinates.as_mut_ptr(), coordinates.len(), d, names.as_mut_ptr(),
+                    names.len(), result.as_mut_ptr(), CLOSE_SLOT,
+                )
+            };
+            let due = theirs.close(d, &mut expected).map_or_else(|number| (number, 0, 0), |slots| (0, 0, slots));
+            assert_eq!((number, result[CLOSE_PLACE], result[CLOSE_SLOTS]), due, "{d} {theirs:?}");
+            assert_eq!(names, expected, "{d} {theirs:?}");
+            seen[kind][number] += 1;
         } else {
             let number = unsafe {
                 ddm_retire(&mut head, flags.as_mut_ptr(), flags.len(), coordinates.as_ptr(), coordinates.len(), d, slot)
             };
             assert_eq!(number, theirs.retire(d, slot).err().unwrap_or(0), "{d} {slot} {theirs:?}");
-            seen[adding][number] += 1;
+            seen[kind][number] += 1;
         }
         let bits = |list: &[f64]| list.iter().map(|x| x.to_bits()).collect::<Vec<_>>();
         assert_eq!((head, &flags), ([theirs.slots, theirs.live], &theirs.flags));
         assert_eq!(bits(&coordinates), bits(&theirs.coordinates));
     }
-    println!("adding: {:?}; retiring: {:?}", seen[1], seen[0]);
-    assert!([0, 1, 11, 27, 7, 10, 21].iter().all(|number| seen[1][*number] > 100), "{:?}", seen[1]);
-    assert!([0, 1, 11, 27, 22].iter().all(|number| seen[0][*number] > 100), "{:?}", seen[0]);
+    println!("adding: {:?}; retiring: {:?}; closing: {:?}", seen[ADDING], seen[RETIRING], seen[CLOSING]);
+    assert!([0, 1, 11, 27, 7, 10, 21].iter().all(|number| seen[ADDING][*number] > 100), "{:?}", seen[ADDING]);
+    assert!([0, 1, 11, 27, 22].iter().all(|number| seen[RETIRING][*number] > 100), "{:?}", seen[RETIRING]);
+    assert!([0, 1, 11, 27].iter().all(|number| seen[CLOSING][*number] > 100), "{:?}", seen[CLOSING]);
 }
 
 #[test]
@@ -193,6 +246,31 @@ fn slots_are_given_out_again() {
     assert_eq!((table.point(0), table.point(1), table.point(3)), (None, Some(&[1.0][..]), None));
     assert_eq!([3.0, 4.0, 5.0].map(|x| add(&mut table, x)), [Ok(0), Ok(2), Err(refused(21, 0))]);
     assert_eq!(table.live().rev().map(|slot| table.point(slot).unwrap()[0]).collect::<Vec<_>>(), [4.0, 1.0, 3.0]);
+}
+
+#[test]
+fn gaps_are_closed() {
+    let mut table = Table::new(7, 2).unwrap();
+    assert_eq!(table.close(), Ok(vec![]));
+    for x in [0.0, 1.0, -0.0, 3.0, 4.0, 5.0] {
+        table.add(&[x, -x]).unwrap();
+    }
+    assert_eq!(table.close(), Ok(vec![0, 1, 2, 3, 4, 5]));
+    for slot in [0, 3, 5] {
+        table.retire(slot).unwrap();
+    }
+    assert_eq!(table.close(), Ok(vec![6, 0, 1, 6, 2, 6]));
+    assert_eq!((table.slots(), table.len(), table.capacity(), table.live().collect::<Vec<_>>()), (3, 3, 7, vec![0, 1, 2]));
+    let points: Vec<_> = (0..4).map(|slot| table.point(slot)).collect();
+    assert_eq!(points, [Some(&[1.0, -1.0][..]), Some(&[0.0; 2]), Some(&[4.0, -4.0]), None]);
+    // the sign of a zero goes with it
+    assert_eq!(table.point(1).unwrap().iter().map(|x| x.is_sign_negative()).collect::<Vec<_>>(), [true, false]);
+    assert_eq!(table.add(&[9.0, 9.0]), Ok(3));
+    for slot in 0..4 {
+        table.retire(slot).unwrap();
+    }
+    assert_eq!((table.close(), table.slots(), table.is_empty()), (Ok(vec![4; 4]), 0, true));
+    assert_eq!(Table::new(0, 3).unwrap().close(), Ok(vec![]));
 }
 
 #[test]
@@ -234,4 +312,8 @@ fn only_a_tree_over_the_first_slots_is_stored() {
     assert_eq!(table.build(params).unwrap().to_bytes(three, params), build(three, 1, params).unwrap().to_bytes(three, params));
     table.retire(1).unwrap();
     assert_eq!(table.build(params).unwrap().to_bytes(&[0.0, 3.0], params), Err(refused(20, 0)));
+    // closing leaves no other slots
+    assert_eq!(table.close(), Ok(vec![0, 4, 1, 4]));
+    let two = &[0.0, 3.0];
+    assert_eq!(table.build(params).unwrap().to_bytes(two, params), build(two, 1, params).unwrap().to_bytes(two, params));
 }

@@ -1,4 +1,4 @@
-"""Tests of the plain model of the table: document 02's request 7."""
+"""Tests of the plain model of the table: document 02's requests 7 and 8."""
 import math
 import random
 import struct
@@ -8,7 +8,7 @@ import support  # noqa: F401
 
 import model
 import table_model
-from table_model import Table, add, build, retire
+from table_model import Table, add, build, close, retire
 
 NAN, INF = math.nan, math.inf
 
@@ -133,6 +133,119 @@ def renamed(levels, slots):
     def name(rows):
         return [slots[i] for i in rows]
     return [(name(rows), [(name(own), name(borrowed), *rest) for own, borrowed, *rest in leaves]) for rows, leaves in levels]
+
+
+# What stands in a rename list before a call.
+BEFORE = 777
+
+
+class Closing(Calls):
+    def refused_closing(self, number, table, d, entries):
+        """Closing with a rename list of so many entries is refused with this number, and leaves both."""
+        rename = [BEFORE] * entries
+        self.refused(number, 0, close, table, d, rename)
+        self.assertEqual(rename, [BEFORE] * entries)
+
+    def test_gaps_in_front_between_and_at_the_end(self):
+        t = Table([0, 2, 0, 255, 1, 0, 7, 0], [NAN, INF, -0.0, 3.0, 4.0, 5.0, -0.0, 7.0, 8.0, 9.0, NAN, 11.0, 12.0, NAN, 14.0, 15.0], 6, 3)
+        rename = [BEFORE] * 8
+        self.assertEqual(close(t, 2, rename), 3)
+        self.assertEqual(rename, [6, 0, 6, 1, 2, 6, BEFORE, BEFORE])
+        self.assertEqual((t.slots, t.live, t.flags), (3, 3, [1, 1, 1, 0, 0, 0, 7, 0]))
+        # the sign of a zero goes with it, the room left behind is +0, and what stands from the old slot count on stays
+        due = [-0.0, 3.0, -0.0, 7.0, 8.0, 9.0] + [0.0] * 6 + [12.0, NAN, 14.0, 15.0]
+        self.assertEqual(state(t)[3], [struct.pack("<d", x) for x in due])
+
+    def test_no_gap_all_gaps_and_no_slot(self):
+        for d in (1, 2, 3):
+            t, rename = Table([1, 2, 255, 9], [NAN] + [float(i) for i in range(4 * d)], 3, 3), [BEFORE] * 3
+            before = state(t)
+            self.assertEqual((close(t, d, rename), rename), (3, [0, 1, 2]))
+            self.assertEqual(state(t), (3, 3, [1, 1, 1, 9], before[3]))
+            t, rename = Table([0, 0, 0, 9], [NAN] * (4 * d), 3, 0), [BEFORE] * 4
+            self.assertEqual((close(t, d, rename), rename), (0, [3, 3, 3, BEFORE]))
+            self.assertEqual((t.slots, t.live, t.flags, t.coordinates[:3 * d]), (0, 0, [0, 0, 0, 9], [0.0] * (3 * d)))
+            self.assertTrue(all(math.isnan(x) for x in t.coordinates[3 * d:]))
+            for t in (empty(0, d), empty(3, d)):
+                before = state(t)
+                self.assertEqual((close(t, d, []), state(t)), (0, before))
+
+    def test_refusals_in_their_order(self):
+        for slots, live in ((4, 3), (3, 2), (3, 4), (2, 3)):
+            for short, entries in ((False, slots - 1), (True, slots), (True, slots - 1)):
+                t = Table([1] * 3, [0.0] * (5 if short else 6), slots, live)
+                for d in (0, 4):
+                    self.refused_closing(1, t, d, entries)
+                self.refused_closing(11, t, 2, entries)
+            self.refused_closing(27, Table([1] * 3, [0.0] * 6, slots, live), 2, slots)
+        t = Table([1, 0, 1], [0.0] * 6, 3, 2)
+        self.refused_closing(11, t, 2, 2)
+        self.assertEqual(close(t, 2, [0] * 3), 2)
+        self.refused_closing(11, Table([], [], 2 ** 64 - 1, 0), 1, 9)
+
+    def test_the_capacity_is_held_to_the_most_points(self):
+        most = model.MOST_POINTS
+        t, rename = Table([0] * most + [1], [1.0] * most, most, 0), [BEFORE] * (most + 1)
+        t.slots = most + 1
+        with self.assertRaises(model.Refused) as raised:
+            close(t, 1, rename)
+        self.assertEqual(raised.exception.number, 27)
+        t.slots = most
+        self.assertEqual((close(t, 1, rename), t.flags[most], rename[-2:]), (0, 1, [most, BEFORE]))
+
+    def test_sequences(self):
+        """Edits and closings against a plain account of which wells stand in which order."""
+        r = random.Random(3)
+        for _ in range(200):
+            d, capacity = r.randint(1, 3), r.randint(0, 9)
+            t, wells, given = empty(capacity, d), {}, 0
+            for _ in range(60):
+                kind = r.random()
+                if kind < 0.5 and len(wells) < capacity:
+                    point = [r.random() for _ in range(d)]
+                    free = min(set(range(given + 1)) - set(wells))
+                    self.assertEqual(add(t, d, point), free)
+                    wells[free] = point
+                    given = max(given, free + 1)
+                elif kind < 0.8 and wells:
+                    slot = r.choice(list(wells))
+                    retire(t, d, slot)
+                    del wells[slot]
+                else:
+                    rename, old = [BEFORE] * (given + r.randint(0, 2)), sorted(wells)
+                    self.assertEqual(close(t, d, rename), len(wells))
+                    self.assertEqual(rename[given:], [BEFORE] * (len(rename) - given))
+                    self.assertEqual([i for i in range(given) if rename[i] < given], old)
+                    self.assertEqual([rename[i] for i in old], list(range(len(old))))
+                    self.assertEqual(t.coordinates[len(old) * d:given * d], [0.0] * ((given - len(old)) * d))
+                    self.assertEqual(t.flags[:given], [1] * len(old) + [0] * (given - len(old)))
+                    wells, given = {rename[i]: wells[i] for i in old}, len(old)
+                self.assertEqual((t.slots, t.live, t.live_slots()), (given, len(wells), sorted(wells)))
+                self.assertTrue(all(t.coordinates[i * d:(i + 1) * d] == point for i, point in wells.items()))
+
+    def test_the_build_before_renamed_is_the_build_after(self):
+        r = random.Random(4)
+        numbers = set()
+        for _ in range(300):
+            d, capacity = r.randint(1, 3), r.randint(1, 40)
+            t = Table([r.choice([0, 1, r.randint(0, 255)]) for _ in range(capacity)], [NAN] * (capacity * d), r.randint(0, capacity))
+            t.live = len(t.live_slots())
+            for i in t.live_slots():
+                t.coordinates[i * d:(i + 1) * d] = [float(r.randint(0, 9)) if r.random() < 0.99 else NAN for _ in range(d)]
+            settings = (d, r.randint(0, 5), r.randint(0, 5), r.randint(2, 4), 1, r.randint(1, 12))
+            rename = [BEFORE] * t.slots
+            try:
+                levels = build(t, *settings)
+            except model.Refused as refusal:
+                close(t, d, rename)
+                place = rename[refusal.place // d] * d + refusal.place % d if refusal.number == 10 else 0
+                self.refused(refusal.number, place, build, t, *settings)
+                numbers.add(refusal.number)
+            else:
+                close(t, d, rename)
+                self.assertEqual(build(t, *settings), renamed(levels, rename))
+                numbers.add(0)
+        self.assertEqual(numbers, {0, 2, 6, 9, 10})
 
 
 class Builds(Calls):

@@ -1,36 +1,27 @@
 -- A call that closes the gaps: what a refused one answers, the room that an accepted one has, and what it answers and leaves. Assumes nothing.
 -- Holds: CloseRoom, close-refused, close-room, close-done
 use mathlib.Core.Path.{◌≡◌, sym, ap, ◌∙◌}
-use mathlib.Core.Bool.{Bool}
 use mathlib.Core.List.{List, ◌++◌}
 use Prim.Native.Nat.{ℕ, ◌+◌, ◌-◌, ◌*◌, ◌≤◌}
 use native.Mathlib.Omega.{arith}
 use native.Mathlib.Nat.{mul-le-mul_right, add-mul}
-use borrow.Author.Tests.{ltb-false}
-use lib.Dec.{ltb}
 use lib.ListN.{length, replicate, length-replicate}
 use lib.Ieee.{Float}
 use Rattle.lists.specs.Lists.{put}
 use Rattle.lists.proofs.Put.{put-zero, put-next-at}
 use Rattle.definition.specs.Number.{plus_zero}
-use Rattle.definition.specs.Refusals.{Refusal, Test, accepted, refused, verdict}
+use Rattle.definition.specs.Refusals.{Refusal, accepted, refused}
 use Rattle.definition.specs.Outcome.{number_of, place_of, value_of, written, list_after}
 use Rattle.definition.specs.Table.{Table, live_slots_lem}
-use Rattle.definition.specs.Closing.{edit_tests, rename_list, live_coordinates, close_verdict, closed, close_answer, close_table, close_rename}
+use Rattle.definition.specs.Closing.{rename_list, live_coordinates, close_verdict, closed, close_answer, close_table, close_rename}
 use Rattle.table_checks.specs.Tables.{table_of}
-use Rattle.table_edits.proofs.TableTests.{Editable, live_below}
-use Rattle.closing.proofs.CloseTests.{is_short, none-lacks, closable}
+use Rattle.table_laws.proofs.Live.{SoundTable, sound-table, live-few}
+use Rattle.table_laws.proofs.Closing.{Closes, closes}
 use Rattle.closing.specs.Passed.{live_below_lem, live_parts, renames}
 use Rattle.closing.specs.Outcome.{Closed}
 use Rattle.closing.proofs.Moves.{parts-length}
 
 module _ (d : ℕ) (t : Table) (rename : List ℕ) where
-  abbrev lacking : Bool
-  lacking = ltb (length rename) t.head.slots
-
-  abbrev tests : List Test
-  tests = edit_tests d t (is_short d t lacking)
-
   -- the lists hold all slots, and what is left of the coordinates past the live ones ends with the last slot's
   pub record CloseRoom : Type 0 where
     pub in-flags : t.head.slots ≤ length t.flags
@@ -44,28 +35,27 @@ module _ (d : ℕ) (t : Table) (rename : List ℕ) where
   close-refused r v = record { answers = rw (← v); table = rw (← v); renamed = rw (← v) }
 
   module _ (passed : accepted ≡ close_verdict d t (length rename)) where
-    tested : verdict tests ≡ accepted
-    unfolding close_verdict
-    tested = sym passed
+    able : Closes d t (length rename)
+    able = closes d t (length rename) (sym passed)
 
-    able : Editable d t
-    able = closable d t lacking tested
+    sound : SoundTable t.head t.flags
+    sound = sound-table t.head t.flags able.sound
 
     pub close-room : CloseRoom
     close-room =
-        let few = live_below d t able in
+        let few : t.head.live ≤ t.head.slots = omega (arith, sound.counted, live-few t.head t.flags) in
         let whole : t.head.live + (t.head.slots - t.head.live) ≡ t.head.slots = omega (arith, few) in
         record {
-          in-flags = omega (arith, able.sound.within);
-          in-coordinates = omega (arith, mul-le-mul_right d able.sound.within, able.room);
-          in-rename = ltb-false (length rename) t.head.slots (none-lacks d t lacking tested);
+          in-flags = omega (arith, sound.within);
+          in-coordinates = omega (arith, mul-le-mul_right d sound.within, able.covered);
+          in-rename = able.room;
           live-few = few;
           parted = sym (add-mul t.head.live (t.head.slots - t.head.live) d) ∙ ap (λ (n : ℕ). n * d) whole;
         }
 
     live-is : length (live_below_lem t.flags t.head.slots) ≡ t.head.live
     unfolding live_slots_lem
-    live-is = sym able.sound.counted
+    live-is = sym sound.counted
 
     flags-left : put (put t.flags 0 (replicate t.head.live 1)) t.head.live (replicate (t.head.slots - t.head.live) 0)
         ≡ written (replicate t.head.live 1 ++ replicate (t.head.slots - t.head.live) 0) t.flags

@@ -12,7 +12,7 @@ ghost use Rattle.depth_first_build.specs.Outcome.{records_of};
 ghost use Rattle.slots.specs.Settings.{settings_from};
 ghost use Rattle.slots.specs.Slots.{value_slot, sizes_slot, version_number};
 ghost use Rattle.table_checks.specs.Tables.{table_of};
-ghost use Rattle.slots.specs.Told.{Told, QuotasTold, SampleTold, BuildTold, DepthFirstTold, StoreTold, LoadTold, AddTold, RetireTold, SlotsTold};
+ghost use Rattle.slots.specs.Told.{Told, QuotasTold, SampleTold, BuildTold, DepthFirstTold, StoreTold, LoadTold, AddTold, RetireTold, CloseTold, SlotsTold};
 
 use points::Points;
 use quotas::Seated;
@@ -23,7 +23,7 @@ use tree_lists::{Records, Room, TreeLists, TreeRead};
 // The version as one number: major * 10000 + minor * 100 + patch.
 #[unsafe(no_mangle)]
 pub extern "C" fn ddm_version() -> usize
-    ensures { result ≡ version_number 0 7 0 }
+    ensures { result ≡ version_number 0 8 0 }
 {
     slots::version()
 }
@@ -378,6 +378,39 @@ pub extern "C" fn ddm_retire(
     head[0] = counters.slots;
     head[1] = counters.live;
     Report::of(answer).number
+}
+
+// Closes the gaps of the table: the live wells move down, in order, and `rename` says from which slot to which. The slot: place, new slot
+// count. Refusals 1, 11, 27.
+#[unsafe(no_mangle)]
+pub extern "C" fn ddm_close(
+    head: &mut [usize; 2],
+    flags: &mut [u8],
+    coordinates: &mut [f64],
+    dimensions: usize,
+    rename: &mut [usize],
+    res: &mut [usize],
+) -> usize
+    ensures { CloseTold dimensions head.old head.new flags.old flags.new
+        coordinates.old coordinates.new rename.old rename.new res.old res.new result }
+{
+    if res.len() < slots::PAIR {
+        return Refusal::ShortList.number();
+    }
+    // C's head is two numbers: taken in here, and given back below
+    let mut counters = Head {
+        slots: head[0],
+        live: head[1],
+    };
+    let mut wells = Wells {
+        flags,
+        coordinates,
+        dimensions,
+    };
+    let answer = table::close(&mut counters, &mut wells, rename);
+    head[0] = counters.slots;
+    head[1] = counters.live;
+    slots::put_placed(res, answer)
 }
 
 // Builds the tree over the live slots of a table: rows in every list are slots, and n is the live count. The slot is that of a build.

@@ -1,11 +1,11 @@
 -- Closing the gaps of a table of wells (document 02, request 8): the list from old slot to new, the refusals, and what a call answers and
 -- leaves. Definitions only.
-use Rattle.std.specs.Prelude.{ℕ, ◌-◌, ◌*◌, Bool, cond, ◌||◌, List, [], ◌∷◌, ◌++◌, map, length, replicate, ltb, Float}
+use Rattle.std.specs.Prelude.{ℕ, ◌-◌, ◌*◌, cond, ◌||◌, List, [], ◌∷◌, ◌++◌, map, length, replicate, ltb, Float}
 use Rattle.lists.specs.Lists.{count, from, joined, part}
 use Rattle.definition.specs.Number.{plus_zero}
-use Rattle.definition.specs.Refusals.{Test, Verdict, on, verdict, wrong_dimension_lem}
+use Rattle.definition.specs.Refusals.{Verdict, verdict}
 use Rattle.definition.specs.Outcome.{Answer, answered, value_of, written, list_after}
-use Rattle.definition.specs.Table.{Head, Table, flagged, coordinates_short, unsound}
+use Rattle.definition.specs.Table.{Head, Table, flagged, coordinates_short, edit_tests}
 use Rattle.definition.specs.Slots.{rows_of}
 
 -- from old slot to new: a live slot goes to the number of live slots below it; a retired one gives the slot count before the move
@@ -15,10 +15,6 @@ rename_list h flags = map (λ i. cond (flagged flags i) (count (flagged flags) (
 -- the coordinates of the live slots, in slot order
 unfoldable pub live_coordinates : ℕ → Table → List Float
 live_coordinates d t = joined (map (λ i. part t.coordinates (i * d) d) (rows_of t))
-
--- what every edit tries first: 1, 11 where a lent list is short, 27
-abbrev pub edit_tests : ℕ → Table → Bool → List Test
-edit_tests d t short = on (wrong_dimension_lem d) 1 ∷ on short 11 ∷ on (unsound t.head t.flags) 27 ∷ []
 
 -- closing: 1, 11 (also for a rename list under the slot count), 27
 unfoldable pub close_verdict : ℕ → Table → ℕ → Verdict

@@ -17,8 +17,9 @@ pub mod DepthFirst
 -- The table of wells, and the build over its live slots (document 02, request 7).
 pub mod Table
 pub mod Slots
--- Closing the gaps of the table.
+-- Closing the gaps of the table (request 8), and sequences of edits.
 pub mod Closing
+pub mod Edits
 -- What the laws of level sizes and quotas say.
 pub mod SeatCut
 pub mod Fair

@@ -44,9 +44,13 @@ coordinates_short d t = ltb (length t.coordinates) (capacity t.flags * d)
 unfoldable pub unsound : Head → List ℕ → Bool
 unsound h flags = ltb (capacity flags) h.slots || not (eqb h.live (length (live_slots_lem h flags)))
 
--- what every edit tries first: 1, 11, 27
+-- what every edit tries first: 1, 11 where a lent list is short, 27
+abbrev pub edit_tests : ℕ → Table → Bool → List Test
+edit_tests d t short = on (wrong_dimension_lem d) 1 ∷ on short 11 ∷ on (unsound t.head t.flags) 27 ∷ []
+
+-- adding and retiring are lent no list but those of the table
 abbrev pub table_tests : ℕ → Table → List Test
-table_tests d t = on (wrong_dimension_lem d) 1 ∷ on (coordinates_short d t) 11 ∷ on (unsound t.head t.flags) 27 ∷ []
+table_tests d t = edit_tests d t (coordinates_short d t)
 
 -- 21: no retired slot, and the slot count at capacity
 abbrev pub full : Table → Bool
@@ -99,33 +103,3 @@ retire_answer_lem d t slot = answered (retire_verdict d t slot) 0 0
 
 unfoldable pub retire_table : ℕ → Table → ℕ → Table
 retire_table d t slot = value_of (retire_verdict d t slot) (retired t slot) t
-
--- ---- sequences of edits
-
--- A call, with the dimension and the coordinates that the caller lends to it: between calls these are the caller's, and head and flags
--- are changed by nothing else.
-pub data Edit : Type 0 where
-  adding : ℕ → List Float → List Float → Edit
-  retiring : ℕ → List Float → ℕ → Edit
-
--- the table with these coordinates lent
-abbrev pub lending : Table → List Float → Table
-lending t cs = record { head = t.head; flags = t.flags; coordinates = cs }
-
--- the coordinates that a call is lent, and what its tests come to
-abbrev pub lent_by : Edit → List Float
-lent_by (adding d cs point) = cs
-lent_by (retiring d cs slot) = cs
-
-unfoldable pub edit_verdict : Table → Edit → Verdict
-edit_verdict t (adding d cs point) = add_verdict d (lending t cs) point
-edit_verdict t (retiring d cs slot) = retire_verdict d (lending t cs) slot
-
--- the table after a call, and after a list of calls
-unfoldable pub edited : Table → Edit → Table
-edited t (adding d cs point) = add_table d (lending t cs) point
-edited t (retiring d cs slot) = retire_table d (lending t cs) slot
-
-unfoldable pub after_all : Table → List Edit → Table
-after_all t [] = t
-after_all t (e ∷ es) = after_all (edited t e) es

@@ -1,4 +1,4 @@
-// A call of add or retire on the table that a record gives, and its outcome.
+// A call of add, retire or close on the table that a record gives, and its outcome.
 #![tactic(auto)]
 
 use call_records::Fields;
@@ -6,8 +6,10 @@ use points::Points;
 use refusal::Refusal;
 use table::{Head, Table, Wells};
 
-// The most coordinates of a point.
+// The most coordinates of a point, and the most entries of a rename list.
 const POINT: usize = 5;
+
+const RENAME: usize = 44;
 
 // Whether the answer of an edit stands next, with the table after it, and the record ends there. An edit that names no slot has 0 there.
 fn outcome_agrees(
@@ -49,4 +51,16 @@ pub fn retire_agrees(
         points,
     };
     outcome_agrees(fields, answer.map(|_| 0), table)
+}
+
+// The same of a closing, whose rename list stands there before the call and after it.
+pub fn close_agrees(
+    fields: &mut Fields<'_>,
+    mut head: Head,
+    wells: &mut Wells<'_>,
+) -> Option<bool> {
+    let mut room = [call_records::NINE; RENAME];
+    let rename = fields.list(&mut room)?;
+    let answer = table::close(&mut head, wells, rename);
+    Some(fields.agrees(rename)? && outcome_agrees(fields, answer, wells.table(head))?)
 }

@@ -1,6 +1,6 @@
-// Replays stored calls of add, retire and the build over slots: reads the file that the first argument names, makes each call there, and
-// says how many of the calls differ from their stored outcomes, in their answers, in the head or in an entry of a list, and which differs
-// first. tools/make_table_calls.py makes the file, and its head says the form of a record.
+// Replays stored calls of add, retire, close and the build over slots: reads the file that the first argument names, makes each call there,
+// and says how many of the calls differ from their stored outcomes, in their answers, in the head or in an entry of a list, and which
+// differs first. tools/make_table_calls.py makes the file, and its head says the form of a record.
 #![tactic(auto)]
 
 use call_records::Fields;
@@ -22,6 +22,7 @@ enum Kind {
     Add,
     Retire,
     Build,
+    Close,
 }
 
 // A code that names no kind of record. Each program has its own, since the codes are.
@@ -36,6 +37,7 @@ impl TryFrom<u8> for Kind {
             1 => Ok(Kind::Add),
             2 => Ok(Kind::Retire),
             3 => Ok(Kind::Build),
+            4 => Ok(Kind::Close),
             _ => Err(UnknownKind),
         }
     }
@@ -83,6 +85,14 @@ fn outcome_agrees(record: &[u8]) -> Option<bool> {
                 points,
             };
             replay_builds::agrees(&mut fields, table, settings.params)
+        }
+        Kind::Close => {
+            let mut wells = Wells {
+                flags,
+                coordinates,
+                dimensions,
+            };
+            replay_edits::close_agrees(&mut fields, head, &mut wells)
         }
     }
 }

@@ -2,7 +2,7 @@
 -- the call behind it. Assumes nothing.
 -- Holds: told-short, told-long, told-value, quotas-short, quotas-long, sample-cover-short, sample-short, sample-long, tree-short,
 --   tree-long, build-short, build-long, slots-short, slots-long, depth-first-short, depth-first-long, store-short,
---   store-tree-short, store_long, load-short, load-long, add-short, add-long, retire-told
+--   store-tree-short, store_long, load-short, load-long, add-short, add-long, retire-told, close-short, close-long
 use mathlib.Core.Path.{◌≡◌, refl, subst, ap, ◌∙◌}
 use mathlib.Core.List.{List, [], ◌∷◌}
 use Prim.Native.Nat.{ℕ, ◌≤◌, ◌<◌}
@@ -18,11 +18,12 @@ use Rattle.definition.specs.Outcome.{Answer, Shared, Sampled, TreeLists, written
 use Rattle.definition.specs.DepthFirst.{RecordLists, depth_first_call, depth_first_answer, depth_first_lists, depth_first_records}
 use Rattle.definition.specs.Table.{Table, add_answer_lem, add_table, retire_answer_lem, retire_table}
 use Rattle.definition.specs.Slots.{slots_call, slots_answer, slots_lists}
+use Rattle.definition.specs.Closing.{close_answer, close_table, close_rename}
 use Rattle.stored.specs.Outcome.{write_answer, write_output, load_answer, load_lists_lem}
 use Rattle.quotas.specs.Outcome.{SeatsShared}
 use Rattle.sampling.specs.Outcome.{RowsSampled}
 use Rattle.slots.specs.Slots.{value_slot, quota_slot, sample_slot, cover_slot, placed_slot, build_slot, counts_in, head_written, table_from}
-use Rattle.slots.specs.Told.{Told, QuotasTold, SampleTold, TreeTold, BuildTold, SlotsTold, DepthFirstTold, StoreTold, LoadTold, AddTold, RetireTold}
+use Rattle.slots.specs.Told.{Told, QuotasTold, SampleTold, TreeTold, BuildTold, SlotsTold, DepthFirstTold, StoreTold, LoadTold, AddTold, RetireTold, CloseTold}
 use Rattle.slots.proofs.Slots.{slot-short, slot-long, slot-written, room-short, room-long, number-long}
 
 -- ---- number and slot
@@ -267,3 +268,27 @@ retire-told d head flags flags' cs slot a t' answers table f =
       head_is = ap (λ (x : Table). head_written x.head head) table;
       flags_are = f ∙ ap (λ (x : Table). x.flags) table;
     }
+
+module _ (d : ℕ) (head flags : List ℕ) (cs : List Float) (rename slot : List ℕ) where
+  pub close-short : length slot < 2 → CloseTold d head head flags flags cs cs rename rename slot slot 11
+  close-short h =
+      record {
+        told = told-short 2 _ slot _ h;
+        head_is = slot-short 2 slot _ _ h;
+        flags_are = slot-short 2 slot _ _ h;
+        coordinates_are = slot-short 2 slot _ _ h;
+        rename_is = slot-short 2 slot _ _ h;
+      }
+
+  -- as for adding
+  pub close-long : (flags' : List ℕ) (cs' : List Float) (rename' slot' : List ℕ) (a : Answer ℕ) (t' : Table) → 2 ≤ length slot → slot' ≡ put slot 0 (placed_slot a)
+      → a ≡ close_answer d (table_from head flags cs) rename → t' ≡ close_table d (table_from head flags cs) rename → rename' ≡ close_rename d (table_from head flags cs) rename
+      → flags' ≡ t'.flags → cs' ≡ t'.coordinates → CloseTold d head (head_written t'.head head) flags flags' cs cs' rename rename' slot slot' a.number
+  close-long flags' cs' rename' slot' a t' h w answers table renamed f c =
+      record {
+        told = told-long 2 placed_slot slot slot' a.number a _ h refl w answers;
+        head_is = slot-long 2 slot _ _ _ h (ap (λ (x : Table). head_written x.head head) table);
+        flags_are = slot-long 2 slot _ _ _ h (f ∙ ap (λ (x : Table). x.flags) table);
+        coordinates_are = slot-long 2 slot _ _ _ h (c ∙ ap (λ (x : Table). x.coordinates) table);
+        rename_is = slot-long 2 slot _ _ _ h renamed;
+      }

@@ -47,7 +47,7 @@ sample_slot a = a.place ∷ a.value.rows ∷ []
 abbrev pub cover_slot : Answer Sampled → List Float
 cover_slot a = a.value.cover ∷ []
 
--- the writer's: the place, and how many bytes were written; an add's: the place, and the slot taken
+-- the writer's: the place, and how many bytes were written; an add's: the place, and the slot taken; closing's: the place, and the new slot count
 abbrev pub placed_slot : Answer ℕ → List ℕ
 placed_slot a = a.place ∷ a.value ∷ []
 

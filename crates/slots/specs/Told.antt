@@ -8,6 +8,7 @@ use Rattle.definition.specs.Outcome.{Answer, TreeLists, written, RoomAfter, quot
 use Rattle.definition.specs.DepthFirst.{RecordLists, depth_first_call, depth_first_answer, depth_first_lists, depth_first_records}
 use Rattle.definition.specs.Table.{Table, add_answer_lem, add_table, retire_answer_lem, retire_table}
 use Rattle.definition.specs.Slots.{slots_call, slots_answer, slots_lists}
+use Rattle.definition.specs.Closing.{close_answer, close_table, close_rename}
 use Rattle.stored.specs.Outcome.{write_answer, write_output, load_answer, load_lists_lem}
 use Rattle.slots.specs.Slots.{unless_short, number_after, slot_after, slot_first, unless_either, quota_slot, sample_slot, cover_slot, placed_slot, build_slot, counts_in, head_written, table_from}
 
@@ -84,3 +85,11 @@ pub record RetireTold (d : ℕ) (head head' flags flags' : List ℕ) (cs : List 
   pub number_is : returned ≡ (retire_answer_lem d (table_from head flags cs) retiring).number
   pub head_is : head' ≡ head_written (retire_table d (table_from head flags cs) retiring).head head
   pub flags_are : flags' ≡ (retire_table d (table_from head flags cs) retiring).flags
+
+-- Closing its gaps; its slot has the place and the new slot count. A slot that is too short leaves everything as it was.
+pub record CloseTold (d : ℕ) (head head' flags flags' : List ℕ) (cs cs' : List Float) (rename rename' slot slot' : List ℕ) (returned : ℕ) : Type 0 where
+  pub told : Told 2 placed_slot slot slot' returned (close_answer d (table_from head flags cs) rename)
+  pub head_is : head' ≡ unless_short 2 slot head (head_written (close_table d (table_from head flags cs) rename).head head)
+  pub flags_are : flags' ≡ unless_short 2 slot flags (close_table d (table_from head flags cs) rename).flags
+  pub coordinates_are : cs' ≡ unless_short 2 slot cs (close_table d (table_from head flags cs) rename).coordinates
+  pub rename_is : rename' ≡ unless_short 2 slot rename (close_rename d (table_from head flags cs) rename)

@@ -16,11 +16,11 @@ use config::{DDMParams, SizePolicy};
 use refusal::{Refusal, Report};
 use tree_answer::DDMTree;
 
-// The version, 0.7.0, as one number: major, minor and patch, with two digits for each of the last two.
+// The version, 0.8.0, as one number: major, minor and patch, with two digits for each of the last two.
 pub fn version() -> usize
-    ensures { result ≡ version_number 0 7 0 }
+    ensures { result ≡ version_number 0 8 0 }
 {
-    700
+    800
 }
 
 // How many entries a slot has: of a pair, as a place and a value; of the lengths of a build's lists; and of a tree, which are its place, its levels,

@@ -1,9 +1,9 @@
--- What adding and retiring leave of a table: a refused edit leaves it; an accepted add makes one slot live that was not, the lowest; an
--- accepted retirement ends one; and 27 passes after any list of edits from a table that it passes. Assumes nothing.
+-- What adding, retiring and closing leave of a table: a refused edit leaves it; an accepted add makes one slot live that was not, the
+-- lowest; an accepted retirement ends one; and 27 passes after any list of edits from a table that it passes. Assumes nothing.
 -- Holds: Adds, adds, Retires, retires, added-sound, retired-sound, refused-edit, edit-sound, edits-sound, add-live, add-new,
 --   add-lowest, retire-live
 use mathlib.Core.Path.{◌≡◌, refl, sym, ap, ◌∙◌}
-use mathlib.Core.Logic.{◌⊎◌, inl, inr, ⊎_elim}
+use mathlib.Core.Logic.{⊎_elim}
 use mathlib.Core.Bool.{true, false, not, ◌&&◌, ◌||◌, and-false}
 use mathlib.Core.List.{List, [], ◌∷◌}
 use Prim.Native.Nat.{ℕ, suc, ◌-◌, ◌≤◌, ◌<◌, max}
@@ -19,10 +19,14 @@ use Rattle.lists.proofs.Least.{least-before, least-holds}
 use Rattle.lists.proofs.Count.{count_set, count-more}
 use Rattle.definition.specs.Refusals.{Verdict, accepted, refused, Refusal}
 use Rattle.definition.specs.Outcome.{value_of}
-use Rattle.definition.specs.Table.{Head, Table, capacity, flagged, live_slots_lem, next_slot, full, add_verdict, retire_verdict, added, add_answer_lem, add_table, retired, retire_table, Edit, adding, retiring, lending, lent_by, edit_verdict, edited, after_all}
+use Rattle.definition.specs.Table.{Head, Table, capacity, flagged, live_slots_lem, next_slot, full, add_verdict, retire_verdict, added, add_answer_lem, add_table, retired, retire_table}
 use Rattle.definition.specs.Slots.{rows_of}
+use Rattle.definition.specs.Closing.{close_verdict, closed, close_table}
+use Rattle.definition.specs.Edits.{Edit, adding, retiring, closing, lending, lent_by, edit_verdict, edited, after_all}
 use Rattle.definition_laws.proofs.Accepted.{passes}
+use Rattle.table_laws.proofs.Outcomes.{accepted-or, value-accepted, value-refused}
 use Rattle.table_laws.proofs.Live.{Sound, SoundTable, sound-table, is-sound, nonzero, live-many, live-member, next-high}
+use Rattle.table_laws.proofs.Closing.{closed-sound}
 
 -- ---- what an accepted call has
 
@@ -201,46 +205,32 @@ module _ (t : Table) (slot : ℕ) (a : Retires t slot) where
 
 -- ---- every call
 
--- a verdict is accepted, or a refusal
-accepted-or : (v : Verdict) → (v ≡ accepted) ⊎ ((r : Refusal) × (v ≡ refused r))
-accepted-or accepted = inl refl
-accepted-or (refused r) = inr (r, refl)
-
-value-accepted : {A : Type 0} (v : Verdict) (x y : A) → v ≡ accepted → value_of v x y ≡ x
-unfolding value_of
-value-accepted v x y e = rw e
-
-value-refused : {A : Type 0} (v : Verdict) (x y : A) (r : Refusal) → v ≡ refused r → value_of v x y ≡ y
-unfolding value_of
-value-refused v x y r e = rw e
-
 -- a refused edit leaves the table: head and flags, and the coordinates that it was lent
 pub refused-edit : (t : Table) (e : Edit) (r : Refusal) → edit_verdict t e ≡ refused r → edited t e ≡ lending t (lent_by e)
-unfolding edit_verdict edited add_table retire_table
-refused-edit t (adding d cs point) r e = value-refused _ _ _ r e
-refused-edit t (retiring d cs slot) r e = value-refused _ _ _ r e
+unfolding edit_verdict edited add_table retire_table close_table
+refused-edit t (adding _ _ _) r e = value-refused _ _ _ r e
+refused-edit t (retiring _ _ _) r e = value-refused _ _ _ r e
+refused-edit t (closing _ _ _) r e = value-refused _ _ _ r e
 
--- 27 passes after an edit of a table that it passes, one kind after the other
-add-sound : (d : ℕ) (t : Table) (point : List Float) → Sound t → Sound (add_table d t point)
-unfolding add_table
-add-sound d t point s =
+-- 27 passes after an edit of a table that it passes: after an accepted one of each kind, and after a refused one
+sound_after : (v : Verdict) (new old : Table) → (v ≡ accepted → Sound new) → Sound old → Sound (value_of v new old)
+sound_after v new old ok s =
     ⊎_elim
-    (λ e. rw (value-accepted (add_verdict d t point) (added d t point) t e) (added-sound t (adds d t point e) d point))
-    (λ r. rw (value-refused (add_verdict d t point) (added d t point) t r.0 r.1) s)
-    (accepted-or (add_verdict d t point))
-
-retire-sound : (d : ℕ) (t : Table) (slot : ℕ) → Sound t → Sound (retire_table d t slot)
-unfolding retire_table
-retire-sound d t slot s =
-    ⊎_elim
-    (λ e. rw (value-accepted (retire_verdict d t slot) (retired t slot) t e) (retired-sound t slot (retires d t slot e)))
-    (λ r. rw (value-refused (retire_verdict d t slot) (retired t slot) t r.0 r.1) s)
-    (accepted-or (retire_verdict d t slot))
+    (λ e. rw (value-accepted v new old e) (ok e))
+    (λ r. rw (value-refused v new old r.0 r.1) s)
+    (accepted-or v)
 
 pub edit-sound : (t : Table) (e : Edit) → Sound t → Sound (edited t e)
-unfolding edited
-edit-sound t (adding d cs point) s = add-sound d (lending t cs) point s
-edit-sound t (retiring d cs slot) s = retire-sound d (lending t cs) slot s
+unfolding edited add_table retire_table close_table
+edit-sound t (adding d cs point) s =
+    let u = lending t cs in
+    sound_after (add_verdict d u point) (added d u point) u (λ e. added-sound u (adds d u point e) d point) s
+edit-sound t (retiring d cs slot) s =
+    let u = lending t cs in
+    sound_after (retire_verdict d u slot) (retired u slot) u (λ e. retired-sound u slot (retires d u slot e)) s
+edit-sound t (closing d cs rename) s =
+    let u = lending t cs in
+    sound_after (close_verdict d u (length rename)) (closed d u) u (λ e. closed-sound u s d) s
 
 all_sound : (t : Table) (es : List Edit) → Sound t → Sound (after_all t es)
 unfolding after_all

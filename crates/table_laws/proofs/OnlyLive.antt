@@ -27,7 +27,7 @@ use Rattle.definition.specs.Outcome.{answered, value_of, list_after, TreeLists, 
 use Rattle.definition.specs.Table.{Table, capacity, flagged, live_slots_lem, unsound}
 use Rattle.definition.specs.Slots.{rows_of, slots_verdict, slot_levels, slots_call, slots_answer, slots_lists}
 use Rattle.definition.specs.Closing.{live_coordinates}
-use Rattle.definition.specs.Table.{lending}
+use Rattle.definition.specs.Edits.{lending}
 use Rattle.definition_laws.proofs.Accepted.{decides, pass, right-dimension}
 use Rattle.renaming_laws.specs.Renaming.{renamed_leaf, renamed_level, renamed_verdict, ListsRenamed}
 use Rattle.table_laws.proofs.Ranks.{keep-every}

@@ -1,14 +1,18 @@
--- Tables that are edited, and builds over their live slots, worked out: each row is computed. Assumes nothing.
+-- Tables that are edited, builds over their live slots, and gaps that are closed, worked out: each row is computed. Assumes nothing.
+-- Holds: Tables, tables, Closings, closings
 use Prim.Native.Nat.{ℕ}
 use mathlib.Core.Path.{◌≡◌, refl}
 use mathlib.Core.List.{List, [], ◌∷◌, ◌++◌}
 use lib.ListN.{replicate}
-use lib.Ieee.{Float, nan, inf}
+use lib.Ieee.{Float, nan, inf, binary64, of_bits}
 use mathlib.Core.Bool.{true, false}
+use Rattle.definition.specs.Number.{plus_zero}
 use Rattle.definition.specs.Levels.{fixed}
 use Rattle.definition.specs.Tree.{Settings}
 use Rattle.definition.specs.Outcome.{Answer, zero_counts}
-use Rattle.definition.specs.Table.{Table, live_slots_lem, next_slot, unsound, add_verdict, added, add_answer_lem, add_table, retire_verdict, retired, retire_answer_lem, retire_table, adding, retiring, edited, after_all}
+use Rattle.definition.specs.Table.{Table, live_slots_lem, next_slot, unsound, add_verdict, added, add_answer_lem, add_table, retire_verdict, retired, retire_answer_lem, retire_table}
+use Rattle.definition.specs.Closing.{rename_list, live_coordinates, close_verdict, closed, close_answer, close_table, close_rename}
+use Rattle.definition.specs.Edits.{adding, retiring, closing, edited, after_all}
 use Rattle.definition.specs.Slots.{places_of_rows, slots_verdict, slot_levels, slots_answer, slots_lists}
 use Rattle.definition.proofs.WorkedSamples.{opened, line, on_line, nines, float_room, whole_room}
 
@@ -133,4 +137,66 @@ tables =
       slots-9 = (refl, refl);
       slots-11 = (refl, refl);
       slots-10 = (refl, refl);
+    }
+
+-- ---- closing the gaps
+
+-- the new slot count, the table and the rename list after an accepted call
+abbrev ClosedTo : ℕ → Table → List ℕ → ℕ → Table → List ℕ → Type 0
+ClosedTo d t rename slots after new = (close_answer d t rename ≡ answers 0 0 slots) × (close_table d t rename ≡ after) × (close_rename d t rename ≡ new)
+
+-- a refused call: its number, and table and rename list as they were
+abbrev CloseRefused : ℕ → Table → List ℕ → ℕ → Type 0
+CloseRefused d t rename number = (close_answer d t rename ≡ answers number 0 0) × (close_table d t rename ≡ t) × (close_rename d t rename ≡ rename)
+
+abbrev minus_zero : Float
+minus_zero = of_bits binary64 0x8000000000000000
+
+pub record Closings : Type 0 where
+  -- no gap, with a slot not given out behind; no slot; no live slot
+  no-gap : ClosedTo 1 (table 2 2 (1 ∷ 255 ∷ 0 ∷ []) (line (3 ∷ 4 ∷ 5 ∷ []))) (9 ∷ 9 ∷ []) 2 (table 2 2 (1 ∷ 1 ∷ 0 ∷ []) (line (3 ∷ 4 ∷ 5 ∷ []))) (0 ∷ 1 ∷ [])
+  no-slot : ClosedTo 1 (table 0 0 [] []) [] 0 (table 0 0 [] []) []
+  no-live : ClosedTo 1 (table 2 0 (0 ∷ 0 ∷ 7 ∷ []) (line (3 ∷ []) ++ nan ∷ line (5 ∷ []))) (9 ∷ 9 ∷ []) 0 (table 0 0 (0 ∷ 0 ∷ 7 ∷ []) (plus_zero ∷ plus_zero ∷ line (5 ∷ []))) (2 ∷ 2 ∷ [])
+  -- gaps in front, between and at the end; a retired NaN goes, a live NaN and a live -0 stay; each list is kept past the slot count
+  gaps : ClosedTo 2
+      (table 6 3 (0 ∷ 2 ∷ 0 ∷ 255 ∷ 1 ∷ 0 ∷ 9 ∷ []) (nan ∷ nan ∷ minus_zero ∷ line (1 ∷ 2 ∷ []) ++ nan ∷ nan ∷ line (5 ∷ 6 ∷ []) ++ inf true ∷ line (7 ∷ 8 ∷ 9 ∷ []) ++ nan ∷ line (4 ∷ []))) (replicate 8 9) 3
+      (table 3 3 (1 ∷ 1 ∷ 1 ∷ 0 ∷ 0 ∷ 0 ∷ 9 ∷ []) (minus_zero ∷ line (1 ∷ []) ++ nan ∷ line (5 ∷ 6 ∷ []) ++ inf true ∷ replicate 6 plus_zero ++ line (9 ∷ []) ++ nan ∷ line (4 ∷ [])))
+      (6 ∷ 0 ∷ 6 ∷ 1 ∷ 2 ∷ 6 ∷ 9 ∷ 9 ∷ [])
+  axes-3 : ClosedTo 3 (table 2 1 (0 ∷ 1 ∷ []) (line (1 ∷ 2 ∷ 3 ∷ 4 ∷ 5 ∷ 6 ∷ []))) (9 ∷ 9 ∷ []) 1 (table 1 1 (1 ∷ 0 ∷ []) (line (4 ∷ 5 ∷ 6 ∷ []) ++ replicate 3 plus_zero)) (2 ∷ 0 ∷ [])
+  -- its refusals: 1, 11 for coordinates and for the rename list, 27, each before the next
+  close-1 : CloseRefused 0 (table 9 9 (1 ∷ []) []) [] 1
+  close-4 : CloseRefused 4 (table 9 9 (1 ∷ []) []) [] 1
+  close-11-coordinates : CloseRefused 2 (table 9 9 (1 ∷ 1 ∷ []) (line (3 ∷ 4 ∷ 5 ∷ []))) (replicate 9 0) 11
+  close-11-rename : CloseRefused 1 (table 2 1 (0 ∷ 1 ∷ []) (line (3 ∷ 4 ∷ []))) (7 ∷ []) 11
+  close-11-first : CloseRefused 1 (table 2 2 (0 ∷ 1 ∷ []) (line (3 ∷ 4 ∷ []))) (7 ∷ []) 11
+  close-27-live : CloseRefused 1 (table 2 2 (0 ∷ 1 ∷ []) (line (3 ∷ 4 ∷ []))) (7 ∷ 7 ∷ []) 27
+  close-27-slots : CloseRefused 1 (table 3 1 (0 ∷ 1 ∷ []) (line (3 ∷ 4 ∷ []))) (7 ∷ 7 ∷ 7 ∷ []) 27
+  -- retire 0, close, a closing that is refused for its rename list, add at 1
+  among-edits : after_all five (retiring 2 five.coordinates 0 ∷ closing 1 (line (1 ∷ 2 ∷ 3 ∷ 4 ∷ 5 ∷ [])) (9 ∷ 9 ∷ 9 ∷ []) ∷ closing 1 (line (1 ∷ 2 ∷ 3 ∷ 4 ∷ 5 ∷ [])) []
+      ∷ adding 1 (line (6 ∷ 7 ∷ 8 ∷ 9 ∷ 10 ∷ [])) (line (5 ∷ [])) ∷ [])
+      ≡ table 2 2 (1 ∷ 1 ∷ 0 ∷ 7 ∷ 0 ∷ []) (line (6 ∷ 5 ∷ 8 ∷ 9 ∷ 10 ∷ []))
+  -- a build afterwards: document 01's example, with its rows; 10 at the new slot's place
+  built-after : (slots_lists (on_line 2 2) (close_table 1 eight (replicate 7 9)) (nines 4) (float_room 4) (whole_room 4)).level_points ≡ 0 ∷ 1 ∷ 2 ∷ 3 ∷ 0 ∷ 1 ∷ replicate 10 9
+  after-10 : SlotsRefused (on_line 2 2) (close_table 1 spoiled (replicate 7 9)) 10 3
+
+-- the definitions yield every row
+pub closings : Closings
+unfolding opened live_slots_lem next_slot unsound add_verdict added add_table retire_verdict retired retire_table rename_list live_coordinates close_verdict closed close_answer close_table close_rename edited after_all places_of_rows slots_verdict slot_levels slots_answer slots_lists
+closings =
+    record {
+      no-gap = (refl, refl, refl);
+      no-slot = (refl, refl, refl);
+      no-live = (refl, refl, refl);
+      gaps = (refl, refl, refl);
+      axes-3 = (refl, refl, refl);
+      close-1 = (refl, refl, refl);
+      close-4 = (refl, refl, refl);
+      close-11-coordinates = (refl, refl, refl);
+      close-11-rename = (refl, refl, refl);
+      close-11-first = (refl, refl, refl);
+      close-27-live = (refl, refl, refl);
+      close-27-slots = (refl, refl, refl);
+      among-edits = refl;
+      built-after = refl;
+      after-10 = (refl, refl);
     }

@@ -1,4 +1,5 @@
-//! Request 7 of document 02 in plain Rust, written from its words alone: the table of wells, its edits, and the build over its live slots.
+//! Requests 7 and 8 of document 02 in plain Rust, written from their words alone: the table of wells, its edits, closing its gaps, and the
+//! build over its live slots.
 use super::{levels_over, settings_refusal, Level, Settings};
 
 /// A table as the caller keeps it: slot count and live count, a flag for each slot, and coordinates.
@@ -20,11 +21,12 @@ impl Table {
         (0..self.slots).filter(|&i| self.flags[i] != 0).collect()
     }
 
-    fn refusal(&self, d: usize) -> Option<usize> {
+    /// 1, 11, 27; `lacking` where another list is too short.
+    fn refusal(&self, d: usize, lacking: bool) -> Option<usize> {
         if !(1..=3).contains(&d) {
             return Some(1);
         }
-        if self.coordinates.len() < self.capacity() * d {
+        if lacking || self.coordinates.len() < self.capacity() * d {
             return Some(11);
         }
         (self.slots > self.capacity() || self.live != self.live_slots().len()).then_some(27)
@@ -32,7 +34,7 @@ impl Table {
 
     /// The slot of an added well, or the number and the place of the refusal.
     pub fn add(&mut self, d: usize, point: &[f64]) -> Result<usize, (usize, usize)> {
-        if let Some(number) = self.refusal(d) {
+        if let Some(number) = self.refusal(d, false) {
             return Err((number, 0));
         }
         if point.len() != d {
@@ -54,7 +56,7 @@ impl Table {
     }
 
     pub fn retire(&mut self, d: usize, slot: usize) -> Result<(), usize> {
-        if let Some(number) = self.refusal(d) {
+        if let Some(number) = self.refusal(d, false) {
             return Err(number);
         }
         if !self.live_slots().contains(&slot) {
@@ -63,6 +65,25 @@ impl Table {
         self.flags[slot] = 0;
         self.live -= 1;
         Ok(())
+    }
+
+    /// Closes the gaps, and writes from old slot to new to the front of `rename`: the new slot count, or the number of the refusal.
+    pub fn close(&mut self, d: usize, rename: &mut [usize]) -> Result<usize, usize> {
+        let (slots, lacking) = (self.slots, rename.len() < self.slots);
+        if let Some(number) = self.refusal(d, lacking) {
+            return Err(number);
+        }
+        let live = self.live_slots();
+        for (old, new) in rename[..slots].iter_mut().enumerate() {
+            *new = live.iter().position(|&i| i == old).unwrap_or(slots);
+        }
+        let mut points: Vec<f64> = live.iter().flat_map(|i| self.coordinates[i * d..(i + 1) * d].to_vec()).collect();
+        points.resize(slots * d, 0.0);
+        self.coordinates[..slots * d].copy_from_slice(&points);
+        self.flags[..slots].fill(0);
+        self.flags[..live.len()].fill(1);
+        self.slots = live.len();
+        Ok(self.slots)
     }
 
     /// The levels over the live slots of a table that 27 passes, in which slots are the rows, or the number of the refusal.

@@ -1,0 +1,20 @@
+-- `ddm_c::ddm_close` meets its contract. Assumes nothing.
+use mathlib.Core.Path.{◌≡◌}
+use borrow.Author.Rules.{rules}
+use Rattle.table_checks.specs.Tables.{wells_in}
+use Rattle.refusal.specs.Refusals.{answer_of}
+use Rattle.slots.proofs.Told.{close-short, close-long}
+use Rattle.ddm_c.proofs.ddm_close.Goals as goal
+
+pub returns-then-res-lt-PAIR : goal.returns-then-res-lt-PAIR
+returns-then-res-lt-PAIR c = rw c.number.ensures (close-short _ _ _ _ _ _ c.if-res-lt-PAIR.true)
+
+pub returns : goal.returns
+returns c = let P = c.args in
+    let q = c.close-answer in
+    let w = q.ensures.outcome in
+    let flags : _ ≡ q.new.wells.flags.now = search rules in
+    let coordinates : _ ≡ q.new.wells.coordinates.now = search rules in
+    rw c.put_placed.ensures.number
+    (close-long P.dimensions P.head.now P.flags.now P.coordinates.now P.rename.now P.res.now _ _ _ _ (answer_of (λ x. x) 0 q.result)
+    (wells_in q.new.head q.new.wells) c.if-res-lt-PAIR.false c.put_placed.ensures.slot w.answers w.table w.renamed flags coordinates)
