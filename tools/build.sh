@@ -9,6 +9,54 @@ cd "$(dirname "$0")/.."
 top=$PWD
 [ $# -gt 0 ] || set -- ddm_c ddm_tree ddm_keep ddm_reload
 
+# The lines of crates.txt of these crates and of all that they stand on.
+lines_below() {
+    awk -v names="$*" '
+        { sub(/#.*/, "") }
+        /:/ {
+            name = $1
+            sub(/:.*/, "", name)
+            line[name] = $0
+            sub(/^[^:]*:/, "")
+            below[name] = $0
+        }
+        END {
+            left = split(names, waiting, " ")
+            while (left) {
+                name = waiting[left--]
+                if (name in seen) continue
+                seen[name] = 1
+                print line[name]
+                count = split(below[name], more, " ")
+                for (i = 1; i <= count; i++) waiting[++left] = more[i]
+            }
+        }' crates.txt
+}
+
+# rt lib and rt run prove what a crate stands on one crate after the other. Where nothing is kept here it is quicker side by side, in a copy
+# of these crates alone: rt takes over what was proved there. It serves for nothing else, so that it may fail.
+prove_side_by_side() {
+    mkdir "$made/crates"
+    lines_below "$@" > "$made/crates.txt"
+    sed 's/[ :].*//' "$made/crates.txt" | while read -r name; do
+        mkdir "$made/crates/$name"
+        for part in "crates/$name"/*; do
+            [ "$part" = "crates/$name/out" ] || cp -R "$part" "$made/crates/$name"
+        done
+    done
+    cd "$made"
+    rt all check --jobs "$(getconf _NPROCESSORS_ONLN)"
+}
+
+made=$(mktemp -d)
+trap 'rm -rf "$made"' EXIT
+for name in "$@"; do
+    if [ ! -d "crates/$name/out/incremental" ]; then
+        (prove_side_by_side "$@") > "$made/log" 2>&1 || true
+        break
+    fi
+done
+
 for name in "$@"; do
     cd "$top/crates/$name"
     if [ -f src/main.rt ]; then

@@ -338,19 +338,14 @@ pub extern "C" fn ddm_add(
     if res.len() < slots::PAIR {
         return Refusal::ShortList.number();
     }
-    // C's head is two numbers: taken in here, and given back below
-    let mut counters = Head {
-        slots: head[0],
-        live: head[1],
-    };
+    let mut counters = slots::head_from(head);
     let mut wells = Wells {
         flags,
         coordinates,
         dimensions,
     };
     let answer = table::add(&mut counters, &mut wells, point);
-    head[0] = counters.slots;
-    head[1] = counters.live;
+    slots::put_head(head, counters);
     slots::put_placed(res, answer)
 }
 
@@ -365,18 +360,13 @@ pub extern "C" fn ddm_retire(
 ) -> usize
     ensures { RetireTold dimensions head.old head.new flags.old flags.new coordinates.now slot result }
 {
-    // C's head is two numbers: taken in here, and given back below
-    let mut counters = Head {
-        slots: head[0],
-        live: head[1],
-    };
+    let mut counters = slots::head_from(head);
     let points = Points {
         coordinates,
         dimensions,
     };
     let answer = table::retire(&mut counters, flags, points, slot);
-    head[0] = counters.slots;
-    head[1] = counters.live;
+    slots::put_head(head, counters);
     Report::of(answer).number
 }
 
@@ -397,19 +387,14 @@ pub extern "C" fn ddm_close(
     if res.len() < slots::PAIR {
         return Refusal::ShortList.number();
     }
-    // C's head is two numbers: taken in here, and given back below
-    let mut counters = Head {
-        slots: head[0],
-        live: head[1],
-    };
+    let mut counters = slots::head_from(head);
     let mut wells = Wells {
         flags,
         coordinates,
         dimensions,
     };
     let answer = table::close(&mut counters, &mut wells, rename);
-    head[0] = counters.slots;
-    head[1] = counters.live;
+    slots::put_head(head, counters);
     slots::put_placed(res, answer)
 }
 

@@ -68,13 +68,16 @@ PutValue {A} IsZero answer slot slot' returned = (r : Report A) × Reports IsZer
 
 -- ---- a table's head, as two numbers
 
--- the two numbers after a call that leaves this head
+-- the head that they are, and the two after a call that leaves another
+abbrev pub head_given : List ℕ → Head
+head_given numbers = record { slots = get_or numbers 0 0; live = get_or numbers 1 0 }
+
 abbrev pub head_written : Head → List ℕ → List ℕ
-head_written h head = set (set head 0 h.slots) 1 h.live
+head_written h numbers = set (set numbers 0 h.slots) 1 h.live
 
 abbrev pub table_from : List ℕ → List ℕ → List Float → Table
 table_from head flags coordinates =
-    record { head = record { slots = get_or head 0 0; live = get_or head 1 0 }; flags = flags; coordinates = coordinates }
+    record { head = head_given head; flags = flags; coordinates = coordinates }
 
 -- ---- the version, as one number
 abbrev pub version_number : ℕ → ℕ → ℕ → ℕ

@@ -9,11 +9,13 @@ ghost use Rattle.build_sizes.specs.Sizes.{sizes_report};
 ghost use Rattle.config.specs.Params.{settings_of_lem};
 ghost use Rattle.tree_answer.specs.Answers.{counts_given, tree_answer_lem};
 ghost use Rattle.slots.specs.Settings.{settings_from};
-ghost use Rattle.slots.specs.Slots.{sizes_slot, build_slot, counts_in, placed_slot, version_number, PutValue};
+ghost use Rattle.slots.specs.Slots.{sizes_slot, build_slot, counts_in, placed_slot, head_given, head_written, version_number, PutValue};
+ghost use Rattle.table_checks.specs.Tables.{head_in};
 
 use build_sizes::BuildSizes;
 use config::{DDMParams, SizePolicy};
 use refusal::{Refusal, Report};
+use table_checks::Head;
 use tree_answer::DDMTree;
 
 // The version, 0.8.0, as one number: major, minor and patch, with two digits for each of the last two.
@@ -112,4 +114,21 @@ pub fn counts_from(tree: &[usize]) -> DDMTree
         rows: [tree[2], tree[3], tree[4], tree[5]],
         domains: [tree[6], tree[7], tree[8], tree[9]],
     }
+}
+
+// A table's head, from the two numbers that C keeps it in, and back to them. It is no `From`: neither type is this crate's.
+pub fn head_from(numbers: &[usize; 2]) -> Head
+    ensures { head_in result ≡ head_given numbers.now }
+{
+    Head {
+        slots: numbers[0],
+        live: numbers[1],
+    }
+}
+
+pub fn put_head(numbers: &mut [usize; 2], head: Head)
+    ensures { numbers.new ≡ head_written (head_in head) numbers.old }
+{
+    numbers[0] = head.slots;
+    numbers[1] = head.live;
 }

@@ -1,7 +1,9 @@
 -- `ddm_c::ddm_close` meets its contract. Assumes nothing.
-use mathlib.Core.Path.{◌≡◌}
+use mathlib.Core.Path.{◌≡◌, subst}
 use borrow.Author.Rules.{rules}
+use Rattle.definition.specs.Table.{Head}
 use Rattle.table_checks.specs.Tables.{wells_in}
+use Rattle.closing.specs.Outcome.{Closed}
 use Rattle.refusal.specs.Refusals.{answer_of}
 use Rattle.slots.proofs.Told.{close-short, close-long}
 use Rattle.ddm_c.proofs.ddm_close.Goals as goal
@@ -12,9 +14,9 @@ returns-then-res-lt-PAIR c = rw c.number.ensures (close-short _ _ _ _ _ _ c.if-r
 pub returns : goal.returns
 returns c = let P = c.args in
     let q = c.close-answer in
-    let w = q.ensures.outcome in
+    let w = subst (λ (h : Head). Closed P.dimensions (record { head = h; flags = P.flags.now; coordinates = P.coordinates.now }) (wells_in q.new.head q.new.wells) P.rename.now q.new.rename (answer_of (λ x. x) 0 q.result)) c.head_from-counters.ensures q.ensures.outcome in
     let flags : _ ≡ q.new.wells.flags.now = search rules in
     let coordinates : _ ≡ q.new.wells.coordinates.now = search rules in
-    rw c.put_placed.ensures.number
+    rw (c.put_placed.ensures.number, c.put_head.ensures)
     (close-long P.dimensions P.head.now P.flags.now P.coordinates.now P.rename.now P.res.now _ _ _ _ (answer_of (λ x. x) 0 q.result)
     (wells_in q.new.head q.new.wells) c.if-res-lt-PAIR.false c.put_placed.ensures.slot w.answers w.table w.renamed flags coordinates)
