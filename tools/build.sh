@@ -24,7 +24,7 @@ lines_below() {
             left = split(names, waiting, " ")
             while (left) {
                 name = waiting[left--]
-                if (name in seen) continue
+                if (name in seen || !(name in line)) continue
                 seen[name] = 1
                 print line[name]
                 count = split(below[name], more, " ")
