@@ -17,10 +17,10 @@ use Rattle.lists.proofs.Least.{least-before, least-holds}
 use Rattle.std.proofs.lemmas.Bool.Decides.{nat_tests}
 use Rattle.definition.specs.Levels.{reductions, threshold}
 use Rattle.definition.specs.Tree.{Settings, most_fine, point_count}
-use Rattle.definition.specs.Packed.{BuildSizes, build_stated}
+use Rattle.definition.specs.Packed.{TreeSizes, BuildSizes, build_stated}
 use Rattle.definition.specs.Refusals as definition
-use Rattle.definition.specs.Refusals.{Test, Verdict, accepted, refused, on, verdict, most_points, not_finite_lem, coordinates_missing, settings_tests, points_tests, build_tests, build_verdict, build_short}
-use Rattle.build_sizes.specs.Sizes.{lengths_of}
+use Rattle.definition.specs.Refusals.{Test, Verdict, accepted, refused, on, verdict, most_points, not_finite_lem, coordinates_missing, settings_tests, points_tests, build_tests, build_verdict, tree_short, build_short}
+use Rattle.build_sizes.specs.Sizes.{tree_lengths_of}
 use Rattle.point_checks.specs.Tests.{count_tests}
 use Rattle.build_checks.specs.Checked.{Checks}
 
@@ -82,22 +82,20 @@ rows-tests s n h =
 
 -- ---- the lists
 -- the same answers, in the order in which they are asked
-in-turn : (a b c d e f g : Bool) → a || (b || (c || (d || (e || (f || (g || false)))))) ≡ a || b || c || d || e || f || g
-in-turn true b c d e f g = refl
-in-turn false true c d e f g = refl
-in-turn false false true d e f g = refl
-in-turn false false false true e f g = refl
-in-turn false false false false true f g = refl
-in-turn false false false false false true g = refl
-in-turn false false false false false false true = refl
-in-turn false false false false false false false = refl
+in-turn : (a b c d e : Bool) → a || (b || (c || (d || (e || false)))) ≡ a || b || c || d || e
+in-turn true b c d e = refl
+in-turn false true c d e = refl
+in-turn false false true d e = refl
+in-turn false false false true e = refl
+in-turn false false false false true = refl
+in-turn false false false false false = refl
 
 -- some list is short where one length of a pair is below the other
-pub short-pairs : (lent stated : BuildSizes) → list_any (λ p. ltb p.0 p.1) (zip (lengths_of lent) (lengths_of stated)) ≡ build_short lent stated
-unfolding build_short
+pub short-pairs : (lent stated : TreeSizes) → list_any (λ p. ltb p.0 p.1) (zip (tree_lengths_of lent) (tree_lengths_of stated)) ≡ tree_short lent stated
+unfolding tree_short
 short-pairs lent stated =
     in-turn (ltb lent.level_points stated.level_points) (ltb lent.internals stated.internals) (ltb lent.domains stated.domains)
-    (ltb lent.boxes stated.boxes) (ltb lent.borrowed stated.borrowed) (ltb lent.floats stated.floats) (ltb lent.wholes stated.wholes)
+    (ltb lent.boxes stated.boxes) (ltb lent.borrowed stated.borrowed)
 
 -- ---- the whole verdict from what the groups came to
 

@@ -2,14 +2,14 @@
 #![tactic(auto)]
 
 ghost use Rattle.std.specs.Prelude.{◌≡◌, ℕ, false, not, ◌++◌, ◌/◌, ◌%◌, ◌^◌, ◌≤◌, ◌<◌, eqb, IfOk, OnOk};
-ghost use Rattle.definition.specs.Packed.{build_stated};
-ghost use Rattle.definition.specs.Refusals.{most_points, most_neighbours, verdict, settings_tests, points_tests, zero_threshold_lem, build_short, build_verdict};
+ghost use Rattle.definition.specs.Packed.{tree_stated, build_stated};
+ghost use Rattle.definition.specs.Refusals.{most_points, most_neighbours, verdict, settings_tests, points_tests, zero_threshold_lem, tree_short, build_short, build_verdict};
 ghost use Rattle.config.specs.Params.{threshold_policy, settings_of_lem, settings_are};
-ghost use Rattle.build_sizes.specs.Sizes.{sizes_of};
+ghost use Rattle.build_sizes.specs.Sizes.{tree_sizes_of, sizes_of};
 ghost use Rattle.refusal.specs.Refusals.{verdict_of};
 ghost use Rattle.build_checks.specs.Checked.{Checks};
 
-use build_sizes::BuildSizes;
+use build_sizes::{BuildSizes, TreeSizes};
 use config::{DDMParams, Settings, SizePolicy};
 use points::Points;
 use refusal::Refusal;
@@ -80,17 +80,31 @@ pub fn rows_fault(n: usize, settings: Settings) -> Result<(), Refusal>
     Ok(())
 }
 
-// Whether one of the lists is shorter than n points on `dimensions` axes with this neighbour count ask for.
-pub fn is_short(lent: BuildSizes, dimensions: usize, n: usize, neighbours: usize) -> bool
+// Whether one of the five lists is shorter than a tree over n points on `dimensions` axes with this neighbour count asks for.
+pub fn is_tree_short(lent: TreeSizes, dimensions: usize, n: usize, neighbours: usize) -> bool
     requires { (dimensions ≤ 3) × (n ≤ most_points) × (neighbours ≤ most_neighbours) }
-    ensures { result ≡ build_short (sizes_of lent) (build_stated dimensions n neighbours) }
+    ensures { result ≡ tree_short (tree_sizes_of lent) (tree_stated dimensions n neighbours) }
 {
     let lengths = lent.lengths();
-    let stated = build_sizes::stated_sizes(dimensions, n, neighbours).lengths();
+    let stated = build_sizes::tree_sizes(dimensions, n, neighbours).lengths();
     lengths
         .iter()
         .zip(stated.iter())
         .any(|(has, asked)| has < asked)
+}
+
+// Whether one of these, or of the room or the lists of the records, is shorter than a build of it asks for.
+#[tactic(auto, unfolding(definition::specs::Packed::build_stated, definition::specs::Refusals::build_short))]
+pub fn is_short(lent: BuildSizes, dimensions: usize, n: usize, neighbours: usize) -> bool
+    requires { (dimensions ≤ 3) × (n ≤ most_points) × (neighbours ≤ most_neighbours) }
+    ensures { result ≡ build_short (sizes_of lent) (build_stated dimensions n neighbours) }
+{
+    let stated = build_sizes::stated_sizes(dimensions, n, neighbours);
+    is_tree_short(lent.tree, dimensions, n, neighbours)
+        || lent.floats < stated.floats
+        || lent.wholes < stated.wholes
+        || lent.cuts < stated.cuts
+        || lent.planes < stated.planes
 }
 
 // The tests of a build over all points: `short` answers whether a lent list is shorter than so many points ask for.

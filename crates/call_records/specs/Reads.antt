@@ -26,6 +26,10 @@ bytes_read bs = take (number_at 0 bs) (drop number_size bs)
 abbrev pub list_size : ℕ → List ℕ → ℕ
 list_size w bs = number_size + w * number_at 0 bs
 
+-- what is left behind it
+abbrev pub list_left : ℕ → List ℕ → List ℕ
+list_left w bs = drop (list_size w bs) bs
+
 -- the bits of its i-th entry
 abbrev pub entry_bits : ℕ → List ℕ → ℕ → ℕ
 entry_bits w bs i = field w (number_size + w * i) bs
@@ -40,7 +44,7 @@ bits_wanted w nine bs i = cond (ltb i (number_at 0 bs)) (entry_bits w bs i) nine
 
 -- what is left behind such a list that has its length as a number before it
 abbrev pub filled_left : ℕ → List ℕ → List ℕ
-filled_left w bs = drop (list_size w (drop number_size bs)) (drop number_size bs)
+filled_left w bs = list_left w (drop number_size bs)
 
 -- what is left behind n numbers
 abbrev pub numbers_left : ℕ → List ℕ → List ℕ

@@ -2,7 +2,7 @@
 ghost use Rattle.std.specs.Prelude.{◌≡◌, true, ◌+◌, ◌≤◌, length, drop, map, IfSome};
 ghost use Rattle.lists.specs.Lists.{from};
 ghost use Rattle.formats.specs.Bytes.{number_at, number_size};
-ghost use Rattle.call_records.specs.Reads.{list_size, filled_left, entries_read, bits_wanted};
+ghost use Rattle.call_records.specs.Reads.{list_left, filled_left, entries_read, bits_wanted};
 
 use crate::entries::Entry;
 use crate::fields::Fields;
@@ -15,7 +15,7 @@ impl<'a> Fields<'a> {
     pub fn list<'r, T: Entry>(&mut self, room: &'r mut [T]) -> Option<&'r mut [T]>
         ensures entries { IfSome result (λ list. length list.now ≡ number_at 0 self.old.rest.now) }
         ensures values { IfSome result (λ list. list.now ≡ entries_read T.SIZE T.value_of self.old.rest.now) }
-        ensures left { IfSome result (λ list. self.new.rest.now ≡ drop (list_size T.SIZE self.old.rest.now) self.old.rest.now) }
+        ensures left { IfSome result (λ list. self.new.rest.now ≡ list_left T.SIZE self.old.rest.now) }
     {
         let list = self.lend(room)?;
         for x in list.iter_mut() {
@@ -48,7 +48,7 @@ impl<'a> Fields<'a> {
         ensures room { IfSome result (λ same. same ≡ true → number_at 0 self.old.rest.now ≤ length list.now) }
         ensures entries { IfSome result (λ same. same ≡ true
             → map T.bits_of list.now ≡ map (bits_wanted T.SIZE T.NINE self.old.rest.now) (from 0 (length list.now))) }
-        ensures left { IfSome result (λ same. same ≡ true → self.new.rest.now ≡ drop (list_size T.SIZE self.old.rest.now) self.old.rest.now) }
+        ensures left { IfSome result (λ same. same ≡ true → self.new.rest.now ≡ list_left T.SIZE self.old.rest.now) }
     {
         let count = self.number()?;
         for (i, x) in list.iter().enumerate() {

@@ -10,7 +10,7 @@ mod trees;
 pub use entries::Entry;
 pub use fields::Fields;
 pub use fronts::NINE;
-pub use trees::{FLOATS, Lists, WHOLES, nines};
+pub use trees::{FLOATS, Lists, NODES, WHOLES, nines};
 
 // The most coordinates in the stored calls of the loader and the writer.
 pub const POINTS: usize = 15;

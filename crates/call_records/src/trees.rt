@@ -1,11 +1,11 @@
 // What a record says of a tree: the answer of the call that made it, and its five lists.
-ghost use Rattle.std.specs.Prelude.{◌≡◌, true, ◌+◌, length, drop, IfSome};
+ghost use Rattle.std.specs.Prelude.{◌≡◌, true, drop, IfSome};
 ghost use Rattle.refusal.specs.Refusals.{answer_of};
 ghost use Rattle.formats.specs.Bytes.{field, number_at, numbers_at, number_size};
 ghost use Rattle.tree_lists.specs.Lent.{arrays_held};
 ghost use Rattle.tree_answer.specs.Answers.{tree_answer_lem};
 ghost use Rattle.call_records.specs.Nines.{nine_lists};
-ghost use Rattle.call_records.specs.Reads.{filled_left, numbers_left};
+ghost use Rattle.call_records.specs.Reads.{list_left, filled_left, numbers_left};
 
 use crate::fields::Fields;
 use crate::fronts::NINE;
@@ -19,7 +19,10 @@ pub type Lists = TreeArrays<64, 485, 679, 1560>;
 // The working room of a build over 16 points with 3 neighbours, and of one over a single point with 65.
 pub const FLOATS: usize = 512;
 
-pub const WHOLES: usize = 1024;
+pub const WHOLES: usize = 1152;
+
+// The nodes of the records of a build over 16 points.
+pub const NODES: usize = 192;
 
 // Lists that hold 9.
 pub fn nines() -> Lists
@@ -111,17 +114,17 @@ impl<'a> Fields<'a> {
         Some(self.report_agrees(&report)? && self.number()? == report.value)
     }
 
-    // Whether the five lists stand next, and the record ends there.
+    // Whether the five lists stand next.
     pub fn lists_agree(&mut self, lists: TreeRead<'_>) -> Option<bool>
-        ensures { IfSome result (λ same. same ≡ true → length self.new.rest.now ≡ 0) }
+        ensures { IfSome result (λ same. same ≡ true → self.new.rest.now
+            ≡ list_left 8 (list_left 8 (list_left 8 (list_left 8 (list_left 8 self.old.rest.now))))) }
     {
         Some(
             self.agrees(lists.level_points)?
                 && self.agrees(lists.internals)?
                 && self.agrees(lists.domains)?
                 && self.agrees(lists.boxes)?
-                && self.agrees(lists.borrowed)?
-                && self.ended(),
+                && self.agrees(lists.borrowed)?,
         )
     }
 }

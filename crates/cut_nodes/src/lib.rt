@@ -1,5 +1,5 @@
-// What the depth-first cut writes: the node of a cut, and leaves, each with its entry in the table of the leaves, its box and its node. The
-// room holds the boxes of the leaves, the ordering's numbers, and behind these the table.
+// The node of a cut, written with the cut, for both engines; and what the depth-first one writes of leaves, each with its entry in the table of the
+// leaves, its box and its node. Its room holds the boxes of the leaves, the ordering's numbers, and behind these the table.
 #![tactic(auto)]
 
 ghost use Rattle.std.specs.Prelude.{◌≡◌, List, ℕ, ◌+◌, ◌-◌, ◌*◌, ◌/◌, ◌≤◌, ◌<◌, length, set};

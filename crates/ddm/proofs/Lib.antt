@@ -1,5 +1,4 @@
--- Laws of the build, of both builds together, of the build over slots where all are live, and of two of them around a closing.
-pub mod Outcomes
+-- Laws of both builds together, of the build over slots where all are live, and of two of them around a closing.
 pub mod BothBuilds
 pub mod AllSlots
 pub mod AroundClosing

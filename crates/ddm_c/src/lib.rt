@@ -7,12 +7,11 @@
 ghost use Rattle.std.specs.Prelude.{◌≡◌};
 ghost use Rattle.definition.specs.Refusals.{stretch_verdict};
 ghost use Rattle.definition.specs.Outcome.{number_of, root_answer, size_answer, sizes_answer};
-ghost use Rattle.tree_answer.specs.Answers.{lists_of};
-ghost use Rattle.depth_first_build.specs.Outcome.{records_of};
+ghost use Rattle.tree_answer.specs.Answers.{lists_of, records_of};
 ghost use Rattle.slots.specs.Settings.{settings_from};
 ghost use Rattle.slots.specs.Slots.{value_slot, sizes_slot, version_number};
 ghost use Rattle.table_checks.specs.Tables.{table_of};
-ghost use Rattle.slots.specs.Told.{Told, QuotasTold, SampleTold, BuildTold, DepthFirstTold, StoreTold, LoadTold, AddTold, RetireTold, CloseTold, SlotsTold};
+ghost use Rattle.slots.specs.Told.{Told, QuotasTold, SampleTold, BuildTold, StoreTold, LoadTold, AddTold, RetireTold, CloseTold, SlotsTold};
 
 use points::Points;
 use quotas::Seated;
@@ -23,7 +22,7 @@ use tree_lists::{Records, Room, TreeLists, TreeRead};
 // The version as one number: major * 10000 + minor * 100 + patch.
 #[unsafe(no_mangle)]
 pub extern "C" fn ddm_version() -> usize
-    ensures { result ≡ version_number 0 8 0 }
+    ensures { result ≡ version_number 0 9 0 }
 {
     slots::version()
 }
@@ -116,7 +115,7 @@ pub extern "C" fn ddm_row_test(start: usize, count: usize, list_len: usize) -> u
 }
 
 // The lengths of the lists that a build over n points is to be lent. The slot: level points, internals, domain rows, boxes, borrowed
-// rows, floats, whole numbers. Refusals 1, 5, 6, 8.
+// rows, floats, whole numbers, cuts, planes. Refusals 1, 5, 6, 8.
 #[unsafe(no_mangle)]
 pub extern "C" fn ddm_build_sizes(
     n: usize,
@@ -124,7 +123,7 @@ pub extern "C" fn ddm_build_sizes(
     neighbours: u32,
     res: &mut [usize],
 ) -> usize
-    ensures { Told 7 sizes_slot res.old res.new result (sizes_answer dimensions n neighbours) }
+    ensures { Told 9 sizes_slot res.old res.new result (sizes_answer dimensions n neighbours) }
 {
     if res.len() < slots::SIZES {
         return Refusal::ShortList.number();
@@ -132,54 +131,10 @@ pub extern "C" fn ddm_build_sizes(
     slots::put_sizes(res, build_sizes::build_sizes(n, dimensions, neighbours))
 }
 
-// Builds the tree. The slot: place, levels, rows of levels 0 to 3, domains of levels 0 to 3. Refusals 1 to 11.
+// Builds the tree, and writes the records of its cuts: an axis, or 3 plus a leaf's number, to `cuts`, and the plane or +0 to `planes`. The slot:
+// place, levels, rows of levels 0 to 3, domains of levels 0 to 3. Refusals 1 to 11.
 #[unsafe(no_mangle)]
 pub extern "C" fn ddm_build(
-    points: &[f64],
-    dimensions: usize,
-    leaf: u32,
-    neighbours: u32,
-    factor: u32,
-    policy: u32,
-    threshold: u32,
-    level_points: &mut [usize],
-    internals: &mut [usize],
-    domains: &mut [usize],
-    boxes: &mut [f64],
-    borrowed: &mut [usize],
-    floats: &mut [f64],
-    wholes: &mut [usize],
-    res: &mut [usize],
-) -> usize
-    ensures { BuildTold (settings_from dimensions leaf neighbours factor policy threshold) points.now
-        (lists_of level_points.old internals.old domains.old boxes.old borrowed.old)
-        (lists_of level_points.new internals.new domains.new boxes.new borrowed.new)
-        floats.old floats.new wholes.old wholes.new res.old res.new result }
-{
-    if res.len() < slots::TREE {
-        return Refusal::ShortList.number();
-    }
-    let params = slots::params_of(leaf, neighbours, factor, policy, threshold);
-    let points = Points {
-        coordinates: points,
-        dimensions,
-    };
-    let mut lists = TreeLists {
-        level_points,
-        internals,
-        domains,
-        boxes,
-        borrowed,
-    };
-    let mut room = Room { floats, wholes };
-    let tree = ddm::build(points, params, &mut lists, &mut room);
-    slots::put_tree(res, tree)
-}
-
-// Builds the tree depth first, and writes the records of its cuts: an axis, or 3 plus a leaf's number, to `cuts`, and the plane or +0 to
-// `planes`. Each of them is lent 12 entries a point. The slot is that of a build. Refusals 1 to 11.
-#[unsafe(no_mangle)]
-pub extern "C" fn ddm_build_depth_first(
     points: &[f64],
     dimensions: usize,
     leaf: u32,
@@ -198,7 +153,7 @@ pub extern "C" fn ddm_build_depth_first(
     planes: &mut [f64],
     res: &mut [usize],
 ) -> usize
-    ensures { DepthFirstTold (settings_from dimensions leaf neighbours factor policy threshold) points.now
+    ensures { BuildTold (settings_from dimensions leaf neighbours factor policy threshold) points.now
         (lists_of level_points.old internals.old domains.old boxes.old borrowed.old)
         (lists_of level_points.new internals.new domains.new boxes.new borrowed.new)
         floats.old floats.new wholes.old wholes.new
@@ -221,13 +176,55 @@ pub extern "C" fn ddm_build_depth_first(
     };
     let mut room = Room { floats, wholes };
     let mut records = Records { cuts, planes };
-    let tree = depth_first_build::build_depth_first(
-        points,
-        params,
-        &mut lists,
-        &mut room,
-        &mut records,
-    );
+    let tree = ddm::build(points, params, &mut lists, &mut room, &mut records);
+    slots::put_tree(res, tree)
+}
+
+// The same build, depth first. The slot is that of a build. Refusals 1 to 11.
+#[unsafe(no_mangle)]
+pub extern "C" fn ddm_build_depth_first(
+    points: &[f64],
+    dimensions: usize,
+    leaf: u32,
+    neighbours: u32,
+    factor: u32,
+    policy: u32,
+    threshold: u32,
+    level_points: &mut [usize],
+    internals: &mut [usize],
+    domains: &mut [usize],
+    boxes: &mut [f64],
+    borrowed: &mut [usize],
+    floats: &mut [f64],
+    wholes: &mut [usize],
+    cuts: &mut [usize],
+    planes: &mut [f64],
+    res: &mut [usize],
+) -> usize
+    ensures { BuildTold (settings_from dimensions leaf neighbours factor policy threshold) points.now
+        (lists_of level_points.old internals.old domains.old boxes.old borrowed.old)
+        (lists_of level_points.new internals.new domains.new boxes.new borrowed.new)
+        floats.old floats.new wholes.old wholes.new
+        (records_of cuts.old planes.old) (records_of cuts.new planes.new) res.old res.new result }
+{
+    if res.len() < slots::TREE {
+        return Refusal::ShortList.number();
+    }
+    let params = slots::params_of(leaf, neighbours, factor, policy, threshold);
+    let points = Points {
+        coordinates: points,
+        dimensions,
+    };
+    let mut lists = TreeLists {
+        level_points,
+        internals,
+        domains,
+        boxes,
+        borrowed,
+    };
+    let mut room = Room { floats, wholes };
+    let mut records = Records { cuts, planes };
+    let tree = ddm::build_depth_first(points, params, &mut lists, &mut room, &mut records);
     slots::put_tree(res, tree)
 }
 
@@ -419,12 +416,15 @@ pub extern "C" fn ddm_build_slots(
     borrowed: &mut [usize],
     floats: &mut [f64],
     wholes: &mut [usize],
+    cuts: &mut [usize],
+    planes: &mut [f64],
     res: &mut [usize],
 ) -> usize
     ensures { SlotsTold (settings_from dimensions leaf neighbours factor policy threshold) (table_of slots live flags.now coordinates.now)
         (lists_of level_points.old internals.old domains.old boxes.old borrowed.old)
         (lists_of level_points.new internals.new domains.new boxes.new borrowed.new)
-        floats.old floats.new wholes.old wholes.new res.old res.new result }
+        floats.old floats.new wholes.old wholes.new
+        (records_of cuts.old planes.old) (records_of cuts.new planes.new) res.old res.new result }
 {
     if res.len() < slots::TREE {
         return Refusal::ShortList.number();
@@ -446,6 +446,7 @@ pub extern "C" fn ddm_build_slots(
         borrowed,
     };
     let mut room = Room { floats, wholes };
-    let tree = table_build::build_slots(table, params, &mut lists, &mut room);
+    let mut records = Records { cuts, planes };
+    let tree = table_build::build_slots(table, params, &mut lists, &mut room, &mut records);
     slots::put_tree(res, tree)
 }

@@ -22,3 +22,4 @@ pub mod RefusedCalls
 pub mod WorkedRecords
 pub mod WorkedNeighbours
 pub mod WorkedCovers
+pub mod WorkedGaps

@@ -10,11 +10,11 @@ use mathlib.Core.Bool.{true, false}
 use Rattle.lists.specs.Lists.{from}
 use Rattle.definition.specs.Number.{plus_zero}
 use Rattle.definition.specs.Levels.{Policy, auto, fixed, threshold}
-use Rattle.definition.specs.Packed.{DomainRow, BuildSizes, build_stated}
+use Rattle.definition.specs.Packed.{DomainRow, BuildSizes, tree_stated, build_stated}
 use Rattle.definition.specs.Tree.{Settings}
-use Rattle.definition.specs.Refusals.{verdict, build_short, build_tests, build_verdict, sample_verdict}
-use Rattle.definition.specs.Outcome.{Answer, TreeLists, number_of, place_of, value_of, list_after, tree_lists_after, zero_counts, root_answer, size_answer, quota_answer, quota_output, sample_answer, sample_output, build_answer, build_lists, sizes_answer, row_test_lem, rows_asked, own_rows, borrowed_rows}
-use Rattle.definition.proofs.WorkedSamples.{opened, line}
+use Rattle.definition.specs.Refusals.{verdict, tree_short, build_short, build_tests, build_verdict, sample_verdict}
+use Rattle.definition.specs.Outcome.{Answer, TreeLists, RecordLists, number_of, place_of, value_of, list_after, tree_lists_after, zero_counts, root_answer, size_answer, quota_answer, quota_output, sample_answer, sample_output, build_answer, build_lists, record_lists_after, build_records, sizes_answer, row_test_lem, rows_asked, own_rows, borrowed_rows}
+use Rattle.definition.proofs.WorkedSamples.{opened, line, record_nines}
 use Rattle.definition.proofs.WorkedExamples.{reports}
 
 -- ---- outcomes
@@ -24,9 +24,11 @@ abbrev refuses_at : {A : Type 0} → ℕ → ℕ → A → Answer A
 refuses_at number place zeros = record { number = number; place = place; value = zeros }
 
 -- a build in these lists is refused: zero counts, and each list as found
-abbrev BuildRefused : Settings → List Float → TreeLists → List Float → List ℕ → ℕ → ℕ → Type 0
-BuildRefused s cs old floats wholes number place =
-    (build_answer s cs old floats wholes ≡ refuses_at number place zero_counts) × (build_lists s cs old floats wholes ≡ old)
+abbrev BuildRefused : Settings → List Float → TreeLists → List Float → List ℕ → RecordLists → ℕ → ℕ → Type 0
+BuildRefused s cs old floats wholes records-old number place =
+    (build_answer s cs old floats wholes records-old ≡ refuses_at number place zero_counts)
+    × (build_lists s cs old floats wholes records-old ≡ old)
+    × (build_records s cs old floats wholes records-old ≡ records-old)
 
 -- the same of sampling, and of quotas
 abbrev SampleRefused : ℕ → List Float → ℕ → ℕ → List ℕ → List Float → List ℕ → ℕ → ℕ → Type 0
@@ -53,12 +55,12 @@ lent level_points internals domains boxes borrowed =
       borrowed = replicate borrowed 9;
     }
 
--- a build in lists of one entry, without working room
+-- a build in lists of one entry, without working room, and without lists for the records
 abbrev ShortBuild : Settings → List Float → ℕ → Type 0
-ShortBuild s cs number = BuildRefused s cs (lent 1 1 1 1 1) [] [] number 0
+ShortBuild s cs number = BuildRefused s cs (lent 1 1 1 1 1) [] [] (record_nines 0 0) number 0
 
 -- Builds over two points of the plane with two neighbours. Stated are 8 level points, 8 internals, 65 numbers of domain rows, 65
--- floats of domain rows, 36 borrowed rows, 64 floats and 112 whole numbers of room.
+-- floats of domain rows, 36 borrowed rows, 64 floats and 128 whole numbers of room, and 24 entries of either list of the records.
 abbrev two : Settings
 two = settings 2 1 2 2 (fixed 1)
 
@@ -69,28 +71,34 @@ two_points = line (0 ∷ 0 ∷ 3 ∷ 4 ∷ [])
 abbrev two_spoiled : List Float
 two_spoiled = line (0 ∷ 0 ∷ 3 ∷ []) ++ nan ∷ []
 
-abbrev Short : TreeLists → ℕ → ℕ → Type 0
-Short lists floats wholes = BuildRefused two two_spoiled lists (line (replicate floats 9)) (replicate wholes 9) 11 0
+abbrev Short : TreeLists → ℕ → ℕ → ℕ → ℕ → Type 0
+Short lists floats wholes cuts planes =
+    BuildRefused two two_spoiled lists (line (replicate floats 9)) (replicate wholes 9) (record_nines cuts planes) 11 0
 
 abbrev Spoiled : List Float → ℕ → Type 0
-Spoiled cs place = BuildRefused two cs (lent 8 8 65 65 36) (line (replicate 64 9)) (replicate 112 9) 10 place
+Spoiled cs place = BuildRefused two cs (lent 8 8 65 65 36) (line (replicate 64 9)) (replicate 128 9) (record_nines 24 24) 10 place
 
--- the lengths of the seven lists of a build
-abbrev lengths : ℕ → ℕ → ℕ → ℕ → ℕ → ℕ → ℕ → BuildSizes
-lengths level_points internals domains boxes borrowed floats wholes =
+-- the lengths of the nine lists of a build
+abbrev lengths : ℕ → ℕ → ℕ → ℕ → ℕ → ℕ → ℕ → ℕ → ℕ → BuildSizes
+lengths level_points internals domains boxes borrowed floats wholes cuts planes =
     record {
-      level_points = level_points;
-      internals = internals;
-      domains = domains;
-      boxes = boxes;
-      borrowed = borrowed;
+      tree =
+          record {
+            level_points = level_points;
+            internals = internals;
+            domains = domains;
+            boxes = boxes;
+            borrowed = borrowed;
+          };
       floats = floats;
       wholes = wholes;
+      cuts = cuts;
+      planes = planes;
     }
 
 -- the lengths asked alone, for n points on d axes, are refused: zeros
 abbrev LengthsRefused : ℕ → ℕ → ℕ → ℕ → Type 0
-LengthsRefused d n neighbours number = sizes_answer d n neighbours ≡ refuses_at number 0 (lengths 0 0 0 0 0 0 0)
+LengthsRefused d n neighbours number = sizes_answer d n neighbours ≡ refuses_at number 0 (lengths 0 0 0 0 0 0 0 0 0)
 
 -- sampling into an output of one entry, without working room
 abbrev ShortSample : ℕ → List Float → ℕ → ℕ → ℕ → Type 0
@@ -131,20 +139,24 @@ pub record RefusedCalls : Type 0 where
   reach4097 : (cs : List Float) → length cs ≡ 4097 → ShortBuild (settings 1 1 64 2 auto) cs 9
   reach4096 : (cs : List Float) → length cs ≡ 4096 → ShortBuild (settings 1 1 64 2 auto) cs 11
   -- each list just too short, and a coordinate that is not a number
-  short-level-points : Short (lent 7 8 65 65 36) 64 112
-  short-internals : Short (lent 8 7 65 65 36) 64 112
-  short-domains : Short (lent 8 8 64 65 36) 64 112
-  short-boxes : Short (lent 8 8 65 64 36) 64 112
-  short-borrowed : Short (lent 8 8 65 65 35) 64 112
-  short-floats : Short (lent 8 8 65 65 36) 63 112
-  short-wholes : Short (lent 8 8 65 65 36) 64 111
+  short-level-points : Short (lent 7 8 65 65 36) 64 128 24 24
+  short-internals : Short (lent 8 7 65 65 36) 64 128 24 24
+  short-domains : Short (lent 8 8 64 65 36) 64 128 24 24
+  short-boxes : Short (lent 8 8 65 64 36) 64 128 24 24
+  short-borrowed : Short (lent 8 8 65 65 35) 64 128 24 24
+  short-floats : Short (lent 8 8 65 65 36) 63 128 24 24
+  short-wholes : Short (lent 8 8 65 65 36) 64 127 24 24
+  short-cuts : Short (lent 8 8 65 65 36) 64 128 23 24
+  short-planes : Short (lent 8 8 65 65 36) 64 128 24 23
+  -- the room of builds before request 9
+  short-old-wholes : Short (lent 8 8 65 65 36) 64 112 24 24
   -- the place is the first bad coordinate's position, not its row
   spoiled-last : Spoiled two_spoiled 3
   spoiled-first : Spoiled (line (0 ∷ []) ++ inf false ∷ nan ∷ inf true ∷ []) 1
   spoiled-minus : Spoiled (inf true ∷ line (0 ∷ 0 ∷ 0 ∷ [])) 0
   -- nothing is short and nothing spoiled
   lent_as_stated :
-      build_answer two two_points (lent 8 8 65 65 36) (line (replicate 64 9)) (replicate 112 9)
+      build_answer two two_points (lent 8 8 65 65 36) (line (replicate 64 9)) (replicate 128 9) (record_nines 24 24)
       ≡ reports (record { levels = 2; rows = 2 ∷ 1 ∷ 0 ∷ 0 ∷ []; domains = 4 ∷ 1 ∷ 0 ∷ 0 ∷ [] })
   -- the lengths asked alone: 1, 5, 6, 8
   lengths-dimension0 : LengthsRefused 0 0 65 1
@@ -155,9 +167,9 @@ pub record RefusedCalls : Type 0 where
   lengths-neighbours65-points1048577 : LengthsRefused 3 1048577 65 5
   lengths-points0 : LengthsRefused 3 0 64 6
   lengths-points1048577 : LengthsRefused 1 1048577 64 8
-  lengths-points1 : sizes_answer 1 1 0 ≡ reports (lengths 4 4 35 21 6 32 40)
-  lengths-points2 : sizes_answer 2 2 2 ≡ reports (lengths 8 8 65 65 36 64 112)
-  lengths-points1048576 : sizes_answer 3 1048576 64 ≡ reports (lengths 4194304 4194304 31457285 44040199 408944640 33554432 578813952)
+  lengths-points1 : sizes_answer 1 1 0 ≡ reports (lengths 4 4 35 21 6 32 48 12 12)
+  lengths-points2 : sizes_answer 2 2 2 ≡ reports (lengths 8 8 65 65 36 64 128 24 24)
+  lengths-points1048576 : sizes_answer 3 1048576 64 ≡ reports (lengths 4194304 4194304 31457285 44040199 408944640 33554432 587202560 12582912 12582912)
   -- sampling: 1, 6, 7, 8, 13, 11, 10
   sample-dimension0 : ShortSample 0 [] 0 0 1
   sample-dimension4 : ShortSample 4 [] 0 0 1
@@ -205,28 +217,28 @@ pub record RefusedCalls : Type 0 where
 
 -- ---- the rows over so many points that the list is not written out
 opened-build : ℕ
-unfolding build_answer build_lists tree_lists_after list_after number_of place_of value_of build_verdict build_tests verdict threshold build_short build_stated
+unfolding build_answer build_lists tree_lists_after build_records record_lists_after list_after number_of place_of value_of build_verdict build_tests verdict threshold tree_short build_short tree_stated build_stated
 opened-build = 0
 
 missing-above : (cs : List Float) → length cs ≡ 2097155 → ShortBuild (settings 2 1 64 2 (fixed 1)) cs 7
 unfolding opened-build
-missing-above cs e = (rw e, rw e)
+missing-above cs e = (rw e, rw e, rw e)
 
 above_most : (cs : List Float) → length cs ≡ 2097154 → ShortBuild (settings 2 1 64 2 (fixed 1)) cs 8
 unfolding opened-build
-above_most cs e = (rw e, rw e)
+above_most cs e = (rw e, rw e, rw e)
 
 at_most : (cs : List Float) → length cs ≡ 2097152 → ShortBuild (settings 2 1 64 2 (fixed 1)) cs 9
 unfolding opened-build
-at_most cs e = (rw e, rw e)
+at_most cs e = (rw e, rw e, rw e)
 
 above-reach : (cs : List Float) → length cs ≡ 4097 → ShortBuild (settings 1 1 64 2 auto) cs 9
 unfolding opened-build
-above-reach cs e = (rw e, rw e)
+above-reach cs e = (rw e, rw e, rw e)
 
 at-reach : (cs : List Float) → length cs ≡ 4096 → ShortBuild (settings 1 1 64 2 auto) cs 11
 unfolding opened-build
-at-reach cs e = (rw e, rw e)
+at-reach cs e = (rw e, rw e, rw e)
 
 sample-missing-above : (cs : List Float) → length cs ≡ 2097155 → ShortSample 2 cs 0 0 7
 unfolding sample_answer sample_output list_after number_of place_of value_of sample_verdict verdict
@@ -245,35 +257,38 @@ pub refused-calls : RefusedCalls
 unfolding opened
 refused-calls =
     record {
-      dimension0 = (refl, refl);
-      dimension4 = (refl, refl);
-      leaf0 = (refl, refl);
-      factor0 = (refl, refl);
-      factor1 = (refl, refl);
-      threshold0 = (refl, refl);
-      neighbours65 = (refl, refl);
-      neighbours65-auto = (refl, refl);
-      points0 = (refl, refl);
-      missing = (refl, refl);
-      missing9 = (refl, refl);
+      dimension0 = (refl, refl, refl);
+      dimension4 = (refl, refl, refl);
+      leaf0 = (refl, refl, refl);
+      factor0 = (refl, refl, refl);
+      factor1 = (refl, refl, refl);
+      threshold0 = (refl, refl, refl);
+      neighbours65 = (refl, refl, refl);
+      neighbours65-auto = (refl, refl, refl);
+      points0 = (refl, refl, refl);
+      missing = (refl, refl, refl);
+      missing9 = (refl, refl, refl);
       missing-many = missing-above;
       points1048577 = above_most;
       points1048576 = at_most;
-      reach9 = (refl, refl);
-      reach8 = (refl, refl);
-      reach16 = (refl, refl);
+      reach9 = (refl, refl, refl);
+      reach8 = (refl, refl, refl);
+      reach16 = (refl, refl, refl);
       reach4097 = above-reach;
       reach4096 = at-reach;
-      short-level-points = (refl, refl);
-      short-internals = (refl, refl);
-      short-domains = (refl, refl);
-      short-boxes = (refl, refl);
-      short-borrowed = (refl, refl);
-      short-floats = (refl, refl);
-      short-wholes = (refl, refl);
-      spoiled-last = (refl, refl);
-      spoiled-first = (refl, refl);
-      spoiled-minus = (refl, refl);
+      short-level-points = (refl, refl, refl);
+      short-internals = (refl, refl, refl);
+      short-domains = (refl, refl, refl);
+      short-boxes = (refl, refl, refl);
+      short-borrowed = (refl, refl, refl);
+      short-floats = (refl, refl, refl);
+      short-wholes = (refl, refl, refl);
+      short-cuts = (refl, refl, refl);
+      short-planes = (refl, refl, refl);
+      short-old-wholes = (refl, refl, refl);
+      spoiled-last = (refl, refl, refl);
+      spoiled-first = (refl, refl, refl);
+      spoiled-minus = (refl, refl, refl);
       lent_as_stated = refl;
       lengths-dimension0 = refl;
       lengths-dimension4 = refl;

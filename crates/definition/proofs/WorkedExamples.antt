@@ -11,7 +11,7 @@ use Rattle.definition.specs.Cut.{plane}
 use Rattle.definition.specs.Levels.{auto, threshold}
 use Rattle.definition.specs.Packed.{Counts}
 use Rattle.definition.specs.Outcome.{Answer, Shared, root_answer, size_answer, quota_answer, quota_output, sample_output, build_answer, TreeLists, build_lists}
-use Rattle.definition.proofs.WorkedSamples.{opened, line, on_line, nines, float_room, whole_room}
+use Rattle.definition.proofs.WorkedSamples.{opened, line, on_line, nines, float_room, whole_room, record_room}
 
 -- an accepted call that reports x
 abbrev pub reports : {A : Type 0} → A → Answer A
@@ -31,7 +31,7 @@ none = plus_infinity ∷ []
 
 -- the lists after the build over the points 0, 1, 3, 7
 abbrev tree4 : TreeLists
-tree4 = build_lists (on_line 2 2) (line (0 ∷ 1 ∷ 3 ∷ 7 ∷ [])) (nines 4) (float_room 4) (whole_room 4)
+tree4 = build_lists (on_line 2 2) (line (0 ∷ 1 ∷ 3 ∷ 7 ∷ [])) (nines 4) (float_room 4) (whole_room 4) (record_room 4)
 
 pub record Examples : Type 0 where
   -- the plane of the first cut of the points 0, 1, 3, 7 is the coordinate of the first right row
@@ -48,15 +48,15 @@ pub record Examples : Type 0 where
       tree4.domains
       ≡ (0 ∷ 1 ∷ 0 ∷ 1 ∷ 2 ∷ []) ++ (1 ∷ 1 ∷ 1 ∷ 2 ∷ 2 ∷ []) ++ (2 ∷ 1 ∷ 3 ∷ 2 ∷ 2 ∷ []) ++ (3 ∷ 1 ∷ 5 ∷ 1 ∷ 2 ∷ []) ++ (4 ∷ 2 ∷ 6 ∷ 0 ∷ 0 ∷ [])
       ++ replicate 100 9
-  counted : build_answer (on_line 2 2) (line (0 ∷ 1 ∷ 3 ∷ 7 ∷ [])) (nines 4) (float_room 4) (whole_room 4) ≡ built 2 (4 ∷ 2 ∷ 0 ∷ 0 ∷ []) (4 ∷ 1 ∷ 0 ∷ 0 ∷ [])
+  counted : build_answer (on_line 2 2) (line (0 ∷ 1 ∷ 3 ∷ 7 ∷ [])) (nines 4) (float_room 4) (whole_room 4) (record_room 4) ≡ built 2 (4 ∷ 2 ∷ 0 ∷ 0 ∷ []) (4 ∷ 1 ∷ 0 ∷ 0 ∷ [])
   -- Auto
   auto1 : threshold auto 1 ≡ 512
   auto16384 : threshold auto 16384 ≡ 512
   auto16385 : threshold auto 16385 ≡ 513
   -- c = 1, f = 2; where the leaf threshold is 1, each row's domain is cut once more, and every other leaf is empty
-  run8 : build_answer (on_line 4 1) (line (from 0 8)) (nines 8) (float_room 8) (whole_room 8) ≡ built 4 (8 ∷ 4 ∷ 2 ∷ 1 ∷ []) (4 ∷ 2 ∷ 2 ∷ 1 ∷ [])
+  run8 : build_answer (on_line 4 1) (line (from 0 8)) (nines 8) (float_room 8) (whole_room 8) (record_room 8) ≡ built 4 (8 ∷ 4 ∷ 2 ∷ 1 ∷ []) (4 ∷ 2 ∷ 2 ∷ 1 ∷ [])
   run8-lists :
-      build_lists (on_line 4 1) (line (from 0 8)) (nines 8) (float_room 8) (whole_room 8)
+      build_lists (on_line 4 1) (line (from 0 8)) (nines 8) (float_room 8) (whole_room 8) (record_room 8)
       ≡ record {
         level_points = 0 ∷ 1 ∷ 2 ∷ 3 ∷ 4 ∷ 5 ∷ 6 ∷ 7 ∷ 0 ∷ 2 ∷ 4 ∷ 6 ∷ 0 ∷ 4 ∷ 0 ∷ replicate 17 9;
         internals = 0 ∷ 1 ∷ 2 ∷ 3 ∷ 4 ∷ 5 ∷ 6 ∷ 7 ∷ 0 ∷ 2 ∷ 4 ∷ 6 ∷ 0 ∷ 4 ∷ 0 ∷ replicate 17 9;
@@ -71,9 +71,9 @@ pub record Examples : Type 0 where
             ++ line (0 ∷ 0 ∷ 0 ∷ replicate 120 9);
         borrowed = 2 ∷ 1 ∷ 4 ∷ 3 ∷ 6 ∷ 5 ∷ 4 ∷ 2 ∷ 4 ∷ 0 ∷ replicate 86 9;
       }
-  run3 : build_answer (on_line 1 1) (line (from 0 3)) (nines 3) (float_room 3) (whole_room 3) ≡ built 3 (3 ∷ 2 ∷ 1 ∷ 0 ∷ []) (6 ∷ 4 ∷ 1 ∷ 0 ∷ [])
+  run3 : build_answer (on_line 1 1) (line (from 0 3)) (nines 3) (float_room 3) (whole_room 3) (record_room 3) ≡ built 3 (3 ∷ 2 ∷ 1 ∷ 0 ∷ []) (6 ∷ 4 ∷ 1 ∷ 0 ∷ [])
   run3-lists :
-      build_lists (on_line 1 1) (line (from 0 3)) (nines 3) (float_room 3) (whole_room 3)
+      build_lists (on_line 1 1) (line (from 0 3)) (nines 3) (float_room 3) (whole_room 3) (record_room 3)
       ≡ record {
         level_points = 0 ∷ 1 ∷ 2 ∷ 0 ∷ 1 ∷ 0 ∷ replicate 6 9;
         internals = 0 ∷ 1 ∷ 2 ∷ 0 ∷ 1 ∷ 0 ∷ replicate 6 9;

@@ -11,9 +11,8 @@ pub mod Tree
 pub mod Packed
 pub mod Refusals
 pub mod Outcome
--- The cut record, and the build that writes it (document 02, request 2).
+-- The cut record, which every build writes (document 02, requests 2 and 9).
 pub mod Record
-pub mod DepthFirst
 -- The table of wells, and the build over its live slots (document 02, request 7).
 pub mod Table
 pub mod Slots
@@ -24,3 +23,5 @@ pub mod Edits
 pub mod SeatCut
 pub mod Fair
 pub mod LevelLaws
+-- The gap to a box, by which a search passes over a half of the cut record (request 9).
+pub mod Gap

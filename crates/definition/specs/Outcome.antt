@@ -7,7 +7,8 @@ use Rattle.definition.specs.Levels.{level_size_lem}
 use Rattle.definition.specs.Quotas.{held_seats, quotas}
 use Rattle.definition.specs.Sampling.{sample, cover_of}
 use Rattle.definition.specs.Tree.{Settings, Level, levels, point_count}
-use Rattle.definition.specs.Packed.{DomainRow, BuildSizes, build_stated, Counts, counts_of, most_levels, packed_level_points, packed_internals, packed_domains, packed_boxes, packed_borrowed}
+use Rattle.definition.specs.Record.{packed_cuts, packed_planes}
+use Rattle.definition.specs.Packed.{DomainRow, TreeSizes, BuildSizes, build_stated, Counts, counts_of, most_levels, packed_level_points, packed_internals, packed_domains, packed_boxes, packed_borrowed}
 use Rattle.definition.specs.Refusals.{Verdict, accepted, refused, build_verdict, sizes_verdict, sample_verdict, size_verdict, quota_verdict, stretch_verdict, root_verdict}
 
 -- ---- what a call answers, and what becomes of a lent list
@@ -113,28 +114,37 @@ pub record TreeLists : Type 0 where
   pub boxes : List Float
   pub borrowed : List ℕ
 
--- the lengths of the lists and of the working room
-abbrev pub lent_sizes : TreeLists → List Float → List ℕ → BuildSizes
-lent_sizes l floats wholes =
+-- and the two lists that take the records of its cuts: whole numbers and planes
+pub record RecordLists : Type 0 where
+  pub cuts : List ℕ
+  pub planes : List Float
+
+-- the lengths of the five lists, and of all that a build is lent
+abbrev pub lent_tree : TreeLists → TreeSizes
+lent_tree l =
     record {
       level_points = length l.level_points;
       internals = length l.internals;
       domains = length l.domains;
       boxes = length l.boxes;
       borrowed = length l.borrowed;
-      floats = length floats;
-      wholes = length wholes;
     }
 
-abbrev pub build_call : Settings → List Float → TreeLists → List Float → List ℕ → Verdict
-build_call s cs old floats wholes = build_verdict s cs (lent_sizes old floats wholes)
+abbrev pub lent_sizes : TreeLists → List Float → List ℕ → RecordLists → BuildSizes
+lent_sizes l floats wholes r =
+    record { tree = lent_tree l; floats = length floats; wholes = length wholes; cuts = length r.cuts; planes = length r.planes }
+
+-- Every build has these tests, whichever way it cuts.
+abbrev pub build_call : Settings → List Float → TreeLists → List Float → List ℕ → RecordLists → Verdict
+build_call s cs old floats wholes records-old = build_verdict s cs (lent_sizes old floats wholes records-old)
 
 -- what a refused build reports
 abbrev pub zero_counts : Counts
 zero_counts = record { levels = 0; rows = replicate most_levels 0; domains = replicate most_levels 0 }
 
-unfoldable pub build_answer : Settings → List Float → TreeLists → List Float → List ℕ → Answer Counts
-build_answer s cs old floats wholes = answered (build_call s cs old floats wholes) (counts_of (levels s cs)) zero_counts
+unfoldable pub build_answer : Settings → List Float → TreeLists → List Float → List ℕ → RecordLists → Answer Counts
+build_answer s cs old floats wholes records-old =
+    answered (build_call s cs old floats wholes records-old) (counts_of (levels s cs)) zero_counts
 
 -- the five lists after a call with this verdict, `tree` being the tree of an accepted one
 unfoldable pub tree_lists_after : Verdict → List Level → TreeLists → TreeLists
@@ -147,15 +157,33 @@ tree_lists_after v tree old =
       borrowed = list_after v (packed_borrowed tree) old.borrowed;
     }
 
-unfoldable pub build_lists : Settings → List Float → TreeLists → List Float → List ℕ → TreeLists
-build_lists s cs old floats wholes = tree_lists_after (build_call s cs old floats wholes) (levels s cs) old
+unfoldable pub build_lists : Settings → List Float → TreeLists → List Float → List ℕ → RecordLists → TreeLists
+build_lists s cs old floats wholes records-old = tree_lists_after (build_call s cs old floats wholes records-old) (levels s cs) old
+
+-- the two lists of the records likewise
+unfoldable pub record_lists_after : Verdict → Settings → List Float → List Level → RecordLists → RecordLists
+record_lists_after v s cs tree old =
+    record {
+      cuts = list_after v (packed_cuts s cs tree) old.cuts;
+      planes = list_after v (packed_planes s cs tree) old.planes;
+    }
+
+unfoldable pub build_records : Settings → List Float → TreeLists → List Float → List ℕ → RecordLists → RecordLists
+build_records s cs old floats wholes records-old =
+    record_lists_after (build_call s cs old floats wholes records-old) s cs (levels s cs) records-old
 
 -- ---- the lengths that a build is to be lent, asked alone
 
 -- what a refused call reports
 abbrev pub zero_sizes : BuildSizes
 zero_sizes =
-    record { level_points = 0; internals = 0; domains = 0; boxes = 0; borrowed = 0; floats = 0; wholes = 0 }
+    record {
+      tree = record { level_points = 0; internals = 0; domains = 0; boxes = 0; borrowed = 0 };
+      floats = 0;
+      wholes = 0;
+      cuts = 0;
+      planes = 0;
+    }
 
 unfoldable pub sizes_answer : ℕ → ℕ → ℕ → Answer BuildSizes
 sizes_answer d n neighbours = answered (sizes_verdict d n neighbours) (build_stated d n neighbours) zero_sizes

@@ -3,6 +3,7 @@ use Rattle.std.specs.Prelude.{ℕ, suc, ◌+◌, ◌*◌, List, [], ◌∷◌, �
 use Rattle.lists.specs.Lists.{joined}
 use Rattle.definition.specs.Points.{box_width_lem}
 use Rattle.definition.specs.Tree.{Leaf, Level, most_fine}
+use Rattle.definition.specs.Record.{most_nodes}
 
 -- ---- a domain row
 
@@ -94,31 +95,46 @@ counts_of ls =
 
 -- ---- the lent sizes
 
--- the lengths of the lists lent to a build
-pub record BuildSizes : Type 0 where
+-- the lengths of the five lists that a tree is packed into
+pub record TreeSizes : Type 0 where
   pub level_points : ℕ
   pub internals : ℕ
   pub domains : ℕ
   pub boxes : ℕ
   pub borrowed : ℕ
+
+-- the lengths of the lists lent to a build: those of the tree, the working room, and the two lists of the record (request 9)
+pub record BuildSizes : Type 0 where
+  pub tree : TreeSizes
   pub floats : ℕ
   pub wholes : ℕ
+  pub cuts : ℕ
+  pub planes : ℕ
 
 -- the most domain rows of a tree over n points
 abbrev pub most_rows : ℕ → ℕ
 most_rows n = 6 * n + 1
 
--- what a build over n points on d axes with this neighbour count is to be lent
-unfoldable pub build_stated : ℕ → ℕ → ℕ → BuildSizes
-build_stated d n neighbours =
+-- what is to be lent for a tree over n points on d axes with this neighbour count
+unfoldable pub tree_stated : ℕ → ℕ → ℕ → TreeSizes
+tree_stated d n neighbours =
     record {
       level_points = 4 * n;
       internals = 4 * n;
       domains = row_numbers * most_rows n;
       boxes = row_floats_lem d * most_rows n;
       borrowed = 6 * n * (neighbours + 1);
+    }
+
+-- what a build of it is to be lent: of the whole numbers of room, 8n are request 9's
+unfoldable pub build_stated : ℕ → ℕ → ℕ → BuildSizes
+build_stated d n neighbours =
+    record {
+      tree = tree_stated d n neighbours;
       floats = 32 * n;
-      wholes = 32 * n + 8 * n * (neighbours + 1);
+      wholes = 40 * n + 8 * n * (neighbours + 1);
+      cuts = most_nodes n;
+      planes = most_nodes n;
     }
 
 -- the lengths of the lists lent to sampling, and what it is to be lent for n rows

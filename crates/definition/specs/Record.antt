@@ -93,13 +93,6 @@ packed_cuts s cs ls = map whole_of (nodes_in s cs ls)
 unfoldable pub packed_planes : Settings → List Float → List Level → List Float
 packed_planes s cs ls = map float_of (nodes_in s cs ls)
 
--- ---- the lent sizes
-
--- the lengths of the two lists that take the records
-pub record RecordSizes : Type 0 where
-  pub cuts : ℕ
-  pub planes : ℕ
-
--- what each of them is to be lent for n points
+-- the entries that each of the two lists that take them is to have for n points
 abbrev pub most_nodes : ℕ → ℕ
 most_nodes n = 12 * n

@@ -6,7 +6,7 @@ use Rattle.lists.specs.Lists.{any_of, total}
 use Rattle.definition.specs.Number.{plus_zero}
 use Rattle.definition.specs.Levels.{Policy, auto, fixed, threshold}
 use Rattle.definition.specs.Tree.{Settings, most_fine, point_count}
-use Rattle.definition.specs.Packed.{BuildSizes, build_stated, SampleSizes, sample_stated, QuotaSizes, quota_stated}
+use Rattle.definition.specs.Packed.{TreeSizes, BuildSizes, build_stated, SampleSizes, sample_stated, QuotaSizes, quota_stated}
 
 -- ---- refusals, and how they are tried
 
@@ -67,11 +67,15 @@ zero_threshold_lem auto = false
 zero_threshold_lem (fixed c) = eqb c 0
 
 -- 11: a lent list shorter than stated
+unfoldable pub tree_short : TreeSizes → TreeSizes → Bool
+tree_short lent stated =
+    ltb lent.level_points stated.level_points || ltb lent.internals stated.internals || ltb lent.domains stated.domains
+    || ltb lent.boxes stated.boxes || ltb lent.borrowed stated.borrowed
+
 unfoldable pub build_short : BuildSizes → BuildSizes → Bool
 build_short lent stated =
-    ltb lent.level_points stated.level_points || ltb lent.internals stated.internals || ltb lent.domains stated.domains
-    || ltb lent.boxes stated.boxes || ltb lent.borrowed stated.borrowed || ltb lent.floats stated.floats
-    || ltb lent.wholes stated.wholes
+    tree_short lent.tree stated.tree || ltb lent.floats stated.floats || ltb lent.wholes stated.wholes || ltb lent.cuts stated.cuts
+    || ltb lent.planes stated.planes
 
 unfoldable pub sample_short : SampleSizes → SampleSizes → Bool
 sample_short lent stated =

@@ -6,7 +6,7 @@ use Rattle.lists.specs.Lists.{keep, any_of, from, joined}
 use Rattle.definition.specs.Tree.{Settings, Level, levels_over}
 use Rattle.definition.specs.Packed.{BuildSizes, build_stated, Counts, counts_of}
 use Rattle.definition.specs.Refusals.{Test, on, Verdict, verdict, build_short, build_tests}
-use Rattle.definition.specs.Outcome.{Answer, answered, TreeLists, lent_sizes, zero_counts, tree_lists_after}
+use Rattle.definition.specs.Outcome.{Answer, answered, TreeLists, RecordLists, lent_sizes, zero_counts, tree_lists_after, record_lists_after}
 use Rattle.definition.specs.Table.{Table, live_slots_lem, unsound, coordinates_short}
 
 -- the positions of these rows' coordinates in the lent list, in their order
@@ -42,11 +42,16 @@ slots_verdict s t lent =
 unfoldable pub slot_levels : Settings → Table → List Level
 slot_levels s t = levels_over s t.coordinates (rows_of t)
 
-abbrev pub slots_call : Settings → Table → TreeLists → List Float → List ℕ → Verdict
-slots_call s t old floats wholes = slots_verdict s t (lent_sizes old floats wholes)
+abbrev pub slots_call : Settings → Table → TreeLists → List Float → List ℕ → RecordLists → Verdict
+slots_call s t old floats wholes records-old = slots_verdict s t (lent_sizes old floats wholes records-old)
 
-unfoldable pub slots_answer : Settings → Table → TreeLists → List Float → List ℕ → Answer Counts
-slots_answer s t old floats wholes = answered (slots_call s t old floats wholes) (counts_of (slot_levels s t)) zero_counts
+unfoldable pub slots_answer : Settings → Table → TreeLists → List Float → List ℕ → RecordLists → Answer Counts
+slots_answer s t old floats wholes records-old =
+    answered (slots_call s t old floats wholes records-old) (counts_of (slot_levels s t)) zero_counts
 
-unfoldable pub slots_lists : Settings → Table → TreeLists → List Float → List ℕ → TreeLists
-slots_lists s t old floats wholes = tree_lists_after (slots_call s t old floats wholes) (slot_levels s t) old
+unfoldable pub slots_lists : Settings → Table → TreeLists → List Float → List ℕ → RecordLists → TreeLists
+slots_lists s t old floats wholes records-old = tree_lists_after (slots_call s t old floats wholes records-old) (slot_levels s t) old
+
+unfoldable pub slots_records : Settings → Table → TreeLists → List Float → List ℕ → RecordLists → RecordLists
+slots_records s t old floats wholes records-old =
+    record_lists_after (slots_call s t old floats wholes records-old) s t.coordinates (slot_levels s t) records-old

@@ -1,6 +1,7 @@
 -- What an accepted call has: no refusal that it tries has its condition met. Assumes nothing.
 -- Holds: passes, decides, pass, accepted-iff, both-accept, first-accepts, second-accepts, right-dimension, number-zero,
---   build-zero, Passed, passed, LentEnough, lent-enough, whole-points, finite-at, all-good, Accepted, build-accepted
+--   build-zero, Passed, passed, TreeEnough, LentEnough, tree-enough, lent-enough, whole-points, finite-at, all-good, Accepted,
+--   build-accepted
 use mathlib.Core.Path.{◌≡◌, refl, ◌∙◌}
 use mathlib.Core.Logic.{◌↔◌}
 use mathlib.Core.Bool.{Bool, true, false, not, ◌&&◌, cond}
@@ -23,8 +24,8 @@ use Rattle.lists.proofs.Ascends.{ascends-from, ascends-once}
 use Rattle.lists.proofs.Times.{times-mem}
 use Rattle.definition.specs.Levels.{Policy, auto, fixed, threshold}
 use Rattle.definition.specs.Tree.{Settings, most_fine, point_count}
-use Rattle.definition.specs.Packed.{BuildSizes, build_stated}
-use Rattle.definition.specs.Refusals.{Refusal, Test, Verdict, accepted, refused, verdict, most_points, most_neighbours, coordinates_missing, zero_threshold_lem, not_finite_lem, build_short, build_tests, build_verdict, wrong_dimension_lem}
+use Rattle.definition.specs.Packed.{TreeSizes, BuildSizes, build_stated}
+use Rattle.definition.specs.Refusals.{Refusal, Test, Verdict, accepted, refused, verdict, most_points, most_neighbours, coordinates_missing, zero_threshold_lem, not_finite_lem, tree_short, build_short, build_tests, build_verdict, wrong_dimension_lem}
 use Rattle.definition.specs.Outcome.{number_of}
 use Rattle.definition.proofs.Cuts.{Good}
 
@@ -162,21 +163,24 @@ passed s n missing lacking judged e =
     }
 
 -- ---- lists that are not shorter than stated
-pub record LentEnough (lent stated : BuildSizes) : Type 0 where
+pub record TreeEnough (lent stated : TreeSizes) : Type 0 where
   pub level_points : stated.level_points ≤ lent.level_points
   pub internals : stated.internals ≤ lent.internals
   pub domains : stated.domains ≤ lent.domains
   pub boxes : stated.boxes ≤ lent.boxes
   pub borrowed : stated.borrowed ≤ lent.borrowed
+
+pub record LentEnough (lent stated : BuildSizes) : Type 0 where
+  pub tree : TreeEnough lent.tree stated.tree
   pub floats : stated.floats ≤ lent.floats
   pub wholes : stated.wholes ≤ lent.wholes
+  pub cuts : stated.cuts ≤ lent.cuts
+  pub planes : stated.planes ≤ lent.planes
 
-pub lent-enough : (lent stated : BuildSizes) → build_short lent stated ≡ false → LentEnough lent stated
-unfolding build_short
-lent-enough lent stated e =
-    let wholes-fail = or-none _ _ e in
-    let floats-fail = or-none _ _ wholes-fail.0 in
-    let borrowed-fail = or-none _ _ floats-fail.0 in
+pub tree-enough : (lent stated : TreeSizes) → tree_short lent stated ≡ false → TreeEnough lent stated
+unfolding tree_short
+tree-enough lent stated e =
+    let borrowed-fail = or-none _ _ e in
     let boxes-fail = or-none _ _ borrowed-fail.0 in
     let domains-fail = or-none _ _ boxes-fail.0 in
     let internals-fail = or-none _ _ domains-fail.0 in
@@ -186,8 +190,21 @@ lent-enough lent stated e =
       domains = ltb-false lent.domains stated.domains domains-fail.1;
       boxes = ltb-false lent.boxes stated.boxes boxes-fail.1;
       borrowed = ltb-false lent.borrowed stated.borrowed borrowed-fail.1;
+    }
+
+pub lent-enough : (lent stated : BuildSizes) → build_short lent stated ≡ false → LentEnough lent stated
+unfolding build_short
+lent-enough lent stated e =
+    let planes-fail = or-none _ _ e in
+    let cuts-fail = or-none _ _ planes-fail.0 in
+    let wholes-fail = or-none _ _ cuts-fail.0 in
+    let floats-fail = or-none _ _ wholes-fail.0 in
+    record {
+      tree = tree-enough lent.tree stated.tree floats-fail.0;
       floats = ltb-false lent.floats stated.floats floats-fail.1;
       wholes = ltb-false lent.wholes stated.wholes wholes-fail.1;
+      cuts = ltb-false lent.cuts stated.cuts cuts-fail.1;
+      planes = ltb-false lent.planes stated.planes planes-fail.1;
     }
 
 -- ---- coordinates

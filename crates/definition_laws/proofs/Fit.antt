@@ -19,14 +19,14 @@ use Rattle.definition.specs.Levels.{threshold, reductions}
 use Rattle.definition.specs.Tree.{Settings, Leaf, Level, coarse_level_lem, fine_level_lem, next_active, most_fine, levels_from, levels_over, point_count, levels}
 use Rattle.definition.specs.Points.{box_width_lem}
 use Rattle.definition.specs.Overlaps.{borrowed_by}
-use Rattle.definition.specs.Packed.{leaf_floats, leaves_in_lem, packed_level_points, packed_internals, packed_domains, packed_boxes, packed_borrowed, stretches, row_numbers, row_floats_lem, most_rows, BuildSizes, build_stated}
+use Rattle.definition.specs.Packed.{leaf_floats, leaves_in_lem, packed_level_points, packed_internals, packed_domains, packed_boxes, packed_borrowed, stretches, row_numbers, row_floats_lem, most_rows, TreeSizes, BuildSizes, tree_stated, build_stated}
 use Rattle.definition.specs.Refusals.{accepted, build_verdict}
 use Rattle.definition.proofs.Steps.{fine_of}
 use Rattle.definition.proofs.FineLeaves.{fine-many, fine-map, fine-each}
 use Rattle.definition.proofs.Cuts.{Good, leaves-sum}
 use Rattle.definition_laws.proofs.Shape.{leaves-most, leaves-boxes}
 use Rattle.definition_laws.proofs.Overlaps.{borrowed-most}
-use Rattle.definition_laws.proofs.Accepted.{LentEnough, Accepted, build-accepted}
+use Rattle.definition_laws.proofs.Accepted.{TreeEnough, LentEnough, Accepted, build-accepted}
 use Rattle.definition.proofs.Levels.{next-short, next-good, levels-all, levels-sum}
 
 -- ---- the lengths of the packed lists, level by level
@@ -83,11 +83,11 @@ pub record PackedFit (d n neighbours : ℕ) (ls : List Level) : Type 0 where
   pub few : length ls ≤ suc most_fine
   pub rows : length (leaves_in_lem ls) ≤ most_rows n
   pub bounds : All (λ (f : Leaf). length f.box ≡ box_width_lem d) (leaves_in_lem ls)
-  pub level_points : length (packed_level_points ls) ≤ (build_stated d n neighbours).level_points
-  pub internals : length (packed_internals ls) ≤ (build_stated d n neighbours).internals
-  pub domains : length (packed_domains ls) ≤ (build_stated d n neighbours).domains
-  pub boxes : length (packed_boxes ls) ≤ (build_stated d n neighbours).boxes
-  pub borrowed : length (packed_borrowed ls) ≤ (build_stated d n neighbours).borrowed
+  pub level_points : length (packed_level_points ls) ≤ (tree_stated d n neighbours).level_points
+  pub internals : length (packed_internals ls) ≤ (tree_stated d n neighbours).internals
+  pub domains : length (packed_domains ls) ≤ (tree_stated d n neighbours).domains
+  pub boxes : length (packed_boxes ls) ≤ (tree_stated d n neighbours).boxes
+  pub borrowed : length (packed_borrowed ls) ≤ (tree_stated d n neighbours).borrowed
 
 module _ (s : Settings) (cs : List Float) (pos : 0 < s.dimension) (lp : 1 ≤ s.leaf) (n : ℕ) where
   -- active rows of a level: good ones, at most n
@@ -194,7 +194,7 @@ module _ (s : Settings) (cs : List Float) (pos : 0 < s.dimension) (lp : 1 ≤ s.
 -- THE FIT LAW
 pub packed_fit : (s : Settings) (cs : List Float) (active : List ℕ) → 0 < s.dimension → 1 ≤ s.leaf → Good s.dimension cs active
     → PackedFit s.dimension (length active) s.neighbours (levels_over s cs active)
-unfolding levels_over build_stated packed_boxes
+unfolding levels_over tree_stated packed_boxes
 packed_fit s cs active pos lp g =
     let n = length active in
     let c = threshold s.policy n in
@@ -222,14 +222,14 @@ packed_fit s cs active pos lp g =
         three n = omega arith
 
 -- ---- an accepted build: the lists that it packs fit in what it is lent
-pub record LentFit (lent : BuildSizes) (ls : List Level) : Type 0 where
+pub record LentFit (lent : TreeSizes) (ls : List Level) : Type 0 where
   pub level_points : length (packed_level_points ls) ≤ lent.level_points
   pub internals : length (packed_internals ls) ≤ lent.internals
   pub domains : length (packed_domains ls) ≤ lent.domains
   pub boxes : length (packed_boxes ls) ≤ lent.boxes
   pub borrowed : length (packed_borrowed ls) ≤ lent.borrowed
 
-pub lent-fit : (d n neighbours : ℕ) (lent : BuildSizes) (ls : List Level) → PackedFit d n neighbours ls → LentEnough lent (build_stated d n neighbours) → LentFit lent ls
+pub lent-fit : (d n neighbours : ℕ) (lent : TreeSizes) (ls : List Level) → PackedFit d n neighbours ls → TreeEnough lent (tree_stated d n neighbours) → LentFit lent ls
 lent-fit d n neighbours lent ls f e =
     record {
       level_points = le_trans f.level_points e.level_points;
@@ -247,7 +247,8 @@ levels-fit s cs lent a =
     subst (λ (m : ℕ). PackedFit s.dimension m s.neighbours (levels s cs)) (length_from 0 n)
     (packed_fit s cs (from 0 n) a.passes-all.axes a.passes-all.leaf_some a.good)
 
-pub accepted-fit : (s : Settings) (cs : List Float) (lent : BuildSizes) → build_verdict s cs lent ≡ accepted → LentFit lent (levels s cs)
+pub accepted-fit : (s : Settings) (cs : List Float) (lent : BuildSizes) → build_verdict s cs lent ≡ accepted → LentFit lent.tree (levels s cs)
+unfolding build_stated
 accepted-fit s cs lent e =
     let a = build-accepted s cs lent e in
-    lent-fit s.dimension (point_count s.dimension cs) s.neighbours lent (levels s cs) (levels-fit s cs lent a) a.enough
+    lent-fit s.dimension (point_count s.dimension cs) s.neighbours lent.tree (levels s cs) (levels-fit s cs lent a) a.enough.tree

@@ -5,11 +5,11 @@ use Prim.Native.Nat.{ℕ}
 use lib.Ieee.{Float}
 use Rattle.definition.specs.Tree.{Settings}
 use Rattle.definition.specs.Refusals.{accepted}
-use Rattle.definition.specs.Outcome.{TreeLists, build_call, build_answer}
+use Rattle.definition.specs.Outcome.{RecordLists, TreeLists, build_call, build_answer}
 use Rattle.definition_laws.proofs.Accepted.{build-zero}
 
 -- THE LAW
-pub answered-zero : (s : Settings) (cs : List Float) (old : TreeLists) (floats : List Float) (wholes : List ℕ)
-    → (build_answer s cs old floats wholes).number ≡ 0 → build_call s cs old floats wholes ≡ accepted
+pub answered-zero : (s : Settings) (cs : List Float) (old : TreeLists) (floats : List Float) (wholes : List ℕ) (records : RecordLists)
+    → (build_answer s cs old floats wholes records).number ≡ 0 → build_call s cs old floats wholes records ≡ accepted
 unfolding build_answer
-answered-zero s cs old floats wholes e = build-zero s cs _ e
+answered-zero s cs old floats wholes records e = build-zero s cs _ e

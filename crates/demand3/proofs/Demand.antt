@@ -19,7 +19,7 @@ use Rattle.definition.specs.Tree.{Settings, Leaf, Level, coarse_leaf, coarse_lev
 use Rattle.definition.specs.Points.{box_width_lem}
 use Rattle.definition.specs.Packed.{Counts, counts_of, leaves_in_lem, packed_level_points, packed_internals, packed_domains, packed_boxes, packed_borrowed}
 use Rattle.definition.specs.Refusals.{Verdict, accepted, most_points}
-use Rattle.definition.specs.Outcome.{Answer, TreeLists, lent_sizes, answered, zero_counts, written, list_after, value_of, tree_lists_after, build_call, build_answer, build_lists}
+use Rattle.definition.specs.Outcome.{RecordLists, Answer, TreeLists, lent_sizes, answered, zero_counts, written, list_after, value_of, tree_lists_after, build_call, build_answer, build_lists}
 use Rattle.definition.proofs.Cuts.{Good}
 use Rattle.definition_laws.proofs.Accepted.{Accepted, build-accepted}
 use Rattle.definition_laws.proofs.Fit.{packed_fit}
@@ -216,12 +216,12 @@ module _ (s : Settings) (cs : List Float) (first : List ℕ) (pos : 0 < s.dimens
   tree-depths-over few = all-depths s cs first pos lp cp reach good _ packs few
 
 -- over all points
-module _ (s : Settings) (cs : List Float) (old : TreeLists) (floats : List Float) (wholes : List ℕ) (e : build_call s cs old floats wholes ≡ accepted) where
+module _ (s : Settings) (cs : List Float) (old : TreeLists) (floats : List Float) (wholes : List ℕ) (records : RecordLists) (e : build_call s cs old floats wholes records ≡ accepted) where
   abbrev m : ℕ
   m = point_count s.dimension cs
 
-  called : Accepted s cs (lent_sizes old floats wholes)
-  called = build-accepted s cs (lent_sizes old floats wholes) e
+  called : Accepted s cs (lent_sizes old floats wholes records)
+  called = build-accepted s cs (lent_sizes old floats wholes records) e
 
   all-counted : point_count s.dimension cs ≡ length (from 0 (point_count s.dimension cs))
   all-counted = sym (length_from 0 m)
@@ -232,35 +232,35 @@ module _ (s : Settings) (cs : List Float) (old : TreeLists) (floats : List Float
   reaches : length (from 0 (point_count s.dimension cs)) ≤ coarse_at s (length (from 0 (point_count s.dimension cs))) * s.factor ^ 3
   reaches = subst (λ (i : ℕ). i ≤ coarse_at s i * s.factor ^ 3) all-counted called.passes-all.reaches
 
-  pub demand-3 : Demand3 s cs (handed_back s cs old floats wholes)
+  pub demand-3 : Demand3 s cs (handed_back s cs old floats wholes records)
   unfolding levels build_answer build_lists
-  demand-3 = demand-3-over s cs (from 0 m) called.passes-all.axes called.passes-all.leaf_some coarse-some reaches called.good old (build_call s cs old floats wholes) e
+  demand-3 = demand-3-over s cs (from 0 m) called.passes-all.axes called.passes-all.leaf_some coarse-some reaches called.good old (build_call s cs old floats wholes records) e
 
-  pub tree-depths : TreeDepths (handed_back s cs old floats wholes)
+  pub tree-depths : TreeDepths (handed_back s cs old floats wholes records)
   unfolding levels build_answer build_lists
   tree-depths =
-      tree-depths-over s cs (from 0 m) called.passes-all.axes called.passes-all.leaf_some coarse-some reaches called.good old (build_call s cs old floats wholes) e
+      tree-depths-over s cs (from 0 m) called.passes-all.axes called.passes-all.leaf_some coarse-some reaches called.good old (build_call s cs old floats wholes records) e
       (omega (arith, all-counted, called.passes-all.rows_few))
 
 -- The same of an answer and five lists of which a contract says that they are the definition's.
-module _ (s : Settings) (cs : List Float) (old : TreeLists) (floats : List Float) (wholes : List ℕ) (answer : Answer Counts)
+module _ (s : Settings) (cs : List Float) (old : TreeLists) (floats : List Float) (wholes : List ℕ) (records : RecordLists) (answer : Answer Counts)
     (level_points internals domains : List ℕ) (boxes : List Float) (borrowed : List ℕ)
-    (answer-is : answer ≡ build_answer s cs old floats wholes)
-    (points-are : level_points ≡ (build_lists s cs old floats wholes).level_points)
-    (internals_are : internals ≡ (build_lists s cs old floats wholes).internals)
-    (domains-are : domains ≡ (build_lists s cs old floats wholes).domains)
-    (boxes_are : boxes ≡ (build_lists s cs old floats wholes).boxes)
-    (borrowed_are : borrowed ≡ (build_lists s cs old floats wholes).borrowed) where
+    (answer-is : answer ≡ build_answer s cs old floats wholes records)
+    (points-are : level_points ≡ (build_lists s cs old floats wholes records).level_points)
+    (internals_are : internals ≡ (build_lists s cs old floats wholes records).internals)
+    (domains-are : domains ≡ (build_lists s cs old floats wholes records).domains)
+    (boxes_are : boxes ≡ (build_lists s cs old floats wholes records).boxes)
+    (borrowed_are : borrowed ≡ (build_lists s cs old floats wholes records).borrowed) where
   abbrev lists : TreeLists
   lists = record { level_points = level_points; internals = internals; domains = domains; boxes = boxes; borrowed = borrowed }
 
   -- an accepted call
-  pub demand-3-of : build_call s cs old floats wholes ≡ accepted → Demand3 s cs (handed answer lists)
-  demand-3-of e = rw (answer-is, points-are, internals_are, domains-are, boxes_are, borrowed_are) (demand-3 s cs old floats wholes e)
+  pub demand-3-of : build_call s cs old floats wholes records ≡ accepted → Demand3 s cs (handed answer lists)
+  demand-3-of e = rw (answer-is, points-are, internals_are, domains-are, boxes_are, borrowed_are) (demand-3 s cs old floats wholes records e)
 
-  pub tree-depths-of : build_call s cs old floats wholes ≡ accepted → TreeDepths (handed answer lists)
-  tree-depths-of e = rw (answer-is, points-are, internals_are, domains-are, boxes_are, borrowed_are) (tree-depths s cs old floats wholes e)
+  pub tree-depths-of : build_call s cs old floats wholes records ≡ accepted → TreeDepths (handed answer lists)
+  tree-depths-of e = rw (answer-is, points-are, internals_are, domains-are, boxes_are, borrowed_are) (tree-depths s cs old floats wholes records e)
 
   -- a call that answers with the number 0: it was accepted
   pub demand-3-seen : answer.number ≡ 0 → Demand3 s cs (handed answer lists)
-  demand-3-seen e = demand-3-of (answered-zero s cs old floats wholes (ap (λ (a : Answer Counts). a.number) (sym answer-is) ∙ e))
+  demand-3-seen e = demand-3-of (answered-zero s cs old floats wholes records (ap (λ (a : Answer Counts). a.number) (sym answer-is) ∙ e))

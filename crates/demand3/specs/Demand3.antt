@@ -11,7 +11,7 @@ use Rattle.definition.specs.Cut.{leaves_of}
 use Rattle.definition.specs.Overlaps.{borrowed_by}
 use Rattle.definition.specs.Sampling.{sent_by, leaf_cover}
 use Rattle.definition.specs.Tree.{Settings, reductions_left, most_fine, point_count}
-use Rattle.definition.specs.Outcome.{TreeLists, build_answer, build_lists}
+use Rattle.definition.specs.Outcome.{TreeLists, RecordLists, build_answer, build_lists}
 use Rattle.demand3.specs.Handed.{Handed, handed, level_count, rows_on_lem, leaves_on, HasNext, listed, domain_row, own_of, borrowed_of, box_of, cover_in, own_lists, leaf_sizes, leaf_boxes, leaf_depths_lem}
 
 -- ---- the rules that speak of the lists alone
@@ -162,5 +162,5 @@ abbrev pub Demand3 : Settings → List Float → Handed → Type 0
 Demand3 s cs h = Demand3Over s cs (from 0 (point_count s.dimension cs)) h
 
 -- ---- what a call of the build hands back, by its contract
-abbrev pub handed_back : Settings → List Float → TreeLists → List Float → List ℕ → Handed
-handed_back s cs old floats wholes = handed (build_answer s cs old floats wholes) (build_lists s cs old floats wholes)
+abbrev pub handed_back : Settings → List Float → TreeLists → List Float → List ℕ → RecordLists → Handed
+handed_back s cs old floats wholes records = handed (build_answer s cs old floats wholes records) (build_lists s cs old floats wholes records)

@@ -10,7 +10,7 @@ use lib.Ieee.{Float}
 use Rattle.definition.specs.Number.{plus_zero, plus_infinity}
 use Rattle.definition.specs.Packed.{Counts}
 use Rattle.definition.specs.Tree.{Settings}
-use Rattle.definition.proofs.WorkedSamples.{opened, line, on_line, nines, float_room, whole_room}
+use Rattle.definition.proofs.WorkedSamples.{opened, line, on_line, nines, float_room, whole_room, record_room}
 use Rattle.demand3.specs.Handed.{Handed, listed, row_number, domain_row, own_of, borrowed_of, box_of, cover_in, depth_of, own_lists, leaf_sizes, leaf_boxes, leaf_depths_lem}
 use Rattle.demand3.specs.Demand3.{share_of, sent_of, sent_up, Demand3, handed_back}
 use Rattle.demand3.specs.Depths.{TreeDepths}
@@ -81,19 +81,19 @@ abbrev pub right : Handed
 right = in_lists level_points internals domains boxes borrowed two
 
 -- a build hands them back
-is_right : handed_back set four (nines 4) (float_room 4) (whole_room 4) ≡ right
+is_right : handed_back set four (nines 4) (float_room 4) (whole_room 4) (record_room 4) ≡ right
 unfolding all-open
 is_right = refl
 
 -- the call is accepted, so they have demand 3
 pub right-has-it : Demand3 set four right
 unfolding all-open
-right-has-it = subst (Demand3 set four) is_right (demand-3 set four (nines 4) (float_room 4) (whole_room 4) refl)
+right-has-it = subst (Demand3 set four) is_right (demand-3 set four (nines 4) (float_room 4) (whole_room 4) (record_room 4) refl)
 
 -- and its record of depths
 pub right-depths : TreeDepths right
 unfolding all-open
-right-depths = subst TreeDepths is_right (tree-depths set four (nines 4) (float_room 4) (whole_room 4) refl)
+right-depths = subst TreeDepths is_right (tree-depths set four (nines 4) (float_room 4) (whole_room 4) (record_room 4) refl)
 
 -- ---- wrong in one thing
 abbrev pub level-points-but : List ℕ → Counts → Handed

@@ -17,7 +17,7 @@ use lib.ListN.{length, get_or, replicate}
 use lib.Ieee.{Float, nan, binary64, to_bits}
 use Rattle.lists.specs.Lists.{joined}
 use Rattle.definition.specs.Number.{plus_zero, plus_infinity}
-use Rattle.definition.proofs.WorkedSamples.{line, on_line, nines, float_room, whole_room}
+use Rattle.definition.proofs.WorkedSamples.{line, on_line, nines, float_room, whole_room, record_room}
 use Rattle.demand3.specs.Handed.{Handed}
 use Rattle.demand3.specs.Demand3.{share_of, WholePart, OneMore, Demand3, handed_back}
 use Rattle.demand3.proofs.Demand.{demand-3}
@@ -178,13 +178,13 @@ in-six rows =
     }
 
 -- a build hands these back, and so they have demand 3
-is-six : handed_back (on_line 4 2) six (nines 6) (float_room 6) (whole_room 6) ≡ in-six (0 ∷ 1 ∷ 2 ∷ 3 ∷ 4 ∷ 5 ∷ 0 ∷ 1 ∷ 3 ∷ 4 ∷ 0 ∷ 3 ∷ [])
+is-six : handed_back (on_line 4 2) six (nines 6) (float_room 6) (whole_room 6) (record_room 6) ≡ in-six (0 ∷ 1 ∷ 2 ∷ 3 ∷ 4 ∷ 5 ∷ 0 ∷ 1 ∷ 3 ∷ 4 ∷ 0 ∷ 3 ∷ [])
 unfolding all-open
 is-six = refl
 
 pub six-has-it : Demand3 (on_line 4 2) six (in-six (0 ∷ 1 ∷ 2 ∷ 3 ∷ 4 ∷ 5 ∷ 0 ∷ 1 ∷ 3 ∷ 4 ∷ 0 ∷ 3 ∷ []))
 unfolding all-open
-six-has-it = subst (Demand3 (on_line 4 2) six) is-six (demand-3 (on_line 4 2) six (nines 6) (float_room 6) (whole_room 6) refl)
+six-has-it = subst (Demand3 (on_line 4 2) six) is-six (demand-3 (on_line 4 2) six (nines 6) (float_room 6) (whole_room 6) (record_room 6) refl)
 
 -- The second level lists the rows sent up in another order. Seeds then fall on other rows, and the third level lists 1 and 4 in place
 -- of 0 and 3. Every other field holds of these lists.
@@ -216,13 +216,13 @@ in-nested of-1 of-2 =
     }
 
 -- each row takes itself first, and then the lower of the others
-is-nested : handed_back (on_line 1 2) nested (nines 3) (float_room 3) (whole_room 3) ≡ in-nested (0 ∷ []) (0 ∷ [])
+is-nested : handed_back (on_line 1 2) nested (nines 3) (float_room 3) (whole_room 3) (record_room 3) ≡ in-nested (0 ∷ []) (0 ∷ [])
 unfolding all-open
 is-nested = refl
 
 pub nested-has-it : Demand3 (on_line 1 2) nested (in-nested (0 ∷ []) (0 ∷ []))
 unfolding all-open
-nested-has-it = subst (Demand3 (on_line 1 2) nested) is-nested (demand-3 (on_line 1 2) nested (nines 3) (float_room 3) (whole_room 3) refl)
+nested-has-it = subst (Demand3 (on_line 1 2) nested) is-nested (demand-3 (on_line 1 2) nested (nines 3) (float_room 3) (whole_room 3) (record_room 3) refl)
 
 -- row 2 would take rows 0 and 1, and fall out of its own neighbourhood: the leaves of rows 1 and 2 borrow from each other. Every other
 -- field holds of these lists.
@@ -269,7 +269,7 @@ abbrev pair : ℕ → ℕ → Handed
 pair x y = pair_with x y 1 4
 
 -- S is 2, so each sends one
-is-even : handed_back (on_line 3 2) four (nines 4) (float_room 4) (whole_room 4) ≡ pair 0 2
+is-even : handed_back (on_line 3 2) four (nines 4) (float_room 4) (whole_room 4) (record_room 4) ≡ pair 0 2
 unfolding all-open
 is-even = refl
 
@@ -304,7 +304,7 @@ trio own v w =
       counts = counts 2 (4 ∷ 3 ∷ 0 ∷ 0 ∷ []) (2 ∷ 1 ∷ 0 ∷ 0 ∷ []);
     }
 
-is-trio : handed_back (on_line 3 3) four (nines 4) (float_room 4) (whole_room 4) ≡ trio (0 ∷ 1 ∷ 2 ∷ 3 ∷ []) 2 2
+is-trio : handed_back (on_line 3 3) four (nines 4) (float_room 4) (whole_room 4) (record_room 4) ≡ trio (0 ∷ 1 ∷ 2 ∷ 3 ∷ []) 2 2
 unfolding all-open
 is-trio = refl
 

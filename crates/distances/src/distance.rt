@@ -1,5 +1,6 @@
 // Squared distance and distance, with one fixed sequence of roundings for any number of axes.
 ghost use Rattle.std.specs.Prelude.{◌≡◌, length};
+ghost use Rattle.definition.specs.Number.{plus, minus, product};
 ghost use Rattle.definition.specs.Points.{point_at, distance_sq_lem, rows_sq, rows_apart};
 ghost use Rattle.rows.specs.Rows.{Inside};
 
@@ -13,6 +14,15 @@ pub struct LocalIdx(pub usize);
 #[derive(Clone, Copy)]
 pub struct GlobalIdx(pub usize);
 
+// One axis more of a squared distance: the square of the difference is added to the sum. The gap to a box goes by it too, so that both have the
+// same roundings.
+pub fn add_square(sum: f64, x: f64, y: f64) -> f64
+    ensures { result ≡ plus sum (product (minus x y) (minus x y)) }
+{
+    let d = x - y;
+    sum + d * d
+}
+
 // The squared distance of two points, of as many coordinates each.
 pub fn distance_sq_between(p: &[f64], q: &[f64]) -> f64
     requires { length p.now ≡ length q.now }
@@ -21,8 +31,7 @@ pub fn distance_sq_between(p: &[f64], q: &[f64]) -> f64
     let mut sum = 0.0;
     // by the index: tried as a zip, whose proof has a pair, but nothing that says that it is the one at the index that the sum has reached
     for k in 0..p.len() {
-        let d = p[k] - q[k];
-        sum += d * d;
+        sum = add_square(sum, p[k], q[k]);
     }
     sum
 }

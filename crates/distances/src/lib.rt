@@ -5,6 +5,8 @@ mod distance;
 mod places;
 
 pub use boxes::Extents;
-pub use distance::{GlobalIdx, LocalIdx, distance_sq, distance_sq_between, get_distance};
+pub use distance::{
+    GlobalIdx, LocalIdx, add_square, distance_sq, distance_sq_between, get_distance,
+};
 pub use extents::get_pointarray_extents;
 pub use places::{argmax, argmin};

@@ -2,7 +2,7 @@
 -- level. Assumes nothing.
 -- Holds: level_rows, level-own, level-placed, level-borrowed, level-number, level-next, number-most, own-whole, own-shared,
 --   leaves-read, leaves-named, overlaps-ready, overlaps-read, overlaps-named, overlaps-rows, packed-read, packed-named,
---   packed-sends, boxes-room, codes-room
+--   packed-sends, level-nodes, boxes-room, codes-room
 use mathlib.Core.Path.{◌≡◌, refl, sym, ◌∙◌}
 use mathlib.Core.Logic.{⊎_elim}
 use mathlib.Core.Bool.{Bool}
@@ -24,6 +24,7 @@ use Rattle.lists.proofs.Map.{zip-map}
 use Rattle.definition.specs.Cut.{Domain, leaves_of}
 use Rattle.definition.specs.Overlaps.{borrowed_by}
 use Rattle.definition.specs.Quotas.{quotas}
+use Rattle.definition.specs.Record.{Node, record_of, whole_of, float_of}
 use Rattle.definition.specs.Sampling.{sent_by}
 use Rattle.definition.specs.Tree.{Leaf, fine_leaf, sent_lists}
 use Rattle.definition.specs.Points.{box_width_lem}
@@ -31,10 +32,12 @@ use Rattle.definition.specs.Packed.{row_numbers, stretches}
 use Rattle.definition.proofs.Cuts.{Good, leaves-times}
 use Rattle.definition_laws.proofs.Shape.{leaves-most}
 use Rattle.queue.specs.Rows.{Own, domain_own, with_own}
-use Rattle.leaves.proofs.Domains.{leaves-fill}
+use Rattle.record_laws.proofs.Domains.{leaves-fill}
 use Rattle.rows.proofs.Good.{good-good}
 use Rattle.packed.specs.Reading.{own_at, read_own, own_in_lem}
 use Rattle.overlap_owners.specs.Own.{SharedOut, Leaves}
+use Rattle.cut_index.specs.Recorded.{PackedFrom}
+use Rattle.cut_index.proofs.Packed.{own-packed}
 use Rattle.overlaps.specs.Borrowed.{borrowed_lists, with_borrowed, Stage}
 use Rattle.coarse_points.specs.Sent.{sent_rows, SendsUp}
 use Rattle.fine_level.specs.Fine.{divided_at, next_at, Given}
@@ -137,10 +140,25 @@ module _ (d : ℕ) (cs : List Float) (leaf neighbours : ℕ) (active : List ℕ)
       shared = rw leaves-read own-shared;
     }
 
-    pub overlaps-ready : Stage d cs neighbours active I₁ D₁ k (length (leaves_of d cs leaf active))
-    overlaps-ready = record {
+    -- and stand one after the other
+    leaves-packed : PackedFrom at I₁ D₁ k (length (leaves_of d cs leaf active))
+    leaves-packed = rw (eD, ← placed-number) (own-packed I₁ at placed k D fit (own_read I₁ at placed k D fit (rw placed-rows inside) (rw placed-rows packed)))
+
+    pub overlaps-ready : (cuts : List ℕ) (planes : List Float) → cuts ≡ map whole_of (record_of d cs leaf active) → planes ≡ map float_of (record_of d cs leaf active)
+        → Stage d cs leaf neighbours active cuts planes I₁ D₁ k (length (leaves_of d cs leaf active)) at
+    overlaps-ready cuts planes eC eP = record {
       rows = g.good;
       leaves = leaves-named;
+      level = record {
+        axes = g.axes;
+        axes_few = g.axes_few;
+        leaf_some = g.leaf_some;
+        rows_some = g.rows_some;
+        wholes = eC;
+        floats = eP;
+        own = leaves-read;
+        packed = leaves-packed;
+      };
       near = g.near;
       few = omega (arith, g.good.few);
       leaf_few = omega (arith, number-most, g.good.few);
@@ -200,9 +218,16 @@ module _ (d : ℕ) (cs : List Float) (leaf neighbours : ℕ) (active : List ℕ)
     packed-sends =
         sends-of d cs leaf active I₁ D₂ k (length (leaves_of d cs leaf active)) g.axes_few g.good packed-named packed-read
 
+-- ---- the part of a list of the record that the level's nodes were written to
+pub level-nodes : {A : Type 0} (f : Node → A) (X : List A) (node nodes : ℕ) (ns : List Node) (X₁ : List A) → nodes ≡ length ns → node + nodes ≤ length X
+    → X₁ ≡ put X node (map f ns) → part X₁ node nodes ≡ map f ns
+level-nodes f X node nodes ns X₁ e h eX =
+    let m : length (map f ns) ≡ nodes = length-map ns f ∙ sym e in
+    rw eX (part-put-same X node (map f ns) nodes (omega (arith, m)) m)
+
 -- ---- working room
 pub boxes-room : (d a : ℕ) → d ≤ 3 → box_width_lem d * (2 * a) ≤ 12 * a
 boxes-room d a h = let e : box_width_lem d * (2 * a) ≤ box_width_lem 3 * (2 * a) = mul-le-mul (omega arith) (omega arith) in omega arith
 
-pub codes-room : (a neighbours : ℕ) → a + 2 * a * (neighbours + 1) ≤ 32 * a + 8 * a * (neighbours + 1)
+pub codes-room : (a neighbours : ℕ) → 10 * a + 2 * a * (neighbours + 1) ≤ 40 * a + 8 * a * (neighbours + 1)
 codes-room a neighbours = let e : 2 * a * (neighbours + 1) ≤ 8 * a * (neighbours + 1) = mul-le-mul (omega arith) (omega arith) in omega arith

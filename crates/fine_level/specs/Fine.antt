@@ -39,4 +39,4 @@ pub record Fits (d neighbours a : ℕ) (I D : List ℕ) (B : List Float) (L : Li
 -- the working room of a level over `a` rows
 pub record Room (neighbours a : ℕ) (F : List Float) (W : List ℕ) : Type 0 where
   pub floats : 32 * a ≤ length F
-  pub wholes : 32 * a + 8 * a * (neighbours + 1) ≤ length W
+  pub wholes : 40 * a + 8 * a * (neighbours + 1) ≤ length W

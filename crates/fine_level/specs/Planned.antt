@@ -1,10 +1,9 @@
 -- The words of Fine by a plan and a place. Definitions only.
-use Rattle.std.specs.Prelude.{ℕ, ◌+◌, ◌≤◌, List, length, Float}
+use Rattle.std.specs.Prelude.{ℕ, ◌+◌, ◌*◌, ◌≤◌, List, length, Float}
 use Rattle.lists.specs.Lists.{part}
 use Rattle.definition.specs.Cut.{Domain, leaves_of}
 use Rattle.definition.specs.Tree.{Leaf}
-use Rattle.definition.specs.Record.{Node}
-use Rattle.cut_engine.specs.Engines.{record_by, nodes_for}
+use Rattle.definition.specs.Record.{Node, record_of}
 use Rattle.fine_level.specs.declared.Plan.{Plan}
 use Rattle.fine_level.specs.declared.Place.{Place}
 use Rattle.fine_level.specs.Fine.{divided_at, leaves_at_lem, Given, Fits}
@@ -32,10 +31,10 @@ GivenBy p active = Given p.points.dimensions p.points.coordinates.now p.leaf p.n
 abbrev pub FitsAt : Plan → Place → ℕ → List ℕ → List ℕ → List Float → List ℕ → Type 0
 FitsAt p w a I D B L = Fits p.points.dimensions p.neighbours a I D B L w.from w.first w.bat
 
--- the nodes that are written of the level's record
+-- the nodes of the level's record
 abbrev pub nodes_by : Plan → List ℕ → List Node
-nodes_by p active = record_by p.engine p.points.dimensions p.points.coordinates.now p.leaf active
+nodes_by p active = record_of p.points.dimensions p.points.coordinates.now p.leaf active
 
 -- both lists of the record are long enough for that of a level over `a` rows at this place
-abbrev pub RecordFits : Plan → Place → ℕ → List ℕ → List Float → Type 0
-RecordFits p w a C Q = (w.node + nodes_for p.engine a ≤ length C) × (w.node + nodes_for p.engine a ≤ length Q)
+abbrev pub RecordFits : Place → ℕ → List ℕ → List Float → Type 0
+RecordFits w a C Q = (w.node + 4 * a ≤ length C) × (w.node + 4 * a ≤ length Q)

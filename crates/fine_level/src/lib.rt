@@ -6,7 +6,6 @@ ghost use Rattle.lists.specs.Lists.{put, part, joined};
 ghost use Rattle.definition.specs.Packed.{stretches, row_numbers, row_floats_lem};
 ghost use Rattle.definition.specs.Record.{whole_of, float_of};
 ghost use Rattle.packed.specs.Reading.{own_in_lem, borrowed_in, boxes_in, read_own};
-ghost use Rattle.cut_engine.specs.Engines.{nodes_for};
 ghost use Rattle.coarse_points.specs.Sent.{sent_rows, sent_covers, SendsUp};
 ghost use Rattle.covers.specs.Covered.{covered};
 ghost use Rattle.tree_lists.specs.Lent.{SameLists, SameRoom, SameRecords};
@@ -61,11 +60,11 @@ fn cut_rows(
     requires given_by { (place.from + place.a ≤ length lists.old.level_points.now) × GivenBy plan (active_at place lists.old.level_points.now) }
     requires fits_at { FitsAt plan place place.a lists.old.internals.now lists.old.domains.now lists.old.boxes.now lists.old.borrowed.now }
     requires room { LevelRoom plan.neighbours place.a room.old.floats.now room.old.wholes.now }
-    requires record_fits { RecordFits plan place place.a records.old.cuts.now records.old.planes.now }
+    requires record_fits { RecordFits place place.a records.old.cuts.now records.old.planes.now }
     ensures same { SameLists lists.old lists.new × SameRoom room.old room.new × SameRecords records.old records.new }
     ensures kept { (lists.new.level_points.now ≡ lists.old.level_points.now) × (lists.new.borrowed.now ≡ lists.old.borrowed.now) }
     ensures counts { (result.leaves ≡ length (cut_by plan.entry (active_at place lists.old.level_points.now)))
-        × (result.nodes ≡ length (nodes_by plan.entry (active_at place lists.old.level_points.now))) × (result.nodes ≤ nodes_for plan.entry.engine place.a) }
+        × (result.nodes ≡ length (nodes_by plan.entry (active_at place lists.old.level_points.now))) × (result.nodes ≤ 4 * place.a) }
     ensures internals { lists.new.internals.now ≡ put lists.old.internals.now place.from (joined (map (λ q. q.rows) (cut_by plan.entry (active_at place lists.old.level_points.now)))) }
     ensures domains { lists.new.domains.now ≡ with_own place.from (map domain_own (cut_by plan.entry (active_at place lists.old.level_points.now))) place.first lists.old.domains.now }
     ensures boxes { lists.new.boxes.now ≡ put lists.old.boxes.now (row_floats_lem plan.entry.points.dimensions * place.first) (joined (map (λ f. f.box) (divided_by plan.entry (active_at place lists.old.level_points.now)))) }
@@ -115,10 +114,10 @@ fn divide(
     requires given_by { (place.from + place.a ≤ length lists.old.level_points.now) × GivenBy plan (active_at place lists.old.level_points.now) }
     requires fits_at { FitsAt plan place place.a lists.old.internals.now lists.old.domains.now lists.old.boxes.now lists.old.borrowed.now }
     requires room { LevelRoom plan.neighbours place.a room.old.floats.now room.old.wholes.now }
-    requires record_fits { RecordFits plan place place.a records.old.cuts.now records.old.planes.now }
+    requires record_fits { RecordFits place place.a records.old.cuts.now records.old.planes.now }
     ensures same { SameLists lists.old lists.new × SameRoom room.old room.new × SameRecords records.old records.new }
     ensures counts { (result.leaves ≡ length (divided_by plan.entry (active_at place lists.old.level_points.now))) × (result.borrowed ≡ length (borrowed_in (divided_by plan.entry (active_at place lists.old.level_points.now))))
-        × (result.nodes ≡ length (nodes_by plan.entry (active_at place lists.old.level_points.now))) × (result.nodes ≤ nodes_for plan.entry.engine place.a) }
+        × (result.nodes ≡ length (nodes_by plan.entry (active_at place lists.old.level_points.now))) × (result.nodes ≤ 4 * place.a) }
     ensures level_points { lists.new.level_points.now ≡ lists.old.level_points.now }
     ensures internals { lists.new.internals.now ≡ put lists.old.internals.now place.from (own_in_lem (divided_by plan.entry (active_at place lists.old.level_points.now))) }
     ensures domains { lists.new.domains.now ≡ put lists.old.domains.now (row_numbers * place.first) (stretches place.from place.bat (divided_by plan.entry (active_at place lists.old.level_points.now))) }
@@ -133,11 +132,16 @@ fn divide(
         from,
         first,
         bat,
+        node,
         ..
     } = place;
     let end = from + place.a;
+    let stop = node + cut.nodes;
     let level_points: &mut [usize] = lists.level_points;
     let active: &mut [usize] = &mut level_points[from..end];
+    // these two only read, as the active rows are: while a list of a value is lent by `&`, the check covers no loan of another
+    let cuts: &mut [usize] = &mut records.cuts[node..stop];
+    let planes: &mut [f64] = &mut records.planes[node..stop];
     let internals: &mut [usize] = lists.internals;
     let mut borrowing = Borrowing {
         internals,
@@ -151,6 +155,9 @@ fn divide(
         plan.points,
         plan.neighbours,
         active,
+        cuts,
+        planes,
+        from,
         &mut borrowing,
         room.wholes,
     );
@@ -210,11 +217,11 @@ pub fn fine_level(
     requires a_in_bounds { (place.from + 2 * place.a ≤ length lists.old.level_points.now) × (size ≤ place.a) × GivenBy plan (active_at place lists.old.level_points.now) }
     requires fits_at { FitsAt plan place place.a lists.old.internals.now lists.old.domains.now lists.old.boxes.now lists.old.borrowed.now }
     requires room { LevelRoom plan.neighbours place.a room.old.floats.now room.old.wholes.now }
-    requires record_fits { RecordFits plan place place.a records.old.cuts.now records.old.planes.now }
+    requires record_fits { RecordFits place place.a records.old.cuts.now records.old.planes.now }
     ensures same { SameLists lists.old lists.new × SameRoom room.old room.new × SameRecords records.old records.new }
     ensures counts { (result.leaves ≡ length (leaves_by plan.entry size (active_at place lists.old.level_points.now)))
         × (result.borrowed ≡ length (borrowed_in (leaves_by plan.entry size (active_at place lists.old.level_points.now))))
-        × (result.nodes ≡ length (nodes_by plan.entry (active_at place lists.old.level_points.now))) × (result.nodes ≤ nodes_for plan.entry.engine place.a) }
+        × (result.nodes ≡ length (nodes_by plan.entry (active_at place lists.old.level_points.now))) × (result.nodes ≤ 4 * place.a) }
     ensures next { size ≡ length (next_at plan.entry.points.dimensions plan.entry.points.coordinates.now plan.entry.leaf size (active_at place lists.old.level_points.now)) }
     ensures level_points { lists.new.level_points.now ≡ put lists.old.level_points.now (place.from + place.a) (next_at plan.entry.points.dimensions plan.entry.points.coordinates.now plan.entry.leaf size (active_at place lists.old.level_points.now)) }
     ensures internals { lists.new.internals.now ≡ put lists.old.internals.now place.from (own_in_lem (leaves_by plan.entry size (active_at place lists.old.level_points.now))) }

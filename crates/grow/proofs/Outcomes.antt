@@ -1,16 +1,18 @@
 -- The outcome of a build from the verdict on it, for either build. Assumes nothing.
--- Holds: whole-lists, room-refused, room-accepted, written_is, lists-refused, lists-accepted
+-- Holds: whole-lists, room-refused, room-accepted, written_is, lists-refused, lists-accepted, records-refused, records-accepted,
+--   whole-records
 use mathlib.Core.Path.{◌≡◌, refl}
-use mathlib.Core.List.{List}
+use mathlib.Core.List.{List, map}
 use Prim.Native.Nat.{ℕ}
 use lib.ListN.{length}
 use lib.Ieee.{Float}
 use Rattle.lists.specs.Lists.{put}
 use Rattle.lists.proofs.Put.{put-zero}
-use Rattle.definition.specs.Tree.{Level}
+use Rattle.definition.specs.Tree.{Settings, Level}
+use Rattle.definition.specs.Record.{whole_of, float_of, nodes_in, packed_cuts, packed_planes}
 use Rattle.definition.specs.Packed.{packed_level_points, packed_internals, packed_domains, packed_boxes, packed_borrowed}
 use Rattle.definition.specs.Refusals.{Refusal, Verdict, accepted, refused}
-use Rattle.definition.specs.Outcome.{TreeLists, written, list_after, tree_lists_after, RoomAfter}
+use Rattle.definition.specs.Outcome.{TreeLists, RecordLists, written, list_after, tree_lists_after, record_lists_after, RoomAfter}
 use Rattle.tree_answer.specs.Answers.{lists_of}
 
 -- ---- the lists one by one, and together
@@ -58,3 +60,18 @@ module _ (v : Verdict) (tree : List Level) (old : TreeLists) where
           ← written_is old.boxes (packed_boxes tree),
           ← written_is old.borrowed (packed_borrowed tree),
         )
+
+-- ---- the two lists of the records
+module _ (v : Verdict) (s : Settings) (cs : List Float) (tree : List Level) (old : RecordLists) where
+  pub records-refused : (r : Refusal) → v ≡ refused r → old ≡ record_lists_after v s cs tree old
+  unfolding record_lists_after list_after
+  records-refused r e = rw e
+
+  pub records-accepted : v ≡ accepted
+      → record { cuts = put old.cuts 0 (map whole_of (nodes_in s cs tree)); planes = put old.planes 0 (map float_of (nodes_in s cs tree)) } ≡ record_lists_after v s cs tree old
+  unfolding record_lists_after packed_cuts packed_planes
+  records-accepted e =
+      rw (e, ← written_is old.cuts (map whole_of (nodes_in s cs tree)), ← written_is old.planes (map float_of (nodes_in s cs tree)))
+
+pub whole-records : {c c' : List ℕ} {p p' : List Float} → c ≡ c' → p ≡ p' → ◌≡◌ {A = RecordLists} (record { cuts = c; planes = p }) (record { cuts = c'; planes = p' })
+whole-records e f = rw (e, f)

@@ -1,5 +1,5 @@
 -- The levels over given rows as the loop builds them, what they come to, and the room that is lent for them. Assumes nothing.
--- Holds: same-levels, same-records, tree_is, lent-space, points-whole, counts_whole, records-whole
+-- Holds: same-levels, same-records, tree_is, lent-space, lent-records, points-whole, counts_whole, records-whole
 use mathlib.Core.Path.{◌≡◌, refl, sym, ap, ◌∙◌}
 use mathlib.Core.Logic.{⊎_elim}
 use mathlib.Core.List.{List, ◌∷◌, map}
@@ -13,15 +13,13 @@ use Rattle.lists.proofs.Tests.{le-or-lt}
 use Rattle.lists.proofs.Put.{put-again}
 use Rattle.definition.specs.Levels.{threshold, reductions}
 use Rattle.definition.specs.Tree.{Settings, Level, most_fine, levels_from, levels_over}
-use Rattle.definition.specs.Packed.{row_floats_lem, most_rows, build_stated, packed_level_points, counts_of}
-use Rattle.definition.specs.Outcome.{TreeLists, lent_sizes}
+use Rattle.definition.specs.Packed.{row_floats_lem, most_rows, tree_stated, build_stated, packed_level_points, counts_of}
+use Rattle.definition.specs.Outcome.{RecordLists, TreeLists, lent_sizes}
 use Rattle.definition.specs.Record.{Node, nodes_in}
 use Rattle.definition.proofs.Steps.{fine_of, size_from, next_of, levels-last, levels-end, levels-more}
 use Rattle.definition_laws.proofs.Accepted.{LentEnough}
-use Rattle.cut_engine.specs.declared.Engine.{Engine}
-use Rattle.cut_engine.specs.declared.Engine.TheVariants.{Queue, DepthFirst}
 use Rattle.levels_loop.specs.After.{level_settings, levels_after, Space}
-use Rattle.levels_loop.specs.Records.{records_by}
+use Rattle.levels_loop.specs.Records.{RecordRoom}
 use Rattle.levels_loop.proofs.Fine.{first-points, levels-few}
 use Rattle.packed.proofs.Counts.{counts-put}
 
@@ -41,11 +39,10 @@ module _ (s : Settings) (cs : List Float) (c k : ℕ) where
       (le-or-lt (length active) c)
 
 -- so do their records
-pub same-records : (engine : Engine) (s : Settings) (cs : List Float) (ls : List Level)
-    → records_by engine (level_settings s.dimension s.leaf s.neighbours) cs ls ≡ records_by engine s cs ls
+pub same-records : (s : Settings) (cs : List Float) (ls : List Level)
+    → nodes_in (level_settings s.dimension s.leaf s.neighbours) cs ls ≡ nodes_in s cs ls
 unfolding nodes_in
-same-records Queue s cs ls = refl
-same-records DepthFirst s cs ls = refl
+same-records s cs ls = refl
 
 -- the levels over n rows
 pub tree_is : (s : Settings) (cs : List Float) (rows : List ℕ) (n c k : ℕ) → length rows ≡ n → c ≡ threshold s.policy n → k ≡ reductions n c s.factor
@@ -54,16 +51,16 @@ unfolding levels_over
 tree_is s cs rows n c k en ec ek = rw (en, ← ec, ← ek) (same-levels s cs c k most_fine 0 rows)
 
 -- ---- room for the levels over n rows, in lists that are as long as a build is to be lent
-pub lent-space : (d neighbours n : ℕ) (old : TreeLists) (floats : List Float) (wholes : List ℕ) → LentEnough (lent_sizes old floats wholes) (build_stated d n neighbours)
+pub lent-space : (d neighbours n : ℕ) (old : TreeLists) (floats : List Float) (wholes : List ℕ) (records : RecordLists) → LentEnough (lent_sizes old floats wholes records) (build_stated d n neighbours)
     → (P : List ℕ) → length P ≡ length old.level_points
     → Space d neighbours n most_fine P old.internals old.domains old.boxes old.borrowed floats wholes 0 0 0
-unfolding build_stated
-lent-space d neighbours n old floats wholes enough P e = record {
-  level_points = omega (arith, enough.level_points, e);
-  internals = omega (arith, enough.internals);
-  domains = omega (arith, enough.domains);
-  boxes = rows enough.boxes;
-  borrowed = omega (arith, enough.borrowed, three n (neighbours + 1));
+unfolding build_stated tree_stated
+lent-space d neighbours n old floats wholes records enough P e = record {
+  level_points = omega (arith, enough.tree.level_points, e);
+  internals = omega (arith, enough.tree.internals);
+  domains = omega (arith, enough.tree.domains);
+  boxes = rows enough.tree.boxes;
+  borrowed = omega (arith, enough.tree.borrowed, three n (neighbours + 1));
   floats = omega (arith, enough.floats);
   wholes = omega (arith, enough.wholes);
 }
@@ -79,6 +76,12 @@ lent-space d neighbours n old floats wholes enough P e = record {
 
     rows : {L : ℕ} → row_floats_lem d * most_rows n ≤ L → row_floats_lem d * (0 + 3 * (2 * n) + 1) ≤ L
     rows h = rw (six n) h
+
+-- and for the records of their cuts
+pub lent-records : (d neighbours n : ℕ) (old : TreeLists) (floats : List Float) (wholes : List ℕ) (records : RecordLists) → LentEnough (lent_sizes old floats wholes records) (build_stated d n neighbours)
+    → RecordRoom n records.cuts records.planes
+unfolding build_stated
+lent-records d neighbours n old floats wholes records enough = (omega (arith, enough.cuts), omega (arith, enough.planes))
 
 -- ---- the level points begin with the rows, which are written first
 pub points-whole : (s : Settings) (cs : List Float) (rows P P₁ P₂ : List ℕ) → length rows ≤ length P → P₁ ≡ put P 0 rows
@@ -102,6 +105,6 @@ counts_whole d cs leaf q c k active number rows counts e₁ e₂ e₃ =
     rw (e₁, e₂, e₃, counts-put (λ (l : Level). length l.points) ls few, counts-put (λ (l : Level). length l.leaves) ls few)
 
 -- ---- a list of the records, which takes `f` of each node
-pub records-whole : {A : Type 0} (f : Node → A) (engine : Engine) (s : Settings) (cs : List Float) (tree ls : List Level) (X X₁ : List A) → tree ≡ ls
-    → X₁ ≡ put X 0 (map f (records_by engine (level_settings s.dimension s.leaf s.neighbours) cs ls)) → X₁ ≡ put X 0 (map f (records_by engine s cs tree))
-records-whole f engine s cs tree ls X X₁ t e = e ∙ rw (t, same-records engine s cs ls)
+pub records-whole : {A : Type 0} (f : Node → A) (s : Settings) (cs : List Float) (tree ls : List Level) (X X₁ : List A) → tree ≡ ls
+    → X₁ ≡ put X 0 (map f (nodes_in (level_settings s.dimension s.leaf s.neighbours) cs ls)) → X₁ ≡ put X 0 (map f (nodes_in s cs tree))
+records-whole f s cs tree ls X X₁ t e = e ∙ rw (t, same-records s cs ls)

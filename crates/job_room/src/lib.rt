@@ -1,11 +1,12 @@
-// The room that suffices for every job: its stream, the lists of its tree, the working room of its build, and its printout.
+// The room that suffices for every job: its stream, the lists of its tree, the working room and the lists of records of its build, and its
+// printout.
 #![tactic(auto)]
 
 ghost use Rattle.std.specs.Prelude.{◌≡◌};
 ghost use Rattle.tree_lists.specs.Lent.{arrays_held};
-ghost use Rattle.job_room.specs.Room.{lent_lists, lent_floats, lent_wholes};
+ghost use Rattle.job_room.specs.Room.{lent_lists, lent_floats, lent_wholes, lent_records};
 
-use tree_lists::{Room, TreeArrays};
+use tree_lists::{Records, Room, TreeArrays};
 
 // The bytes of a stream: its first 878 decide what is printed, kept and loaded (`front-printed` of stream_laws, `front_kept` and
 // `front-reloaded` of reload_laws), so a longer one is read no further.
@@ -34,7 +35,10 @@ const BORROWED: usize = 6 * POINTS * TAKEN;
 // The working room of its build.
 const FLOATS: usize = 32 * POINTS;
 
-const WHOLES: usize = 32 * POINTS + 8 * POINTS * TAKEN;
+const WHOLES: usize = 40 * POINTS + 8 * POINTS * TAKEN;
+
+// The nodes of its records.
+const NODES: usize = 12 * POINTS;
 
 // The bytes of its printout: none is longer (`printout-long` of stream_laws, `reloaded-long` of reload_laws).
 pub const TEXT: usize = 139264;
@@ -74,5 +78,33 @@ impl JobRoom {
     {
         let JobRoom { floats, wholes } = self;
         Room { floats, wholes }
+    }
+}
+
+// The lists that take the records of its cuts.
+#[derive(Drop)]
+pub struct JobRecords {
+    cuts: [usize; NODES],
+    planes: [f64; NODES],
+}
+
+impl JobRecords {
+    pub fn zeros() -> JobRecords
+        ensures cuts { result.cuts ≡ lent_records.cuts }
+        ensures planes { result.planes ≡ lent_records.planes }
+    {
+        JobRecords {
+            cuts: [0; NODES],
+            planes: [0.0; NODES],
+        }
+    }
+
+    // Lends them as one value.
+    pub fn lend(&mut self) -> Records<'_>
+        ensures cuts { result.cuts.now ≡ self.old.cuts }
+        ensures planes { result.planes.now ≡ self.old.planes }
+    {
+        let JobRecords { cuts, planes } = self;
+        Records { cuts, planes }
     }
 }

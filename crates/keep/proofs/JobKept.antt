@@ -20,16 +20,16 @@ use Rattle.stream_laws.specs.Sizes.{JobLimits}
 use Rattle.reload_laws.specs.Sizes.{most_file_bytes}
 use Rattle.reload_laws.proofs.KeptFits.{sound-file-fits}
 use Rattle.store.specs.Outcome.{Stored}
-use Rattle.job_room.specs.Room.{lent_lists, lent_floats, lent_wholes}
+use Rattle.job_room.specs.Room.{lent_lists, lent_floats, lent_wholes, lent_records}
 use Rattle.job_room.proofs.Lists.{build-as-stated, lent-largest}
 use Rattle.keep.specs.Keeping.{keep_answer, keep_output}
 use Rattle.keep.proofs.Outcomes.{answer-refused, output-refused, answer-file, output-file}
 
 -- ---- a build in the lists of the largest job, by its answer
 module _ (s : Settings) (cs : List Float) (limits : JobLimits s cs) (lent : List ℕ) (long : most_file_bytes ≤ length lent) where
-  module _ (r : Answer Counts) (e : r ≡ build_answer s cs lent_lists lent_floats lent_wholes) where
+  module _ (r : Answer Counts) (e : r ≡ build_answer s cs lent_lists lent_floats lent_wholes lent_records) where
     abbrev call : Verdict
-    call = build_call s cs lent_lists lent_floats lent_wholes
+    call = build_call s cs lent_lists lent_floats lent_wholes lent_records
 
     -- it is judged as one in lists of the stated sizes
     kept-is : kept_job (job s cs) ≡ kept_by call s cs
@@ -61,25 +61,25 @@ module _ (s : Settings) (cs : List Float) (limits : JobLimits s cs) (lent : List
       refused-output = rw kept-nothing (sym (output-refused lent long (record { number = r.number; place = r.place })))
 
     -- ---- accepted: the file is written from the counts and the lists
-    module _ (h : r.number ≤ 0) (new : TreeLists) (f : new ≡ build_lists s cs lent_lists lent_floats lent_wholes) where
-      takes : build_call s cs lent_lists lent_floats lent_wholes ≡ accepted
-      takes = build-zero s cs (lent_sizes lent_lists lent_floats lent_wholes) (sym number_is ∙ (omega arith))
+    module _ (h : r.number ≤ 0) (new : TreeLists) (f : new ≡ build_lists s cs lent_lists lent_floats lent_wholes lent_records) where
+      takes : build_call s cs lent_lists lent_floats lent_wholes lent_records ≡ accepted
+      takes = build-zero s cs (lent_sizes lent_lists lent_floats lent_wholes lent_records) (sym number_is ∙ (omega arith))
 
       kept-file : kept_job (job s cs) ≡ file (file_bytes s cs (levels s cs))
       unfolding kept_by
       kept-file = kept-is ∙ ap (λ (v : Verdict). kept_by v s cs) takes
 
       room : length (file_bytes s cs (levels s cs)) ≤ length lent
-      room = omega (arith, long, sound-file-fits s cs (levels s cs) limits (built-sound s cs (lent_sizes lent_lists lent_floats lent_wholes) takes))
+      room = omega (arith, long, sound-file-fits s cs (levels s cs) limits (built-sound s cs (lent_sizes lent_lists lent_floats lent_wholes lent_records) takes))
 
       module _ (after : List ℕ) (a : Answer ℕ) (w : Stored s cs r.value new lent after a) where
         pub stored_answer : a ≡ keep_answer (kept_job (job s cs)) lent
         stored_answer =
-            w.answers ∙ rw (f, e) (write-of-build-answers s cs lent_lists lent_floats lent_wholes takes lent room)
+            w.answers ∙ rw (f, e) (write-of-build-answers s cs lent_lists lent_floats lent_wholes lent_records takes lent room)
             ∙ sym (ap (λ (k : Kept). keep_answer k lent) kept-file ∙ answer-file lent long (file_bytes s cs (levels s cs)))
 
         pub stored-output : after ≡ keep_output (kept_job (job s cs)) lent
         unfolding written
         stored-output =
-            w.output ∙ rw (f, e) (write-of-build-fills s cs lent_lists lent_floats lent_wholes takes lent room)
+            w.output ∙ rw (f, e) (write-of-build-fills s cs lent_lists lent_floats lent_wholes lent_records takes lent room)
             ∙ sym (ap (λ (k : Kept). keep_output k lent) kept-file ∙ output-file lent long (file_bytes s cs (levels s cs)))

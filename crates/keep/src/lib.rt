@@ -7,7 +7,7 @@ ghost use Rattle.reload_laws.specs.Sizes.{most_file_bytes};
 ghost use Rattle.stream_reader.specs.Reading.{job_is};
 ghost use Rattle.keep.specs.Keeping.{keep_answer, keep_output, keep_report};
 
-use job_room::JobRoom;
+use job_room::{JobRecords, JobRoom};
 use refusal::Refusal;
 use stream_reader::Job;
 
@@ -26,7 +26,9 @@ fn keep_job(job: Job<'_>, file: &mut [u8]) -> Result<usize, Refusal>
     let mut lists = lists.lend();
     let mut room = JobRoom::zeros();
     let mut room = room.lend();
-    let tree = ddm::build(points, params, &mut lists, &mut room)?;
+    let mut records = JobRecords::zeros();
+    let mut records = records.lend();
+    let tree = ddm::build(points, params, &mut lists, &mut room, &mut records)?;
     store::store_tree(points, params, tree, lists.read(), file)
 }
 

@@ -1,4 +1,4 @@
 -- Laws of a level's leaves.
-pub mod Domains
 pub mod Place
+pub mod Recorded
 pub mod Turns

@@ -1,14 +1,14 @@
 -- The boxes of a list are lent from some place on, or as a part, and come back with a stretch written. Assumes nothing.
--- Holds: tail_all, lent-long, lent-back, lent_kept, tail-back
+-- Holds: tail_all, lent-long, lent-back, tail-back
 use mathlib.Core.Path.{◌≡◌, sym, ap, ◌∙◌}
-use Prim.Native.Nat.{ℕ, ◌+◌, ◌-◌, ◌*◌, ◌≤◌}
+use Prim.Native.Nat.{ℕ, ◌+◌, ◌-◌, ◌≤◌}
 use native.Mathlib.Omega.{arith}
 use mathlib.Core.List.{List, ◌++◌, append-nil}
 use lib.ListN.{length, take, drop, length-drop, drop_of_length-le}
 use lib.Seq.{take_all}
 use borrow.Rule.Slice.PartMut.{put_mid}
 use Rattle.lists.specs.Lists.{put}
-use Rattle.lists.proofs.Put.{put-def, put-tail, mid_back, part-lent, part-back, length_part, length-put}
+use Rattle.lists.proofs.Put.{put-def, put-tail, mid_back, part-lent, part-back, length_part}
 
 module _ {A : Type 0} where
   pub tail_all : (l : List A) (at : ℕ) → take (length l - at) (drop at l) ≡ drop at l
@@ -17,16 +17,10 @@ module _ {A : Type 0} where
   pub lent-long : (l : List A) (at n : ℕ) → at + n ≤ length l → length (take (at + n - at) (drop at l)) ≡ n
   lent-long l at n h = ap length (part-lent l at n) ∙ length_part l at n h
 
-  -- the part has m elements, and begins where k boxes of w numbers, which is known as s, end
-  pub lent-back : (l xs ys : List A) (s w k m : ℕ) → s ≡ w → s * k + m ≤ length l → length ys ≡ length (take (s * k + m - s * k) (drop (s * k) l)) → ys ≡ xs
-      → put_mid (s * k) (s * k + m - s * k) l ys ≡ put l (w * k) xs
-  lent-back l xs ys s w k m is h n e =
-      part-back l (s * k) m ys (n ∙ lent-long l (s * k) m h) ∙ ap (put l (s * k)) e ∙ ap (λ (j : ℕ). put l (j * k) xs) is
-
-  pub lent_kept : (l ys : List A) (at n : ℕ) → at + n ≤ length l → length ys ≡ length (take (at + n - at) (drop at l)) → length (put_mid at (at + n - at) l ys) ≡ length l
-  lent_kept l ys at n h m =
-      let e = m ∙ lent-long l at n h in
-      ap length (part-back l at n ys e) ∙ length-put l at ys (omega (arith, e))
+  -- the part begins at j, which is known by another name
+  pub lent-back : (l xs ys : List A) (at j n : ℕ) → at ≡ j → at + n ≤ length l → length ys ≡ length (take (at + n - at) (drop at l)) → ys ≡ xs
+      → put_mid at (at + n - at) l ys ≡ put l j xs
+  lent-back l xs ys at j n is h m e = part-back l at n ys (m ∙ lent-long l at n h) ∙ ap (put l at) e ∙ ap (λ (i : ℕ). put l i xs) is
 
   pub tail-back : (l : List A) (at i : ℕ) (xs ys : List A) → at ≤ length l → length ys ≡ length (take (length l - at) (drop at l))
       → ys ≡ put (take (length l - at) (drop at l)) i xs → put_mid at (length l - at) l ys ≡ put l (at + i) xs

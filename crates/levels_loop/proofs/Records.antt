@@ -15,18 +15,15 @@ use Rattle.lists.proofs.Put.{length-put, put-nil, put-next-at}
 use Rattle.definition.specs.Tree.{Settings, Level, coarse_level_lem, levels_from}
 use Rattle.definition.specs.Record.{Node, record_of, fine_levels, nodes_in}
 use Rattle.definition.proofs.Steps.{fine_of, size_from, next_of, levels-last, levels-end, levels-more}
-use Rattle.cut_engine.specs.Engines.{record_by, nodes_for}
-use Rattle.cut_engine.specs.declared.Engine.{Engine}
-use Rattle.cut_engine.specs.declared.Engine.TheVariants.{Queue, DepthFirst}
-use Rattle.levels_loop.specs.Records.{records_by}
+use Rattle.levels_loop.specs.Records.{level_nodes}
 use Rattle.levels_loop.proofs.Spaces.{part-less}
 use Rattle.levels_loop.proofs.Fine.{fine-rows}
 
 -- A list when the loop began and now, with room for the records of t more levels over at most `a` rows each from `node` on.
-pub record Taken {A : Type 0} (f : Node → A) (engine : Engine) (s : Settings) (cs : List Float) (all rest : List Level) (a t : ℕ) (X X₁ : List A) (node : ℕ) : Type 0 where
-  pub room : node + t * nodes_for engine a ≤ length X₁
+pub record Taken {A : Type 0} (f : Node → A) (s : Settings) (cs : List Float) (all rest : List Level) (a t : ℕ) (X X₁ : List A) (node : ℕ) : Type 0 where
+  pub room : node + t * level_nodes a ≤ length X₁
   pub long : length X₁ ≡ length X
-  pub due : put X₁ node (map f (records_by engine s cs rest)) ≡ put X 0 (map f (records_by engine s cs all))
+  pub due : put X₁ node (map f (nodes_in s cs rest)) ≡ put X 0 (map f (nodes_in s cs all))
 
 -- ---- the levels that are left are never none
 module _ (s : Settings) (cs : List Float) (c k : ℕ) where
@@ -48,55 +45,49 @@ module _ (s : Settings) (cs : List Float) where
   unfolding nodes_in fine_levels joined
   nodes-last l = refl
 
-  records-more : (engine : Engine) (size : ℕ) (active : List ℕ) (rest : List Level) (m : Level) (ls : List Level) → rest ≡ m ∷ ls
-      → records_by engine s cs (fine_of s cs size active ∷ rest) ≡ record_by engine s.dimension cs s.leaf active ++ records_by engine s cs rest
-  records-more Queue size active rest m ls e = refl
-  records-more DepthFirst size active rest m ls e =
+  records-more : (size : ℕ) (active : List ℕ) (rest : List Level) (m : Level) (ls : List Level) → rest ≡ m ∷ ls
+      → nodes_in s cs (fine_of s cs size active ∷ rest) ≡ record_of s.dimension cs s.leaf active ++ nodes_in s cs rest
+  records-more size active rest m ls e =
       rw e (nodes-more (fine_of s cs size active) m ls
       ∙ ap (λ (z : List ℕ). record_of s.dimension cs s.leaf z ++ nodes_in s cs (m ∷ ls)) (fine-rows s cs size active))
 
-  records-last : (engine : Engine) (l : Level) → records_by engine s cs (l ∷ []) ≡ []
-  records-last Queue l = refl
-  records-last DepthFirst l = nodes-last l
-
 -- fewer rows ask for less
-nodes-fewer : (engine : Engine) (b a : ℕ) → b ≤ a → nodes_for engine b ≤ nodes_for engine a
-nodes-fewer Queue b a h = omega arith
-nodes-fewer DepthFirst b a h = omega arith
+nodes-fewer : (b a : ℕ) → b ≤ a → level_nodes b ≤ level_nodes a
+nodes-fewer b a h = omega arith
 
-module _ {A : Type 0} (f : Node → A) (engine : Engine) (s : Settings) (cs : List Float) (all : List Level) where
+module _ {A : Type 0} (f : Node → A) (s : Settings) (cs : List Float) (all : List Level) where
   -- ---- before the first level
-  pub taken-first : (n t : ℕ) (X : List A) → t * nodes_for engine n ≤ length X → Taken f engine s cs all all n t X X 0
+  pub taken-first : (n t : ℕ) (X : List A) → t * level_nodes n ≤ length X → Taken f s cs all all n t X X 0
   taken-first n t X h = record { room = omega (arith, h); long = refl; due = refl }
 
   -- ---- one more level fits
-  pub taken-fits : {rest : List Level} {a t : ℕ} {X X₁ : List A} {node : ℕ} → Taken f engine s cs all rest a t X X₁ node → 1 ≤ t → node + nodes_for engine a ≤ length X₁
+  pub taken-fits : {rest : List Level} {a t : ℕ} {X X₁ : List A} {node : ℕ} → Taken f s cs all rest a t X X₁ node → 1 ≤ t → node + level_nodes a ≤ length X₁
   taken-fits {t = zero} v h = absurd (omega arith)
-  taken-fits {a = a} {t = suc t} v h = omega (arith, v.room, suc-mul t (nodes_for engine a))
+  taken-fits {a = a} {t = suc t} v h = omega (arith, v.room, suc-mul t (level_nodes a))
 
   -- ---- and it has written m nodes
-  pub taken_next : {rest : List Level} {a t₀ : ℕ} {X X₁ : List A} {node : ℕ} (v : Taken f engine s cs all rest a t₀ X X₁ node) (t : ℕ) → t₀ ≡ suc t
+  pub taken_next : {rest : List Level} {a t₀ : ℕ} {X X₁ : List A} {node : ℕ} (v : Taken f s cs all rest a t₀ X X₁ node) (t : ℕ) → t₀ ≡ suc t
       → (size : ℕ) (active : List ℕ) (next : List Level) → rest ≡ fine_of s cs size active ∷ next → (l : Level) × ((ls : List Level) × (next ≡ l ∷ ls))
-      → (b m : ℕ) → b ≤ a → m ≡ length (record_by engine s.dimension cs s.leaf active) → m ≤ nodes_for engine a
-      → (X₂ : List A) → X₂ ≡ put X₁ node (map f (record_by engine s.dimension cs s.leaf active)) → Taken f engine s cs all next b t X X₂ (node + m)
+      → (b m : ℕ) → b ≤ a → m ≡ length (record_of s.dimension cs s.leaf active) → m ≤ level_nodes a
+      → (X₂ : List A) → X₂ ≡ put X₁ node (map f (record_of s.dimension cs s.leaf active)) → Taken f s cs all next b t X X₂ (node + m)
   taken_next {rest = rest} {a = a} {X₁ = X₁} {node = node} v t et size active next first some b m hb em hm X₂ eX =
-      let r = record_by engine s.dimension cs s.leaf active in
+      let r = record_of s.dimension cs s.leaf active in
       let mapped : length (map f r) ≡ m = length-map r f ∙ sym em in
-      let room : node + suc t * nodes_for engine a ≤ length X₁ = rw et at v.room in
-      let kept : length X₂ ≡ length X₁ = rw eX (length-put X₁ node (map f r) (omega (arith, mapped, suc-mul t (nodes_for engine a)))) in
-      let both : records_by engine s cs rest ≡ r ++ records_by engine s cs next = rw first (records-more s cs engine size active next some.0 some.1.0 some.1.1) in
-      let more : map f (records_by engine s cs rest) ≡ map f r ++ map f (records_by engine s cs next) = ap (map f) both ∙ map-append f r (records_by engine s cs next) in
+      let room : node + suc t * level_nodes a ≤ length X₁ = rw et at v.room in
+      let kept : length X₂ ≡ length X₁ = rw eX (length-put X₁ node (map f r) (omega (arith, mapped, suc-mul t (level_nodes a)))) in
+      let both : nodes_in s cs rest ≡ r ++ nodes_in s cs next = rw first (records-more s cs size active next some.0 some.1.0 some.1.1) in
+      let more : map f (nodes_in s cs rest) ≡ map f r ++ map f (nodes_in s cs next) = ap (map f) both ∙ map-append f r (nodes_in s cs next) in
       record {
-        room = omega (arith, part-less node m (nodes_for engine a) (nodes_for engine b) t hm (nodes-fewer engine b a hb), kept);
+        room = omega (arith, part-less node m (level_nodes a) (level_nodes b) t hm (nodes-fewer b a hb), kept);
         long = kept ∙ v.long;
         due =
-            rw eX (put-next-at X₁ node (map f r) (map f (records_by engine s cs next)) (node + m) (omega (arith, suc-mul t (nodes_for engine a))) (omega (arith, mapped)))
+            rw eX (put-next-at X₁ node (map f r) (map f (nodes_in s cs next)) (node + m) (omega (arith, suc-mul t (level_nodes a))) (omega (arith, mapped)))
             ∙ ap (put X₁ node) (sym more) ∙ v.due;
       }
 
   -- ---- after the last: the coarse level has no record
-  pub taken-end : {rest : List Level} {a t : ℕ} {X X₁ : List A} {node : ℕ} → Taken f engine s cs all rest a t X X₁ node → (l : Level) → rest ≡ l ∷ []
-      → X₁ ≡ put X 0 (map f (records_by engine s cs all))
+  pub taken-end : {rest : List Level} {a t : ℕ} {X X₁ : List A} {node : ℕ} → Taken f s cs all rest a t X X₁ node → (l : Level) → rest ≡ l ∷ []
+      → X₁ ≡ put X 0 (map f (nodes_in s cs all))
   taken-end {rest = rest} {X₁ = X₁} {node = node} v l e =
-      let none : records_by engine s cs rest ≡ [] = rw e (records-last s cs engine l) in
+      let none : nodes_in s cs rest ≡ [] = rw e (nodes-last s cs l) in
       sym (put-nil X₁ node) ∙ ap (λ (z : List Node). put X₁ node (map f z)) (sym none) ∙ v.due

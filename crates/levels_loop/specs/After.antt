@@ -21,4 +21,4 @@ pub record Space (d neighbours a t : ℕ) (P I D : List ℕ) (B : List Float) (L
   pub boxes : row_floats_lem d * (first + t * (2 * a) + 1) ≤ length B
   pub borrowed : bat + t * (2 * a * (neighbours + 1)) ≤ length L
   pub floats : 32 * a ≤ length F
-  pub wholes : 32 * a + 8 * a * (neighbours + 1) ≤ length W
+  pub wholes : 40 * a + 8 * a * (neighbours + 1) ≤ length W

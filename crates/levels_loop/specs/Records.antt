@@ -1,16 +1,11 @@
--- The records of the levels, as an engine writes them, and the room for them. Definitions only.
-use Rattle.std.specs.Prelude.{ℕ, ◌*◌, ◌≤◌, List, [], length, Float}
-use Rattle.definition.specs.Tree.{Settings, Level, most_fine}
-use Rattle.definition.specs.Record.{Node, nodes_in}
-use Rattle.cut_engine.specs.Engines.{nodes_for}
-use Rattle.cut_engine.specs.declared.Engine.{Engine}
-use Rattle.cut_engine.specs.declared.Engine.TheVariants.{Queue, DepthFirst}
+-- Room for the records of the levels. Definitions only.
+use Rattle.std.specs.Prelude.{ℕ, ◌*◌, ◌≤◌, List, length, Float}
+use Rattle.definition.specs.Tree.{most_fine}
 
--- the nodes that are written of the records of these levels: the queue writes none
-abbrev pub records_by : Engine → Settings → List Float → List Level → List Node
-records_by Queue s cs ls = []
-records_by DepthFirst s cs ls = nodes_in s cs ls
+-- the most nodes of the record of a level over `a` rows, and one more
+abbrev pub level_nodes : ℕ → ℕ
+level_nodes a = 4 * a
 
 -- both lists are long enough for the records of the levels over n points
-abbrev pub RecordRoom : Engine → ℕ → List ℕ → List Float → Type 0
-RecordRoom engine n C Q = (most_fine * nodes_for engine n ≤ length C) × (most_fine * nodes_for engine n ≤ length Q)
+abbrev pub RecordRoom : ℕ → List ℕ → List Float → Type 0
+RecordRoom n C Q = (most_fine * level_nodes n ≤ length C) × (most_fine * level_nodes n ≤ length Q)

@@ -7,11 +7,11 @@ ghost use Rattle.definition.specs.Levels.{level_size_lem};
 ghost use Rattle.definition.specs.Tree.{reductions_left, most_fine};
 ghost use Rattle.definition.specs.Refusals.{most_points};
 ghost use Rattle.definition.specs.Packed.{row_numbers, row_floats_lem, packed_level_points, packed_internals, packed_domains, packed_boxes, packed_borrowed};
-ghost use Rattle.definition.specs.Record.{whole_of, float_of};
+ghost use Rattle.definition.specs.Record.{whole_of, float_of, nodes_in};
 ghost use Rattle.fine_level.specs.Fine.{Given};
 ghost use Rattle.levels_loop.specs.After.{Space};
 ghost use Rattle.levels_loop.specs.Planned.{settings_by, levels_by};
-ghost use Rattle.levels_loop.specs.Records.{records_by, RecordRoom};
+ghost use Rattle.levels_loop.specs.Records.{RecordRoom};
 ghost use Rattle.tree_lists.specs.Lent.{SameLists, SameRoom, SameRecords};
 
 use fine_level::{Parts, Place, Plan};
@@ -53,7 +53,7 @@ fn place_after(place: Place, size: usize, level: Parts) -> Place
 }
 
 // All levels over the n rows at the front of the level points. Each level is written behind the last: its active rows, its leaves'
-// rows, its domain rows, their boxes, the borrowed rows, and the nodes of its record that this engine writes. The threshold c and the number k of
+// rows, its domain rows, their boxes, the borrowed rows, and the nodes of its record. The threshold c and the number k of
 // reductions come beside the plan: a fine level is handed its size, and needs neither.
 pub fn all_levels(
     plan: Plan<'_>,
@@ -66,7 +66,7 @@ pub fn all_levels(
 ) -> DDMTree
     requires le_c { (1 ≤ c) × (k ≤ 3) × Given plan.points.dimensions plan.points.coordinates.now plan.leaf plan.neighbours (part lists.old.level_points.now 0 n) }
     requires space { Space plan.points.dimensions plan.neighbours n most_fine lists.old.level_points.now lists.old.internals.now lists.old.domains.now lists.old.boxes.now lists.old.borrowed.now room.old.floats.now room.old.wholes.now 0 0 0 }
-    requires record_room { RecordRoom plan.engine n records.old.cuts.now records.old.planes.now }
+    requires record_room { RecordRoom n records.old.cuts.now records.old.planes.now }
     ensures same { SameLists lists.old lists.new × SameRoom room.old room.new × SameRecords records.old records.new }
     ensures counts { (result.levels ≡ length (levels_by plan.entry c k (part lists.old.level_points.now 0 n)))
         × (result.rows ≡ put (replicate 4 0) 0 (map (λ l. length l.points) (levels_by plan.entry c k (part lists.old.level_points.now 0 n))))
@@ -76,8 +76,8 @@ pub fn all_levels(
     ensures domains { lists.new.domains.now ≡ put lists.old.domains.now 0 (packed_domains (levels_by plan.entry c k (part lists.old.level_points.now 0 n))) }
     ensures boxes { lists.new.boxes.now ≡ put lists.old.boxes.now 0 (packed_boxes (levels_by plan.entry c k (part lists.old.level_points.now 0 n))) }
     ensures borrowed { lists.new.borrowed.now ≡ put lists.old.borrowed.now 0 (packed_borrowed (levels_by plan.entry c k (part lists.old.level_points.now 0 n))) }
-    ensures cuts { records.new.cuts.now ≡ put records.old.cuts.now 0 (map whole_of (records_by plan.entry.engine (settings_by plan.entry) plan.entry.points.coordinates.now (levels_by plan.entry c k (part lists.old.level_points.now 0 n)))) }
-    ensures planes { records.new.planes.now ≡ put records.old.planes.now 0 (map float_of (records_by plan.entry.engine (settings_by plan.entry) plan.entry.points.coordinates.now (levels_by plan.entry c k (part lists.old.level_points.now 0 n)))) }
+    ensures cuts { records.new.cuts.now ≡ put records.old.cuts.now 0 (map whole_of (nodes_in (settings_by plan.entry) plan.entry.points.coordinates.now (levels_by plan.entry c k (part lists.old.level_points.now 0 n)))) }
+    ensures planes { records.new.planes.now ≡ put records.old.planes.now 0 (map float_of (nodes_in (settings_by plan.entry) plan.entry.points.coordinates.now (levels_by plan.entry c k (part lists.old.level_points.now 0 n)))) }
 {
     let mut place = Place {
         from: 0,

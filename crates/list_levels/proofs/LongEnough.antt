@@ -6,15 +6,16 @@ use borrow.Author.Tests.{ltb-false}
 use lib.Dec.{ltb}
 use lib.ListN.{length}
 use Rattle.lists.proofs.Tests.{or-none}
-use Rattle.definition.specs.Packed.{row_numbers, row_floats_lem, most_rows, build_stated}
+use Rattle.definition.specs.Packed.{row_numbers, row_floats_lem, most_rows, tree_stated}
 use Rattle.definition.specs.Outcome.{TreeLists}
 use Rattle.packed.specs.Reading.{packed}
+use Rattle.definition.specs.Refusals.{tree_short}
 use Rattle.stored.specs.Outcome.{lists_short_lem}
 use Rattle.list_levels.specs.Passed.{Long}
 
-pub long-enough : (d n neighbours : ℕ) (l : TreeLists) → lists_short_lem l (build_stated d n neighbours) ≡ false
+pub long-enough : (d n neighbours : ℕ) (l : TreeLists) → lists_short_lem l (tree_stated d n neighbours) ≡ false
     → Long (packed l.internals l.domains l.boxes l.borrowed d) l.level_points n (6 * n * (neighbours + 1))
-unfolding lists_short_lem build_stated
+unfolding lists_short_lem tree_short tree_stated
 long-enough d n neighbours l h =
     let a = ltb (length l.level_points) (4 * n) in
     let b = ltb (length l.internals) (4 * n) in

@@ -16,7 +16,7 @@ use Rattle.lists.proofs.Tests.{and-of, and-fst, and-snd, same_test, three-pass}
 use Rattle.lists.proofs.Joined.{length-joined}
 use Rattle.lists.proofs.From.{length-map-from}
 use Rattle.definition.specs.Tree.{Settings, Leaf, Level}
-use Rattle.definition.specs.Packed.{Counts, counts_of, row_numbers, most_levels, most_rows, per_level, leaves_in_lem, packed_level_points, packed_internals, packed_domains, packed_borrowed, stretches, build_stated}
+use Rattle.definition.specs.Packed.{Counts, counts_of, row_numbers, most_levels, most_rows, per_level, leaves_in_lem, packed_level_points, packed_internals, packed_domains, packed_borrowed, stretches, tree_stated}
 use Rattle.definition.specs.Outcome.{TreeLists}
 use Rattle.definition_laws.proofs.Fit.{length-points, length-domains}
 use Rattle.packed.proofs.Counts.{counts-length}
@@ -112,7 +112,7 @@ module _ (s : Settings) (n : ℕ) (c : Counts) (l : TreeLists)
   levels-back (suc k) h e = held-levels p l.level_points c n most long.borrowed long.domains k 0 n (λ i. ltb i n) 0 e
 
   tests-to : held_tree_passes d n s.neighbours c l ≡ true → TreeHeld
-  unfolding held_tree_passes counts_stand_lem build_stated
+  unfolding held_tree_passes counts_stand_lem tree_stated
   tests-to h =
       let a = ltb 0 c.levels in
       let g = held_levels_pass p l.level_points c n most 0 n (λ i. ltb i n) 0 c.levels in
@@ -131,7 +131,7 @@ module _ (s : Settings) (n : ℕ) (c : Counts) (l : TreeLists)
       }
 
   tests-back : TreeHeld → held_tree_passes d n s.neighbours c l ≡ true
-  unfolding held_tree_passes counts_stand_lem build_stated
+  unfolding held_tree_passes counts_stand_lem tree_stated
   tests-back t =
       and-of
       (and-of (and-of (lt-ltb 0 c.levels t.some) (counted-four c.levels c.rows t.four-rows t.few t.rows_end))

@@ -9,7 +9,7 @@ use lib.ListN.{length}
 use lib.Dec.{ltb}
 use Rattle.lists.proofs.Tests.{three-pass}
 use Rattle.definition.specs.Tree.{Settings}
-use Rattle.definition.specs.Packed.{Counts, most_levels, build_stated}
+use Rattle.definition.specs.Packed.{Counts, most_levels, tree_stated}
 use Rattle.definition.specs.Refusals.{most_points}
 use Rattle.definition.specs.Outcome.{TreeLists}
 use Rattle.packed.specs.Reading.{Packed, packed}
@@ -27,12 +27,12 @@ abbrev held : TreeLists → ℕ → Packed
 held l d = packed l.internals l.domains l.boxes l.borrowed d
 
 module _ (s : Settings) (n : ℕ) (c : Counts) (l : TreeLists)
-    (lent : lists_short_lem l (build_stated s.dimension n s.neighbours) ≡ false) (x : Bool) (stand : x ≡ counts_stand_lem c) where
+    (lent : lists_short_lem l (tree_stated s.dimension n s.neighbours) ≡ false) (x : Bool) (stand : x ≡ counts_stand_lem c) where
   long : Long (held l s.dimension) l.level_points n (6 * n * (s.neighbours + 1))
   long = long-enough s.dimension n s.neighbours l lent
 
   is : held_tree_passes s.dimension n s.neighbours c l ≡ counts_stand_lem c && held_levels_pass (held l s.dimension) l.level_points c n (6 * n * (s.neighbours + 1)) 0 n (λ i. ltb i n) 0 c.levels
-  unfolding held_tree_passes build_stated
+  unfolding held_tree_passes tree_stated
   is = refl
 
   comes-to : held_tree_passes s.dimension n s.neighbours c l ≡ packs c l (tree_held s.dimension c l) && sound s n (tree_held s.dimension c l)
@@ -54,8 +54,8 @@ module _ (s : Settings) (n : ℕ) (c : Counts) (l : TreeLists)
 
 -- ---- for any settings with this dimension and this neighbour count
 module _ (d n neighbours : ℕ) (c : Counts) (l : TreeLists)
-    (lent : lists_short_lem l (build_stated d n neighbours) ≡ false) (x : Bool) (stand : x ≡ counts_stand_lem c) (s : Settings) (e : s.dimension ≡ d) (f : s.neighbours ≡ neighbours) where
-  lent-there : lists_short_lem l (build_stated s.dimension n s.neighbours) ≡ false
+    (lent : lists_short_lem l (tree_stated d n neighbours) ≡ false) (x : Bool) (stand : x ≡ counts_stand_lem c) (s : Settings) (e : s.dimension ≡ d) (f : s.neighbours ≡ neighbours) where
+  lent-there : lists_short_lem l (tree_stated s.dimension n s.neighbours) ≡ false
   lent-there = rw (e, f) lent
 
   pub tree-out : x ≡ false → TreePassed s n c l None
@@ -76,7 +76,7 @@ counts-fit c x e t =
     (r.0, (four-counted c.levels c.domains f.2).0, r.1)
 
 -- ---- what the levels ask for
-pub levels-ready : (d n neighbours : ℕ) (c : Counts) (l : TreeLists) → d ≤ 3 → n ≤ most_points → lists_short_lem l (build_stated d n neighbours) ≡ false
+pub levels-ready : (d n neighbours : ℕ) (c : Counts) (l : TreeLists) → d ≤ 3 → n ≤ most_points → lists_short_lem l (tree_stated d n neighbours) ≡ false
     → (x : Bool) → x ≡ counts_stand_lem c → x ≡ true → (listed : List ℕ)
     → Marked listed (λ i. ltb i n)
     → LevelsReady (packed l.internals l.domains l.boxes l.borrowed d) l.level_points c n (6 * n * (neighbours + 1)) listed

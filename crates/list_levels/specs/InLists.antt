@@ -2,7 +2,7 @@
 -- what is left of its limit. Inner contracts cite them; `tree-passes` says that they come to `packs` and `sound`. Definitions only.
 use Rattle.std.specs.Prelude.{ℕ, zero, suc, ◌-◌, Bool, true, not, ◌&&◌, cond, List, length, get_or, drop, leb, ltb, eqb}
 use Rattle.lists.specs.Lists.{part}
-use Rattle.definition.specs.Packed.{Counts, most_levels, most_rows, build_stated}
+use Rattle.definition.specs.Packed.{Counts, most_levels, most_rows, tree_stated}
 use Rattle.definition.specs.Outcome.{TreeLists}
 use Rattle.packed.specs.Reading.{Packed, packed, up_to, points_at}
 use Rattle.stored.specs.Sound.{all_of}
@@ -59,5 +59,5 @@ held_levels_pass p level_points c n most l many above b (suc k) =
 unfoldable pub held_tree_passes : ℕ → ℕ → ℕ → Counts → TreeLists → Bool
 held_tree_passes d n neighbours c l =
     counts_stand_lem c
-    && held_levels_pass (packed l.internals l.domains l.boxes l.borrowed d) l.level_points c n (build_stated d n neighbours).borrowed 0 n
+    && held_levels_pass (packed l.internals l.domains l.boxes l.borrowed d) l.level_points c n (tree_stated d n neighbours).borrowed 0 n
     (λ i. ltb i n) 0 c.levels

@@ -3,7 +3,7 @@
 
 ghost use Rattle.std.specs.Prelude.{◌≡◌, false, ◌&&◌, ◌*◌, ◌+◌, ◌≤◌, ◌<◌, leb, eqb, length, get_or};
 ghost use Rattle.definition.specs.Tree.{Settings};
-ghost use Rattle.definition.specs.Packed.{build_stated};
+ghost use Rattle.definition.specs.Packed.{tree_stated};
 ghost use Rattle.definition.specs.Refusals.{most_points, most_neighbours};
 ghost use Rattle.packed.specs.View.{packed_of};
 ghost use Rattle.stored.specs.Outcome.{lists_short_lem};
@@ -141,7 +141,7 @@ fn counts_stand(tree: PackedTree<'_>) -> bool
 pub fn check_lists(tree: PackedTree<'_>, n: usize, neighbours: usize) -> Option<ListsPassed>
     requires { (tree.leaves.dimensions ≤ 3) × (n ≤ most_points) × (neighbours ≤ most_neighbours)
         × (lists_short_lem (lists_of tree.level_points.now tree.leaves.internals.now tree.leaves.domains.now tree.leaves.boxes.now tree.leaves.borrowed.now)
-        (build_stated tree.leaves.dimensions n neighbours) ≡ false) }
+        (tree_stated tree.leaves.dimensions n neighbours) ≡ false) }
     ensures { (s : Settings) → s.dimension ≡ tree.entry.leaves.dimensions → s.neighbours ≡ neighbours
         → TreePassed s n (tree_counts tree.entry)
         (lists_of tree.entry.level_points.now tree.entry.leaves.internals.now tree.entry.leaves.domains.now tree.entry.leaves.boxes.now

@@ -15,8 +15,8 @@ use Rattle.lists.specs.Lists.{part}
 use Rattle.lists.specs.Ascends.{All}
 use Rattle.lists.proofs.Tests.{clash, and-fst, and-snd, or-none}
 use Rattle.definition.specs.Tree.{Settings, point_count}
-use Rattle.definition.specs.Packed.{most_levels, BuildSizes, build_stated}
-use Rattle.definition.specs.Refusals.{accepted, verdict, not_finite_lem}
+use Rattle.definition.specs.Packed.{most_levels, TreeSizes, tree_stated}
+use Rattle.definition.specs.Refusals.{tree_short, accepted, verdict, not_finite_lem}
 use Rattle.definition.specs.Outcome.{TreeLists}
 use Rattle.definition_laws.proofs.Accepted.{Passed}
 use Rattle.packed.specs.Reading.{packed}
@@ -67,8 +67,8 @@ module _ (s : Settings) (cs : List Float) (old : TreeLists) (own : verdict (own_
   abbrev n : ℕ
   n = point_count s.dimension cs
 
-  abbrev stated : BuildSizes
-  stated = build_stated s.dimension n s.neighbours
+  abbrev stated : TreeSizes
+  stated = tree_stated s.dimension n s.neighbours
 
   -- what the build's own tests say
   pub taken-with : Passed s n false false (not_finite_lem cs)
@@ -118,7 +118,7 @@ module _ (s : Settings) (cs : List Float) (old : TreeLists) (own : verdict (own_
         tree-here = rw (place, ← its-dimension)
 
         pub can-hold-it : CanHold (tree_from s.dimension at bs) old.level_points (packed old.internals old.domains old.boxes old.borrowed s.dimension)
-        unfolding lists_short_lem
+        unfolding lists_short_lem tree_short
         can-hold-it =
             let borrowed-fail = or-none _ _ (own-long s cs old own) in
             let boxes-fail = or-none _ _ borrowed-fail.0 in

@@ -11,7 +11,7 @@ use lib.Dec.{leb}
 use lib.ListN.{length, drop}
 use Rattle.lists.proofs.Tests.{and-fst, and-snd}
 use Rattle.definition.specs.Tree.{Level}
-use Rattle.definition.specs.Packed.{row_floats_lem, most_levels, most_rows, leaves_in_lem, packed_level_points, packed_internals, packed_domains, packed_boxes, packed_borrowed, build_stated}
+use Rattle.definition.specs.Packed.{row_floats_lem, most_levels, most_rows, leaves_in_lem, packed_level_points, packed_internals, packed_domains, packed_boxes, packed_borrowed, tree_stated}
 use Rattle.definition_laws.proofs.Fit.{length-domains}
 use Rattle.packed.specs.Reading.{Packed}
 use Rattle.stored.specs.Sound.{fits}
@@ -25,15 +25,15 @@ boxes-many d at file = levels-wide d most_levels (drop at file)
 
 -- the four tests
 pub record Few (d n neighbours : ℕ) (ls : List Level) : Type 0 where
-  pub points : length (packed_level_points ls) ≤ (build_stated d n neighbours).level_points
-  pub internals : length (packed_internals ls) ≤ (build_stated d n neighbours).internals
-  pub domains : length (packed_domains ls) ≤ (build_stated d n neighbours).domains
-  pub borrowed : length (packed_borrowed ls) ≤ (build_stated d n neighbours).borrowed
+  pub points : length (packed_level_points ls) ≤ (tree_stated d n neighbours).level_points
+  pub internals : length (packed_internals ls) ≤ (tree_stated d n neighbours).internals
+  pub domains : length (packed_domains ls) ≤ (tree_stated d n neighbours).domains
+  pub borrowed : length (packed_borrowed ls) ≤ (tree_stated d n neighbours).borrowed
 
 pub fits-few : (d n neighbours : ℕ) (ls : List Level) → fits d n neighbours ls ≡ true → Few d n neighbours ls
 unfolding fits
 fits-few d n neighbours ls h =
-    let stated = build_stated d n neighbours in
+    let stated = tree_stated d n neighbours in
     let a = leb (length (packed_level_points ls)) stated.level_points in
     let b = leb (length (packed_internals ls)) stated.internals in
     let c = leb (length (packed_domains ls)) stated.domains in
@@ -48,10 +48,10 @@ fits-few d n neighbours ls h =
     }
 
 pub can-hold : (d n neighbours at : ℕ) (file P : List ℕ) (p : Packed) → fits d n neighbours (tree_from d at file) ≡ true
-    → (build_stated d n neighbours).level_points ≤ length P → (build_stated d n neighbours).internals ≤ length p.internals
-    → (build_stated d n neighbours).domains ≤ length p.domains → (build_stated d n neighbours).boxes ≤ length p.boxes
-    → (build_stated d n neighbours).borrowed ≤ length p.borrowed → CanHold (tree_from d at file) P p
-unfolding build_stated
+    → (tree_stated d n neighbours).level_points ≤ length P → (tree_stated d n neighbours).internals ≤ length p.internals
+    → (tree_stated d n neighbours).domains ≤ length p.domains → (tree_stated d n neighbours).boxes ≤ length p.boxes
+    → (tree_stated d n neighbours).borrowed ≤ length p.borrowed → CanHold (tree_from d at file) P p
+unfolding tree_stated
 can-hold d n neighbours at file P p h lP lI lD lB lL =
     let f = fits-few d n neighbours (tree_from d at file) h in
     let rows : length (leaves_in_lem (tree_from d at file)) ≤ most_rows n = omega (arith, f.domains, length-domains (tree_from d at file)) in

@@ -16,8 +16,8 @@ pub const LEAF: usize = 3;
 // How many whole numbers a leaf has in the engine's table of leaves.
 pub const ENTRY: usize = 3;
 
-// A leaf in that table: its depth, its count of rows, and the place of its node. Three numbers, as a domain that waits has them (`Stretch` of
-// queue), but others and in another order: one type for both would not say which is which.
+// A leaf in that table: its depth, its count of rows, and the place of its node. No `Stretch` of queue, which has four numbers, of which three are these: a leaf's rows
+// have no start there, since the leaves stand from left to right.
 #[derive(Clone, Copy)]
 pub struct Entry {
     pub depth: usize,

@@ -5,9 +5,10 @@ ghost use Rattle.std.specs.Prelude.{◌≡◌, ℕ, ◌+◌, ◌*◌, ◌%◌, �
 ghost use Rattle.lists.specs.Lists.{put};
 ghost use Rattle.definition.specs.Refusals.{most_neighbours};
 ghost use Rattle.rows.specs.Rows.{most_leaves};
-ghost use Rattle.overlap_pairs.specs.Pairs.{code, pairs_of, PairRoom, TakenBy, Owners, CollectedBy};
+ghost use Rattle.search.specs.Visits.{Searchable};
+ghost use Rattle.overlap_pairs.specs.Pairs.{code, pairs_of, PairRoom, TakenBy, Owners, EachOnce, CollectedBy};
 
-use nearest_scan::Scan;
+use search::Search;
 
 // How many positions there are at most.
 const POSITIONS: usize = rows::MOST_LEAVES;
@@ -53,29 +54,28 @@ fn send(near: &[usize], p: usize, wholes: &mut [usize], n: usize) -> usize
     end
 }
 
-// What the row at position p sends. That there are so many neighbours at most is asked here and below, and is no promise of `Scan`: `nearest` asks
-// it of its own room alone.
-fn send_row(scan: Scan<'_>, p: usize, wholes: &mut [usize], n: usize) -> usize
-    requires { (scan.neighbours ≤ most_neighbours) × (p < length scan.active.now) × Owners (length scan.active.now) wholes.old
-        × (length scan.active.now ≤ n) × (n + 2 * scan.neighbours ≤ length wholes.old) }
-    ensures { TakenBy scan.entry p wholes.old wholes.new n result }
+// What the row at position p sends. That there are so many neighbours at most is asked here and below: `nearest` asks it of its own room alone.
+fn send_row(search: Search<'_>, p: usize, wholes: &mut [usize], n: usize) -> usize
+    requires { Searchable search × (search.neighbours ≤ most_neighbours) × (p < length search.active.now) × Owners (length search.active.now) wholes.old
+        × (length search.active.now ≤ n) × (n + 2 * search.neighbours ≤ length wholes.old) }
+    ensures { TakenBy search.entry p wholes.old wholes.new n result }
 {
     let mut positions = [0; NEAREST];
     let mut squares = [0.0; NEAREST];
-    let found = scan.nearest(scan.active[p], &mut positions, &mut squares);
+    let found = search.nearest(search.active[p], &mut positions, &mut squares);
     send(&positions[..found], p, wholes, n)
 }
 
-// What all active rows send, behind their owners: the answer is where it ends.
-pub fn collect(scan: Scan<'_>, wholes: &mut [usize]) -> usize
-    requires { (scan.neighbours ≤ most_neighbours) × Owners (length scan.active.now) wholes.old
-        × (length scan.active.now + length scan.active.now * (2 * scan.neighbours) ≤ length wholes.old) }
-    ensures { CollectedBy scan.entry wholes.old (length scan.entry.active.now) wholes.new result }
+// What all active rows send, behind their owners: the answer is where it ends. They are asked in the order of `positions`, which are those of all
+// active rows: what is sent does not depend on it, but rows that lie near each other, asked one after the other, are found sooner.
+pub fn collect(search: Search<'_>, positions: &[usize], wholes: &mut [usize]) -> usize
+    requires { Searchable search × (search.neighbours ≤ most_neighbours) × Owners (length search.active.now) wholes.old × EachOnce (length search.active.now) positions.now
+        × (length search.active.now + length search.active.now * (2 * search.neighbours) ≤ length wholes.old) }
+    ensures { CollectedBy search.entry wholes.old (length search.entry.active.now) wholes.new result }
 {
-    let a = scan.active.len();
-    let mut n = a;
-    for p in 0..a {
-        n = send_row(scan, p, wholes, n);
+    let mut n = search.active.len();
+    for &p in positions {
+        n = send_row(search, p, wholes, n);
     }
     n
 }

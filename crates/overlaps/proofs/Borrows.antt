@@ -102,7 +102,7 @@ module _ (d : ℕ) (cs : List Float) (neighbours : ℕ) (active : List ℕ) (own
         zero-plus k = omega arith
 
     -- what is sent is borrowed: the taker's leaf borrows the row that it takes, and the other leaf borrows the taker
-    sent-borrowed : (z : ℕ) → PairCode d cs neighbours active leaf (length active) z → Memᴰ z (codes_from 0 positions_of)
+    sent-borrowed : (z : ℕ) → PairCode d cs neighbours active leaf (λ i. i < length active) z → Memᴰ z (codes_from 0 positions_of)
     unfolding paired
     sent-borrowed z s =
         let p = s.from in
@@ -120,7 +120,7 @@ module _ (d : ℕ) (cs : List Float) (neighbours : ℕ) (active : List ℕ) (own
         s.is
 
     -- what is borrowed is sent: of an own row and the borrowed one, either takes the other
-    borrowed-sent : (l q : ℕ) → l < length own → q < length active → borrows (get_or own l []) q ≡ true → PairCode d cs neighbours active leaf (length active) (code l q)
+    borrowed-sent : (l q : ℕ) → l < length own → q < length active → borrows (get_or own l []) q ≡ true → PairCode d cs neighbours active leaf (λ i. i < length active) (code l q)
     unfolding paired
     borrowed-sent l q g h b =
         let rows = get_or own l [] in
@@ -163,7 +163,7 @@ module _ (d : ℕ) (cs : List Float) (neighbours : ℕ) (active : List ℕ) (own
               let n = positions-are.number in
               let g : k.0 < length own = omega (arith, k.2) in
               let j = keep-mem (borrows (get_or own k.0 [])) (from 0 (length active)) (rw (position_at k.0 g) at k.3) in
-              c.all z (subst (λ (y : ℕ). PairCode d cs neighbours active leaf (length active) y) (sym (k.4 ∙ ap (λ (x : ℕ). code x k.1) (zero-plus k.0)))
+              c.all z (subst (λ (y : ℕ). PairCode d cs neighbours active leaf (λ i. i < length active) y) (sym (k.4 ∙ ap (λ (x : ℕ). code x k.1) (zero-plus k.0)))
               (borrowed-sent k.0 k.1 g (omega (arith, from-mem 0 (length active) j.0)) j.1));
         }
       where

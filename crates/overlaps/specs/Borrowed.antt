@@ -4,6 +4,7 @@ use Rattle.definition.specs.Overlaps.{borrowed_by}
 use Rattle.definition.specs.Refusals.{most_neighbours}
 use Rattle.rows.specs.Rows.{most_leaves, GoodRows}
 use Rattle.packed.specs.Rows.{put_borrowed_lem}
+use Rattle.cut_index.specs.Level.{LevelRecord}
 use Rattle.overlap_owners.specs.Own.{Leaves}
 use Rattle.overlaps.specs.declared.Borrowing.{Borrowing}
 
@@ -16,10 +17,11 @@ unfoldable pub with_borrowed : ℕ → List (List ℕ) → ℕ → List ℕ → 
 with_borrowed at [] k D = D
 with_borrowed at (l ∷ ls) k D = with_borrowed (at + length l) ls (k + 1) (put_borrowed_lem D k at (length l))
 
--- what the stage asks: active rows and their leaves, as many as fit a number, and room
-pub record Stage (d : ℕ) (cs : List Float) (neighbours : ℕ) (active I D : List ℕ) (first m : ℕ) : Type 0 where
+-- what the stage asks: active rows, their leaves and the record of their cuts, as many as fit a number, and room
+pub record Stage (d : ℕ) (cs : List Float) (leaf neighbours : ℕ) (active cuts : List ℕ) (planes : List Float) (I D : List ℕ) (first m from : ℕ) : Type 0 where
   pub rows : GoodRows d cs active
   pub leaves : Leaves active I D first m
+  pub level : LevelRecord d cs leaf active cuts planes I D first m from
   pub near : neighbours ≤ most_neighbours
   pub few : length active ≤ most_leaves
   pub leaf_few : m ≤ most_leaves

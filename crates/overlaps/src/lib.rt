@@ -4,17 +4,24 @@
 ghost use Rattle.std.specs.Prelude.{◌≡◌, ℕ, ◌+◌, ◌*◌, ◌<◌, ◌≤◌, ◌%◌, length, get_or, take};
 ghost use mathlib.Core.List.{List, map, Memᴰ};
 ghost use Rattle.lists.specs.Lists.{put, joined};
-ghost use Rattle.rows.specs.Rows.{most_leaves};
+ghost use Rattle.rows.specs.Rows.{most_leaves, GoodRows};
+ghost use Rattle.definition.specs.Refusals.{most_neighbours};
+ghost use Rattle.overlap_pairs.specs.Pairs.{Owners, EachOnce, Collected};
 ghost use Rattle.sort.specs.Order.{Sorted};
 ghost use Rattle.definition.specs.Packed.{row_numbers};
 ghost use Rattle.packed.specs.Reading.{read_own};
+ghost use Rattle.overlaps.specs.Searched.{LevelFiled};
 ghost use Rattle.overlaps.specs.Codes.{codes_from, coded_rows, Distinct, Reached, Positions, Encoded};
 ghost use Rattle.overlaps.specs.Borrowed.{borrowed_lists, with_borrowed, Stage, SameBorrowing};
 
-use nearest_scan::Scan;
+use cut_index::CutIndex;
 use overlap_pairs::{code, position_of};
 use packed::LevelLeaves;
 use points::Points;
+use search::Search;
+
+// How many numbers of the index there are at most for each active row: two for each node, of which there are fewer than four a row.
+const INDEX: usize = 8;
 
 // The leaves of a level that borrow: their own rows and their domain rows, which are the `count` from number `first` on, and the list that takes
 // the borrowed rows, from `at` on. The domain rows are written too, so that they are lent by `&mut`. Whole lists and places, since a domain row
@@ -133,19 +140,61 @@ fn order_once(codes: &mut [usize]) -> usize
     drop_repeats(codes)
 }
 
+// What all active rows send, behind their owners, by a search of the level: the answer is where it ends. It is a function of its own, and the lists
+// come one by one, since the borrow checker does not cover a struct that is made of references of the maker's own and of others that it was lent.
+fn send_all(
+    points: Points<'_>,
+    neighbours: usize,
+    active: &[usize],
+    cuts: &[usize],
+    planes: &[f64],
+    index: &[usize],
+    leaves: LevelLeaves<'_>,
+    from: usize,
+    positions: &[usize],
+    wholes: &mut [usize],
+) -> usize
+    requires level { LevelFiled points.dimensions points.coordinates.now active.now cuts.now planes.now index.now leaves.internals.now leaves.domains.now leaves.first leaves.count from positions.now }
+    requires rows { (points.dimensions ≤ 3) × (1 ≤ length active.now) × GoodRows points.dimensions points.coordinates.now active.now × (neighbours ≤ most_neighbours) }
+    requires room { Owners (length active.now) wholes.old × EachOnce (length active.now) positions.now × (length active.now + length active.now * (2 * neighbours) ≤ length wholes.old) }
+    ensures { Collected points.entry.dimensions points.entry.coordinates.now neighbours active.now wholes.old (length active.now) wholes.new result }
+{
+    let filed = CutIndex {
+        cuts,
+        planes,
+        index,
+        leaves,
+        from,
+        positions,
+    };
+    let search = Search {
+        points,
+        active,
+        neighbours,
+        filed,
+        whole: extents::get_pointarray_extents(points, active),
+    };
+    overlap_pairs::collect(search, positions, wholes)
+}
+
 // The overlap stage of a level. For each active row and each row that it takes with another owner, each owner's leaf borrows the other
 // row. The borrowed rows are written leaf by leaf, and each leaf's start and count to the last two columns of its domain row. The answer
-// is how many borrowed rows there are. `wholes` holds the owners and, behind them, the numbers. It does not take a `Scan`: that was tried, and
-// where fine_level lends a stretch of its level points in such a struct, the check does not know that they come back as they were.
+// is how many borrowed rows there are. `cuts` and `planes` are the record of the level's cuts, and the leaves' own rows stand from `from` on,
+// packed. `wholes` holds the positions of those rows, one a row, the index of the record, eight a row, the owners and, behind them, the numbers. The
+// points and the active rows come one by one: in one struct they were tried, and where fine_level lends a stretch of its level points in such a
+// struct, the check does not know that they come back as they were.
 pub fn overlaps(
     points: Points<'_>,
     neighbours: usize,
     active: &[usize],
+    cuts: &[usize],
+    planes: &[f64],
+    from: usize,
     leaves: &mut Borrowing<'_>,
     wholes: &mut [usize],
 ) -> usize
-    requires stage { Stage points.dimensions points.coordinates.now neighbours active.now leaves.old.internals.now leaves.old.domains.now leaves.old.first leaves.old.count }
-    requires neighbours_in_bounds { (length active.now + 2 * length active.now * (neighbours + 1) ≤ length wholes.old)
+    requires stage { (leaf : ℕ) × Stage points.dimensions points.coordinates.now leaf neighbours active.now cuts.now planes.now leaves.old.internals.now leaves.old.domains.now leaves.old.first leaves.old.count from }
+    requires neighbours_in_bounds { (10 * length active.now + 2 * length active.now * (neighbours + 1) ≤ length wholes.old)
         × (leaves.old.at + 2 * length active.now * (neighbours + 1) ≤ length leaves.old.borrowed.now) }
     ensures same { SameBorrowing leaves.old leaves.new }
     ensures number { result ≡ length (joined (borrowed_lists points.entry.dimensions points.entry.coordinates.now neighbours active.now (read_own leaves.old.internals.now leaves.old.domains.now leaves.old.first leaves.old.count))) }
@@ -155,13 +204,14 @@ pub fn overlaps(
         ≡ with_borrowed leaves.old.at (borrowed_lists points.entry.dimensions points.entry.coordinates.now neighbours active.now (read_own leaves.old.internals.now leaves.old.domains.now leaves.old.first leaves.old.count)) leaves.old.first leaves.old.domains.now }
     ensures most { result ≤ 2 * length active.now * (neighbours + 1) }
 {
-    let scan = Scan {
-        points,
-        active,
-        neighbours,
-    };
-    overlap_owners::owners(active, leaves.level(), wholes);
     let a = active.len();
-    let end = overlap_pairs::collect(scan, wholes);
-    leaves.lend(&mut wholes[a..end], active)
+    let (positions, rest) = wholes.split_at_mut(a);
+    let (index, behind) = rest.split_at_mut(INDEX * a);
+    let level = leaves.level();
+    overlap_owners::owners(active, level, behind, positions);
+    cut_index::put_index(cuts, planes, level, from, positions, index);
+    let end = send_all(
+        points, neighbours, active, cuts, planes, index, level, from, positions, behind,
+    );
+    leaves.lend(&mut behind[a..end], active)
 }

@@ -12,7 +12,7 @@ use Rattle.lists.proofs.Map.{get_d-map-in}
 use Rattle.definition.specs.Tree as tree
 use Rattle.definition.specs.Packed.{Counts, BuildSizes, build_stated, counts_of, packed_level_points, packed_internals, packed_borrowed, packed_boxes, packed_domains}
 use Rattle.definition.specs.Refusals.{Verdict, accepted, refused, build_verdict}
-use Rattle.definition.specs.Outcome.{Answer, number_of, place_of, value_of, written, list_after, TreeLists, lent_sizes, build_call, build_answer, tree_lists_after, build_lists}
+use Rattle.definition.specs.Outcome.{RecordLists, Answer, number_of, place_of, value_of, written, list_after, TreeLists, lent_sizes, build_call, build_answer, tree_lists_after, build_lists}
 use Rattle.formats.specs.Stream.{job, stream_points, stream_neighbours, job_in}
 use Rattle.formats.specs.Printout.{tree_text, refusal_text, built_text, job_text, printout}
 use Rattle.definition_laws.proofs.Accepted.{build-zero}
@@ -38,20 +38,20 @@ use Rattle.tree_answer.specs.Answers.{tree_answer_lem}
 use Rattle.print_tree.specs.Unpack.{AnswerStands, answer_text}
 
 -- ---- a build in the program's lists
-module _ (s : tree.Settings) (cs : List Float) (old : TreeLists) (floats : List Float) (wholes : List ℕ) where
+module _ (s : tree.Settings) (cs : List Float) (old : TreeLists) (floats : List Float) (wholes : List ℕ) (records : RecordLists) where
   abbrev call : Verdict
-  call = build_call s cs old floats wholes
+  call = build_call s cs old floats wholes records
 
   abbrev stated : BuildSizes
   stated = build_stated s.dimension (tree.point_count s.dimension cs) s.neighbours
 
   -- its verdict is that of a build in lists of the stated sizes
-  module _ (limits : JobLimits s cs) (rooms : lent_sizes old floats wholes ≡ build_stated 3 stream_points stream_neighbours) where
+  module _ (limits : JobLimits s cs) (rooms : lent_sizes old floats wholes records ≡ build_stated 3 stream_points stream_neighbours) where
     as-printed : call ≡ build_verdict s cs stated
     as-printed = rw rooms (build-as-stated s cs limits)
 
     -- by its answer
-    module _ (r : Answer Counts) (e : r ≡ build_answer s cs old floats wholes) where
+    module _ (r : Answer Counts) (e : r ≡ build_answer s cs old floats wholes records) where
       number_is : r.number ≡ number_of call
       unfolding build_answer
       number_is = ap (λ (a : Answer Counts). a.number) e
@@ -70,14 +70,14 @@ module _ (s : tree.Settings) (cs : List Float) (old : TreeLists) (floats : List 
       job-refused h = ap (λ (v : Verdict). built_text v s cs) (sym as-printed) ∙ text-refused call number_is place_is h
 
       job-accepted : r.number ≤ 0 → call ≡ accepted
-      job-accepted h = build-zero s cs (lent_sizes old floats wholes) (sym number_is ∙ (omega arith))
+      job-accepted h = build-zero s cs (lent_sizes old floats wholes records) (sym number_is ∙ (omega arith))
 
       text-accepted : r.number ≤ 0 → job_text (job s cs) ≡ tree_text (tree.levels s cs)
       unfolding job_text built_text
       text-accepted h = ap (λ (v : Verdict). built_text v s cs) (sym as-printed ∙ job-accepted h)
 
       -- the counts and the lists of an accepted build hold the tree
-      module _ (h : r.number ≤ 0) (new : TreeLists) (f : new ≡ build_lists s cs old floats wholes) where
+      module _ (h : r.number ≤ 0) (new : TreeLists) (f : new ≡ build_lists s cs old floats wholes records) where
         abbrev ls : List tree.Level
         ls = tree.levels s cs
 
@@ -135,15 +135,15 @@ module _ (s : tree.Settings) (cs : List Float) (old : TreeLists) (floats : List 
             ∙ tree-back ls lists new.level_points r.value tree-packed))
 
 -- ---- by the answer: a refusal, or a tree that the lists hold
-module _ (s : tree.Settings) (cs : List Float) (old : TreeLists) (floats : List Float) (wholes : List ℕ) (limits : JobLimits s cs) where
-  module _ (rooms : lent_sizes old floats wholes ≡ build_stated 3 stream_points stream_neighbours) (l : TreeRead) (f : lists_read l ≡ build_lists s cs old floats wholes) where
-    pub answer-stands : (r : Result DDMTree Refusal) → tree_answer_lem r ≡ build_answer s cs old floats wholes → AnswerStands r l s.dimension
-    answer-stands (Ok t) e = tree-ready s cs old floats wholes limits rooms (tree_answer_lem (Ok t)) e (omega arith) (lists_read l) f
+module _ (s : tree.Settings) (cs : List Float) (old : TreeLists) (floats : List Float) (wholes : List ℕ) (records : RecordLists) (limits : JobLimits s cs) where
+  module _ (rooms : lent_sizes old floats wholes records ≡ build_stated 3 stream_points stream_neighbours) (l : TreeRead) (f : lists_read l ≡ build_lists s cs old floats wholes records) where
+    pub answer-stands : (r : Result DDMTree Refusal) → tree_answer_lem r ≡ build_answer s cs old floats wholes records → AnswerStands r l s.dimension
+    answer-stands (Ok t) e = tree-ready s cs old floats wholes records limits rooms (tree_answer_lem (Ok t)) e (omega arith) (lists_read l) f
     answer-stands (Err x) e = tt
 
-    pub answer-printed : (r : Result DDMTree Refusal) → tree_answer_lem r ≡ build_answer s cs old floats wholes → job_text (job s cs) ≡ answer_text r l s.dimension
-    answer-printed (Ok t) e = job-tree s cs old floats wholes limits rooms (tree_answer_lem (Ok t)) e (omega arith) (lists_read l) f
-    answer-printed (Err x) e = job-refused s cs old floats wholes limits rooms (tree_answer_lem (Err x)) e (refusal-numbered x)
+    pub answer-printed : (r : Result DDMTree Refusal) → tree_answer_lem r ≡ build_answer s cs old floats wholes records → job_text (job s cs) ≡ answer_text r l s.dimension
+    answer-printed (Ok t) e = job-tree s cs old floats wholes records limits rooms (tree_answer_lem (Ok t)) e (omega arith) (lists_read l) f
+    answer-printed (Err x) e = job-refused s cs old floats wholes records limits rooms (tree_answer_lem (Err x)) e (refusal-numbered x)
 
 -- ---- room for the text
 pub room_for : (s : tree.Settings) (cs : List Float) {w : Writer} → JobLimits s cs → w.at + most_bytes ≤ length w.bytes.now → Takes w (job_text (job s cs))

@@ -9,7 +9,7 @@ ghost use Rattle.bytes_out.specs.Writing.{Appends};
 ghost use Rattle.job_room.specs.Printing.{print_answer_lem, print_output, printed_answer};
 
 use bytes_out::Writer;
-use job_room::JobRoom;
+use job_room::{JobRecords, JobRoom};
 use refusal::Refusal;
 use stream_reader::Job;
 
@@ -22,7 +22,9 @@ fn write_job(job: Job<'_>, out: &mut Writer<'_>)
     let mut lists = lists.lend();
     let mut room = JobRoom::zeros();
     let mut room = room.lend();
-    let answer = ddm::build(job.points, job.params, &mut lists, &mut room);
+    let mut records = JobRecords::zeros();
+    let mut records = records.lend();
+    let answer = ddm::build(job.points, job.params, &mut lists, &mut room, &mut records);
     print_tree::write_answer(answer, lists.read(), job.points.dimensions, out);
 }
 

@@ -1,4 +1,5 @@
 -- Laws of the queue.
+pub mod Nodes
 pub mod Kind
 pub mod Stretches
 pub mod State

@@ -1,18 +1,18 @@
 -- The invariant of the loop over the queue, in the code's terms, and its turns, for any kind of domain. The queue stands in a list
--- `room`, three numbers a stretch, from its `head`-th up to its `tail`-th; `ds` are the domains that wait. Assumes nothing.
--- Holds: queued, cuts_left, StateOf, Inv, inv-first, inv-end, inv-next, turn_inside, turn-good, turn-same, turn-shallow,
---   turn-left, turn-right, turn-rows, turn-full, turn_end, turn-leaves, turn-wait, turn-done, turn-room, inv-wait, less-wait,
---   inv-done, less_done
+-- `room`, four numbers a stretch, from its `head`-th up to its `tail`-th; `ds` are the domains that wait. Assumes nothing.
+-- Holds: queued, cuts_left, places, StateOf, Inv, inv-first, first-places, inv-end, inv-next, turn_inside, turn-good, turn-same,
+--   turn-shallow, turn-left, turn-right, turn-rows, turn-full, turn_end, turn-leaves, turn-wait, turn-done, turn-places,
+--   turn-room, inv-wait, wait-places, less-wait, inv-done, less_done
 use mathlib.Core.Path.{◌≡◌}
 use Prim.Native.Nat.{ℕ, suc, ◌+◌, ◌-◌, ◌*◌, ◌/◌, ◌≤◌, ◌<◌}
 use native.Mathlib.Omega.{arith}
-use mathlib.Core.List.{List, [], ◌∷◌, ◌++◌}
+use mathlib.Core.List.{List, [], ◌∷◌, ◌++◌, map, map-append}
 use lib.ListN.{length, get_or, length-append}
 use Rattle.lists.specs.Lists.{put, part, joined, total}
 use Rattle.lists.proofs.Put.{length-put}
 use Rattle.lists.proofs.Sums.{sum-append}
 use Rattle.definition.specs.Packed.{row_numbers}
-use Rattle.queue.specs.Rows.{two_halves, two_own, with_own}
+use Rattle.queue.specs.Rows.{waiting_width, two_halves, two_own, with_own}
 use Rattle.queue.proofs.Kind.{Kind, halves_of, leaf_rows_lem, leaf_own}
 use Rattle.queue.proofs.Stretches.{Stretch, halves_at, waiting, waiting-next, waiting-join, waiting-length, waiting_none, waiting-first}
 use Rattle.queue.proofs.State.{Holds, State, queue_cuts, cuts-length, state-first, state-end, state-wait, state-done}
@@ -25,6 +25,10 @@ queued room head tail = waiting room head (tail - head)
 unfoldable pub cuts_left : List ℕ → ℕ → ℕ → ℕ
 cuts_left room head tail = queue_cuts (queued room head tail)
 
+-- the places of their nodes
+abbrev pub places : List Stretch → List ℕ
+places qs = map (λ q. q.place) qs
+
 -- the state, where the loop began with the domain d₀ of n rows, and with the lists I₀ and O₀
 abbrev pub StateOf : {D : Type 0} {leaf : ℕ} → Kind D leaf → ℕ → D → List ℕ → List ℕ → ℕ → ℕ → List ℕ → List ℕ → List ℕ → List Stretch → List D → ℕ → ℕ → ℕ → Type 0
 StateOf K n d₀ I₀ O₀ base k₀ rows I O qs ds head at k =
@@ -34,22 +38,25 @@ StateOf K n d₀ I₀ O₀ base k₀ rows I O qs ds head at k =
 
 pub record Inv {D : Type 0} {leaf : ℕ} (K : Kind D leaf) (n : ℕ) (d₀ : D) (I₀ O₀ : List ℕ) (base k₀ : ℕ) (rows room I O : List ℕ) (ds : List D) (head tail at k : ℕ) : Type 0 where
   pub order : head ≤ tail
-  pub wide : 6 * n ≤ length room
+  pub wide : 2 * waiting_width * n ≤ length room
   pub fits : tail < 2 * n
   pub up : k₀ ≤ k
   pub state : StateOf K n d₀ I₀ O₀ base k₀ rows I O (queued room head tail) ds head at k
 
-pub inv-first : {D : Type 0} {leaf : ℕ} (K : Kind D leaf) (n : ℕ) (d₀ : D) (I₀ O₀ : List ℕ) (base k₀ : ℕ) (rows room room₁ : List ℕ) → 1 ≤ leaf → rows ≡ K.rows_of d₀ → K.Good d₀ → 0 ≡ K.depth_of d₀
-    → length rows ≡ n → 1 ≤ n → 6 * n ≤ length room → n ≤ length I₀ → row_numbers * (k₀ + 2 * n) ≤ length O₀ → room₁ ≡ put room 0 (0 ∷ n ∷ 0 ∷ [])
+pub inv-first : {D : Type 0} {leaf : ℕ} (K : Kind D leaf) (n : ℕ) (d₀ : D) (I₀ O₀ : List ℕ) (base k₀ place : ℕ) (rows room room₁ : List ℕ) → 1 ≤ leaf → rows ≡ K.rows_of d₀ → K.Good d₀ → 0 ≡ K.depth_of d₀
+    → length rows ≡ n → 1 ≤ n → 2 * waiting_width * n ≤ length room → n ≤ length I₀ → row_numbers * (k₀ + 2 * n) ≤ length O₀ → room₁ ≡ put room 0 (0 ∷ n ∷ 0 ∷ place ∷ [])
     → Inv K n d₀ I₀ O₀ base k₀ rows room₁ I₀ O₀ (d₀ ∷ []) 0 1 0 k₀
-inv-first K n d₀ I₀ O₀ base k₀ rows room room₁ p r g z l h w f o e =
+inv-first K n d₀ I₀ O₀ base k₀ place rows room room₁ p r g z l h w f o e =
     record {
       order = omega arith;
-      wide = rw (e, length-put room 0 (0 ∷ n ∷ 0 ∷ []) (omega arith)) w;
+      wide = rw (e, length-put room 0 (0 ∷ n ∷ 0 ∷ place ∷ []) (omega arith)) w;
       fits = omega arith;
       up = omega arith;
-      state = rw (e, waiting-first room n (omega arith), ← l) (state-first K d₀ rows I₀ O₀ base k₀ p r g z (rw l h) (rw l f) (rw l o));
+      state = rw (e, waiting-first room n place (omega arith), ← l) (state-first K d₀ rows I₀ O₀ base k₀ place p r g z (rw l h) (rw l f) (rw l o));
     }
+
+pub first-places : (n place : ℕ) (room room₁ : List ℕ) → waiting_width ≤ length room → room₁ ≡ put room 0 (0 ∷ n ∷ 0 ∷ place ∷ []) → places (queued room₁ 0 1) ≡ place ∷ []
+first-places n place room room₁ h e = rw (e, waiting-first room n place h)
 
 module _ {D : Type 0} {leaf : ℕ} {K : Kind D leaf} {n : ℕ} {d₀ : D} {I₀ O₀ : List ℕ} {base k₀ : ℕ} {rows room I O : List ℕ} where
   -- the loop ends with what is due
@@ -63,11 +70,12 @@ module _ {D : Type 0} {leaf : ℕ} {K : Kind D leaf} {n : ℕ} {d₀ : D} {I₀ 
   unfolding Holds
   inv-next {head} {tail} inv h = rw (waiting-next room head tail h) at inv.state.holds
 
-  -- a turn, with the stretch (s, c) at depth e and the domain d that stand first
+  -- a turn, with the stretch (s, c) at depth e with its node at p and the domain d that stand first
   module _ {d : D} {ds : List D} {head tail at k : ℕ} (inv : Inv K n d₀ I₀ O₀ base k₀ rows room I O (d ∷ ds) head tail at k)
-      (h : head < tail) {s c e : ℕ} (es : get_or room (3 * head) 0 ≡ s) (ec : get_or room (3 * head + 1) 0 ≡ c) (ee : get_or room (3 * head + 2) 0 ≡ e) where
+      (h : head < tail) {s c e p : ℕ} (es : get_or room (waiting_width * head) 0 ≡ s) (ec : get_or room (waiting_width * head + 1) 0 ≡ c)
+      (ee : get_or room (waiting_width * head + 2) 0 ≡ e) (ep : get_or room (waiting_width * head + 3) 0 ≡ p) where
     abbrev q : Stretch
-    q = record { start = s; count = c; depth = e }
+    q = record { start = s; count = c; depth = e; place = p }
 
     abbrev rest : List Stretch
     rest = queued room (head + 1) tail
@@ -77,7 +85,7 @@ module _ {D : Type 0} {leaf : ℕ} {K : Kind D leaf} {n : ℕ} {d₀ : D} {I₀ 
     cut_rows = put rows s (K.rows_of (K.left d) ++ K.rows_of (K.right d))
 
     st : StateOf K n d₀ I₀ O₀ base k₀ rows I O (q ∷ rest) (d ∷ ds) head at k
-    st = rw (es, ec, ee) at (rw (waiting-next room head tail h) at inv.state)
+    st = rw (es, ec, ee, ep) at (rw (waiting-next room head tail h) at inv.state)
 
     pub turn_inside : s + c ≤ length rows
     turn_inside = rw inv.state.all (now-inside st)
@@ -121,33 +129,45 @@ module _ {D : Type 0} {leaf : ℕ} {K : Kind D leaf} {n : ℕ} {d₀ : D} {I₀ 
     unfolding cuts_left total
     cuts_now = rw (waiting-next room head tail h, ec)
 
+    -- the places of what waits
+    pub turn-places : places (queued room head tail) ≡ p ∷ places (queued room (head + 1) tail)
+    turn-places = rw (waiting-next room head tail h, ep)
+
     module _ (g : leaf ≤ c / 2) where
-      waited : StateOf K n d₀ I₀ O₀ base k₀ cut_rows I O (rest ++ halves_at q) (ds ++ halves_of K d) (head + 1) at k
-      waited = state-wait st (omega arith)
+      waited : (below : ℕ) → StateOf K n d₀ I₀ O₀ base k₀ cut_rows I O (rest ++ halves_at below q) (ds ++ halves_of K d) (head + 1) at k
+      waited below = state-wait st below (omega arith)
 
       pub turn-room : tail + 2 < 2 * n
       turn-room =
-          let w = waited in
-          omega (arith, w.room-left, cuts-length (rest ++ halves_at q) w.waits.full, length-append rest (halves_at q), waiting-length room (head + 1) (tail - (head + 1)))
+          let w = waited 0 in
+          omega (arith, w.room-left, cuts-length (rest ++ halves_at 0 q) w.waits.full, length-append rest (halves_at 0 q), waiting-length room (head + 1) (tail - (head + 1)))
 
-      pub inv-wait : (rows₁ room₁ : List ℕ) → rows₁ ≡ cut_rows → room₁ ≡ put room (3 * tail) (two_halves s c (suc e))
-          → Inv K n d₀ I₀ O₀ base k₀ rows₁ room₁ I O (ds ++ halves_of K d) (head + 1) (tail + 2) at k
-      inv-wait rows₁ room₁ i f =
-          let r = turn-room in
-          record {
-            order = omega arith;
-            wide = rw (f, length-put room (3 * tail) (two_halves s c (suc e)) (omega (arith, inv.wide))) inv.wide;
-            fits = turn-room;
-            up = inv.up;
-            state = rw (i, f, waiting-join room (head + 1) tail s c e (omega arith) (omega (arith, inv.wide))) waited;
-          }
+      -- wherever the right half's node stands
+      module _ (below : ℕ) where
+        pub inv-wait : (rows₁ room₁ : List ℕ) → rows₁ ≡ cut_rows → room₁ ≡ put room (waiting_width * tail) (two_halves s c (suc e) p below)
+            → Inv K n d₀ I₀ O₀ base k₀ rows₁ room₁ I O (ds ++ halves_of K d) (head + 1) (tail + 2) at k
+        inv-wait rows₁ room₁ i f =
+            let r = turn-room in
+            record {
+              order = omega arith;
+              wide = rw (f, length-put room (waiting_width * tail) (two_halves s c (suc e) p below) (omega (arith, inv.wide))) inv.wide;
+              fits = turn-room;
+              up = inv.up;
+              state = rw (i, f, waiting-join room (head + 1) tail s c e p below (omega arith) (omega (arith, inv.wide))) (waited below);
+            }
 
-      pub less-wait : (room₁ : List ℕ) → room₁ ≡ put room (3 * tail) (two_halves s c (suc e)) → cuts_left room₁ (head + 1) (tail + 2) < cuts_left room head tail
-      unfolding cuts_left total
-      less-wait room₁ f =
-          let r = turn-room in
-          rw (f, waiting-join room (head + 1) tail s c e (omega arith) (omega (arith, inv.wide)))
-          (omega (arith, sum-append (λ (p : Stretch). 2 * p.count - 1) rest (halves_at q), cuts_now, turn-full, inv.state.pos))
+        pub wait-places : (room₁ : List ℕ) → room₁ ≡ put room (waiting_width * tail) (two_halves s c (suc e) p below)
+            → places (queued room₁ (head + 1) (tail + 2)) ≡ places (queued room (head + 1) tail) ++ (p + 1) ∷ (p + 1 + below) ∷ []
+        wait-places room₁ f =
+            let r = turn-room in
+            rw (f, waiting-join room (head + 1) tail s c e p below (omega arith) (omega (arith, inv.wide))) (map-append (λ (q : Stretch). q.place) rest (halves_at below q))
+
+        pub less-wait : (room₁ : List ℕ) → room₁ ≡ put room (waiting_width * tail) (two_halves s c (suc e) p below) → cuts_left room₁ (head + 1) (tail + 2) < cuts_left room head tail
+        unfolding cuts_left total
+        less-wait room₁ f =
+            let r = turn-room in
+            rw (f, waiting-join room (head + 1) tail s c e p below (omega arith) (omega (arith, inv.wide)))
+            (omega (arith, sum-append (λ (p : Stretch). 2 * p.count - 1) rest (halves_at below q), cuts_now, turn-full, inv.state.pos))
 
     pub inv-done : c / 2 < leaf → (rows₁ I₁ O₁ : List ℕ) → rows₁ ≡ cut_rows → I₁ ≡ put I at (part rows₁ s c) → O₁ ≡ two_own O k (base + at) c (suc e)
         → Inv K n d₀ I₀ O₀ base k₀ rows₁ room I₁ O₁ ds (head + 1) tail (at + c) (k + 2)

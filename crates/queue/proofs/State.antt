@@ -60,14 +60,14 @@ pub record State {D : Type 0} {leaf : ℕ} (K : Kind D leaf) (base n endI endK :
   pub out-K : k + length (K.leaves ds) ≡ finalK
 
 -- ---- small laws of the parts
-waits-halves : (n : ℕ) (q : Stretch) (qs : List Stretch) → 2 ≤ q.count → Waits n (q ∷ qs) → Waits n (qs ++ halves_at q)
+waits-halves : (below n : ℕ) (q : Stretch) (qs : List Stretch) → 2 ≤ q.count → Waits n (q ∷ qs) → Waits n (qs ++ halves_at below q)
 unfolding All
-waits-halves n q qs h w =
+waits-halves below n q qs h w =
     let i : q.start + q.count ≤ n = w.inside.0 in
     record {
-      inside = all_append (StretchIn n) qs (halves_at q) w.inside.1 (omega arith, (omega arith, tt));
-      full = all_append (λ q. 1 ≤ q.count) qs (halves_at q) w.full.1 (omega arith, (omega arith, tt));
-      apart = apart-halves q qs w.apart;
+      inside = all_append (StretchIn n) qs (halves_at below q) w.inside.1 (omega arith, (omega arith, tt));
+      full = all_append (λ q. 1 ≤ q.count) qs (halves_at below q) w.full.1 (omega arith, (omega arith, tt));
+      apart = apart-halves below q qs w.apart;
     }
 
 waits-rest : (n : ℕ) (q : Stretch) (qs : List Stretch) → Waits n (q ∷ qs) → Waits n qs
@@ -219,23 +219,23 @@ module _ {D : Type 0} {leaf : ℕ} {K : Kind D leaf} {base n endI endK : ℕ} {f
   pub now-done : c < 2 * leaf → K.leaves (d ∷ ds) ≡ K.left d ∷ K.right d ∷ K.leaves ds
   now-done h = K.leaves-done d ds full-here (rw now-size h)
 
-  -- the first domain's halves wait
-  pub state-wait : 2 * leaf ≤ c → State K base n endI endK finalI finalO finalK cut_rows I O (qs ++ halves_at q) (ds ++ halves_of K d) (head + 1) at k
+  -- the first domain's halves wait, wherever their nodes stand
+  pub state-wait : (below : ℕ) → 2 * leaf ≤ c → State K base n endI endK finalI finalO finalK cut_rows I O (qs ++ halves_at below q) (ds ++ halves_of K d) (head + 1) at k
   unfolding total Holds All
-  state-wait h =
+  state-wait below h =
       let e = now-wait h in
-      let a = sum-append (λ (p : Stretch). p.count) qs (halves_at q) in
-      let b = sum-append (λ (p : Stretch). 2 * p.count - 1) qs (halves_at q) in
+      let a = sum-append (λ (p : Stretch). p.count) qs (halves_at below q) in
+      let b = sum-append (λ (p : Stretch). 2 * p.count - 1) qs (halves_at below q) in
       record {
         pos = st.pos;
         all = length-after;
-        waits = waits-halves n q qs (omega (arith, st.pos)) st.waits;
+        waits = waits-halves below n q qs (omega (arith, st.pos)) st.waits;
         holds =
-            holds-append K cut_rows qs (halves_at q) ds (halves_of K d) rest-holds (
+            holds-append K cut_rows qs (halves_at below q) ds (halves_of K d) rest-holds (
               (after-left rows q l r inside now-left now-right, K.left-good d now-good, deeper-left),
-              ((after-right rows q l r inside now-left now-right, K.right-good d now-good, deeper-right), tt),
+              ((after-right rows q l r inside now-left now-right below, K.right-good d now-good, deeper-right), tt),
             );
-        shallow = all_append (λ q. q.depth ≤ head + 1) qs (halves_at q) rest-shallow (omega (arith, now-shallow), (omega (arith, now-shallow), tt));
+        shallow = all_append (λ q. q.depth ≤ head + 1) qs (halves_at below q) rest-shallow (omega (arith, now-shallow), (omega (arith, now-shallow), tt));
         room-left = omega (arith, st.room-left, st.pos);
         rows_left = omega (arith, st.rows_left);
         leaves-left = omega (arith, st.leaves-left);
@@ -284,13 +284,13 @@ module _ {D : Type 0} {leaf : ℕ} {K : Kind D leaf} {base n endI endK : ℕ} {f
       }
 
 -- ---- where the loop begins, with one domain, and where it ends
-pub state-first : {D : Type 0} {leaf : ℕ} (K : Kind D leaf) (d : D) (rows I O : List ℕ) (base k : ℕ) → 1 ≤ leaf → rows ≡ K.rows_of d → K.Good d → 0 ≡ K.depth_of d → 1 ≤ length rows
+pub state-first : {D : Type 0} {leaf : ℕ} (K : Kind D leaf) (d : D) (rows I O : List ℕ) (base k place : ℕ) → 1 ≤ leaf → rows ≡ K.rows_of d → K.Good d → 0 ≡ K.depth_of d → 1 ≤ length rows
     → length rows ≤ length I → row_numbers * (k + 2 * length rows) ≤ length O
     → State K base (length rows) (length rows) (k + 2 * length rows)
     (put I 0 (joined (leaf_rows_lem K (d ∷ [])))) (with_own base (leaf_own K (d ∷ [])) k O) (k + length (K.leaves (d ∷ [])))
-    rows I O (record { start = 0; count = length rows; depth = 0 } ∷ []) (d ∷ []) 0 0 k
+    rows I O (record { start = 0; count = length rows; depth = 0; place = place } ∷ []) (d ∷ []) 0 0 k
 unfolding total All Apart Holds
-state-first K d rows I O base k p e g z h f o =
+state-first K d rows I O base k place p e g z h f o =
     record {
       pos = p;
       all = refl;

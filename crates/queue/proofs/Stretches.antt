@@ -1,5 +1,5 @@
 -- Domains as stretches of a list of rows: those that wait are apart, so a cut of one leaves the rows of the others alone. The
--- queue in its room, three numbers a stretch. Assumes nothing.
+-- queue in its room, four numbers a stretch. Assumes nothing.
 -- Holds: Stretch, rows_at, left_at, right_at, halves_at, StretchIn, Clear, Apart, apart-halves, both-length, after-length,
 --   after_both, after-left, after-right, after-other, stretch_at, waiting, waiting-next, waiting-join, waiting-length,
 --   waiting_none, waiting-first
@@ -15,26 +15,27 @@ use Rattle.lists.specs.Lists.{put, part}
 use Rattle.lists.specs.Ascends.{All}
 use Rattle.lists.proofs.All.{all_append, all-imp}
 use Rattle.lists.proofs.Put.{length-put, part-put-same, part-put-after, part-put-before, part-part, part-first, part-second, get_d-put-before, get_d-put-at}
-use Rattle.queue.specs.Rows.{two_halves}
+use Rattle.queue.specs.Rows.{waiting_width, two_halves}
 
--- where the rows of a domain stand, and how deep it is
+-- where the rows of a domain stand, how deep it is, and the place of its node in the record
 pub record Stretch : Type 0 where
   pub start : ℕ
   pub count : ℕ
   pub depth : ℕ
+  pub place : ℕ
 
 abbrev pub rows_at : List ℕ → Stretch → List ℕ
 rows_at rows q = part rows q.start q.count
 
--- the halves of a stretch, one deeper
+-- the halves of a stretch, one deeper, where `below` nodes are under the left one
 abbrev pub left_at : Stretch → Stretch
-left_at q = record { start = q.start; count = q.count / 2; depth = suc q.depth }
+left_at q = record { start = q.start; count = q.count / 2; depth = suc q.depth; place = q.place + 1 }
 
-abbrev pub right_at : Stretch → Stretch
-right_at q = record { start = q.start + q.count / 2; count = q.count - q.count / 2; depth = suc q.depth }
+abbrev pub right_at : ℕ → Stretch → Stretch
+right_at below q = record { start = q.start + q.count / 2; count = q.count - q.count / 2; depth = suc q.depth; place = q.place + 1 + below }
 
-abbrev pub halves_at : Stretch → List Stretch
-halves_at q = left_at q ∷ right_at q ∷ []
+abbrev pub halves_at : ℕ → Stretch → List Stretch
+halves_at below q = left_at q ∷ right_at below q ∷ []
 
 abbrev pub StretchIn : ℕ → Stretch → Type 0
 StretchIn n q = q.start + q.count ≤ n
@@ -56,15 +57,15 @@ clear-left : (q p : Stretch) → Clear q p → Clear p (left_at q)
 clear-left q p (inl h) = inr (omega arith)
 clear-left q p (inr h) = inl (omega arith)
 
-clear-right : (q p : Stretch) → Clear q p → Clear p (right_at q)
-clear-right q p (inl h) = inr (omega arith)
-clear-right q p (inr h) = inl (omega arith)
+clear-right : (below : ℕ) (q p : Stretch) → Clear q p → Clear p (right_at below q)
+clear-right below q p (inl h) = inr (omega arith)
+clear-right below q p (inr h) = inl (omega arith)
 
-pub apart-halves : (q : Stretch) (qs : List Stretch) → Apart (q ∷ qs) → Apart (qs ++ halves_at q)
+pub apart-halves : (below : ℕ) (q : Stretch) (qs : List Stretch) → Apart (q ∷ qs) → Apart (qs ++ halves_at below q)
 unfolding Apart All
-apart-halves q qs a =
-    apart-append qs (halves_at q) a.1 ((inl (omega arith), tt), (tt, tt))
-    (all-imp (Clear q) (λ p. All (Clear p) (halves_at q)) qs (λ p h. (clear-left q p h, (clear-right q p h, tt))) a.0)
+apart-halves below q qs a =
+    apart-append qs (halves_at below q) a.1 ((inl (omega arith), tt), (tt, tt))
+    (all-imp (Clear q) (λ p. All (Clear p) (halves_at below q)) qs (λ p h. (clear-left q p h, (clear-right below q p h, tt))) a.0)
 
 -- ---- a cut of the stretch q: the lists l and r of half its size each are written to it
 module _ (rows : List ℕ) (q : Stretch) (l r : List ℕ) (inside : StretchIn (length rows) q) (el : length l ≡ q.count / 2) (er : length r ≡ q.count - q.count / 2) where
@@ -88,8 +89,8 @@ module _ (rows : List ℕ) (q : Stretch) (l r : List ℕ) (inside : StretchIn (l
       ∙ ap (λ (x : List ℕ). part x 0 (q.count / 2)) after_both
       ∙ part-first l r (q.count / 2) el
 
-  pub after-right : rows_at after (right_at q) ≡ r
-  after-right =
+  pub after-right : (below : ℕ) → rows_at after (right_at below q) ≡ r
+  after-right below =
       sym (part-part after q.start q.count (q.count / 2) (q.count - q.count / 2) (omega arith))
       ∙ ap (λ (x : List ℕ). part x (q.count / 2) (q.count - q.count / 2)) after_both
       ∙ part-second l r (q.count / 2) (q.count - q.count / 2) el er
@@ -101,7 +102,13 @@ module _ (rows : List ℕ) (q : Stretch) (l r : List ℕ) (inside : StretchIn (l
 
 -- ---- the queue in its room: the n stretches from the h-th on
 abbrev pub stretch_at : List ℕ → ℕ → Stretch
-stretch_at room h = record { start = get_or room (3 * h) 0; count = get_or room (3 * h + 1) 0; depth = get_or room (3 * h + 2) 0 }
+stretch_at room h =
+    record {
+      start = get_or room (waiting_width * h) 0;
+      count = get_or room (waiting_width * h + 1) 0;
+      depth = get_or room (waiting_width * h + 2) 0;
+      place = get_or room (waiting_width * h + 3) 0;
+    }
 
 unfoldable pub waiting : List ℕ → ℕ → ℕ → List Stretch
 waiting room h zero = []
@@ -113,14 +120,15 @@ waiting-append room h zero m = rw (zero-add m, add-zero h)
 waiting-append room h (suc n) m = rw (suc-add n m, waiting-append room (suc h) n m, suc-add h n, add-suc h n)
 
 -- what is written past the queue leaves it alone
-waiting-put : (room : List ℕ) (k : ℕ) (xs : List ℕ) (h n : ℕ) → k ≤ length room → 3 * (h + n) ≤ k → waiting (put room k xs) h n ≡ waiting room h n
+waiting-put : (room : List ℕ) (k : ℕ) (xs : List ℕ) (h n : ℕ) → k ≤ length room → waiting_width * (h + n) ≤ k → waiting (put room k xs) h n ≡ waiting room h n
 unfolding waiting
 waiting-put room k xs h zero f g = refl
 waiting-put room k xs h (suc n) f g =
     rw (
-      get_d-put-before room k xs (3 * h) 0 f (omega arith),
-      get_d-put-before room k xs (3 * h + 1) 0 f (omega arith),
-      get_d-put-before room k xs (3 * h + 2) 0 f (omega arith),
+      get_d-put-before room k xs (waiting_width * h) 0 f (omega arith),
+      get_d-put-before room k xs (waiting_width * h + 1) 0 f (omega arith),
+      get_d-put-before room k xs (waiting_width * h + 2) 0 f (omega arith),
+      get_d-put-before room k xs (waiting_width * h + 3) 0 f (omega arith),
       waiting-put room k xs (suc h) n f (omega arith),
     )
 
@@ -132,28 +140,32 @@ waiting-next room h t g =
     rw (e, add-one h)
 
 -- two halves that are written at the end of the queue join it
-waiting-halves : (room : List ℕ) (t s n e : ℕ) → 3 * t ≤ length room
-    → waiting (put room (3 * t) (two_halves s n (suc e))) t 2 ≡ halves_at (record { start = s; count = n; depth = e })
+waiting-halves : (room : List ℕ) (t s n e p b : ℕ) → waiting_width * t ≤ length room
+    → waiting (put room (waiting_width * t) (two_halves s n (suc e) p b)) t 2 ≡ halves_at b (record { start = s; count = n; depth = e; place = p })
 unfolding waiting
-waiting-halves room t s n e h =
-    let xs = two_halves s n (suc e) in
+waiting-halves room t s n e p b h =
+    let xs = two_halves s n (suc e) p b in
+    let at = waiting_width * t in
+    let next = waiting_width * suc t in
     rw (
-      get_d-put-at room (3 * t) xs (3 * t) 0 0 h (omega arith) (omega arith),
-      get_d-put-at room (3 * t) xs (3 * t + 1) 1 0 h (omega arith) (omega arith),
-      get_d-put-at room (3 * t) xs (3 * t + 2) 2 0 h (omega arith) (omega arith),
-      get_d-put-at room (3 * t) xs (3 * suc t) 3 0 h (omega arith) (omega arith),
-      get_d-put-at room (3 * t) xs (3 * suc t + 1) 4 0 h (omega arith) (omega arith),
-      get_d-put-at room (3 * t) xs (3 * suc t + 2) 5 0 h (omega arith) (omega arith),
+      get_d-put-at room at xs at 0 0 h (omega arith) (omega arith),
+      get_d-put-at room at xs (at + 1) 1 0 h (omega arith) (omega arith),
+      get_d-put-at room at xs (at + 2) 2 0 h (omega arith) (omega arith),
+      get_d-put-at room at xs (at + 3) 3 0 h (omega arith) (omega arith),
+      get_d-put-at room at xs next 4 0 h (omega arith) (omega arith),
+      get_d-put-at room at xs (next + 1) 5 0 h (omega arith) (omega arith),
+      get_d-put-at room at xs (next + 2) 6 0 h (omega arith) (omega arith),
+      get_d-put-at room at xs (next + 3) 7 0 h (omega arith) (omega arith),
     )
 
-pub waiting-join : (room : List ℕ) (h t s n e : ℕ) → h ≤ t → 3 * t ≤ length room
-    → waiting (put room (3 * t) (two_halves s n (suc e))) h (t + 2 - h) ≡ waiting room h (t - h) ++ halves_at (record { start = s; count = n; depth = e })
-waiting-join room h t s n e g f =
+pub waiting-join : (room : List ℕ) (h t s n e p b : ℕ) → h ≤ t → waiting_width * t ≤ length room
+    → waiting (put room (waiting_width * t) (two_halves s n (suc e) p b)) h (t + 2 - h) ≡ waiting room h (t - h) ++ halves_at b (record { start = s; count = n; depth = e; place = p })
+waiting-join room h t s n e p b g f =
     let m = t - h in
-    let xs = two_halves s n (suc e) in
+    let xs = two_halves s n (suc e) p b in
     let k : t + 2 - h ≡ m + 2 = omega arith in
     let d : h + m ≡ t = omega arith in
-    rw (k, waiting-append (put room (3 * t) xs) h m 2, waiting-put room (3 * t) xs h m f (omega arith), d, waiting-halves room t s n e f)
+    rw (k, waiting-append (put room (waiting_width * t) xs) h m 2, waiting-put room (waiting_width * t) xs h m f (omega arith), d, waiting-halves room t s n e p b f)
 
 pub waiting-length : (room : List ℕ) (h n : ℕ) → length (waiting room h n) ≡ n
 unfolding waiting
@@ -164,13 +176,14 @@ pub waiting_none : (room : List ℕ) (h t : ℕ) → t ≤ h → waiting room h 
 unfolding waiting
 waiting_none room h t g = let e : t - h ≡ 0 = omega arith in rw e
 
--- the first stretch of a queue: all rows, at depth 0
-pub waiting-first : (room : List ℕ) (n : ℕ) → 3 ≤ length room → waiting (put room 0 (0 ∷ n ∷ 0 ∷ [])) 0 1 ≡ record { start = 0; count = n; depth = 0 } ∷ []
+-- the first stretch of a queue: all rows, at depth 0, with the record's first node
+pub waiting-first : (room : List ℕ) (n p : ℕ) → waiting_width ≤ length room → waiting (put room 0 (0 ∷ n ∷ 0 ∷ p ∷ [])) 0 1 ≡ record { start = 0; count = n; depth = 0; place = p } ∷ []
 unfolding waiting
-waiting-first room n h =
-    let xs : List ℕ = 0 ∷ n ∷ 0 ∷ [] in
+waiting-first room n p h =
+    let xs : List ℕ = 0 ∷ n ∷ 0 ∷ p ∷ [] in
     rw (
       get_d-put-at room 0 xs 0 0 0 (omega arith) (omega arith) (omega arith),
       get_d-put-at room 0 xs 1 1 0 (omega arith) (omega arith) (omega arith),
       get_d-put-at room 0 xs 2 2 0 (omega arith) (omega arith) (omega arith),
+      get_d-put-at room 0 xs 3 3 0 (omega arith) (omega arith) (omega arith),
     )

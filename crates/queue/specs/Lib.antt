@@ -1,2 +1,3 @@
 -- What the queue's contracts cite.
 pub mod Rows
+pub mod Nodes

@@ -1,15 +1,18 @@
--- The numbers that the queue and the domain rows hold of a stretch of rows: its start, its count and its domain's depth. Definitions only.
+-- The numbers that the queue and the domain rows hold of a stretch of rows: its start, its count and its domain's depth; the queue also holds
+-- the place of the domain's node in the record. Definitions only.
 use Rattle.std.specs.Prelude.{ℕ, ◌+◌, ◌-◌, ◌/◌, List, [], ◌∷◌, length}
 use Rattle.definition.specs.Cut.{Domain}
 use Rattle.packed.specs.Rows.{put_own_lem}
 
 -- how many whole numbers the queue has of a domain that waits
 abbrev pub waiting_width : ℕ
-waiting_width = 3
+waiting_width = 4
 
--- start, count and depth of the two halves, at this depth, of a stretch: its first half, rounded down, and the rest
-abbrev pub two_halves : ℕ → ℕ → ℕ → List ℕ
-two_halves start count depth = start ∷ (count / 2) ∷ depth ∷ (start + count / 2) ∷ (count - count / 2) ∷ depth ∷ []
+-- start, count, depth and place of the two halves, at this depth, of a stretch whose node stands at `place`: its first half, rounded down,
+-- with its node behind that one, and the rest, with its node behind the `below` nodes that are under the first half
+abbrev pub two_halves : ℕ → ℕ → ℕ → ℕ → ℕ → List ℕ
+two_halves start count depth place below =
+    start ∷ (count / 2) ∷ depth ∷ (place + 1) ∷ (start + count / 2) ∷ (count - count / 2) ∷ depth ∷ (place + 1 + below) ∷ []
 
 -- the own rows of a leaf, and its depth
 pub record Own : Type 0 where

@@ -22,7 +22,7 @@ use Rattle.definition.specs.Cut.{Domain, root_domain, left_of, right_of, leaves_
 use Rattle.definition.specs.Record.{cuts_of, level_cuts, leaves_under}
 use Rattle.queue.proofs.Kind.{Kind, MayWait, size_of}
 use Rattle.rows.specs.Rows.{GoodRows}
-use Rattle.leaves.proofs.Domains.{kind, leaves_are}
+use Rattle.record_laws.proofs.Domains.{kind, leaves_are}
 use Rattle.record_laws.proofs.Steps.{step-more, step-done}
 use Rattle.record_laws.specs.ByDepth.{at_depth, by_depth, domain_depth}
 

@@ -30,7 +30,7 @@ use Rattle.definition_laws.proofs.Depths.{leaves-depths}
 use Rattle.queue.proofs.Kind.{Kind, size_of}
 use Rattle.rows.specs.Rows.{GoodRows}
 use Rattle.rows.proofs.Good.{good-good}
-use Rattle.leaves.proofs.Domains.{kind}
+use Rattle.record_laws.proofs.Domains.{kind}
 use Rattle.record_laws.specs.ByDepth.{at_depth, by_depth, domain_depth}
 use Rattle.record_laws.proofs.ByDepth.{deep_leaves, deep_more, deep-done, at-nil, at_one, at_other, leaves-under, level-by-depth}
 

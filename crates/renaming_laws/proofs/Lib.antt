@@ -6,6 +6,7 @@
 -- RenamedOverlaps: neighbours and borrowed rows.
 -- RenamedSamples: seed, picks, what a leaf sends up, its cover.
 -- Renaming: one level, and all levels.
+-- RenamedRecords: the record of the cuts of a level, and of a tree.
 pub mod RenamedLists
 pub mod RenamedKeys
 pub mod RenamedPoints
@@ -13,3 +14,4 @@ pub mod RenamedCuts
 pub mod RenamedOverlaps
 pub mod RenamedSamples
 pub mod Renaming
+pub mod RenamedRecords

@@ -1,5 +1,5 @@
 -- The cut, its halves and the queue's leaves of renamed rows are those of the rows, renamed. Assumes nothing.
--- Holds: renamed_domain, leaf-part, left-kept, right_kept, queue-kept, leaves_kept
+-- Holds: renamed_domain, leaf-part, plane-kept, left-kept, right_kept, left_in, right-in, queue-kept, leaves_kept
 use mathlib.Core.Path.{◌≡◌, refl, sym, ap, ap₂, ◌∙◌}
 use mathlib.Core.Logic.{⊎_elim}
 use mathlib.Core.List.{List, [], ◌∷◌, ◌++◌, map, map-append}
@@ -55,7 +55,7 @@ module _ (d : ℕ) (cs cs' : List Float) (all : List ℕ) (f : ℕ → ℕ) (r :
     half-kept : length (map f rows) / 2 ≡ length rows / 2
     half-kept = ap (λ (n : ℕ). n / 2) (length-map rows f)
 
-    plane-kept : plane d cs' (map f rows) ≡ plane d cs rows
+    pub plane-kept : plane d cs' (map f rows) ≡ plane d cs rows
     unfolding plane
     plane-kept =
         ap₂ (λ (n : ℕ) (keys : List Key). plane_of (key_at n keys)) half-kept keys_kept
@@ -84,10 +84,10 @@ module _ (d : ℕ) (cs cs' : List Float) (all : List ℕ) (f : ℕ → ℕ) (r :
         (right-rows q.rows h)
         (ap₂ (λ (a : ℕ) (x : Float). set q.box a x) (axis-kept d cs cs' all f r q.rows h pos) (plane-kept q.rows h))
 
-    left_in : All (In all) (left_of d cs q).rows
+    pub left_in : All (In all) (left_of d cs q).rows
     left_in = part_in all q.rows (left_of d cs q).rows h (λ r. omega (arith, cut-times d cs q r))
 
-    right-in : All (In all) (right_of d cs q).rows
+    pub right-in : All (In all) (right_of d cs q).rows
     right-in = part_in all q.rows (right_of d cs q).rows h (λ r. omega (arith, cut-times d cs q r))
 
   -- ---- the queue

@@ -4,15 +4,15 @@
 use call_records::Fields;
 use config::DDMParams;
 use table::Table;
-use tree_lists::Room;
+use tree_lists::{Records, Room};
 
 // Whether the working room is as it was.
 fn untouched(room: &Room<'_>) -> bool {
     room.floats.iter().all(|&x| x == 9.0) && room.wholes.iter().all(|&n| n == call_records::NINE)
 }
 
-// Whether the build that stands next has the outcome behind it: a refused one leaves its working room too. `None` says that the record is
-// cut, or that a list has more entries than there is room for.
+// Whether the build that stands next has the outcome behind it: its answer, the lists of its tree and those of its records. A refused one
+// leaves its working room too. `None` says that the record is cut, or that a list has more entries than there is room for.
 pub fn agrees(fields: &mut Fields<'_>, table: Table<'_>, params: DDMParams) -> Option<bool> {
     let mut lists = call_records::nines();
     let mut lists = fields.lend_lists(lists.lend())?;
@@ -22,7 +22,19 @@ pub fn agrees(fields: &mut Fields<'_>, table: Table<'_>, params: DDMParams) -> O
         floats: fields.lend(&mut floats)?,
         wholes: fields.lend(&mut wholes)?,
     };
-    let answer = table_build::build_slots(table, params, &mut lists, &mut room);
+    let mut cuts = [call_records::NINE; call_records::NODES];
+    let mut planes = [9.0; call_records::NODES];
+    let mut records = Records {
+        cuts: fields.lend(&mut cuts)?,
+        planes: fields.lend(&mut planes)?,
+    };
+    let answer = table_build::build_slots(table, params, &mut lists, &mut room, &mut records);
     let kept = answer.is_ok() || untouched(&room);
-    Some(kept && fields.answer_agrees(answer)? && fields.lists_agree(lists.read())?)
+    Some(
+        kept && fields.answer_agrees(answer)?
+            && fields.lists_agree(lists.read())?
+            && fields.agrees(records.cuts)?
+            && fields.agrees(records.planes)?
+            && fields.ended(),
+    )
 }

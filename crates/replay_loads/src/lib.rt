@@ -18,5 +18,5 @@ pub fn agrees(fields: &mut Fields<'_>) -> Option<bool> {
     let mut lists = fields.lend_lists(room.lend())?;
     let file = fields.bytes()?;
     let answer = load::load_tree(points, settings.params, file, &mut lists);
-    Some(fields.answer_agrees(answer)? && fields.lists_agree(lists.read())?)
+    Some(fields.answer_agrees(answer)? && fields.lists_agree(lists.read())? && fields.ended())
 }

@@ -1,5 +1,5 @@
-// Edges of the build: the lengths to lend, and what each call answers, with the front of each list of whole numbers that it was lent.
-// The lists hold nines before the call.
+// Edges of the build: the lengths to lend, and what each call answers, with the front of each list of whole numbers that it was lent but
+// for the working room. The lists hold nines before the call.
 use config::{DDMParams, SizePolicy};
 use points::Points;
 use printing::Numbers;
@@ -7,7 +7,7 @@ use refusal::{Refusal, Report};
 use std::io;
 use std::io::Write;
 use tree_answer::DDMTree;
-use tree_lists::{Room, TreeLists};
+use tree_lists::{Records, Room, TreeLists};
 
 // The lengths that a build over n points is to be lent.
 fn print_lent<W: Write>(
@@ -68,17 +68,33 @@ fn print_lists<W: Write>(to: &mut W, lists: &TreeLists<'_>) -> io::Result<()> {
     writeln!(to, "  borrowed{}", Numbers::front(lists.borrowed, 24))
 }
 
-// A build in the lists of the stored calls, which hold nines: they suffice for 16 points with 3 neighbours.
-fn show<W: Write>(to: &mut W, points: Points<'_>, params: DDMParams) -> io::Result<()> {
+// A build with these whole numbers of room and these lists of records, in the five lists of the stored calls, which hold nines.
+fn show_lent<W: Write>(
+    to: &mut W,
+    points: Points<'_>,
+    params: DDMParams,
+    wholes: &mut [usize],
+    mut records: Records<'_>,
+) -> io::Result<()> {
     let mut lists = call_records::nines();
     let mut lists = lists.lend();
     let mut room = Room {
         floats: &mut [9.0; call_records::FLOATS],
-        wholes: &mut [9; call_records::WHOLES],
+        wholes,
     };
-    let answer = ddm::build(points, params, &mut lists, &mut room);
+    let answer = ddm::build(points, params, &mut lists, &mut room, &mut records);
     print_answer(to, answer)?;
-    print_lists(to, &lists)
+    print_lists(to, &lists)?;
+    writeln!(to, "  cuts{}", Numbers::front(records.cuts, 60))
+}
+
+// The same with the room and the records of the stored calls: all suffices for 16 points with 3 neighbours.
+fn show<W: Write>(to: &mut W, points: Points<'_>, params: DDMParams) -> io::Result<()> {
+    let records = Records {
+        cuts: &mut [9; call_records::NODES],
+        planes: &mut [9.0; call_records::NODES],
+    };
+    show_lent(to, points, params, &mut [9; call_records::WHOLES], records)
 }
 
 // Settings: the leaf threshold, the neighbours, the factor, and the coarse threshold.
@@ -132,4 +148,31 @@ pub fn print_refusals<W: Write>(to: &mut W) -> io::Result<()> {
     show(to, line(&endless), settings(1, 1, 2, 1))?;
     show(to, line(&[0.0; 17]), settings(1, 1, 2, 17))?;
     show(to, four_axes, settings(0, 65, 1, 0))
+}
+
+// Three points on a line with one neighbour, with this room and these lists.
+fn show_three<W: Write>(
+    to: &mut W,
+    wholes: &mut [usize],
+    cuts: &mut [usize],
+    planes: &mut [f64],
+) -> io::Result<()> {
+    let records = Records { cuts, planes };
+    show_lent(
+        to,
+        line(&[0.0, 1.0, 3.0]),
+        settings(1, 1, 2, 1),
+        wholes,
+        records,
+    )
+}
+
+// Room and records that suffice exactly; either list of the records, and the whole numbers, one entry short; and as many whole numbers as
+// sufficed before request 9 of document 02.
+pub fn print_short<W: Write>(to: &mut W) -> io::Result<()> {
+    show_three(to, &mut [9; 168], &mut [9; 36], &mut [9.0; 36])?;
+    show_three(to, &mut [9; 168], &mut [9; 35], &mut [9.0; 36])?;
+    show_three(to, &mut [9; 168], &mut [9; 36], &mut [9.0; 35])?;
+    show_three(to, &mut [9; 167], &mut [9; 36], &mut [9.0; 36])?;
+    show_three(to, &mut [9; 144], &mut [9; 36], &mut [9.0; 36])
 }

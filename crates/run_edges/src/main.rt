@@ -20,5 +20,6 @@ fn main(rt: HostRuntime) -> io::Result<()> {
     build_edges::print_lengths(&mut out)?;
     build_edges::print_trees(&mut out)?;
     build_edges::print_nested(&mut out)?;
-    build_edges::print_refusals(&mut out)
+    build_edges::print_refusals(&mut out)?;
+    build_edges::print_short(&mut out)
 }

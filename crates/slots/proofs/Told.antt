@@ -1,8 +1,8 @@
 -- The whole outcome of each exported call: of one with a short slot, and of one that found its slot long enough, from the outcome of
 -- the call behind it. Assumes nothing.
 -- Holds: told-short, told-long, told-value, quotas-short, quotas-long, sample-cover-short, sample-short, sample-long, tree-short,
---   tree-long, build-short, build-long, slots-short, slots-long, depth-first-short, depth-first-long, store-short,
---   store-tree-short, store_long, load-short, load-long, add-short, add-long, retire-told, close-short, close-long
+--   tree-long, build-short, build-long, slots-short, slots-long, store-short, store-tree-short, store_long, load-short,
+--   load-long, add-short, add-long, retire-told, close-short, close-long
 use mathlib.Core.Path.{◌≡◌, refl, subst, ap, ◌∙◌}
 use mathlib.Core.List.{List, [], ◌∷◌}
 use Prim.Native.Nat.{ℕ, ◌≤◌, ◌<◌}
@@ -14,16 +14,15 @@ use Rattle.lists.proofs.Put.{set-put, put-zero}
 use Rattle.definition.specs.Tree.{Settings}
 use Rattle.definition.specs.Packed.{Counts}
 use Rattle.definition.specs.Refusals.{Verdict}
-use Rattle.definition.specs.Outcome.{Answer, Shared, Sampled, TreeLists, written, RoomAfter, build_call, build_answer, build_lists}
-use Rattle.definition.specs.DepthFirst.{RecordLists, depth_first_call, depth_first_answer, depth_first_lists, depth_first_records}
+use Rattle.definition.specs.Outcome.{Answer, Shared, Sampled, TreeLists, written, RoomAfter, build_call, build_answer, build_lists, RecordLists, build_records}
 use Rattle.definition.specs.Table.{Table, add_answer_lem, add_table, retire_answer_lem, retire_table}
-use Rattle.definition.specs.Slots.{slots_call, slots_answer, slots_lists}
+use Rattle.definition.specs.Slots.{slots_call, slots_answer, slots_lists, slots_records}
 use Rattle.definition.specs.Closing.{close_answer, close_table, close_rename}
 use Rattle.stored.specs.Outcome.{write_answer, write_output, load_answer, load_lists_lem}
 use Rattle.quotas.specs.Outcome.{SeatsShared}
 use Rattle.sampling.specs.Outcome.{RowsSampled}
 use Rattle.slots.specs.Slots.{value_slot, quota_slot, sample_slot, cover_slot, placed_slot, build_slot, counts_in, head_written, table_from}
-use Rattle.slots.specs.Told.{Told, QuotasTold, SampleTold, TreeTold, BuildTold, SlotsTold, DepthFirstTold, StoreTold, LoadTold, AddTold, RetireTold, CloseTold}
+use Rattle.slots.specs.Told.{Told, QuotasTold, SampleTold, TreeTold, BuildTold, SlotsTold, StoreTold, LoadTold, AddTold, RetireTold, CloseTold}
 use Rattle.slots.proofs.Slots.{slot-short, slot-long, slot-written, room-short, room-long, number-long}
 
 -- ---- number and slot
@@ -108,58 +107,9 @@ module _ (d : ℕ) (cs : List Float) (wanted seed : ℕ) (out : List ℕ) (float
         }
 
 -- ---- a build
-module _ (v : Verdict) (due : Answer Counts) (due-lists old : TreeLists) (floats : List Float) (wholes slot : List ℕ) where
-  pub tree-short : length slot < 10 → TreeTold v due due-lists old old floats floats wholes wholes slot slot 11
+module _ (v : Verdict) (due : Answer Counts) (due-lists : TreeLists) (due-records : RecordLists) (old : TreeLists) (floats : List Float) (wholes : List ℕ) (records : RecordLists) (slot : List ℕ) where
+  pub tree-short : length slot < 10 → TreeTold v due due-lists due-records old old floats floats wholes wholes records records slot slot 11
   tree-short h =
-      record {
-        told = told-short 10 _ slot _ h;
-        lists = slot-short 10 slot _ _ h;
-        floats_free = room-short 10 slot _ _ h;
-        wholes_free = room-short 10 slot _ _ h;
-      }
-
-  pub tree-long : (new : TreeLists) (floats' : List Float) (wholes' slot' : List ℕ) (k : ℕ) (a : Answer Counts) → 10 ≤ length slot → k ≡ a.number
-      → slot' ≡ put slot 0 (build_slot a) → a ≡ due → new ≡ due-lists → RoomAfter v floats floats' → RoomAfter v wholes wholes'
-      → TreeTold v due due-lists old new floats floats' wholes wholes' slot slot' k
-  tree-long new floats' wholes' slot' k a h m w answers lists free-floats free-wholes =
-      record {
-        told = told-long 10 build_slot slot slot' k a _ h m w answers;
-        lists = slot-long 10 slot _ _ _ h lists;
-        floats_free = room-long 10 slot _ _ _ h free-floats;
-        wholes_free = room-long 10 slot _ _ _ h free-wholes;
-      }
-
--- over all points
-module _ (cs : List Float) (old : TreeLists) (floats : List Float) (wholes slot : List ℕ) where
-  pub build-short : (s : Settings) → length slot < 10 → BuildTold s cs old old floats floats wholes wholes slot slot 11
-  build-short s h = tree-short _ _ _ old floats wholes slot h
-
-  -- s is the code's settings, and t the same from the numbers of the call
-  pub build-long : (new : TreeLists) (floats' : List Float) (wholes' slot' : List ℕ) (k : ℕ) (a : Answer Counts) (s t : Settings) → s ≡ t → 10 ≤ length slot → k ≡ a.number
-      → slot' ≡ put slot 0 (build_slot a) → a ≡ build_answer s cs old floats wholes → new ≡ build_lists s cs old floats wholes
-      → RoomAfter (build_call s cs old floats wholes) floats floats' → RoomAfter (build_call s cs old floats wholes) wholes wholes'
-      → BuildTold t cs old new floats floats' wholes wholes' slot slot' k
-  build-long new floats' wholes' slot' k a s t e h m w answers lists free-floats free-wholes =
-      subst (λ (u : Settings). BuildTold u cs old new floats floats' wholes wholes' slot slot' k) e
-      (tree-long _ _ _ old floats wholes slot new floats' wholes' slot' k a h m w answers lists free-floats free-wholes)
-
--- over the live slots of a table
-module _ (x : Table) (old : TreeLists) (floats : List Float) (wholes slot : List ℕ) where
-  pub slots-short : (s : Settings) → length slot < 10 → SlotsTold s x old old floats floats wholes wholes slot slot 11
-  slots-short s h = tree-short _ _ _ old floats wholes slot h
-
-  pub slots-long : (new : TreeLists) (floats' : List Float) (wholes' slot' : List ℕ) (k : ℕ) (a : Answer Counts) (s t : Settings) → s ≡ t → 10 ≤ length slot → k ≡ a.number
-      → slot' ≡ put slot 0 (build_slot a) → a ≡ slots_answer s x old floats wholes → new ≡ slots_lists s x old floats wholes
-      → RoomAfter (slots_call s x old floats wholes) floats floats' → RoomAfter (slots_call s x old floats wholes) wholes wholes'
-      → SlotsTold t x old new floats floats' wholes wholes' slot slot' k
-  slots-long new floats' wholes' slot' k a s t e h m w answers lists free-floats free-wholes =
-      subst (λ (u : Settings). SlotsTold u x old new floats floats' wholes wholes' slot slot' k) e
-      (tree-long _ _ _ old floats wholes slot new floats' wholes' slot' k a h m w answers lists free-floats free-wholes)
-
--- ---- the build that cuts depth first
-module _ (cs : List Float) (old : TreeLists) (floats : List Float) (wholes : List ℕ) (records-old : RecordLists) (slot : List ℕ) where
-  pub depth-first-short : (s : Settings) → length slot < 10 → DepthFirstTold s cs old old floats floats wholes wholes records-old records-old slot slot 11
-  depth-first-short s h =
       record {
         told = told-short 10 _ slot _ h;
         lists = slot-short 10 slot _ _ h;
@@ -168,21 +118,46 @@ module _ (cs : List Float) (old : TreeLists) (floats : List Float) (wholes : Lis
         wholes_free = room-short 10 slot _ _ h;
       }
 
-  -- s is the code's settings, and t the same from the numbers of the call
-  pub depth-first-long : (new : TreeLists) (floats' : List Float) (wholes' : List ℕ) (records-new : RecordLists) (slot' : List ℕ) (k : ℕ) (a : Answer Counts) (s t : Settings) → s ≡ t
-      → 10 ≤ length slot → k ≡ a.number → slot' ≡ put slot 0 (build_slot a) → a ≡ depth_first_answer s cs old floats wholes records-old → new ≡ depth_first_lists s cs old floats wholes records-old
-      → records-new ≡ depth_first_records s cs old floats wholes records-old
-      → RoomAfter (depth_first_call s cs old floats wholes records-old) floats floats' → RoomAfter (depth_first_call s cs old floats wholes records-old) wholes wholes'
-      → DepthFirstTold t cs old new floats floats' wholes wholes' records-old records-new slot slot' k
-  depth-first-long new floats' wholes' records-new slot' k a s t e h m w answers lists records free-floats free-wholes =
-      subst (λ (u : Settings). DepthFirstTold u cs old new floats floats' wholes wholes' records-old records-new slot slot' k) e
+  pub tree-long : (new : TreeLists) (floats' : List Float) (wholes' : List ℕ) (records' : RecordLists) (slot' : List ℕ) (k : ℕ) (a : Answer Counts) → 10 ≤ length slot → k ≡ a.number
+      → slot' ≡ put slot 0 (build_slot a) → a ≡ due → new ≡ due-lists → records' ≡ due-records → RoomAfter v floats floats' → RoomAfter v wholes wholes'
+      → TreeTold v due due-lists due-records old new floats floats' wholes wholes' records records' slot slot' k
+  tree-long new floats' wholes' records' slot' k a h m w answers lists taken free-floats free-wholes =
       record {
         told = told-long 10 build_slot slot slot' k a _ h m w answers;
         lists = slot-long 10 slot _ _ _ h lists;
-        records = slot-long 10 slot _ _ _ h records;
+        records = slot-long 10 slot _ _ _ h taken;
         floats_free = room-long 10 slot _ _ _ h free-floats;
         wholes_free = room-long 10 slot _ _ _ h free-wholes;
       }
+
+-- over all points
+module _ (cs : List Float) (old : TreeLists) (floats : List Float) (wholes : List ℕ) (records : RecordLists) (slot : List ℕ) where
+  pub build-short : (s : Settings) → length slot < 10 → BuildTold s cs old old floats floats wholes wholes records records slot slot 11
+  build-short s h = tree-short _ _ _ _ old floats wholes records slot h
+
+  -- s is the code's settings, and t the same from the numbers of the call
+  pub build-long : (new : TreeLists) (floats' : List Float) (wholes' : List ℕ) (records' : RecordLists) (slot' : List ℕ) (k : ℕ) (a : Answer Counts) (s t : Settings) → s ≡ t
+      → 10 ≤ length slot → k ≡ a.number → slot' ≡ put slot 0 (build_slot a)
+      → a ≡ build_answer s cs old floats wholes records → new ≡ build_lists s cs old floats wholes records → records' ≡ build_records s cs old floats wholes records
+      → RoomAfter (build_call s cs old floats wholes records) floats floats' → RoomAfter (build_call s cs old floats wholes records) wholes wholes'
+      → BuildTold t cs old new floats floats' wholes wholes' records records' slot slot' k
+  build-long new floats' wholes' records' slot' k a s t e h m w answers lists taken free-floats free-wholes =
+      subst (λ (u : Settings). BuildTold u cs old new floats floats' wholes wholes' records records' slot slot' k) e
+      (tree-long _ _ _ _ old floats wholes records slot new floats' wholes' records' slot' k a h m w answers lists taken free-floats free-wholes)
+
+-- over the live slots of a table
+module _ (x : Table) (old : TreeLists) (floats : List Float) (wholes : List ℕ) (records : RecordLists) (slot : List ℕ) where
+  pub slots-short : (s : Settings) → length slot < 10 → SlotsTold s x old old floats floats wholes wholes records records slot slot 11
+  slots-short s h = tree-short _ _ _ _ old floats wholes records slot h
+
+  pub slots-long : (new : TreeLists) (floats' : List Float) (wholes' : List ℕ) (records' : RecordLists) (slot' : List ℕ) (k : ℕ) (a : Answer Counts) (s t : Settings) → s ≡ t
+      → 10 ≤ length slot → k ≡ a.number → slot' ≡ put slot 0 (build_slot a)
+      → a ≡ slots_answer s x old floats wholes records → new ≡ slots_lists s x old floats wholes records → records' ≡ slots_records s x old floats wholes records
+      → RoomAfter (slots_call s x old floats wholes records) floats floats' → RoomAfter (slots_call s x old floats wholes records) wholes wholes'
+      → SlotsTold t x old new floats floats' wholes wholes' records records' slot slot' k
+  slots-long new floats' wholes' records' slot' k a s t e h m w answers lists taken free-floats free-wholes =
+      subst (λ (u : Settings). SlotsTold u x old new floats floats' wholes wholes' records records' slot slot' k) e
+      (tree-long _ _ _ _ old floats wholes records slot new floats' wholes' records' slot' k a h m w answers lists taken free-floats free-wholes)
 
 -- ---- the writer
 module _ (s : Settings) (cs : List Float) (tree : List ℕ) (l : TreeLists) (file slot : List ℕ) where

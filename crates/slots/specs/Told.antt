@@ -4,10 +4,9 @@ use Rattle.std.specs.Prelude.{ℕ, ◌≡◌, List, Float}
 use Rattle.definition.specs.Tree.{Settings}
 use Rattle.definition.specs.Packed.{Counts}
 use Rattle.definition.specs.Refusals.{Verdict}
-use Rattle.definition.specs.Outcome.{Answer, TreeLists, written, RoomAfter, quota_call, quota_answer, quota_output, sample_call, sample_answer, sample_output, build_call, build_answer, build_lists}
-use Rattle.definition.specs.DepthFirst.{RecordLists, depth_first_call, depth_first_answer, depth_first_lists, depth_first_records}
+use Rattle.definition.specs.Outcome.{Answer, TreeLists, RecordLists, written, RoomAfter, quota_call, quota_answer, quota_output, sample_call, sample_answer, sample_output, build_call, build_answer, build_lists, build_records}
 use Rattle.definition.specs.Table.{Table, add_answer_lem, add_table, retire_answer_lem, retire_table}
-use Rattle.definition.specs.Slots.{slots_call, slots_answer, slots_lists}
+use Rattle.definition.specs.Slots.{slots_call, slots_answer, slots_lists, slots_records}
 use Rattle.definition.specs.Closing.{close_answer, close_table, close_rename}
 use Rattle.stored.specs.Outcome.{write_answer, write_output, load_answer, load_lists_lem}
 use Rattle.slots.specs.Slots.{unless_short, number_after, slot_after, slot_first, unless_either, quota_slot, sample_slot, cover_slot, placed_slot, build_slot, counts_in, head_written, table_from}
@@ -33,31 +32,26 @@ pub record SampleTold (d : ℕ) (cs : List Float) (wanted seed : ℕ) (out out' 
   pub floats_free : RoomAfter (slot_first 1 cover (slot_first 2 slot (sample_call d cs wanted seed out floats wholes))) floats floats'
   pub wholes_free : RoomAfter (slot_first 1 cover (slot_first 2 slot (sample_call d cs wanted seed out floats wholes))) wholes wholes'
 
--- A build that has this verdict, and to which this answer and these lists are due.
-pub record TreeTold (v : Verdict) (due : Answer Counts) (due-lists old new : TreeLists) (floats floats' : List Float) (wholes wholes' slot slot' : List ℕ) (returned : ℕ) : Type 0 where
+-- A build that has this verdict, and to which this answer, these five lists and these lists of the records are due.
+pub record TreeTold (v : Verdict) (due : Answer Counts) (due-lists : TreeLists) (due-records : RecordLists) (old new : TreeLists) (floats floats' : List Float)
+    (wholes wholes' : List ℕ) (records-old records-new : RecordLists) (slot slot' : List ℕ) (returned : ℕ) : Type 0 where
   pub told : Told 10 build_slot slot slot' returned due
   pub lists : new ≡ unless_short 10 slot old due-lists
+  pub records : records-new ≡ unless_short 10 slot records-old due-records
   pub floats_free : RoomAfter (slot_first 10 slot v) floats floats'
   pub wholes_free : RoomAfter (slot_first 10 slot v) wholes wholes'
 
--- the build over all points
-abbrev pub BuildTold : Settings → List Float → TreeLists → TreeLists → List Float → List Float → List ℕ → List ℕ → List ℕ → List ℕ → ℕ → Type 0
-BuildTold s cs old new floats floats' wholes wholes' slot slot' returned =
-    TreeTold (build_call s cs old floats wholes) (build_answer s cs old floats wholes) (build_lists s cs old floats wholes) old new floats floats' wholes wholes' slot slot' returned
+-- the build over all points, by either engine
+abbrev pub BuildTold : Settings → List Float → TreeLists → TreeLists → List Float → List Float → List ℕ → List ℕ → RecordLists → RecordLists → List ℕ → List ℕ → ℕ → Type 0
+BuildTold s cs old new floats floats' wholes wholes' records-old records-new slot slot' returned =
+    TreeTold (build_call s cs old floats wholes records-old) (build_answer s cs old floats wholes records-old) (build_lists s cs old floats wholes records-old)
+    (build_records s cs old floats wholes records-old) old new floats floats' wholes wholes' records-old records-new slot slot' returned
 
 -- the build over the live slots of a table
-abbrev pub SlotsTold : Settings → Table → TreeLists → TreeLists → List Float → List Float → List ℕ → List ℕ → List ℕ → List ℕ → ℕ → Type 0
-SlotsTold s t old new floats floats' wholes wholes' slot slot' returned =
-    TreeTold (slots_call s t old floats wholes) (slots_answer s t old floats wholes) (slots_lists s t old floats wholes) old new floats floats' wholes wholes' slot slot' returned
-
--- the build that cuts depth first, with the two lists of its records
-pub record DepthFirstTold (s : Settings) (cs : List Float) (old new : TreeLists) (floats floats' : List Float) (wholes wholes' : List ℕ) (records-old records-new : RecordLists)
-    (slot slot' : List ℕ) (returned : ℕ) : Type 0 where
-  pub told : Told 10 build_slot slot slot' returned (depth_first_answer s cs old floats wholes records-old)
-  pub lists : new ≡ unless_short 10 slot old (depth_first_lists s cs old floats wholes records-old)
-  pub records : records-new ≡ unless_short 10 slot records-old (depth_first_records s cs old floats wholes records-old)
-  pub floats_free : RoomAfter (slot_first 10 slot (depth_first_call s cs old floats wholes records-old)) floats floats'
-  pub wholes_free : RoomAfter (slot_first 10 slot (depth_first_call s cs old floats wholes records-old)) wholes wholes'
+abbrev pub SlotsTold : Settings → Table → TreeLists → TreeLists → List Float → List Float → List ℕ → List ℕ → RecordLists → RecordLists → List ℕ → List ℕ → ℕ → Type 0
+SlotsTold s t old new floats floats' wholes wholes' records-old records-new slot slot' returned =
+    TreeTold (slots_call s t old floats wholes records-old) (slots_answer s t old floats wholes records-old) (slots_lists s t old floats wholes records-old)
+    (slots_records s t old floats wholes records-old) old new floats floats' wholes wholes' records-old records-new slot slot' returned
 
 -- The writer, whose caller hands the counts back as the slot `tree` of a build or a load. One that is too short is refused next, with 11.
 pub record StoreTold (s : Settings) (cs : List Float) (tree : List ℕ) (l : TreeLists) (file file' slot slot' : List ℕ) (returned : ℕ) : Type 0 where

@@ -18,18 +18,18 @@ use refusal::{Refusal, Report};
 use table_checks::Head;
 use tree_answer::DDMTree;
 
-// The version, 0.8.0, as one number: major, minor and patch, with two digits for each of the last two.
+// The version, 0.9.0, as one number: major, minor and patch, with two digits for each of the last two.
 pub fn version() -> usize
-    ensures { result ≡ version_number 0 8 0 }
+    ensures { result ≡ version_number 0 9 0 }
 {
-    800
+    900
 }
 
 // How many entries a slot has: of a pair, as a place and a value; of the lengths of a build's lists; and of a tree, which are its place, its levels,
 // and the rows and the domains of each level.
 pub const PAIR: usize = 2;
 
-pub const SIZES: usize = 7;
+pub const SIZES: usize = 9;
 
 pub const TREE: usize = 10;
 
@@ -54,9 +54,9 @@ pub fn put_placed(res: &mut [usize], answer: Result<usize, Refusal>) -> usize
     told.number
 }
 
-// The seven lengths that a build is to be lent, to the front of a slot: 0 where the call is refused. What it returns is the refusal's number.
+// The nine lengths that a build is to be lent, to the front of a slot: 0 where the call is refused. What it returns is the refusal's number.
 pub fn put_sizes(res: &mut [usize], answer: Result<BuildSizes, Refusal>) -> usize
-    requires { 7 ≤ length res.old }
+    requires { 9 ≤ length res.old }
     ensures slot { res.new ≡ put res.old 0 (sizes_slot (sizes_report answer)) }
     ensures number { result ≡ (sizes_report answer).number }
 {

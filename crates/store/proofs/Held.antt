@@ -11,7 +11,7 @@ use lib.Dec.{eqb}
 use lib.ListN.{length, take, drop, take-append-drop}
 use lib.Ieee.{Float}
 use Rattle.definition.specs.Tree.{Settings, Level}
-use Rattle.definition.specs.Packed.{Counts, counts_of, row_floats_lem, build_stated, leaves_in_lem, packed_level_points, packed_internals, packed_domains, packed_boxes, packed_borrowed}
+use Rattle.definition.specs.Packed.{Counts, counts_of, row_floats_lem, tree_stated, leaves_in_lem, packed_level_points, packed_internals, packed_domains, packed_boxes, packed_borrowed}
 use Rattle.definition.specs.Outcome.{TreeLists}
 use Rattle.packed.specs.Reading.{Packed, packed, Stands}
 use Rattle.packed.proofs.Unpacked.{Packs, levels-are, leaf-in, tree-stands}
@@ -68,7 +68,7 @@ module _ (s : Settings) (n : ℕ) (c : Counts) (l : TreeLists) where
 
   -- the tree stands at the front of the lists, which have room for its boxes
   module _ (packing : packs c l (tree_held s.dimension c l) ≡ true) (passing : sound s n (tree_held s.dimension c l) ≡ true)
-      (room : (build_stated s.dimension n s.neighbours).boxes ≤ length l.boxes) where
+      (room : (tree_stated s.dimension n s.neighbours).boxes ≤ length l.boxes) where
     tests : (front ≡ true) × (rows-lead ≡ true) × (own-lead ≡ true) × (domains-lead ≡ true) × (borrowed-lead ≡ true)
     unfolding packs
     tests =
@@ -77,7 +77,7 @@ module _ (s : Settings) (n : ℕ) (c : Counts) (l : TreeLists) where
         (g.0, g.1, g.2, f.1, f.2)
 
     boxes-lead : l.boxes ≡ packed_boxes ls ++ drop (length (packed_boxes ls)) l.boxes
-    unfolding build_stated
+    unfolding tree_stated
     boxes-lead =
         let k = length (packed_boxes ls) in
         let e = boxes-held d c l (le_trans (mul-le-mul_left (row_floats_lem d) (leaves-many s n ls passing)) room) in

@@ -13,7 +13,7 @@ use lib.ListN.{length}
 use lib.Ieee.{Float}
 use Rattle.lists.proofs.Tests.{and-fst, and-snd}
 use Rattle.definition.specs.Tree.{Settings, Level, point_count}
-use Rattle.definition.specs.Packed.{Counts, most_levels, most_rows, build_stated, leaves_in_lem, packed_borrowed}
+use Rattle.definition.specs.Packed.{Counts, most_levels, most_rows, tree_stated, leaves_in_lem, packed_borrowed}
 use Rattle.definition.specs.Refusals.{accepted, verdict, most_neighbours, coordinates_missing, not_finite_lem}
 use Rattle.definition.specs.Outcome.{TreeLists}
 use Rattle.definition_laws.proofs.Accepted.{Passed, passed}
@@ -35,11 +35,11 @@ use Rattle.store.proofs.Held.{held-levels, held-some}
 -- ---- the build's own tests
 pub own-passed : (s : Settings) (cs : List Float) (l : TreeLists) → verdict (own_tests s cs l) ≡ accepted
     → Passed s (point_count s.dimension cs) (coordinates_missing s.dimension cs)
-    (lists_short_lem l (build_stated s.dimension (point_count s.dimension cs) s.neighbours)) (not_finite_lem cs)
+    (lists_short_lem l (tree_stated s.dimension (point_count s.dimension cs) s.neighbours)) (not_finite_lem cs)
 unfolding own_tests
 own-passed s cs l own =
     passed s (point_count s.dimension cs) (coordinates_missing s.dimension cs)
-    (lists_short_lem l (build_stated s.dimension (point_count s.dimension cs) s.neighbours)) (not_finite_lem cs) own
+    (lists_short_lem l (tree_stated s.dimension (point_count s.dimension cs) s.neighbours)) (not_finite_lem cs) own
 
 -- ---- a tree in the lists that is not sound
 pub tree-bad : (s : Settings) (n : ℕ) (c : Counts) (l : TreeLists) → TreePassed s n c l None → packs c l (tree_held s.dimension c l) && sound s n (tree_held s.dimension c l) ≡ false
@@ -67,7 +67,7 @@ module _ (s : Settings) (cs : List Float) (c : Counts) (l : TreeLists) (own : ve
   tree-sound = and-snd (packs c l ls) (sound s n ls) tree-good
 
   -- the box list has room for its boxes
-  pub tree-room : (build_stated s.dimension (point_count s.dimension cs) s.neighbours).boxes ≤ length l.boxes
+  pub tree-room : (tree_stated s.dimension (point_count s.dimension cs) s.neighbours).boxes ≤ length l.boxes
   tree-room = own-boxes s cs l own
 
   abbrev few-leaves : Bool

@@ -13,7 +13,7 @@ use Rattle.definition.specs.Levels.{Policy, auto, fixed}
 use Rattle.definition.specs.Tree.{Settings, Leaf, Level, levels}
 use Rattle.definition.specs.Packed.{Counts}
 use Rattle.definition.specs.Outcome.{Answer, TreeLists, zero_counts, build_lists}
-use Rattle.definition.proofs.WorkedSamples.{opened, line, on_line, nines, float_room, whole_room}
+use Rattle.definition.proofs.WorkedSamples.{opened, line, on_line, nines, float_room, whole_room, record_room}
 use Rattle.packed.specs.Reading.{read_leaf, read_leaves, read_level, read_levels}
 use Rattle.formats.specs.Bytes.{little, bytes_of, numbers_at, numbers_bytes, float_bytes, floats_at, floats_bytes}
 use Rattle.formats.specs.Stream.{settings_in, settings_bytes, policy_fits_lem, read_points, held, job_in}
@@ -57,7 +57,7 @@ abbrev four_counts : Counts
 four_counts = record { levels = 2; rows = 4 ∷ 2 ∷ 0 ∷ 0 ∷ []; domains = 4 ∷ 1 ∷ 0 ∷ 0 ∷ [] }
 
 abbrev four_lists : TreeLists
-four_lists = build_lists (on_line 2 2) place (nines 4) (float_room 4) (whole_room 4)
+four_lists = build_lists (on_line 2 2) place (nines 4) (float_room 4) (whole_room 4) (record_room 4)
 
 abbrev one : Float
 one = of_bits binary64 0x3ff0000000000000

@@ -2,9 +2,9 @@
 use Rattle.std.specs.Prelude.{ℕ, Bool, not, ◌&&◌, ◌||◌, List, [], ◌∷◌, ◌++◌, length, take, ltb, eqb, Float}
 use Rattle.lists.specs.Lists.{part}
 use Rattle.definition.specs.Tree.{Settings, Level, point_count}
-use Rattle.definition.specs.Packed.{Counts, counts_of, BuildSizes, build_stated, packed_level_points, packed_internals, packed_domains, packed_borrowed}
-use Rattle.definition.specs.Refusals.{Verdict, Test, on, verdict, coordinates_missing, build_tests, not_finite_lem}
-use Rattle.definition.specs.Outcome.{Answer, answered, list_after, TreeLists, zero_counts, tree_lists_after}
+use Rattle.definition.specs.Packed.{Counts, counts_of, TreeSizes, tree_stated, packed_level_points, packed_internals, packed_domains, packed_borrowed}
+use Rattle.definition.specs.Refusals.{Verdict, Test, on, verdict, coordinates_missing, tree_short, build_tests, not_finite_lem}
+use Rattle.definition.specs.Outcome.{Answer, answered, list_after, TreeLists, lent_tree, zero_counts, tree_lists_after}
 use Rattle.packed.specs.Reading.{packed, read_levels}
 use Rattle.formats.specs.Bytes.{mark_size}
 use Rattle.formats.specs.Stream.{settings_bytes}
@@ -12,18 +12,16 @@ use Rattle.stored.specs.File.{front_bytes_lem, file_bytes}
 use Rattle.stored.specs.Sound.{same, sound}
 use Rattle.stored.specs.Stored.{tree_in, well_formed}
 
--- ---- the build's own refusals for the present settings and points, and the five lists: 1 to 9, 11, 10
+-- ---- the build's own refusals for the present settings and points, and the five lists alone: 1 to 9, 11, 10
 
-unfoldable pub lists_short_lem : TreeLists → BuildSizes → Bool
-lists_short_lem l stated =
-    ltb (length l.level_points) stated.level_points || ltb (length l.internals) stated.internals
-    || ltb (length l.domains) stated.domains || ltb (length l.boxes) stated.boxes || ltb (length l.borrowed) stated.borrowed
+unfoldable pub lists_short_lem : TreeLists → TreeSizes → Bool
+lists_short_lem l stated = tree_short (lent_tree l) stated
 
 unfoldable pub own_tests : Settings → List Float → TreeLists → List Test
 own_tests s cs lists =
     let d = s.dimension in
     let n = point_count d cs in
-    build_tests s n (coordinates_missing d cs) (lists_short_lem lists (build_stated d n s.neighbours)) (not_finite_lem cs)
+    build_tests s n (coordinates_missing d cs) (lists_short_lem lists (tree_stated d n s.neighbours)) (not_finite_lem cs)
 
 -- ---- the loader: the build's own, then 20, 18, 19
 

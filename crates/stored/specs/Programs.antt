@@ -3,7 +3,7 @@
 use Rattle.std.specs.Prelude.{ℕ, cond, List, length, replicate, ltb, Float}
 use Rattle.definition.specs.Number.{plus_zero}
 use Rattle.definition.specs.Tree.{Settings, levels, point_count}
-use Rattle.definition.specs.Packed.{BuildSizes, build_stated}
+use Rattle.definition.specs.Packed.{BuildSizes, tree_stated, build_stated}
 use Rattle.definition.specs.Refusals.{Refusal, Verdict, accepted, refused, build_verdict}
 use Rattle.definition.specs.Outcome.{TreeLists}
 use Rattle.formats.specs.Stream.{Job, job, broken, job_in}
@@ -12,7 +12,7 @@ use Rattle.stored.specs.File.{file_bytes}
 use Rattle.stored.specs.Stored.{tree_in}
 use Rattle.stored.specs.Outcome.{load_verdict}
 
--- what lists of the stated lengths are for a job's settings and points
+-- the stated lengths for a job's settings and points
 abbrev stated : Settings → List Float → BuildSizes
 stated s cs = build_stated s.dimension (point_count s.dimension cs) s.neighbours
 
@@ -45,7 +45,7 @@ most_file = 1048576
 -- lists of the stated lengths
 unfoldable pub blank_lists : Settings → List Float → TreeLists
 blank_lists s cs =
-    let b = stated s cs in
+    let b = tree_stated s.dimension (point_count s.dimension cs) s.neighbours in
     record {
       level_points = replicate b.level_points 0;
       internals = replicate b.internals 0;

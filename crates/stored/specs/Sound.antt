@@ -6,7 +6,7 @@ use Rattle.lists.specs.Lists.{any_of, member, count, from, joined}
 use Rattle.definition.specs.Number.{plus_zero}
 use Rattle.definition.specs.Points.{box_width_lem}
 use Rattle.definition.specs.Tree.{Settings, Leaf, Level, most_depth}
-use Rattle.definition.specs.Packed.{most_levels, leaf_floats, build_stated, packed_level_points, packed_internals, packed_domains, packed_borrowed}
+use Rattle.definition.specs.Packed.{most_levels, leaf_floats, tree_stated, packed_level_points, packed_internals, packed_domains, packed_borrowed}
 
 -- ---- lists
 
@@ -89,7 +89,7 @@ first_all n (l ∷ ls) = same l.points (from 0 n)
 -- no more than document 01's lists hold
 unfoldable pub fits : ℕ → ℕ → ℕ → List Level → Bool
 fits d n neighbours ls =
-    let stated = build_stated d n neighbours in
+    let stated = tree_stated d n neighbours in
     leb (length (packed_level_points ls)) stated.level_points && leb (length (packed_internals ls)) stated.internals
     && leb (length (packed_domains ls)) stated.domains && leb (length (packed_borrowed ls)) stated.borrowed
 

@@ -16,7 +16,7 @@ use Rattle.definition.specs.Points.{box_width_lem}
 use Rattle.definition.specs.Tree.{Settings, Leaf, Level, most_fine, levels, point_count}
 use Rattle.definition.specs.Packed.{Counts, counts_of, leaves_in_lem, packed_level_points, packed_internals, packed_domains, packed_boxes, packed_borrowed}
 use Rattle.definition.specs.Refusals.{accepted}
-use Rattle.definition.specs.Outcome.{TreeLists, lent_sizes, written, list_after, value_of, tree_lists_after, build_call, build_answer, build_lists}
+use Rattle.definition.specs.Outcome.{RecordLists, TreeLists, lent_sizes, written, list_after, value_of, tree_lists_after, build_call, build_answer, build_lists}
 use Rattle.definition_laws.proofs.Accepted.{build-accepted}
 use Rattle.definition_laws.proofs.Fit.{packed_fit}
 use Rattle.packed.specs.Reading.{packed}
@@ -79,14 +79,14 @@ lists-hold d ls old few boxed = record {
 }
 
 -- ---- a build that is accepted
-module _ (s : Settings) (cs : List Float) (old : TreeLists) (floats : List Float) (wholes : List ℕ) (e : build_call s cs old floats wholes ≡ accepted) where
+module _ (s : Settings) (cs : List Float) (old : TreeLists) (floats : List Float) (wholes : List ℕ) (records : RecordLists) (e : build_call s cs old floats wholes records ≡ accepted) where
   -- its counts and lists hold its tree
-  pub build-holds : Holds s.dimension (build_answer s cs old floats wholes).value (build_lists s cs old floats wholes) (levels s cs)
+  pub build-holds : Holds s.dimension (build_answer s cs old floats wholes records).value (build_lists s cs old floats wholes records) (levels s cs)
   unfolding build_answer build_lists value_of levels
   build-holds =
-      let a = build-accepted s cs (lent_sizes old floats wholes) e in
+      let a = build-accepted s cs (lent_sizes old floats wholes records) e in
       let fit = packed_fit s cs (from 0 (point_count s.dimension cs)) a.passes-all.axes a.passes-all.leaf_some a.good in
       rw e (lists-hold s.dimension (levels s cs) old fit.few fit.bounds)
 
-  pub built-held : tree_held s.dimension (build_answer s cs old floats wholes).value (build_lists s cs old floats wholes) ≡ levels s cs
-  built-held = held-is s.dimension (build_answer s cs old floats wholes).value (build_lists s cs old floats wholes) (levels s cs) build-holds
+  pub built-held : tree_held s.dimension (build_answer s cs old floats wholes records).value (build_lists s cs old floats wholes records) ≡ levels s cs
+  built-held = held-is s.dimension (build_answer s cs old floats wholes records).value (build_lists s cs old floats wholes records) (levels s cs) build-holds

@@ -1,6 +1,7 @@
 -- A tree that stands in the lists is written: a sound one in lists that are long enough, and so what a build that was accepted made.
 -- Assumes nothing.
--- Holds: write-passes, write-answers, write-fills, lists-still-long, write-of-build, write-of-build-answers, write-of-build-fills
+-- Holds: write-passes, write-answers, write-fills, lists-still-long, lent-long, write-of-build, write-of-build-answers,
+--   write-of-build-fills
 use mathlib.Core.Path.{◌≡◌, sym, ap, ◌∙◌}
 use mathlib.Core.Bool.{Bool, true, false, not, ◌&&◌, ◌||◌}
 use mathlib.Core.List.{List, [], ◌∷◌, ◌++◌}
@@ -13,10 +14,10 @@ use lib.Ieee.{Float}
 use Rattle.lists.specs.Ascends.{All}
 use Rattle.lists.proofs.Tests.{and-of, or-none}
 use Rattle.definition.specs.Tree.{Settings, Level, point_count, levels}
-use Rattle.definition.specs.Packed.{Counts, BuildSizes, build_stated, packed_level_points, packed_internals, packed_domains, packed_boxes, packed_borrowed}
-use Rattle.definition.specs.Refusals.{Test, Verdict, accepted, on, verdict, build_tests, build_verdict, coordinates_missing, not_finite_lem}
-use Rattle.definition.specs.Outcome.{TreeLists, number_of, place_of, value_of, lent_sizes, written, list_after, tree_lists_after, build_call, build_answer, build_lists}
-use Rattle.definition_laws.proofs.Accepted.{accepted-iff, both-accept, LentEnough, build-accepted}
+use Rattle.definition.specs.Packed.{Counts, TreeSizes, tree_stated, build_stated, packed_level_points, packed_internals, packed_domains, packed_boxes, packed_borrowed}
+use Rattle.definition.specs.Refusals.{tree_short, Test, Verdict, accepted, on, verdict, build_tests, build_verdict, coordinates_missing, not_finite_lem}
+use Rattle.definition.specs.Outcome.{RecordLists, TreeLists, number_of, place_of, value_of, lent_tree, lent_sizes, written, list_after, tree_lists_after, build_call, build_answer, build_lists}
+use Rattle.definition_laws.proofs.Accepted.{accepted-iff, both-accept, TreeEnough, build-accepted}
 use Rattle.stored.specs.File.{file_bytes}
 use Rattle.stored.specs.Sound.{sound}
 use Rattle.stored.specs.Outcome.{lists_short_lem, own_tests, packs, write_verdict, write_answer, write_output}
@@ -58,8 +59,8 @@ unfolding written
 still-long xs old k h =
     le-ltb (length (xs ++ drop (length xs) old)) k (omega (arith, ltb-false (length old) k h, length-append xs (drop (length xs) old), length-drop (length xs) old))
 
-pub lists-still-long : (ls : List Level) (old : TreeLists) (stated : BuildSizes) → lists_short_lem old stated ≡ false → lists_short_lem (tree_lists_after accepted ls old) stated ≡ false
-unfolding lists_short_lem tree_lists_after list_after
+pub lists-still-long : (ls : List Level) (old : TreeLists) (stated : TreeSizes) → lists_short_lem old stated ≡ false → lists_short_lem (tree_lists_after accepted ls old) stated ≡ false
+unfolding lists_short_lem tree_short tree_lists_after list_after
 lists-still-long ls old stated h =
     let a = ltb (length old.level_points) stated.level_points in
     let b = ltb (length old.internals) stated.internals in
@@ -78,10 +79,10 @@ lists-still-long ls old stated h =
       still-long (packed_borrowed ls) old.borrowed stated.borrowed p4.1,
     )
 
--- lists that a build may be lent are long enough
-lent-long : (old : TreeLists) (floats : List Float) (wholes : List ℕ) (stated : BuildSizes) → LentEnough (lent_sizes old floats wholes) stated → lists_short_lem old stated ≡ false
-unfolding lists_short_lem
-lent-long old floats wholes stated h =
+-- lists that a tree may be packed into are long enough
+pub lent-long : (old : TreeLists) (stated : TreeSizes) → TreeEnough (lent_tree old) stated → lists_short_lem old stated ≡ false
+unfolding lists_short_lem tree_short
+lent-long old stated h =
     rw (
       le-ltb (length old.level_points) stated.level_points h.level_points,
       le-ltb (length old.internals) stated.internals h.internals,
@@ -91,41 +92,41 @@ lent-long old floats wholes stated h =
     )
 
 -- ---- a build that is accepted
-module _ (s : Settings) (cs : List Float) (old : TreeLists) (floats : List Float) (wholes : List ℕ) (e : build_call s cs old floats wholes ≡ accepted) where
+module _ (s : Settings) (cs : List Float) (old : TreeLists) (floats : List Float) (wholes : List ℕ) (records : RecordLists) (e : build_call s cs old floats wholes records ≡ accepted) where
   abbrev n : ℕ
   n = point_count s.dimension cs
 
-  abbrev stated : BuildSizes
-  stated = build_stated s.dimension n s.neighbours
+  abbrev stated : TreeSizes
+  stated = tree_stated s.dimension n s.neighbours
 
   -- the build's own tests pass on the lists that it leaves
-  own-passes : verdict (own_tests s cs (build_lists s cs old floats wholes)) ≡ accepted
-  unfolding own_tests build_lists build_verdict
+  own-passes : verdict (own_tests s cs (build_lists s cs old floats wholes records)) ≡ accepted
+  unfolding own_tests build_lists build_verdict build_stated
   own-passes =
-      let a = build-accepted s cs (lent_sizes old floats wholes) e in
+      let a = build-accepted s cs (lent_sizes old floats wholes records) e in
       let tests : Bool → Verdict = λ lacking. verdict (build_tests s n (coordinates_missing s.dimension cs) lacking (not_finite_lem cs)) in
-      let short : lists_short_lem (tree_lists_after (build_call s cs old floats wholes) (levels s cs) old) stated ≡ false =
-      rw e (lists-still-long (levels s cs) old stated (lent-long old floats wholes stated a.enough)) in
+      let short : lists_short_lem (tree_lists_after (build_call s cs old floats wholes records) (levels s cs) old) stated ≡ false =
+      rw e (lists-still-long (levels s cs) old stated (lent-long old stated a.enough.tree)) in
       ap tests (short ∙ sym a.passes-all.none-short) ∙ e
 
   module _ (file : List ℕ) (room : length (file_bytes s cs (levels s cs)) ≤ length file) where
     abbrev counts : Counts
-    counts = (build_answer s cs old floats wholes).value
+    counts = (build_answer s cs old floats wholes records).value
 
     abbrev lists : TreeLists
-    lists = build_lists s cs old floats wholes
+    lists = build_lists s cs old floats wholes records
 
     holds : Holds s.dimension counts lists (levels s cs)
-    holds = build-holds s cs old floats wholes e
+    holds = build-holds s cs old floats wholes records e
 
     -- THE LAWS: its answer's counts and the lists that it leaves are written
-    pub write-of-build : write_verdict s cs (build_answer s cs old floats wholes).value (build_lists s cs old floats wholes) file ≡ accepted
-    write-of-build = write-passes s cs counts lists file (levels s cs) holds own-passes (built-sound s cs (lent_sizes old floats wholes) e) room
+    pub write-of-build : write_verdict s cs (build_answer s cs old floats wholes records).value (build_lists s cs old floats wholes records) file ≡ accepted
+    write-of-build = write-passes s cs counts lists file (levels s cs) holds own-passes (built-sound s cs (lent_sizes old floats wholes records) e) room
 
-    pub write-of-build-answers : write_answer s cs (build_answer s cs old floats wholes).value (build_lists s cs old floats wholes) file
+    pub write-of-build-answers : write_answer s cs (build_answer s cs old floats wholes records).value (build_lists s cs old floats wholes records) file
         ≡ record { number = 0; place = 0; value = length (file_bytes s cs (levels s cs)) }
     write-of-build-answers = write-answers s cs counts lists file (levels s cs) holds write-of-build
 
-    pub write-of-build-fills : write_output s cs (build_answer s cs old floats wholes).value (build_lists s cs old floats wholes) file
+    pub write-of-build-fills : write_output s cs (build_answer s cs old floats wholes records).value (build_lists s cs old floats wholes records) file
         ≡ file_bytes s cs (levels s cs) ++ drop (length (file_bytes s cs (levels s cs))) file
     write-of-build-fills = write-fills s cs counts lists file (levels s cs) holds write-of-build

@@ -14,7 +14,7 @@ use Rattle.lists.specs.Ascends.{All}
 use Rattle.lists.proofs.All.{all-imp, all_append}
 use Rattle.definition.specs.Points.{box_width_lem}
 use Rattle.definition.specs.Tree.{Settings, Leaf, Level, point_count}
-use Rattle.definition.specs.Packed.{most_levels, row_floats_lem, Counts, counts_of, build_stated, leaves_in_lem}
+use Rattle.definition.specs.Packed.{most_levels, row_floats_lem, Counts, counts_of, tree_stated, leaves_in_lem}
 use Rattle.definition.specs.Refusals.{Verdict, accepted}
 use Rattle.definition.specs.Outcome.{answered, number_of, place_of, value_of, TreeLists, written, list_after, tree_lists_after, zero_counts}
 use Rattle.stored.specs.File.{file_bytes}
@@ -52,13 +52,13 @@ module _ (s : Settings) (cs : List Float) (c : Counts) (l : TreeLists) (file : L
 
   -- the box list holds the floats of each leaf
   boxes-long : row_floats_lem s.dimension * length (leaves_in_lem tree) ≤ length l.boxes
-  unfolding build_stated
+  unfolding tree_stated
   boxes-long =
       le_trans (mul-le-mul_left (row_floats_lem s.dimension) (leaves-many s (point_count s.dimension cs) tree (writes-sound s cs c l file ok)))
       (own-boxes s cs l (writes-own s cs c l file ok))
 
   pub load-of-write : SettingsFit s → All FloatFits cs → All FloatFits l.boxes → (old : TreeLists)
-      → lists_short_lem old (build_stated s.dimension (point_count s.dimension cs) s.neighbours) ≡ false → LoadsBack s cs c l bytes_written old
+      → lists_short_lem old (tree_stated s.dimension (point_count s.dimension cs) s.neighbours) ≡ false → LoadsBack s cs c l bytes_written old
   load-of-write fit held boxes old long =
       let own = writes-own s cs c l file ok in
       let w = writes s cs c l file ok fit held boxes in
@@ -124,7 +124,7 @@ module _ (s : Settings) (cs : List Float) (bs : List ℕ) (old : TreeLists) (fit
     write-accepted =
         let own = loaded-own s cs bs old fit held ok in
         write-passes s cs c l file ls holds
-        (own-accepts s cs l (own-takes s cs old own) (own-whole s cs old own) (lists-still-long ls old (build_stated d (point_count d cs) s.neighbours) (own-long s cs old own)))
+        (own-accepts s cs l (own-takes s cs old own) (own-whole s cs old own) (lists-still-long ls old (tree_stated d (point_count d cs) s.neighbours) (own-long s cs old own)))
         (loaded-sound s cs bs old fit held ok)
         (omega (arith, room, ap length file-is))
 

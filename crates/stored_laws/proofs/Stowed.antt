@@ -21,7 +21,7 @@ use Rattle.lists.proofs.Ascends.{ascends-few}
 use Rattle.definition.specs.Number.{plus_zero}
 use Rattle.definition.specs.Points.{box_width_lem}
 use Rattle.definition.specs.Tree.{Settings, Leaf, Level, most_depth}
-use Rattle.definition.specs.Packed.{most_levels, most_rows, row_numbers, leaf_floats, build_stated, leaves_in_lem, packed_level_points, packed_internals, packed_domains, packed_borrowed}
+use Rattle.definition.specs.Packed.{most_levels, most_rows, row_numbers, leaf_floats, tree_stated, leaves_in_lem, packed_level_points, packed_internals, packed_domains, packed_borrowed}
 use Rattle.definition.specs.Refusals.{most_points}
 use Rattle.definition_laws.proofs.Fit.{length-domains}
 use Rattle.tree_tests.proofs.AllPass.{all-pass-each, ascending-ascends}
@@ -137,10 +137,10 @@ levels-stowed d n l (t ∷ ls) h k m b e =
 
 -- ---- the tree
 pub leaves-many : (s : Settings) (n : ℕ) (ls : List Level) → sound s n ls ≡ true → length (leaves_in_lem ls) ≤ most_rows n
-unfolding sound fits build_stated
+unfolding sound fits tree_stated
 leaves-many s n ls e =
     let d = s.dimension in
-    let stated = build_stated d n s.neighbours in
+    let stated = tree_stated d n s.neighbours in
     let t = (four-pass (leb (length ls) most_levels) (first_all n ls) (sound_levels d ls) (fits d n s.neighbours ls) e).3 in
     let g = four-pass (leb (length (packed_level_points ls)) stated.level_points) (leb (length (packed_internals ls)) stated.internals) (leb (length (packed_domains ls)) stated.domains) (leb (length (packed_borrowed ls)) stated.borrowed) t in
     let m : length (packed_domains ls) ≤ row_numbers * most_rows n = leb-true (length (packed_domains ls)) stated.domains g.2 in

@@ -10,8 +10,8 @@ use lib.Ieee.{Float}
 use borrow.Author.Tests.{ltb-false}
 use Rattle.lists.proofs.Tests.{or-none}
 use Rattle.definition.specs.Tree.{Settings, point_count}
-use Rattle.definition.specs.Packed.{build_stated}
-use Rattle.definition.specs.Refusals.{Verdict, accepted, verdict, coordinates_missing, not_finite_lem, build_tests}
+use Rattle.definition.specs.Packed.{tree_stated}
+use Rattle.definition.specs.Refusals.{tree_short, Verdict, accepted, verdict, coordinates_missing, not_finite_lem, build_tests}
 use Rattle.definition.specs.Outcome.{TreeLists}
 use Rattle.definition_laws.proofs.Accepted.{Passed, passed}
 use Rattle.stored.specs.Stored.{taken, buildable}
@@ -24,7 +24,7 @@ module _ (s : Settings) (cs : List Float) (old : TreeLists) where
   missing = coordinates_missing s.dimension cs
 
   abbrev short : Bool
-  short = lists_short_lem old (build_stated s.dimension (point_count s.dimension cs) s.neighbours)
+  short = lists_short_lem old (tree_stated s.dimension (point_count s.dimension cs) s.neighbours)
 
   abbrev verdict_for : Bool → Bool → Verdict
   verdict_for m l = verdict (build_tests s (point_count s.dimension cs) m l (not_finite_lem cs))
@@ -44,10 +44,10 @@ module _ (s : Settings) (cs : List Float) (old : TreeLists) where
     own-long = all-passed.none-short
 
     -- the box list among the five
-    pub own-boxes : (build_stated s.dimension (point_count s.dimension cs) s.neighbours).boxes ≤ length old.boxes
-    unfolding lists_short_lem
+    pub own-boxes : (tree_stated s.dimension (point_count s.dimension cs) s.neighbours).boxes ≤ length old.boxes
+    unfolding lists_short_lem tree_short
     own-boxes =
-        let stated = build_stated s.dimension (point_count s.dimension cs) s.neighbours in
+        let stated = tree_stated s.dimension (point_count s.dimension cs) s.neighbours in
         let a = ltb (length old.level_points) stated.level_points in
         let b = ltb (length old.internals) stated.internals in
         let c = ltb (length old.domains) stated.domains in

@@ -9,11 +9,11 @@ use lib.ListN.{length}
 use lib.Ieee.{Float}
 use Rattle.lists.specs.Lists.{keep, from}
 use Rattle.definition.specs.Tree.{Settings, levels_over}
-use Rattle.definition.specs.Packed.{Counts, counts_of, build_stated}
+use Rattle.definition.specs.Packed.{Counts, counts_of, tree_stated, build_stated}
 use Rattle.definition.specs.Refusals.{accepted}
-use Rattle.definition.specs.Outcome.{Answer, TreeLists, lent_sizes, answered, tree_lists_after, RoomAfter, zero_counts}
+use Rattle.definition.specs.Outcome.{RecordLists, Answer, TreeLists, lent_sizes, answered, tree_lists_after, record_lists_after, RoomAfter, zero_counts}
 use Rattle.definition.specs.Table.{Table, flagged, live_slots_lem}
-use Rattle.definition.specs.Slots.{rows_of, slots_call, slot_levels, slots_answer, slots_lists}
+use Rattle.definition.specs.Slots.{rows_of, slots_call, slot_levels, slots_answer, slots_lists, slots_records}
 use Rattle.rows.proofs.Good.{good-good}
 use Rattle.demand3.specs.Handed.{handed}
 use Rattle.demand3.specs.Demand3.{coarse_at, Demand3Over}
@@ -23,7 +23,7 @@ use Rattle.fine_level.specs.Fine.{Given}
 use Rattle.table_laws.proofs.Slots.{SlotsAccepted, slots-accepted}
 use Rattle.table_build.specs.Outcome.{BuiltSlots}
 
-module _ (s : Settings) (t : Table) (old : TreeLists) (floats : List Float) (wholes : List ℕ) (a : SlotsAccepted s t (lent_sizes old floats wholes)) where
+module _ (s : Settings) (t : Table) (old : TreeLists) (floats : List Float) (wholes : List ℕ) (records : RecordLists) (a : SlotsAccepted s t (lent_sizes old floats wholes records)) where
   -- its live slots are rows to build a level over
   pub slots-given : Given s.dimension t.coordinates s.leaf s.neighbours (rows_of t)
   slots-given = record {
@@ -40,8 +40,8 @@ module _ (s : Settings) (t : Table) (old : TreeLists) (floats : List Float) (who
   slots-fit = omega (arith, a.sound.within)
 
   pub slots-long : length (rows_of t) ≤ length old.level_points
-  unfolding build_stated
-  slots-long = omega (arith, a.many, a.enough.level_points)
+  unfolding build_stated tree_stated
+  slots-long = omega (arith, a.many, a.enough.tree.level_points)
 
   coarse-some : 1 ≤ coarse_at s (length (rows_of t))
   coarse-some = subst (λ (i : ℕ). 1 ≤ coarse_at s i) (sym a.many) a.passes-all.coarse-some
@@ -59,22 +59,25 @@ pub over-slots : (s : Settings) (t : Table) → slot_levels s t ≡ levels_over 
 unfolding slot_levels
 over-slots s t = refl
 
-module _ (s : Settings) (t : Table) (old : TreeLists) (floats : List Float) (wholes : List ℕ) {new : TreeLists} {answer : Answer Counts}
-    (answers : answer ≡ answered (slots_call s t old floats wholes) (counts_of (slot_levels s t)) zero_counts)
-    (lists : new ≡ tree_lists_after (slots_call s t old floats wholes) (slot_levels s t) old) where
-  demand : slots_call s t old floats wholes ≡ accepted → Demand3Over s t.coordinates (rows_of t) (handed answer new) × TreeDepths (handed answer new)
+module _ (s : Settings) (t : Table) (old : TreeLists) (floats : List Float) (wholes : List ℕ) (records : RecordLists) {new : TreeLists} {answer : Answer Counts}
+    (answers : answer ≡ answered (slots_call s t old floats wholes records) (counts_of (slot_levels s t)) zero_counts)
+    (lists : new ≡ tree_lists_after (slots_call s t old floats wholes records) (slot_levels s t) old) where
+  demand : slots_call s t old floats wholes records ≡ accepted → Demand3Over s t.coordinates (rows_of t) (handed answer new) × TreeDepths (handed answer new)
   unfolding slot_levels
   demand e =
-      let a = slots-accepted s t (lent_sizes old floats wholes) e in
+      let a = slots-accepted s t (lent_sizes old floats wholes records) e in
       let p = a.passes-all in
       let good = good-good (rows_of t) a.good in
-      let some = coarse-some s t old floats wholes a in
-      let reach = reaches s t old floats wholes a in (
-        rw (answers, lists) (demand-3-over s t.coordinates (rows_of t) p.axes p.leaf_some some reach good old (slots_call s t old floats wholes) e),
-        rw (answers, lists) (tree-depths-over s t.coordinates (rows_of t) p.axes p.leaf_some some reach good old (slots_call s t old floats wholes) e (omega (arith, a.many, p.rows_few))),
+      let some = coarse-some s t old floats wholes records a in
+      let reach = reaches s t old floats wholes records a in (
+        rw (answers, lists) (demand-3-over s t.coordinates (rows_of t) p.axes p.leaf_some some reach good old (slots_call s t old floats wholes records) e),
+        rw (answers, lists) (tree-depths-over s t.coordinates (rows_of t) p.axes p.leaf_some some reach good old (slots_call s t old floats wholes records) e (omega (arith, a.many, p.rows_few))),
       )
 
-  pub built-slots : {floats' : List Float} {wholes' : List ℕ} → RoomAfter (slots_call s t old floats wholes) floats floats' → RoomAfter (slots_call s t old floats wholes) wholes wholes'
-      → BuiltSlots s t old new floats floats' wholes wholes' answer
-  unfolding slots_answer slots_lists
-  built-slots f w = record { answers = answers; lists = lists; floats_free = f; wholes_free = w; demand3 = λ e. (demand e).0; depths = λ e. (demand e).1 }
+  pub built-slots : {floats' : List Float} {wholes' : List ℕ} {records' : RecordLists}
+      → records' ≡ record_lists_after (slots_call s t old floats wholes records) s t.coordinates (slot_levels s t) records
+      → RoomAfter (slots_call s t old floats wholes records) floats floats' → RoomAfter (slots_call s t old floats wholes records) wholes wholes'
+      → BuiltSlots s t old new floats floats' wholes wholes' records records' answer
+  unfolding slots_answer slots_lists slots_records
+  built-slots r f w =
+      record { answers = answers; lists = lists; records = r; floats_free = f; wholes_free = w; demand3 = λ e. (demand e).0; depths = λ e. (demand e).1 }

@@ -3,7 +3,7 @@
 
 ghost use Rattle.config.specs.Params.{settings_of_lem};
 ghost use Rattle.tree_answer.specs.Answers.{tree_answer_lem};
-ghost use Rattle.tree_lists.specs.Lent.{lists_in, SameLists, SameRoom};
+ghost use Rattle.tree_lists.specs.Lent.{lists_in, records_in, SameLists, SameRoom, SameRecords};
 ghost use Rattle.table_checks.specs.Tables.{table_in};
 ghost use Rattle.table_build.specs.Outcome.{BuiltSlots};
 
@@ -16,26 +16,24 @@ use tree_answer::DDMTree;
 use tree_lists::{Records, Room, TreeLists};
 
 // The build over the live slots, in slot order: rows in every list are slots, and n is the live count. A refused call writes to no list.
-// An accepted one writes its tree to the fronts of the five lists, and leaves what stands past it as it was; of the working room it
-// keeps only the length.
+// An accepted one writes its tree to the fronts of the five lists, and the records of its fine levels, one after the other, to the fronts of
+// `cuts` and `planes`; what stands past them stays as it was. Of the working room it keeps only the length.
 pub fn build_slots(
     table: Table<'_>,
     params: DDMParams,
     lists: &mut TreeLists<'_>,
     room: &mut Room<'_>,
+    records: &mut Records<'_>,
 ) -> Result<DDMTree, Refusal>
-    ensures same { SameLists lists.old lists.new × SameRoom room.old room.new }
+    ensures same { SameLists lists.old lists.new × SameRoom room.old room.new × SameRecords records.old records.new }
     ensures built { BuiltSlots (settings_of_lem table.entry.points.dimensions params) (table_in table.entry)
         (lists_in lists.old) (lists_in lists.new) room.old.floats.now room.new.floats.now
-        room.old.wholes.now room.new.wholes.now (tree_answer_lem result) }
+        room.old.wholes.now room.new.wholes.now
+        (records_in records.old) (records_in records.new) (tree_answer_lem result) }
 {
-    let lent = BuildSizes::lent(lists, room);
+    let lent = BuildSizes::lent(lists, room, records);
     slots_checks::check_slots(table, params, lent)?;
     live_slots::list_live(table, lists.level_points);
-    let mut records = Records {
-        cuts: &mut [],
-        planes: &mut [],
-    };
     Ok(grow_over::grow_over(
         Engine::Queue,
         table.points,
@@ -43,6 +41,6 @@ pub fn build_slots(
         table.head.live,
         lists,
         room,
-        &mut records,
+        records,
     ))
 }

@@ -1,6 +1,6 @@
 -- Over a table that 27 passes, whose slots are all live and fill its capacity, with the coordinates of exactly that many points, the build
--- over slots is the build: its verdict, its answer and every list. Assumes nothing.
--- Holds: places-below, first-place, judged-same, all_live, same-levels, same-verdicts, same-answers, same_lists
+-- over slots is the build: its verdict, its answer, every list and the records. Assumes nothing.
+-- Holds: places-below, first-place, judged-same, all_live, same-levels, same-verdicts, same-answers, same_lists, same-records
 use mathlib.Core.Path.{◌≡◌, refl, sym, ap, ap₂, ◌∙◌}
 use mathlib.Core.Logic.{⊎_elim}
 use mathlib.Core.Bool.{Bool, true, false, not, ◌||◌, cond}
@@ -20,9 +20,9 @@ use Rattle.lists.proofs.Joined.{joined-nil, joined-map-snoc}
 use Rattle.definition.specs.Tree.{Settings, Level, levels, levels_over, point_count}
 use Rattle.definition.specs.Packed.{BuildSizes, build_stated, counts_of}
 use Rattle.definition.specs.Refusals.{Refusal, Test, Verdict, refused, on, verdict, wrong_dimension_lem, coordinates_missing, first_bad, not_finite_lem, settings_tests, points_tests, build_short, build_tests, build_verdict}
-use Rattle.definition.specs.Outcome.{TreeLists, answered, value_of, list_after, tree_lists_after, zero_counts, build_answer, build_lists}
+use Rattle.definition.specs.Outcome.{RecordLists, TreeLists, answered, value_of, list_after, tree_lists_after, record_lists_after, zero_counts, build_answer, build_lists, build_records}
 use Rattle.definition.specs.Table.{Table, capacity, unsound, coordinates_short}
-use Rattle.definition.specs.Slots.{places_of_rows, bad_at, rows_not_finite, rows_of, slots_verdict, slot_levels, slots_answer, slots_lists}
+use Rattle.definition.specs.Slots.{places_of_rows, bad_at, rows_not_finite, rows_of, slots_verdict, slot_levels, slots_answer, slots_lists, slots_records}
 use Rattle.definition_laws.proofs.Accepted.{decides, pass, right-dimension, build-accepted}
 use Rattle.table_laws.proofs.Outcomes.{same_outcome}
 use Rattle.table_laws.proofs.Live.{Sound, sound-table, live-mem}
@@ -143,17 +143,21 @@ module _ (s : Settings) (t : Table) (sound : Sound t) (live : t.head.live ≡ t.
       (λ (w : wrong_dimension_lem d ≡ false). fine-own lent (right-dimension d w).0)
       (true-or-false (wrong_dimension_lem d))
 
-  -- ---- the answer, and every list
+  -- ---- the answer, every list, and the records
   same-tree : {A : Type 0} (f : Verdict → List Level → A) → ((r : Refusal) (x y : List Level) → f (refused r) x ≡ f (refused r) y) → (lent : BuildSizes)
       → f (slots_verdict s t lent) (slot_levels s t) ≡ f (build_verdict s t.coordinates lent) (levels s t.coordinates)
   same-tree f refuses lent =
       same_outcome f refuses (build_verdict s cs lent) (slots_verdict s t lent) (levels s cs) (slot_levels s t) (same-verdicts lent) (λ e. same-levels (build-accepted s cs lent e).passes-all.axes)
 
-  module _ (old : TreeLists) (floats : List Float) (wholes : List ℕ) where
-    pub same-answers : slots_answer s t old floats wholes ≡ build_answer s t.coordinates old floats wholes
+  module _ (old : TreeLists) (floats : List Float) (wholes : List ℕ) (records : RecordLists) where
+    pub same-answers : slots_answer s t old floats wholes records ≡ build_answer s t.coordinates old floats wholes records
     unfolding slots_answer build_answer value_of
     same-answers = same-tree (λ v ls. answered v (counts_of ls) zero_counts) (λ r x y. refl) _
 
-    pub same_lists : slots_lists s t old floats wholes ≡ build_lists s t.coordinates old floats wholes
+    pub same_lists : slots_lists s t old floats wholes records ≡ build_lists s t.coordinates old floats wholes records
     unfolding slots_lists build_lists tree_lists_after list_after
     same_lists = same-tree (λ v ls. tree_lists_after v ls old) (λ r x y. refl) _
+
+    pub same-records : slots_records s t old floats wholes records ≡ build_records s t.coordinates old floats wholes records
+    unfolding slots_records build_records record_lists_after list_after
+    same-records = same-tree (λ v ls. record_lists_after v s cs ls records) (λ r x y. refl) _

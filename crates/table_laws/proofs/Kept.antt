@@ -1,5 +1,6 @@
--- A build after closing is the build before it: the same refusal, or the same tree with its rows renamed by the list that closing wrote.
--- Assumes nothing.
+-- A build after closing is the build before it: the same refusal, or the same tree with its rows renamed by the list that closing wrote;
+-- and the same records of its cuts. Assumes nothing.
+-- Holds: close-verdict, close-levels, close-records, closed-keeps
 use mathlib.Core.Path.{◌≡◌, ap, ◌∙◌}
 use mathlib.Core.List.{List, map}
 use Prim.Native.Nat.{ℕ, ◌*◌, min}
@@ -9,13 +10,14 @@ use lib.Ieee.{Float}
 use Rattle.definition.specs.Tree.{Settings}
 use Rattle.definition.specs.Packed.{BuildSizes}
 use Rattle.definition.specs.Refusals.{accepted, most_points}
-use Rattle.definition.specs.Outcome.{TreeLists}
+use Rattle.definition.specs.Record.{nodes_in}
+use Rattle.definition.specs.Outcome.{TreeLists, RecordLists}
 use Rattle.definition.specs.Table.{Table, unsound, coordinates_short}
 use Rattle.definition.specs.Slots.{slots_verdict, slot_levels}
 use Rattle.definition.specs.Closing.{close_verdict, closed, close_table}
 use Rattle.renaming_laws.specs.Renaming.{renamed_level, renamed_verdict}
 use Rattle.table_laws.proofs.Closing.{Closes, closes, closed-flags-length, closed-sound, closed-length, new_slot, closed_is, rows-renamed, close-renames}
-use Rattle.table_laws.proofs.Renamed.{TablesRenamed, SlotsRenamed, verdict-renamed, slot-levels-renamed, slots-renamed}
+use Rattle.table_laws.proofs.Renamed.{TablesRenamed, SlotsRenamed, verdict-renamed, slot-levels-renamed, slot-records-renamed, slots-renamed}
 
 module _ (s : Settings) (t : Table) (rename : List ℕ) (e : close_verdict s.dimension t (length rename) ≡ accepted) where
   abbrev d : ℕ
@@ -49,6 +51,11 @@ module _ (s : Settings) (t : Table) (rename : List ℕ) (e : close_verdict s.dim
   pub close-levels : slot_levels s (close_table s.dimension t rename) ≡ map (renamed_level (new_slot s.dimension t rename)) (slot_levels s t)
   close-levels = slot-levels-renamed s t (close_table d t rename) (new_slot d t rename) close-tables
 
-  -- THE LAW: the answer and every list
-  pub closed-keeps : (old : TreeLists) (floats : List Float) (wholes : List ℕ) → SlotsRenamed s t (close_table s.dimension t rename) (new_slot s.dimension t rename) old floats wholes
-  closed-keeps old floats wholes = slots-renamed s t (close_table d t rename) (new_slot d t rename) close-tables old floats wholes
+  -- the records of its cuts
+  pub close-records : nodes_in s (close_table s.dimension t rename).coordinates (slot_levels s (close_table s.dimension t rename)) ≡ nodes_in s t.coordinates (slot_levels s t)
+  close-records = slot-records-renamed s t (close_table d t rename) (new_slot d t rename) close-tables
+
+  -- THE LAW: the answer, every list and the records
+  pub closed-keeps : (old : TreeLists) (floats : List Float) (wholes : List ℕ) (records : RecordLists)
+      → SlotsRenamed s t (close_table s.dimension t rename) (new_slot s.dimension t rename) old floats wholes records
+  closed-keeps old floats wholes records = slots-renamed s t (close_table d t rename) (new_slot d t rename) close-tables old floats wholes records

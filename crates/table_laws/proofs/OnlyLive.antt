@@ -1,7 +1,7 @@
 -- A build over slots sees the live slots only: it is the build over their coordinates laid one after the other, with the live slots as names
 -- of its rows; and what stands elsewhere in the coordinates changes nothing. Assumes nothing.
--- Holds: live_slot, compact-verdict, compact-levels, Compacted, compact-accepted, slots-compacted, verdict-only-live,
---   slots-only-live
+-- Holds: live_slot, compact-verdict, compact-levels, compact-records, Compacted, compact-accepted, slots-compacted,
+--   verdict-only-live, slots-only-live
 use mathlib.Core.Path.{◌≡◌, refl, sym, ap, ap₂, ◌∙◌}
 use mathlib.Core.Logic.{⊎_elim}
 use mathlib.Core.Bool.{Bool, true, false, cond}
@@ -21,22 +21,23 @@ use Rattle.lists.proofs.Map.{map_same}
 use Rattle.lists.proofs.Members.{member-mem}
 use Rattle.definition.specs.Points.{coordinate}
 use Rattle.definition.specs.Tree.{Settings, Leaf, Level, levels}
+use Rattle.definition.specs.Record.{Node, nodes_in}
 use Rattle.definition.specs.Packed.{packed_level_points, packed_internals, packed_borrowed, BuildSizes, Counts, counts_of}
 use Rattle.definition.specs.Refusals.{Verdict, accepted, refused, Refusal, on, wrong_dimension_lem, most_points, build_verdict}
-use Rattle.definition.specs.Outcome.{answered, value_of, list_after, TreeLists, lent_sizes, tree_lists_after, zero_counts, build_answer, build_lists}
+use Rattle.definition.specs.Outcome.{RecordLists, answered, value_of, list_after, TreeLists, lent_sizes, tree_lists_after, zero_counts, build_answer, build_lists, build_records}
 use Rattle.definition.specs.Table.{Table, capacity, flagged, live_slots_lem, unsound}
-use Rattle.definition.specs.Slots.{rows_of, slots_verdict, slot_levels, slots_call, slots_answer, slots_lists}
+use Rattle.definition.specs.Slots.{rows_of, slots_verdict, slot_levels, slots_call, slots_answer, slots_lists, slots_records}
 use Rattle.definition.specs.Closing.{live_coordinates}
 use Rattle.definition.specs.Edits.{lending}
 use Rattle.definition_laws.proofs.Accepted.{decides, pass, right-dimension}
 use Rattle.renaming_laws.specs.Renaming.{renamed_leaf, renamed_level, renamed_verdict, ListsRenamed}
 use Rattle.table_laws.proofs.Ranks.{keep-every}
-use Rattle.table_laws.proofs.Outcomes.{same_outcome}
+use Rattle.table_laws.proofs.Outcomes.{same_outcome, node_lists, by-nodes}
 use Rattle.table_laws.proofs.Live.{Sound, sound-table, is-sound, nonzero}
 use Rattle.table_laws.proofs.Slots.{live-ascends, slots-accepted, slots-covered, live-most, own_tests, own-wrong}
 use Rattle.table_laws.proofs.AllLive.{same-verdicts, same-levels}
 use Rattle.table_laws.proofs.Closing.{live-length, live-point}
-use Rattle.table_laws.proofs.Renamed.{TablesRenamed, verdict-renamed, slot-levels-renamed, packed-renamed, lists-renamed}
+use Rattle.table_laws.proofs.Renamed.{TablesRenamed, verdict-renamed, slot-levels-renamed, slot-records-renamed, packed-renamed, lists-renamed}
 
 -- ---- the table of the live slots alone
 abbrev compact : ℕ → Table → Table
@@ -100,19 +101,25 @@ module _ (s : Settings) (t : Table) (some : 1 ≤ s.dimension) (sound : Sound t)
       slot-levels-renamed s (compact s.dimension t) t (live_slot t) (compact-tables s.dimension t some sound covered)
       ∙ ap (map (renamed_level (live_slot t))) (same-levels s (compact s.dimension t) (compact-sound s.dimension t some sound covered) refl (filled s.dimension t some sound covered) (compact-long s.dimension t some sound covered) some)
 
+  pub compact-records : nodes_in s t.coordinates (slot_levels s t) ≡ nodes_in s (live_coordinates s.dimension t) (levels s (live_coordinates s.dimension t))
+  compact-records =
+      slot-records-renamed s (compact s.dimension t) t (live_slot t) (compact-tables s.dimension t some sound covered)
+      ∙ ap (nodes_in s (live_coordinates s.dimension t)) (same-levels s (compact s.dimension t) (compact-sound s.dimension t some sound covered) refl (filled s.dimension t some sound covered) (compact-long s.dimension t some sound covered) some)
+
 -- ---- an accepted build over slots is the build over the coordinates of the live slots
 
 renamed-accepted : (d : ℕ) (f : ℕ → ℕ) (v : Verdict) → renamed_verdict d f v ≡ accepted → v ≡ accepted
 renamed-accepted d f accepted e = refl
 renamed-accepted d f (refused r) e = let z : ◌≡◌ {A = ℕ} 0 1 = cc in absurd (omega arith)
 
-pub record Compacted (s : Settings) (t : Table) (old : TreeLists) (floats : List Float) (wholes : List ℕ) : Type 0 where
-  pub accepts : build_verdict s (live_coordinates s.dimension t) (lent_sizes old floats wholes) ≡ accepted
+pub record Compacted (s : Settings) (t : Table) (old : TreeLists) (floats : List Float) (wholes : List ℕ) (records-old : RecordLists) : Type 0 where
+  pub accepts : build_verdict s (live_coordinates s.dimension t) (lent_sizes old floats wholes records-old) ≡ accepted
   pub tree : slot_levels s t ≡ map (renamed_level (live_slot t)) (levels s (live_coordinates s.dimension t))
-  pub answer : slots_answer s t old floats wholes ≡ build_answer s (live_coordinates s.dimension t) old floats wholes
+  pub answer : slots_answer s t old floats wholes records-old ≡ build_answer s (live_coordinates s.dimension t) old floats wholes records-old
   pub lists : ListsRenamed (live_slot t) (length (packed_level_points (levels s (live_coordinates s.dimension t))))
       (length (packed_internals (levels s (live_coordinates s.dimension t)))) (length (packed_borrowed (levels s (live_coordinates s.dimension t))))
-      (build_lists s (live_coordinates s.dimension t) old floats wholes) (slots_lists s t old floats wholes)
+      (build_lists s (live_coordinates s.dimension t) old floats wholes records-old) (slots_lists s t old floats wholes records-old)
+  pub records : slots_records s t old floats wholes records-old ≡ build_records s (live_coordinates s.dimension t) old floats wholes records-old
 
 module _ (s : Settings) (t : Table) where
   pub compact-accepted : (lent : BuildSizes) → slots_verdict s t lent ≡ accepted
@@ -125,17 +132,32 @@ module _ (s : Settings) (t : Table) where
         compact-levels s t a.passes-all.axes sound covered,
       )
 
-  -- THE LAW: with the same lent lists
-  pub slots-compacted : (old : TreeLists) (floats : List Float) (wholes : List ℕ) → slots_call s t old floats wholes ≡ accepted → Compacted s t old floats wholes
-  unfolding slots_answer build_answer slots_lists build_lists
-  slots-compacted old floats wholes e =
+  compacted-nodes : (lent : BuildSizes) → slots_verdict s t lent ≡ accepted
+      → nodes_in s t.coordinates (slot_levels s t) ≡ nodes_in s (live_coordinates s.dimension t) (levels s (live_coordinates s.dimension t))
+  compacted-nodes lent e = let a = slots-accepted s t lent e in compact-records s t a.passes-all.axes (is-sound t.head t.flags a.sound) (slots-covered s t lent e)
+
+  compacted-records : (old : TreeLists) (floats : List Float) (wholes : List ℕ) (records : RecordLists) → slots_call s t old floats wholes records ≡ accepted
+      → slots_records s t old floats wholes records ≡ build_records s (live_coordinates s.dimension t) old floats wholes records
+  unfolding slots_records build_records
+  compacted-records old floats wholes records e =
       let cs = live_coordinates s.dimension t in
-      let both = compact-accepted (lent_sizes old floats wholes) e in
+      let lent = lent_sizes old floats wholes records in
+      by-nodes (slots_verdict s t lent) s t.coordinates (slot_levels s t) records
+      ∙ ap₂ (λ (v : Verdict) (ns : List Node). node_lists v ns records) (e ∙ sym (compact-accepted lent e).0) (compacted-nodes lent e)
+      ∙ sym (by-nodes (build_verdict s cs lent) s cs (levels s cs) records)
+
+  -- THE LAW: with the same lent lists
+  pub slots-compacted : (old : TreeLists) (floats : List Float) (wholes : List ℕ) (records : RecordLists) → slots_call s t old floats wholes records ≡ accepted → Compacted s t old floats wholes records
+  unfolding slots_answer build_answer slots_lists build_lists
+  slots-compacted old floats wholes records e =
+      let cs = live_coordinates s.dimension t in
+      let both = compact-accepted (lent_sizes old floats wholes records) e in
       record {
         accepts = both.0;
         tree = both.1;
         answer = ap₂ (λ (v : Verdict) (c : Counts). answered v c zero_counts) (e ∙ sym both.0) (ap counts_of both.1 ∙ (packed-renamed (live_slot t) (levels s cs)).counts);
         lists = rw (e, both.0, both.1) (lists-renamed (live_slot t) (levels s cs) old);
+        records = compacted-records old floats wholes records e;
       }
 
 -- ---- coordinates that agree at the live slots
@@ -198,9 +220,31 @@ module _ (s : Settings) (t : Table) (cs : List Float) (long : length cs ≡ leng
   tree-only-live f refuses lent =
       same_outcome f refuses (slots_verdict s t lent) (slots_verdict s (lending t cs) lent) (slot_levels s t) (slot_levels s (lending t cs)) (verdict-only-live s t cs long agree lent) (levels-only-live lent)
 
-  -- THE LAW: the answer and every list are the same
-  pub slots-only-live : (old : TreeLists) (floats : List Float) (wholes : List ℕ)
-      → (slots_answer s (lending t cs) old floats wholes ≡ slots_answer s t old floats wholes) × (slots_lists s (lending t cs) old floats wholes ≡ slots_lists s t old floats wholes)
+  nodes-only-live : (lent : BuildSizes) → slots_verdict s t lent ≡ accepted → nodes_in s cs (slot_levels s (lending t cs)) ≡ nodes_in s t.coordinates (slot_levels s t)
+  nodes-only-live lent e =
+      let a = slots-accepted s t lent e in
+      slot-records-renamed s t (lending t cs) (λ i. i) (same_tables s t cs long agree a.passes-all.axes (is-sound t.head t.flags a.sound))
+
+  records-only-live : (old : TreeLists) (floats : List Float) (wholes : List ℕ) (records : RecordLists)
+      → slots_records s (lending t cs) old floats wholes records ≡ slots_records s t old floats wholes records
+  unfolding slots_records list_after
+  records-only-live old floats wholes records =
+      let lent = lent_sizes old floats wholes records in
+      let before = nodes_in s t.coordinates (slot_levels s t) in
+      let after = nodes_in s cs (slot_levels s (lending t cs)) in
+      by-nodes (slots_verdict s (lending t cs) lent) s cs (slot_levels s (lending t cs)) records
+      ∙ same_outcome (λ (v : Verdict) (ns : List Node). node_lists v ns records) (λ r x y. refl) (slots_verdict s t lent) (slots_verdict s (lending t cs) lent) before after
+      (verdict-only-live s t cs long agree lent) (nodes-only-live lent)
+      ∙ sym (by-nodes (slots_verdict s t lent) s t.coordinates (slot_levels s t) records)
+
+  -- THE LAW: the answer, every list and the records are the same
+  pub slots-only-live : (old : TreeLists) (floats : List Float) (wholes : List ℕ) (records : RecordLists)
+      → (slots_answer s (lending t cs) old floats wholes records ≡ slots_answer s t old floats wholes records)
+      × (slots_lists s (lending t cs) old floats wholes records ≡ slots_lists s t old floats wholes records)
+      × (slots_records s (lending t cs) old floats wholes records ≡ slots_records s t old floats wholes records)
   unfolding slots_answer slots_lists value_of tree_lists_after list_after
-  slots-only-live old floats wholes =
-      (tree-only-live (λ v ls. answered v (counts_of ls) zero_counts) (λ r x y. refl) _, tree-only-live (λ v ls. tree_lists_after v ls old) (λ r x y. refl) _)
+  slots-only-live old floats wholes records = (
+    tree-only-live (λ v ls. answered v (counts_of ls) zero_counts) (λ r x y. refl) _,
+    tree-only-live (λ v ls. tree_lists_after v ls old) (λ r x y. refl) _,
+    records-only-live old floats wholes records,
+  )

@@ -1,15 +1,19 @@
--- What a verdict makes of a value and of a lent list, and what stands in a list that was written to at its front. Assumes nothing.
--- Holds: accepted-or, value-accepted, value-refused, list-accepted, same_outcome, written-front, written-rest, length-written,
---   get_d-written, written_same
+-- What a verdict makes of a value, of a lent list and of the lists of the records, and what stands in a list that was written to at its
+-- front. Assumes nothing.
+-- Holds: accepted-or, value-accepted, value-refused, list-accepted, same_outcome, node_lists, by-nodes, node-lists-refused,
+--   written-front, written-rest, length-written, get_d-written, written_same
 use mathlib.Core.Path.{◌≡◌, refl, ap, ap₂, ◌∙◌}
 use mathlib.Core.Logic.{◌⊎◌, inl, inr}
-use mathlib.Core.List.{List}
+use mathlib.Core.List.{List, map}
 use Prim.Native.Nat.{ℕ, ◌≤◌, ◌<◌}
 use native.Mathlib.Omega.{arith}
 use lib.ListN.{length, get_or, take, drop, length-append, length-drop, take-append-drop, get_or-append}
+use lib.Ieee.{Float}
 use lib.Seq.{length-take-le, take-append_seam, drop-append_seam}
+use Rattle.definition.specs.Tree.{Settings, Level}
+use Rattle.definition.specs.Record.{Node, whole_of, float_of, nodes_in, packed_cuts, packed_planes}
 use Rattle.definition.specs.Refusals.{Verdict, accepted, refused, Refusal}
-use Rattle.definition.specs.Outcome.{value_of, written, list_after}
+use Rattle.definition.specs.Outcome.{value_of, written, list_after, RecordLists, record_lists_after}
 
 -- ---- a verdict is accepted, or a refusal
 pub accepted-or : (v : Verdict) → (v ≡ accepted) ⊎ ((r : Refusal) × (v ≡ refused r))
@@ -33,6 +37,19 @@ module _ {A : Type 0} (v : Verdict) where
 pub same_outcome : {A B : Type 0} (f : Verdict → B → A) → ((r : Refusal) (x y : B) → f (refused r) x ≡ f (refused r) y) → (v w : Verdict) (x y : B) → w ≡ v → (v ≡ accepted → y ≡ x) → f w y ≡ f v x
 same_outcome f refuses accepted w x y e same = ap₂ f e (same refl)
 same_outcome {B = B} f refuses (refused r) w x y e same = ap (λ (u : Verdict). f u y) e ∙ refuses r y x
+
+-- ---- the two lists of the records: what becomes of them goes by the nodes
+abbrev pub node_lists : Verdict → List Node → RecordLists → RecordLists
+node_lists v ns old = record { cuts = list_after v (map whole_of ns) old.cuts; planes = list_after v (map float_of ns) old.planes }
+
+pub by-nodes : (v : Verdict) (s : Settings) (cs : List Float) (tree : List Level) (old : RecordLists) → record_lists_after v s cs tree old ≡ node_lists v (nodes_in s cs tree) old
+unfolding record_lists_after packed_cuts packed_planes
+by-nodes v s cs tree old = refl
+
+-- a refusal leaves them as found
+pub node-lists-refused : (v : Verdict) (ns : List Node) (old : RecordLists) (r : Refusal) → v ≡ refused r → node_lists v ns old ≡ old
+unfolding list_after
+node-lists-refused v ns old r e = rw e
 
 -- ---- a list with xs written to its front
 module _ {A : Type 0} (xs old : List A) where

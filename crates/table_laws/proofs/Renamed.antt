@@ -1,7 +1,7 @@
--- Two tables with the same wells live, under other slots: the build over slots tries the same tests, and answers and packs the same tree
--- with its rows renamed. Assumes nothing.
+-- Two tables with the same wells live, under other slots: the build over slots tries the same tests, answers and packs the same tree
+-- with its rows renamed, and writes the same records. Assumes nothing.
 -- Holds: places-renamed, judged-renamed, PackedRenamed, packed-renamed, lists-renamed, AnswerRenamed, TablesRenamed,
---   SlotsRenamed, verdict-renamed, slot-levels-renamed, slots-renamed
+--   SlotsRenamed, verdict-renamed, slot-levels-renamed, slot-records-renamed, slots-renamed
 use mathlib.Core.Path.{◌≡◌, refl, sym, ap, ap₂, subst, ◌∙◌}
 use mathlib.Core.Logic.{⊎_elim}
 use mathlib.Core.Bool.{Bool, true, false, not, ◌||◌, cond}
@@ -22,16 +22,18 @@ use Rattle.lists.proofs.From.{from-mem, map-from-shift, map-below-same}
 use Rattle.lists.proofs.Map.{get_d-map-in, map-joined, map_same}
 use Rattle.lists.proofs.Members.{any-mem, joined-mem, map-mem, mem-member}
 use Rattle.definition.specs.Tree.{Settings, Leaf, Level, levels_over}
+use Rattle.definition.specs.Record.{Node, nodes_in}
 use Rattle.definition.specs.Packed.{leaves_in_lem, leaf_floats, packed_level_points, packed_internals, stretches, packed_domains, packed_boxes, packed_borrowed, most_levels, per_level, BuildSizes, build_stated, Counts, counts_of}
 use Rattle.definition.specs.Refusals.{Refusal, Test, Verdict, accepted, refused, on, verdict, settings_tests, points_tests, build_short, build_tests}
-use Rattle.definition.specs.Outcome.{Answer, answered, number_of, place_of, value_of, written, list_after, TreeLists, tree_lists_after, zero_counts}
+use Rattle.definition.specs.Outcome.{RecordLists, Answer, answered, number_of, place_of, value_of, written, list_after, TreeLists, tree_lists_after, zero_counts}
 use Rattle.definition.specs.Table.{Table, unsound, coordinates_short}
-use Rattle.definition.specs.Slots.{places_of_rows, bad_at, rows_not_finite, rows_of, slots_verdict, slot_levels, slots_call, slots_answer, slots_lists}
+use Rattle.definition.specs.Slots.{places_of_rows, bad_at, rows_not_finite, rows_of, slots_verdict, slot_levels, slots_call, slots_answer, slots_lists, slots_records}
 use Rattle.definition_laws.proofs.Accepted.{decides, pass}
 use Rattle.renaming_laws.specs.Renaming.{Renames, renamed_leaf, renamed_level, renamed_front, ListsRenamed, renamed_place, renamed_verdict}
 use Rattle.renaming_laws.proofs.RenamedLists.{keep-image, any-image}
 use Rattle.renaming_laws.proofs.Renaming.{levels-renamed}
-use Rattle.table_laws.proofs.Outcomes.{written-front, written-rest}
+use Rattle.renaming_laws.proofs.RenamedRecords.{record-over}
+use Rattle.table_laws.proofs.Outcomes.{node_lists, by-nodes, node-lists-refused, written-front, written-rest}
 use Rattle.table_laws.proofs.Live.{Sound, sound-table}
 use Rattle.table_laws.proofs.Slots.{own_tests, live-ascends}
 
@@ -209,6 +211,12 @@ unfolding number_of place_of value_of
 answers-renamed d f accepted tree = record { number = refl; place = refl; value = (packed-renamed f tree).counts }
 answers-renamed d f (refused r) tree = record { number = refl; place = refl; value = refl }
 
+-- ---- the records: a node names no row, and a renamed refusal is one
+nodes-after : (d : ℕ) (f : ℕ → ℕ) (v : Verdict) (ns : List Node) (old : RecordLists) → node_lists (renamed_verdict d f v) ns old ≡ node_lists v ns old
+unfolding list_after
+nodes-after d f accepted ns old = refl
+nodes-after d f (refused r) ns old = refl
+
 -- ---- two tables that 27 passes: the live slots of the first, renamed, are those of the second, each with its coordinates
 pub record TablesRenamed (d : ℕ) (t t' : Table) (f : ℕ → ℕ) : Type 0 where
   pub some : 0 < d
@@ -219,12 +227,16 @@ pub record TablesRenamed (d : ℕ) (t t' : Table) (f : ℕ → ℕ) : Type 0 whe
   pub renames : Renames d t.coordinates t'.coordinates (rows_of t) f
 
 -- what the build over the slots of the one is to that over the slots of the other
-pub record SlotsRenamed (s : Settings) (t t' : Table) (f : ℕ → ℕ) (old : TreeLists) (floats : List Float) (wholes : List ℕ) : Type 0 where
-  pub answer : AnswerRenamed s.dimension f (slots_answer s t old floats wholes) (slots_answer s t' old floats wholes)
-  pub lists : slots_call s t old floats wholes ≡ accepted
+pub record SlotsRenamed (s : Settings) (t t' : Table) (f : ℕ → ℕ) (old : TreeLists) (floats : List Float) (wholes : List ℕ) (records-old : RecordLists) : Type 0 where
+  pub answer : AnswerRenamed s.dimension f (slots_answer s t old floats wholes records-old) (slots_answer s t' old floats wholes records-old)
+  pub lists : slots_call s t old floats wholes records-old ≡ accepted
       → ListsRenamed f (length (packed_level_points (slot_levels s t))) (length (packed_internals (slot_levels s t))) (length (packed_borrowed (slot_levels s t)))
-      (slots_lists s t old floats wholes) (slots_lists s t' old floats wholes)
-  pub untouched : (r : Refusal) → slots_call s t old floats wholes ≡ refused r → (slots_lists s t old floats wholes ≡ old) × (slots_lists s t' old floats wholes ≡ old)
+      (slots_lists s t old floats wholes records-old) (slots_lists s t' old floats wholes records-old)
+  -- both lists of the records are equal, also past the records
+  pub records : slots_records s t' old floats wholes records-old ≡ slots_records s t old floats wholes records-old
+  pub untouched : (r : Refusal) → slots_call s t old floats wholes records-old ≡ refused r
+      → (slots_lists s t old floats wholes records-old ≡ old) × (slots_lists s t' old floats wholes records-old ≡ old)
+      × (slots_records s t old floats wholes records-old ≡ records-old) × (slots_records s t' old floats wholes records-old ≡ records-old)
 
 module _ (s : Settings) (t t' : Table) (f : ℕ → ℕ) (r : TablesRenamed s.dimension t t' f) where
   abbrev d : ℕ
@@ -257,15 +269,22 @@ module _ (s : Settings) (t t' : Table) (f : ℕ → ℕ) (r : TablesRenamed s.di
       ap (levels_over s t'.coordinates) r.rows
       ∙ levels-renamed s t.coordinates t'.coordinates (rows_of t) f r.some (ascends-once (rows_of t) (live-ascends t)) r.renames
 
-  module _ (old : TreeLists) (floats : List Float) (wholes : List ℕ) where
-    abbrev call : Verdict
-    call = slots_call s t old floats wholes
+  -- the records of its cuts are the same
+  pub slot-records-renamed : nodes_in s t'.coordinates (slot_levels s t') ≡ nodes_in s t.coordinates (slot_levels s t)
+  unfolding slot_levels
+  slot-records-renamed =
+      ap (λ (rows : List ℕ). nodes_in s t'.coordinates (levels_over s t'.coordinates rows)) r.rows
+      ∙ record-over s t.coordinates t'.coordinates (rows_of t) f r.some r.renames (ascends-once (rows_of t) (live-ascends t))
 
-    answer-is : slots_answer s t' old floats wholes ≡ answered (renamed_verdict s.dimension f call) (counts_of (map (renamed_level f) (slot_levels s t))) zero_counts
+  module _ (old : TreeLists) (floats : List Float) (wholes : List ℕ) (records : RecordLists) where
+    abbrev call : Verdict
+    call = slots_call s t old floats wholes records
+
+    answer-is : slots_answer s t' old floats wholes records ≡ answered (renamed_verdict s.dimension f call) (counts_of (map (renamed_level f) (slot_levels s t))) zero_counts
     unfolding slots_answer
     answer-is = ap₂ (λ (v : Verdict) (tree : List Level). answered v (counts_of tree) zero_counts) (verdict-renamed _) slot-levels-renamed
 
-    lists-are : slots_lists s t' old floats wholes ≡ tree_lists_after (renamed_verdict s.dimension f call) (map (renamed_level f) (slot_levels s t)) old
+    lists-are : slots_lists s t' old floats wholes records ≡ tree_lists_after (renamed_verdict s.dimension f call) (map (renamed_level f) (slot_levels s t)) old
     unfolding slots_lists
     lists-are = ap₂ (λ (v : Verdict) (tree : List Level). tree_lists_after v tree old) (verdict-renamed _) slot-levels-renamed
 
@@ -273,11 +292,30 @@ module _ (s : Settings) (t t' : Table) (f : ℕ → ℕ) (r : TablesRenamed s.di
     unfolding tree_lists_after list_after
     refused-lists v tree q e = rw e
 
-    pub slots-renamed : SlotsRenamed s t t' f old floats wholes
+    records-first : slots_records s t old floats wholes records ≡ node_lists call (nodes_in s t.coordinates (slot_levels s t)) records
+    unfolding slots_records
+    records-first = by-nodes call s t.coordinates (slot_levels s t) records
+
+    records-are : slots_records s t' old floats wholes records ≡ slots_records s t old floats wholes records
+    unfolding slots_records
+    records-are =
+        by-nodes (slots_call s t' old floats wholes records) s t'.coordinates (slot_levels s t') records
+        ∙ ap₂ (λ (v : Verdict) (ns : List Node). node_lists v ns records) (verdict-renamed _) slot-records-renamed
+        ∙ nodes-after s.dimension f call (nodes_in s t.coordinates (slot_levels s t)) records ∙ sym records-first
+
+    pub slots-renamed : SlotsRenamed s t t' f old floats wholes records
     unfolding slots_answer slots_lists
     slots-renamed =
         record {
           answer = rw answer-is (answers-renamed s.dimension f call (slot_levels s t));
           lists = λ e. rw (lists-are, e) (lists-renamed f (slot_levels s t) old);
-          untouched = λ q e. (refused-lists call (slot_levels s t) q e, lists-are ∙ refused-lists (renamed_verdict s.dimension f call) (map (renamed_level f) (slot_levels s t)) _ (ap (renamed_verdict s.dimension f) e));
+          records = records-are;
+          untouched =
+              λ q e.
+              let as-found = records-first ∙ node-lists-refused call (nodes_in s t.coordinates (slot_levels s t)) records q e in (
+                refused-lists call (slot_levels s t) q e,
+                lists-are ∙ refused-lists (renamed_verdict s.dimension f call) (map (renamed_level f) (slot_levels s t)) _ (ap (renamed_verdict s.dimension f) e),
+                as-found,
+                records-are ∙ as-found,
+              );
         }

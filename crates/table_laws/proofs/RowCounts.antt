@@ -16,7 +16,7 @@ use Rattle.definition.specs.Levels.{threshold, reductions}
 use Rattle.definition.specs.Tree.{Settings, Leaf, Level, coarse_level_lem, fine_level_lem, most_fine, levels_over}
 use Rattle.definition.specs.Packed.{packed_level_points, packed_internals, most_levels, per_level, counts_of}
 use Rattle.definition.specs.Refusals.{accepted}
-use Rattle.definition.specs.Outcome.{TreeLists, value_of, lent_sizes}
+use Rattle.definition.specs.Outcome.{RecordLists, TreeLists, value_of, lent_sizes}
 use Rattle.definition.specs.Table.{Table}
 use Rattle.definition.specs.Slots.{rows_of, slot_levels, slots_call, slots_answer}
 use Rattle.definition.proofs.Steps.{fine_of}
@@ -76,11 +76,11 @@ module _ (s : Settings) (cs : List Float) (some : 0 < s.dimension) (leaf : 1 ≤
       )
 
 -- ---- THE LAW
-module _ (s : Settings) (t : Table) (old : TreeLists) (floats : List Float) (wholes : List ℕ) where
-  pub slots_counts : slots_call s t old floats wholes ≡ accepted
-      → (length (packed_level_points (slot_levels s t)) ≡ total (slots_answer s t old floats wholes).value.rows)
-      × (length (packed_internals (slot_levels s t)) ≡ total (slots_answer s t old floats wholes).value.rows)
+module _ (s : Settings) (t : Table) (old : TreeLists) (floats : List Float) (wholes : List ℕ) (records : RecordLists) where
+  pub slots_counts : slots_call s t old floats wholes records ≡ accepted
+      → (length (packed_level_points (slot_levels s t)) ≡ total (slots_answer s t old floats wholes records).value.rows)
+      × (length (packed_internals (slot_levels s t)) ≡ total (slots_answer s t old floats wholes records).value.rows)
   unfolding slots_answer slot_levels value_of
   slots_counts e =
-      let a = slots-accepted s t (lent_sizes old floats wholes) e in
+      let a = slots-accepted s t (lent_sizes old floats wholes records) e in
       rw e (counts-sum s t.coordinates a.passes-all.axes a.passes-all.leaf_some (rows_of t) (good-good (rows_of t) a.good))

@@ -9,12 +9,13 @@ use mathlib.Core.Bool.{true, false}
 use Rattle.definition.specs.Number.{plus_zero}
 use Rattle.definition.specs.Levels.{fixed}
 use Rattle.definition.specs.Tree.{Settings}
-use Rattle.definition.specs.Outcome.{Answer, zero_counts}
+use Rattle.definition.specs.Outcome.{Answer, RecordLists, zero_counts}
+use Rattle.definition.specs.Record.{cuts_of, level_cuts, leaves_under, leaf_number, nodes_from, record_of, fine_levels, nodes_in, packed_cuts, packed_planes}
 use Rattle.definition.specs.Table.{Table, live_slots_lem, next_slot, unsound, add_verdict, added, add_answer_lem, add_table, retire_verdict, retired, retire_answer_lem, retire_table}
 use Rattle.definition.specs.Closing.{rename_list, live_coordinates, close_verdict, closed, close_answer, close_table, close_rename}
 use Rattle.definition.specs.Edits.{adding, retiring, closing, edited, after_all}
-use Rattle.definition.specs.Slots.{places_of_rows, slots_verdict, slot_levels, slots_answer, slots_lists}
-use Rattle.definition.proofs.WorkedSamples.{opened, line, on_line, nines, float_room, whole_room}
+use Rattle.definition.specs.Slots.{places_of_rows, slots_verdict, slot_levels, slots_answer, slots_lists, slots_records}
+use Rattle.definition.proofs.WorkedSamples.{opened, line, on_line, nines, float_room, whole_room, record_nines, record_room}
 
 -- ---- tables
 
@@ -50,10 +51,26 @@ eight = table 7 4 (0 ∷ 1 ∷ 2 ∷ 0 ∷ 255 ∷ 0 ∷ 1 ∷ 9 ∷ []) (nan �
 abbrev spoiled : Table
 spoiled = table 7 4 (0 ∷ 1 ∷ 2 ∷ 0 ∷ 255 ∷ 0 ∷ 1 ∷ 9 ∷ []) (nan ∷ line (0 ∷ 1 ∷ []) ++ inf false ∷ line (3 ∷ []) ++ nan ∷ nan ∷ nan ∷ [])
 
+-- a refused build, with lists as long as stated for four points but for the record's: zero counts, and each list as found
+abbrev SlotsRefusedWith : RecordLists → Settings → Table → ℕ → ℕ → Type 0
+SlotsRefusedWith records s t number place =
+    (slots_answer s t (nines 4) (float_room 4) (whole_room 4) records ≡ record { number = number; place = place; value = zero_counts })
+    × (slots_lists s t (nines 4) (float_room 4) (whole_room 4) records ≡ nines 4)
+    × (slots_records s t (nines 4) (float_room 4) (whole_room 4) records ≡ records)
+
 abbrev SlotsRefused : Settings → Table → ℕ → ℕ → Type 0
-SlotsRefused s t number place =
-    (slots_answer s t (nines 4) (float_room 4) (whole_room 4) ≡ record { number = number; place = place; value = zero_counts })
-    × (slots_lists s t (nines 4) (float_room 4) (whole_room 4) ≡ nines 4)
+SlotsRefused = SlotsRefusedWith (record_room 4)
+
+-- the records of a build over the slots of this table, in lists that held nines
+abbrev records_over : Table → RecordLists
+records_over t = slots_records (on_line 2 2) t (nines 4) (float_room 4) (whole_room 4) (record_room 4)
+
+-- the record of document 01's example
+abbrev example_cuts : List ℕ
+example_cuts = (0 ∷ 0 ∷ 3 ∷ 4 ∷ 0 ∷ 5 ∷ 6 ∷ []) ++ replicate 41 9
+
+abbrev example_planes : List Float
+example_planes = line (3 ∷ 1 ∷ []) ++ (plus_zero ∷ plus_zero ∷ []) ++ line (7 ∷ []) ++ (plus_zero ∷ plus_zero ∷ []) ++ line (replicate 41 9)
 
 pub record Tables : Type 0 where
   -- adding: the lowest retired slot, though 255 and 2 are live too; then the next new one, over what stood there
@@ -87,22 +104,27 @@ pub record Tables : Type 0 where
       ∷ adding 1 (line (1 ∷ 2 ∷ 3 ∷ 4 ∷ 5 ∷ [])) (line (6 ∷ [])) ∷ adding 1 (line (1 ∷ 2 ∷ 3 ∷ 4 ∷ 5 ∷ [])) (line (8 ∷ [])) ∷ [])
       ≡ table 4 4 (1 ∷ 1 ∷ 255 ∷ 1 ∷ 0 ∷ []) (line (1 ∷ 2 ∷ 3 ∷ 8 ∷ 5 ∷ []))
   -- the build: document 01's example, with slots as rows
-  built-counts : slots_answer (on_line 2 2) eight (nines 4) (float_room 4) (whole_room 4)
+  built-counts : slots_answer (on_line 2 2) eight (nines 4) (float_room 4) (whole_room 4) (record_room 4)
       ≡ record { number = 0; place = 0; value = record { levels = 2; rows = 4 ∷ 2 ∷ 0 ∷ 0 ∷ []; domains = 4 ∷ 1 ∷ 0 ∷ 0 ∷ [] } }
-  built-points : (slots_lists (on_line 2 2) eight (nines 4) (float_room 4) (whole_room 4)).level_points ≡ 1 ∷ 2 ∷ 4 ∷ 6 ∷ 1 ∷ 2 ∷ replicate 10 9
-  built-own : (slots_lists (on_line 2 2) eight (nines 4) (float_room 4) (whole_room 4)).internals ≡ 1 ∷ 2 ∷ 4 ∷ 6 ∷ 1 ∷ 2 ∷ replicate 10 9
-  built-borrowed : (slots_lists (on_line 2 2) eight (nines 4) (float_room 4) (whole_room 4)).borrowed ≡ 2 ∷ 1 ∷ 4 ∷ 2 ∷ 6 ∷ 4 ∷ replicate 42 9
-  -- its refusals: 27 before 1; no live slot is 6; n in the level rule is the live count; short coordinates are 11; 10 at the slot's place
+  built-points : (slots_lists (on_line 2 2) eight (nines 4) (float_room 4) (whole_room 4) (record_room 4)).level_points ≡ 1 ∷ 2 ∷ 4 ∷ 6 ∷ 1 ∷ 2 ∷ replicate 10 9
+  built-own : (slots_lists (on_line 2 2) eight (nines 4) (float_room 4) (whole_room 4) (record_room 4)).internals ≡ 1 ∷ 2 ∷ 4 ∷ 6 ∷ 1 ∷ 2 ∷ replicate 10 9
+  built-borrowed : (slots_lists (on_line 2 2) eight (nines 4) (float_room 4) (whole_room 4) (record_room 4)).borrowed ≡ 2 ∷ 1 ∷ 4 ∷ 2 ∷ 6 ∷ 4 ∷ replicate 42 9
+  built-cuts : (records_over eight).cuts ≡ example_cuts
+  built-planes : (records_over eight).planes ≡ example_planes
+  -- its refusals: 27 before 1; no live slot is 6; n in the level rule is the live count; short coordinates are 11, and short lists of the
+  -- record, before 10; 10 at the slot's place
   slots-27 : SlotsRefused (record { dimension = 0; leaf = 0; neighbours = 0; factor = 0; policy = fixed 0 }) (table 7 5 eight.flags eight.coordinates) 27 0
   slots-1 : SlotsRefused (record { dimension = 0; leaf = 0; neighbours = 0; factor = 0; policy = fixed 0 }) eight 1 0
   slots-6 : SlotsRefused (on_line 2 2) (table 2 0 (0 ∷ 0 ∷ 1 ∷ []) []) 6 0
   slots-9 : SlotsRefused (record { dimension = 1; leaf = 1; neighbours = 1; factor = 2; policy = fixed 1 }) (table 9 9 (replicate 9 1) []) 9 0
   slots-11 : SlotsRefused (on_line 2 2) (table 7 4 eight.flags (line (0 ∷ 1 ∷ 2 ∷ 3 ∷ 4 ∷ 5 ∷ 6 ∷ []))) 11 0
+  slots-11-cuts : SlotsRefusedWith (record_nines 47 48) (on_line 2 2) spoiled 11 0
+  slots-11-planes : SlotsRefusedWith (record_nines 48 47) (on_line 2 2) spoiled 11 0
   slots-10 : SlotsRefused (on_line 2 2) spoiled 10 6
 
 -- the definitions yield every row
 pub tables : Tables
-unfolding opened live_slots_lem next_slot unsound add_verdict added add_answer_lem add_table retire_verdict retired retire_answer_lem retire_table edited after_all places_of_rows slots_verdict slot_levels slots_answer slots_lists
+unfolding opened live_slots_lem next_slot unsound add_verdict added add_answer_lem add_table retire_verdict retired retire_answer_lem retire_table edited after_all places_of_rows slots_verdict slot_levels slots_answer slots_lists slots_records cuts_of level_cuts leaves_under leaf_number nodes_from record_of fine_levels nodes_in packed_cuts packed_planes
 tables =
     record {
       reuse = (refl, refl);
@@ -131,12 +153,16 @@ tables =
       built-points = refl;
       built-own = refl;
       built-borrowed = refl;
-      slots-27 = (refl, refl);
-      slots-1 = (refl, refl);
-      slots-6 = (refl, refl);
-      slots-9 = (refl, refl);
-      slots-11 = (refl, refl);
-      slots-10 = (refl, refl);
+      built-cuts = refl;
+      built-planes = refl;
+      slots-27 = (refl, refl, refl);
+      slots-1 = (refl, refl, refl);
+      slots-6 = (refl, refl, refl);
+      slots-9 = (refl, refl, refl);
+      slots-11 = (refl, refl, refl);
+      slots-11-cuts = (refl, refl, refl);
+      slots-11-planes = (refl, refl, refl);
+      slots-10 = (refl, refl, refl);
     }
 
 -- ---- closing the gaps
@@ -175,13 +201,15 @@ pub record Closings : Type 0 where
   among-edits : after_all five (retiring 2 five.coordinates 0 ∷ closing 1 (line (1 ∷ 2 ∷ 3 ∷ 4 ∷ 5 ∷ [])) (9 ∷ 9 ∷ 9 ∷ []) ∷ closing 1 (line (1 ∷ 2 ∷ 3 ∷ 4 ∷ 5 ∷ [])) []
       ∷ adding 1 (line (6 ∷ 7 ∷ 8 ∷ 9 ∷ 10 ∷ [])) (line (5 ∷ [])) ∷ [])
       ≡ table 2 2 (1 ∷ 1 ∷ 0 ∷ 7 ∷ 0 ∷ []) (line (6 ∷ 5 ∷ 8 ∷ 9 ∷ 10 ∷ []))
-  -- a build afterwards: document 01's example, with its rows; 10 at the new slot's place
-  built-after : (slots_lists (on_line 2 2) (close_table 1 eight (replicate 7 9)) (nines 4) (float_room 4) (whole_room 4)).level_points ≡ 0 ∷ 1 ∷ 2 ∷ 3 ∷ 0 ∷ 1 ∷ replicate 10 9
+  -- a build afterwards: document 01's example, with its rows and its record; 10 at the new slot's place
+  built-after : (slots_lists (on_line 2 2) (close_table 1 eight (replicate 7 9)) (nines 4) (float_room 4) (whole_room 4) (record_room 4)).level_points ≡ 0 ∷ 1 ∷ 2 ∷ 3 ∷ 0 ∷ 1 ∷ replicate 10 9
+  after-cuts : (records_over (close_table 1 eight (replicate 7 9))).cuts ≡ example_cuts
+  after-planes : (records_over (close_table 1 eight (replicate 7 9))).planes ≡ example_planes
   after-10 : SlotsRefused (on_line 2 2) (close_table 1 spoiled (replicate 7 9)) 10 3
 
 -- the definitions yield every row
 pub closings : Closings
-unfolding opened live_slots_lem next_slot unsound add_verdict added add_table retire_verdict retired retire_table rename_list live_coordinates close_verdict closed close_answer close_table close_rename edited after_all places_of_rows slots_verdict slot_levels slots_answer slots_lists
+unfolding opened live_slots_lem next_slot unsound add_verdict added add_table retire_verdict retired retire_table rename_list live_coordinates close_verdict closed close_answer close_table close_rename edited after_all places_of_rows slots_verdict slot_levels slots_answer slots_lists slots_records cuts_of level_cuts leaves_under leaf_number nodes_from record_of fine_levels nodes_in packed_cuts packed_planes
 closings =
     record {
       no-gap = (refl, refl, refl);
@@ -198,5 +226,7 @@ closings =
       close-27-slots = (refl, refl, refl);
       among-edits = refl;
       built-after = refl;
-      after-10 = (refl, refl);
+      after-cuts = refl;
+      after-planes = refl;
+      after-10 = (refl, refl, refl);
     }

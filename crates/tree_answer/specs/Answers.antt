@@ -1,7 +1,7 @@
 -- The code's answer and counts, and the lists of a tree, as those of the definition. Definitions only.
 use Rattle.std.specs.Prelude.{ℕ, List, Float, Result}
 use Rattle.definition.specs.Packed.{Counts}
-use Rattle.definition.specs.Outcome.{Answer, TreeLists, zero_counts}
+use Rattle.definition.specs.Outcome.{Answer, TreeLists, RecordLists, zero_counts}
 use Rattle.tree_lists.specs.declared.TreeRead.{TreeRead}
 use Rattle.tree_answer.specs.declared.DDMTree.{DDMTree}
 use Rattle.tree_answer.specs.declared.PackedTree.{PackedTree}
@@ -25,6 +25,10 @@ tree_answer_lem = answer_of counts_given zero_counts
 abbrev pub lists_of : List ℕ → List ℕ → List ℕ → List Float → List ℕ → TreeLists
 lists_of level_points internals domains boxes borrowed =
     record { level_points = level_points; internals = internals; domains = domains; boxes = boxes; borrowed = borrowed }
+
+-- the two lists of its records
+abbrev pub records_of : List ℕ → List Float → RecordLists
+records_of cuts planes = record { cuts = cuts; planes = planes }
 
 -- the leaves in the lists of a tree on d axes
 abbrev pub packed_leaves : TreeRead → ℕ → Packed

@@ -1,7 +1,7 @@
 -- The lists that a caller lends, as the definition has them, and that the same ones are lent on. Definitions only.
 use Rattle.std.specs.Prelude.{◌≡◌, ℕ, length, replicate, Float}
 use Rattle.definition.specs.Outcome as outcome
-use Rattle.definition.specs.DepthFirst.{RecordLists}
+use Rattle.definition.specs.Outcome.{RecordLists}
 use Rattle.tree_lists.specs.declared.TreeLists.{TreeLists}
 use Rattle.tree_lists.specs.declared.LeafLists.{LeafLists}
 use Rattle.tree_lists.specs.declared.TreeRead.{TreeRead}

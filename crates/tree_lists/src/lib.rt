@@ -1,6 +1,6 @@
 // The lists that a caller lends to a build, as one value each: the five lists of its tree, its working room, and the two lists of its records;
 // the five lists of a tree that is only read; where the cut of a level writes to them; and arrays that the five lists are lent of.
-// Lists, room and records stay three values: the loader and the writer lend no room, and only one engine writes records.
+// Lists, room and records stay three values: the loader and the writer are lent neither room nor records.
 // They are lent on by `&mut`, and a function that takes one promises that it still holds the caller's lists (`SameLists` and the like).
 #![tactic(auto)]
 

@@ -10,7 +10,7 @@ use lib.Dec.{leb, ltb, eqb}
 use borrow.Author.Tests.{leb-true, le-leb}
 use Rattle.lists.proofs.Tests.{same_test}
 use Rattle.definition.specs.Tree.{Settings, Level}
-use Rattle.definition.specs.Packed.{most_levels, row_numbers, most_rows, build_stated, leaves_in_lem, packed_level_points, packed_internals, packed_borrowed}
+use Rattle.definition.specs.Packed.{most_levels, row_numbers, most_rows, tree_stated, leaves_in_lem, packed_level_points, packed_internals, packed_borrowed}
 use Rattle.definition_laws.proofs.Fit.{length-domains}
 use Rattle.stored.specs.Sound.{fits, sound}
 use Rattle.tree_tests.specs.InTurn.{levels_pass}
@@ -25,7 +25,7 @@ scaled a b =
 -- THE LIMITS: of the leaves and of the borrowed rows
 pub fits-in-turn : (d n k : ℕ) (ls : List Level) → length ls ≤ most_levels → levels_pass d (λ a. eqb a n) (λ i. ltb i n) ls ≡ true
     → fits d n k ls ≡ leb (length (leaves_in_lem ls)) (most_rows n) && leb (length (packed_borrowed ls)) (6 * n * (k + 1))
-unfolding fits build_stated
+unfolding fits tree_stated
 fits-in-turn d n k ls h e =
     let p = passed_is d n ls e in
     let a : length (packed_level_points ls) ≤ 4 * n = le_trans (points-most d n ls p) (mul-le-mul_right n h) in

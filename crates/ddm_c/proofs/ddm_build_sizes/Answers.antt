@@ -7,4 +7,4 @@ pub returns-then-res-lt-SIZES : goal.returns-then-res-lt-SIZES
 returns-then-res-lt-SIZES c = rw c.number.ensures (told-short _ _ _ _ c.if-res-lt-SIZES.true)
 
 pub returns : goal.returns
-returns c = told-long 7 _ _ _ _ (sizes_report c.build_sizes.result) _ c.if-res-lt-SIZES.false c.put_sizes.ensures.number c.put_sizes.ensures.slot c.build_sizes.ensures
+returns c = told-long 9 _ _ _ _ (sizes_report c.build_sizes.result) _ c.if-res-lt-SIZES.false c.put_sizes.ensures.number c.put_sizes.ensures.slot c.build_sizes.ensures

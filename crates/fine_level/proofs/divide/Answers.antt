@@ -1,15 +1,21 @@
 -- `fine_level::divide` meets its contract. Assumes nothing.
 use mathlib.Core.Path.{◌≡◌, sym, ap, ◌∙◌}
 use mathlib.Core.List.{List, ◌++◌}
-use Prim.Native.Nat.{ℕ}
+use Prim.Native.Nat.{ℕ, ◌+◌, ◌-◌}
 use native.Mathlib.Omega.{arith}
 use borrow.Author.Rules.{rules}
 use lib.ListN.{length, take, drop}
 use Rattle.std.proofs.Common.{take-append-drop}
 use Rattle.lists.specs.Lists.{part, put, joined}
 use Rattle.lists.proofs.Put.{length_part, part-lent}
-use Rattle.fine_level.proofs.Stages.{level-own, level-borrowed, level-number, leaves-read, overlaps-ready, overlaps-rows, codes-room}
+use Rattle.definition.specs.Record.{whole_of, float_of}
+use Rattle.fine_level.proofs.Stages.{level-own, level-borrowed, level-number, leaves-read, overlaps-ready, overlaps-rows, level-nodes, codes-room}
 use Rattle.fine_level.proofs.divide.Goals as goal
+
+-- a list of which a part was lent, and came back as it was
+whole_again : {A : Type 0} (from n : ℕ) (l : List A) → take from l ++ (take (from + n - from) (drop from l) ++ drop (from + n - from) (drop from l)) ≡ l
+whole_again from n l =
+    ap (λ (z : List _). take from l ++ z) (take-append-drop _ (drop from l)) ∙ take-append-drop from l
 
 pub cut_rows-cut-requires : goal.cut_rows-cut-requires
 cut_rows-cut-requires c = search rules
@@ -24,9 +30,13 @@ overlaps-borrowed-requires c = let p = c.requires in
     let counts = l.counts in
     let internals = l.internals in
     let domains = l.domains in
-    let ready = overlaps-ready _ _ _ _ _ g _ _ _ _ (rw n p.fits_at.internals) (rw n p.fits_at.domains) _ _ internals domains in
-    rw (lent, l.kept.0) (record {
-      stage = rw counts.0 ready;
+    let cuts = level-nodes whole_of P.records.now.cuts.now P.place.node c.cut_rows-cut.result.nodes _ _ counts.1 (omega (arith, p.record_fits.0, counts.2)) l.cuts in
+    let planes = level-nodes float_of P.records.now.planes.now P.place.node c.cut_rows-cut.result.nodes _ _ counts.1 (omega (arith, p.record_fits.1, counts.2)) l.planes in
+    let ready = overlaps-ready _ _ _ _ _ g _ _ _ _ (rw n p.fits_at.internals) (rw n p.fits_at.domains) _ _ internals domains _ _ cuts planes in
+    let lent_cuts = part-lent c.cut_rows-cut.new.records.cuts.now P.place.node c.cut_rows-cut.result.nodes in
+    let lent_planes = part-lent c.cut_rows-cut.new.records.planes.now P.place.node c.cut_rows-cut.result.nodes in
+    rw (lent, lent_cuts, lent_planes, l.kept.0) (record {
+      stage = (P.plan.leaf, rw counts.0 ready);
       neighbours_in_bounds = rw n (omega (arith, codes-room P.place.a P.plan.neighbours, p.room.wholes, l.same.1.wholes_len), omega (arith, p.fits_at.borrowed, l.same.0.borrowed_len));
     })
 
@@ -58,6 +68,6 @@ returns c = let p = c.requires in
       domains = domains_back ∙ rows;
       boxes = l.boxes;
       borrowed = borrowed_back ∙ rw (lent, l.kept.0, l.kept.1, read, ← borrowed) at o.borrowed;
-      cuts = l.cuts;
-      planes = l.planes;
+      cuts = whole_again P.place.node c.cut_rows-cut.result.nodes c.cut_rows-cut.new.records.cuts.now ∙ l.cuts;
+      planes = whole_again P.place.node c.cut_rows-cut.result.nodes c.cut_rows-cut.new.records.planes.now ∙ l.planes;
     }

@@ -47,6 +47,6 @@ returns c = let P = c.args in
       domains = w.domains ∙ ap (λ (ls : List Level). put P.lists.now.domains.now 0 (packed_domains ls)) (sym t);
       boxes = w.boxes ∙ ap (λ (ls : List Level). put P.lists.now.boxes.now 0 (packed_boxes ls)) (sym t);
       borrowed = w.borrowed ∙ ap (λ (ls : List Level). put P.lists.now.borrowed.now 0 (packed_borrowed ls)) (sym t);
-      cuts = records-whole whole_of P.engine s cs _ _ P.records.now.cuts.now _ t w.cuts;
-      planes = records-whole float_of P.engine s cs _ _ P.records.now.planes.now _ t w.planes;
+      cuts = records-whole whole_of s cs _ _ P.records.now.cuts.now _ t w.cuts;
+      planes = records-whole float_of s cs _ _ P.records.now.planes.now _ t w.planes;
     }

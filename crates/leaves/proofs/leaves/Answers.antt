@@ -5,6 +5,7 @@ use borrow.Author.Rules.{rules}
 use lib.ListN.{length, length-drop}
 use Rattle.lists.specs.Lists.{put}
 use Rattle.lists.proofs.Put.{part-back}
+use Rattle.record_laws.proofs.Long.{record-long}
 use Rattle.leaves.proofs.Place.{tail_all, tail-back}
 use Rattle.leaves.proofs.leaves.Goals as goal
 
@@ -18,6 +19,7 @@ cut_leaves-requires c = let p = c.requires in
       rows_bound =
           rw (copied, tail_all a.lists.now.boxes.now a.start.skip, length-drop a.start.skip a.lists.now.boxes.now)
           (omega (arith, p.active_in_bounds_2.0), p.active_in_bounds_2.1, omega (arith, p.active_in_bounds_2.2));
+      rows_in_bounds_2 = rw copied p.active_in_bounds_3;
     }
 
 pub returns : goal.returns
@@ -27,12 +29,17 @@ returns c = let p = c.requires in
     let cut = c.cut_leaves in
     let f = rw copied at cut.ensures in
     let back = part-back a.lists.now.internals.now a.start.from (length a.active.now) cut.new.rows (cut.auto.rows ∙ ap length copied) in
+    let cuts = f.cuts in
+    let planes = f.planes in
     record {
       same = search rules;
       number = f.number;
+      nodes = omega (arith, f.number, record-long a.points.dimensions a.points.coordinates.now p.dimensions_nonzero.0 a.leaf p.dimensions_nonzero.2 a.active.now p.dimensions_nonzero.4 p.dimensions_nonzero.3);
       internals = back ∙ ap (put a.lists.now.internals.now a.start.from) f.rows;
       domains = f.domains;
       boxes = tail-back a.lists.now.boxes.now a.start.skip _ _ _ (omega (arith, p.active_in_bounds_2.2)) cut.auto.boxes f.boxes;
+      cuts = search (rules, cuts);
+      planes = search (rules, planes);
       floats = f.floats;
       wholes = f.wholes;
     }

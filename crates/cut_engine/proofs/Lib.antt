@@ -1,2 +1,0 @@
--- Laws of the engines.
-pub mod Written

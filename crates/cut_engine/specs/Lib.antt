@@ -1,2 +1,0 @@
--- What the contracts of the engines cite.
-pub mod Engines

@@ -1,2 +1,0 @@
--- What the contracts of the build cite.
-pub mod Build

@@ -1,2 +1,0 @@
--- Laws of the build that cuts depth first.
-pub mod Outcomes

@@ -1,0 +1,2 @@
+-- Laws of the gap, axis by axis, which its proof cites.
+mod Axes

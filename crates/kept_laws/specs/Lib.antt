@@ -1,0 +1,2 @@
+-- What the laws of a search, and its contracts, are stated with.
+pub mod First

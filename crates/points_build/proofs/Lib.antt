@@ -1,0 +1,2 @@
+-- The law of the build over all points.
+pub mod Outcomes

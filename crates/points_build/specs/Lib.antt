@@ -1,0 +1,2 @@
+-- What the contract of the build over all points cites.
+pub mod Outcome

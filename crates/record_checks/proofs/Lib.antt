@@ -1,2 +1,0 @@
--- Laws of the refusals of the build that cuts depth first.
-pub mod Verdicts

@@ -1,2 +1,0 @@
--- What the contracts of the checks cite.
-pub mod Lengths

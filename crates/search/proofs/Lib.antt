@@ -1,0 +1,6 @@
+-- Laws of a search.
+pub mod Slots
+pub mod Places
+pub mod Offering
+pub mod Visiting
+pub mod Searching

@@ -1,0 +1,3 @@
+-- What the contracts of a search cite.
+pub mod Ranks
+pub mod Visits

@@ -1,2 +1,0 @@
--- The law of the checks.
-pub mod NoRoom
