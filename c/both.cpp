@@ -34,6 +34,13 @@ static void calls() {
     EXPECT(std::strcmp(ddm_refusal_text(6), "there are no points") == 0);
 }
 
+// The cut of the tree below into two leaves, which every build records.
+static void record(const ddm_tree *tree) {
+    const ddm_record nodes = ddm_tree_record(tree, 0);
+    EXPECT(nodes.count == DDM_RECORD_NODES(2) && nodes.cuts[0] == 0 && nodes.planes[0] == 2.0);
+    EXPECT(ddm_record_is_leaf(nodes, 2) && nodes.cuts[2] == DDM_RECORD_LEAF + 1 && ddm_record_behind(nodes, 1) == 2);
+}
+
 static void trees() {
     const double points[4] = {0.0, 1.0, 2.0, 10.0};
     ddm_params params = ddm_default_params();
@@ -48,13 +55,12 @@ static void trees() {
     EXPECT(box != nullptr && box[0] == 2.0 && box[1] == 10.0 && ddm_tree_box(tree, 1, 0) == nullptr);
     EXPECT(ddm_tree_cover(tree, 0, 0) == 1.0 && ddm_tree_cover(tree, 0, 1) == 8.0 && ddm_tree_cover(tree, 1, 0) == 0.0);
     EXPECT(ddm_tree_depth(tree, 0, 0) == 1 && ddm_tree_depth(tree, 0, 1) == 1 && ddm_tree_depth(tree, 1, 0) == 0);
-    EXPECT(ddm_tree_record(tree, 0).count == 0 && ddm_tree_record(tree, 0).cuts == nullptr);
+    EXPECT(ddm_tree_record(tree, 1).count == 0 && ddm_tree_record(tree, 1).cuts == nullptr);
+    record(tree);
     ddm_tree_free(tree);
     tree = ddm_tree_build_depth_first(points, 4, 1, params, &error);
     EXPECT(tree != nullptr && error.number == 0 && ddm_tree_leaves(tree, 0) == 2);
-    const ddm_record record = ddm_tree_record(tree, 0);
-    EXPECT(record.count == DDM_RECORD_NODES(2) && record.cuts[0] == 0 && record.planes[0] == 2.0);
-    EXPECT(ddm_record_is_leaf(record, 2) && record.cuts[2] == DDM_RECORD_LEAF + 1 && ddm_record_behind(record, 1) == 2);
+    record(tree);
     ddm_tree_free(tree);
     EXPECT(ddm_tree_build(points, 0, 1, params, &error) == nullptr && std::strcmp(ddm_error_text(error), "there are no points") == 0);
 }

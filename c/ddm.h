@@ -11,12 +11,13 @@
  *
  * Threads. There is no global state: any number of calls may run at once, as long as no list is lent to two of them. Points may be
  * shared, since they are only read.
- * Stack. Under 16 KiB for any input (the depth-first build nests 21 calls at most, and takes some 15 KiB then), but for ddm_store and
- * ddm_load, whose sets of rows take 256 KiB more; nothing is allocated.
- * Memory. A build over n points asks for 864 + 96 * dimensions + 112 * (K + 1) bytes a point in its seven lists, with K neighbours:
- * 2,960 in two dimensions with 16. That is the most that any input can need, and few are touched: 5,000 random wells in two dimensions
- * write some 70 of them a well at the default settings, some 650 at leaf threshold 1. So lists from calloc cost little. The two lists of
- * ddm_build_depth_first's cut record are 192 bytes a point more.
+ * Stack. Under 32 KiB for any input: the search for neighbours nests a call for each cut of the deepest leaf, of some 1.2 KiB each, so that
+ * a build takes 29 KiB at 21 cuts, and 10 KiB at 5. ddm_store and ddm_load have sets of rows of 256 KiB, and take under 16 KiB beside
+ * them. Nothing is allocated.
+ * Memory. A build over n points asks for 1120 + 96 * dimensions + 112 * (K + 1) bytes a point in its nine lists, with K neighbours:
+ * 3,216 in two dimensions with 16. That is the most that any input can need, and few are touched: 5,000 random wells in two dimensions
+ * write some 85 of them a well at the default settings, some 780 at leaf threshold 1. So lists from calloc cost little. A tree that is
+ * stored or loaded is lent its five lists alone: no working room and no record.
  * Machine. x86-64 Linux only.
  * Floating environment. Round to nearest, and no flush to zero (the state in which a program starts). A program linked with -Ofast or
  * -ffast-math turns flush to zero on and gets another tree; the smallest input that shows it is the points 5e-324 and 0 with leaf
@@ -34,7 +35,7 @@ extern "C" {
 
 /* major * 10000 + minor * 100 + patch, of this header; ddm_version gives that of the library. Another minor version may have wider rows
  * and more lists, so that a program which loads the shared library tests ddm_version() / 100 == DDM_VERSION / 100 first. */
-#define DDM_VERSION 800
+#define DDM_VERSION 900
 
 /* ---- limits and settings */
 
@@ -66,7 +67,7 @@ extern "C" {
 #define DDM_ROW_COVER(dimensions) DDM_BOX_FLOATS(dimensions)
 #define DDM_ROW_FLOATS(dimensions) (DDM_BOX_FLOATS(dimensions) + 1)
 
-/* ---- the cut record of ddm_build_depth_first: the cuts of each fine level, from the root downwards */
+/* ---- the cut record of a build: the cuts of each fine level, from the root downwards */
 
 /* A node is a whole number in `cuts` and a float in `planes`. A whole number below DDM_RECORD_LEAF is a cut on that axis, and the float
  * is its plane: the coordinate, with its bits, of the right row that came first in the cut's order. Any other is a leaf: DDM_RECORD_LEAF
@@ -78,7 +79,7 @@ extern "C" {
 #define DDM_RECORD_NODES(domains) (2 * (domains) - 1)
 /* No leaf is deeper than this many cuts. */
 #define DDM_RECORD_DEEPEST 21
-/* The entries that each of the two lists needs, for n points. */
+/* The entries that each of the two lists needs, for n points: what ddm_build_sizes gives, as a constant. */
 #define DDM_RECORD_ENTRIES(n) (12 * (n))
 
 /* ---- the table of wells that ddm_add, ddm_retire and ddm_close edit and ddm_build_slots builds over */
@@ -111,7 +112,9 @@ typedef struct ddm_head {
 #define DDM_SIZES_BORROWED 4
 #define DDM_SIZES_FLOATS 5
 #define DDM_SIZES_WHOLES 6
-#define DDM_SIZES_SLOT 7
+#define DDM_SIZES_CUTS 7
+#define DDM_SIZES_PLANES 8
+#define DDM_SIZES_SLOT 9
 
 /* Sampling's: the place of a refusal, the rows written. Its cover has a slot of its own, of one float. */
 #define DDM_SAMPLE_PLACE 0
@@ -154,19 +157,18 @@ size_t ddm_build_sizes(size_t n, size_t dimensions, uint32_t neighbours, size_t 
 /* Builds the tree over n = points_len / dimensions points; the lists have at least the entries that ddm_build_sizes gives.
  *   level_points  the active rows of each level       internals, borrowed  the rows of the leaves
  *   domains       a domain row for each leaf          boxes                its floats: box and cover
- *   floats, wholes  working room
- * policy: DDM_POLICY_AUTO (coarse_threshold is not looked at), any other number Fixed. result: DDM_BUILD_SLOT. Refusals 1 to 9, 11, 10,
- * in this order. */
+ *   floats, wholes  working room             cuts, planes         the cut record of each fine level
+ * What stands past the tree and past the record stays as it was. policy: DDM_POLICY_AUTO (coarse_threshold is not looked at), any other
+ * number Fixed. result: DDM_BUILD_SLOT. Refusals 1 to 9, 11, 10, in this order; 11 is one test over all nine lists. */
 size_t ddm_build(const double *points, size_t points_len, size_t dimensions, uint32_t leaf_threshold, uint32_t overlap_knn,
                  uint32_t coarse_reduction_factor, uint32_t policy, uint32_t coarse_threshold, size_t *level_points,
                  size_t level_points_len, size_t *internals, size_t internals_len, size_t *domains, size_t domains_len,
                  double *boxes, size_t boxes_len, size_t *borrowed, size_t borrowed_len, double *floats, size_t floats_len,
-                 size_t *wholes, size_t wholes_len, size_t *result, size_t result_len);
+                 size_t *wholes, size_t wholes_len, size_t *cuts, size_t cuts_len, double *planes, size_t planes_len, size_t *result,
+                 size_t result_len);
 
-/* Builds the tree of ddm_build, entry for entry in its five lists and its slot, by cutting the left half of a domain completely before
- * the right; and writes the cut record of each fine level.
- *   cuts, planes  the nodes of the records, at least DDM_RECORD_ENTRIES(n) entries each; what stands past them stays as it was
- * All else is as for ddm_build, the refusals too; 11 is one test over all nine lists. */
+/* Builds the tree of ddm_build by cutting the left half of a domain completely before the right. What it writes to the slot, to the tree's
+ * lists and to the record is the same, entry for entry, and so is all else. */
 size_t ddm_build_depth_first(const double *points, size_t points_len, size_t dimensions, uint32_t leaf_threshold, uint32_t overlap_knn,
                              uint32_t coarse_reduction_factor, uint32_t policy, uint32_t coarse_threshold, size_t *level_points,
                              size_t level_points_len, size_t *internals, size_t internals_len, size_t *domains, size_t domains_len,
@@ -204,11 +206,12 @@ size_t ddm_build_slots(size_t slots, size_t live, const uint8_t *flags, size_t f
                        uint32_t coarse_reduction_factor, uint32_t policy, uint32_t coarse_threshold, size_t *level_points,
                        size_t level_points_len, size_t *internals, size_t internals_len, size_t *domains, size_t domains_len,
                        double *boxes, size_t boxes_len, size_t *borrowed, size_t borrowed_len, double *floats, size_t floats_len,
-                       size_t *wholes, size_t wholes_len, size_t *result, size_t result_len);
+                       size_t *wholes, size_t wholes_len, size_t *cuts, size_t cuts_len, double *planes, size_t planes_len,
+                       size_t *result, size_t result_len);
 
 /* Writes a tree as the bytes of a file, with the points and settings that it was built or loaded for. tree: the slot that the build or
- * load wrote (DDM_BUILD_SLOT; a shorter one is refused with 11 before all but the result slot). The lists are those of the tree, as long as
- * for a build; file has at least ddm_file_size bytes, and what stands past them stays as it was. result: DDM_STORE_SLOT. Refusals 1 to 9,
+ * load wrote (DDM_BUILD_SLOT; a shorter one is refused with 11 before all but the result slot). The lists are the tree's five, as long as
+ * for a build, without room or record; file has at least ddm_file_size bytes, and what stands past them stays as it was. result: DDM_STORE_SLOT. Refusals 1 to 9,
  * 11, 10, 20, and 11 for a short file, in this order. A tree over slots is refused with 20, unless they are 0 to n - 1, as they are after
  * ddm_close. */
 size_t ddm_store(const double *points, size_t points_len, size_t dimensions, uint32_t leaf_threshold, uint32_t overlap_knn,
@@ -218,8 +221,8 @@ size_t ddm_store(const double *points, size_t points_len, size_t dimensions, uin
                  size_t borrowed_len, uint8_t *file, size_t file_len, size_t *result, size_t result_len);
 
 /* Hands out the tree that stands in a file, where the file is whole and sound and was written for these very settings and points, bit for
- * bit. The lists are as for a build, without working room, and so is the result slot (DDM_BUILD_SLOT). Refusals 1 to 9, 11, 10, 20, 18,
- * 19, in this order. */
+ * bit. The tree's five lists are as for a build, and so is the result slot (DDM_BUILD_SLOT); no room and no record is lent, since a file
+ * holds no cuts. Refusals 1 to 9, 11, 10, 20, 18, 19, in this order. */
 size_t ddm_load(const double *points, size_t points_len, size_t dimensions, uint32_t leaf_threshold, uint32_t overlap_knn,
                 uint32_t coarse_reduction_factor, uint32_t policy, uint32_t coarse_threshold, const uint8_t *file, size_t file_len,
                 size_t *level_points, size_t level_points_len, size_t *internals, size_t internals_len, size_t *domains,

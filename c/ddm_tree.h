@@ -13,9 +13,10 @@
  *       }
  *   ddm_tree_free(tree);
  *
- * ddm_tree_build_depth_first builds the same tree and keeps its cuts: ddm_tree_record. ddm_tree_build_slots builds over the live slots of
- * a table, which ddm_add and ddm_retire edit; after ddm_close its rows are looked up in the list from old slot to new. ddm_tree_store gives
- * a tree as the bytes of a file, which holds no cuts, and ddm_tree_load takes them for the same points and settings.
+ * A tree that was built keeps its cuts: ddm_tree_record. ddm_tree_build_depth_first builds the same tree with the same cuts, by another
+ * engine. ddm_tree_build_slots builds over the live slots of a table, which ddm_add and ddm_retire edit; after ddm_close its rows are
+ * looked up in the list from old slot to new. ddm_tree_store gives a tree as the bytes of a file, which holds no cuts, and ddm_tree_load
+ * takes them for the same points and settings.
  *
  * The lists come from calloc, so that what the build does not touch costs nothing; afterwards the working room is given back and the
  * others are cut to what they hold. A tree is only read by the functions that walk it: any number of threads may do so at once. A level
@@ -66,7 +67,7 @@ typedef struct ddm_record {
     size_t count;
 } ddm_record;
 
-/* A tree; cuts and planes are NULL where it has no record. Its fields are for the functions below. */
+/* A tree; cuts and planes are NULL where it was loaded, and has no record. Its fields are for the functions below. */
 typedef struct ddm_tree {
     size_t dimensions;
     size_t result[DDM_BUILD_SLOT];
@@ -108,32 +109,49 @@ typedef struct ddm_lists {
     double *boxes;
     size_t *borrowed;
     double *floats;
-    size_t *wholes;
+    size_t *wholes, *cuts;
+    double *planes;
 } ddm_lists;
 
 static inline void ddm_lists_free(ddm_lists *lists) {
     free(lists->level_points), free(lists->internals), free(lists->domains), free(lists->boxes), free(lists->borrowed);
-    free(lists->floats), free(lists->wholes);
+    free(lists->floats), free(lists->wholes), free(lists->cuts), free(lists->planes);
 }
 
+/* A list of zeros; NULL where it has no entries, or there is no memory. */
 static inline size_t *ddm_list_of_wholes(size_t entries) {
-    return (size_t *)calloc(entries, sizeof(size_t));
+    return entries ? (size_t *)calloc(entries, sizeof(size_t)) : NULL;
 }
 
 static inline double *ddm_list_of_floats(size_t entries) {
-    return (double *)calloc(entries, sizeof(double));
+    return entries ? (double *)calloc(entries, sizeof(double)) : NULL;
+}
+
+/* The sizes without room and record: to store or to load a tree, its five lists are lent alone. */
+static inline void ddm_sizes_of_tree(size_t *sizes) {
+    sizes[DDM_SIZES_FLOATS] = sizes[DDM_SIZES_WHOLES] = sizes[DDM_SIZES_CUTS] = sizes[DDM_SIZES_PLANES] = 0;
+}
+
+/* Whether a list is there, or is not asked for. */
+static inline int ddm_list_there(const void *list, size_t entries) {
+    return list || !entries;
 }
 
 /* Whether there was memory for the lists of these sizes; if not, none is kept. */
 static inline int ddm_lists_make(ddm_lists *lists) {
-    lists->level_points = ddm_list_of_wholes(lists->sizes[DDM_SIZES_LEVEL_POINTS]);
-    lists->internals = ddm_list_of_wholes(lists->sizes[DDM_SIZES_INTERNALS]);
-    lists->domains = ddm_list_of_wholes(lists->sizes[DDM_SIZES_DOMAINS]);
-    lists->boxes = ddm_list_of_floats(lists->sizes[DDM_SIZES_BOXES]);
-    lists->borrowed = ddm_list_of_wholes(lists->sizes[DDM_SIZES_BORROWED]);
-    lists->floats = ddm_list_of_floats(lists->sizes[DDM_SIZES_FLOATS]);
-    lists->wholes = ddm_list_of_wholes(lists->sizes[DDM_SIZES_WHOLES]);
-    if (lists->level_points && lists->internals && lists->domains && lists->boxes && lists->borrowed && lists->floats && lists->wholes)
+    const size_t *sizes = lists->sizes;
+    lists->level_points = ddm_list_of_wholes(sizes[DDM_SIZES_LEVEL_POINTS]);
+    lists->internals = ddm_list_of_wholes(sizes[DDM_SIZES_INTERNALS]);
+    lists->domains = ddm_list_of_wholes(sizes[DDM_SIZES_DOMAINS]);
+    lists->boxes = ddm_list_of_floats(sizes[DDM_SIZES_BOXES]);
+    lists->borrowed = ddm_list_of_wholes(sizes[DDM_SIZES_BORROWED]);
+    lists->floats = ddm_list_of_floats(sizes[DDM_SIZES_FLOATS]);
+    lists->wholes = ddm_list_of_wholes(sizes[DDM_SIZES_WHOLES]);
+    lists->cuts = ddm_list_of_wholes(sizes[DDM_SIZES_CUTS]);
+    lists->planes = ddm_list_of_floats(sizes[DDM_SIZES_PLANES]);
+    if (lists->level_points && lists->internals && lists->domains && lists->boxes && lists->borrowed
+        && ddm_list_there(lists->floats, sizes[DDM_SIZES_FLOATS]) && ddm_list_there(lists->wholes, sizes[DDM_SIZES_WHOLES])
+        && ddm_list_there(lists->cuts, sizes[DDM_SIZES_CUTS]) && ddm_list_there(lists->planes, sizes[DDM_SIZES_PLANES]))
         return 1;
     ddm_lists_free(lists);
     return 0;
@@ -146,19 +164,21 @@ static inline size_t ddm_lists_build(ddm_lists *lists, const double *points, siz
                      params.policy, params.coarse_threshold, lists->level_points, sizes[DDM_SIZES_LEVEL_POINTS], lists->internals,
                      sizes[DDM_SIZES_INTERNALS], lists->domains, sizes[DDM_SIZES_DOMAINS], lists->boxes, sizes[DDM_SIZES_BOXES],
                      lists->borrowed, sizes[DDM_SIZES_BORROWED], lists->floats, sizes[DDM_SIZES_FLOATS], lists->wholes,
-                     sizes[DDM_SIZES_WHOLES], result, DDM_BUILD_SLOT);
+                     sizes[DDM_SIZES_WHOLES], lists->cuts, sizes[DDM_SIZES_CUTS], lists->planes, sizes[DDM_SIZES_PLANES], result,
+                     DDM_BUILD_SLOT);
 }
 
-/* The same depth first, with two lists of so many entries for the record. */
+/* The same depth first. */
 static inline size_t ddm_lists_build_depth_first(ddm_lists *lists, const double *points, size_t points_len, size_t dimensions,
-                                                 ddm_params params, size_t *cuts, double *planes, size_t entries, size_t *result) {
+                                                 ddm_params params, size_t *result) {
     const size_t *sizes = lists->sizes;
     return ddm_build_depth_first(points, points_len, dimensions, params.leaf_threshold, params.overlap_knn,
                                  params.coarse_reduction_factor, params.policy, params.coarse_threshold, lists->level_points,
                                  sizes[DDM_SIZES_LEVEL_POINTS], lists->internals, sizes[DDM_SIZES_INTERNALS], lists->domains,
                                  sizes[DDM_SIZES_DOMAINS], lists->boxes, sizes[DDM_SIZES_BOXES], lists->borrowed,
                                  sizes[DDM_SIZES_BORROWED], lists->floats, sizes[DDM_SIZES_FLOATS], lists->wholes,
-                                 sizes[DDM_SIZES_WHOLES], cuts, entries, planes, entries, result, DDM_BUILD_SLOT);
+                                 sizes[DDM_SIZES_WHOLES], lists->cuts, sizes[DDM_SIZES_CUTS], lists->planes, sizes[DDM_SIZES_PLANES],
+                                 result, DDM_BUILD_SLOT);
 }
 
 /* The same over the live slots of a table. */
@@ -170,14 +190,15 @@ static inline size_t ddm_lists_build_slots(ddm_lists *lists, ddm_head head, cons
                            params.overlap_knn, params.coarse_reduction_factor, params.policy, params.coarse_threshold, lists->level_points,
                            sizes[DDM_SIZES_LEVEL_POINTS], lists->internals, sizes[DDM_SIZES_INTERNALS], lists->domains,
                            sizes[DDM_SIZES_DOMAINS], lists->boxes, sizes[DDM_SIZES_BOXES], lists->borrowed, sizes[DDM_SIZES_BORROWED],
-                           lists->floats, sizes[DDM_SIZES_FLOATS], lists->wholes, sizes[DDM_SIZES_WHOLES], result, DDM_BUILD_SLOT);
+                           lists->floats, sizes[DDM_SIZES_FLOATS], lists->wholes, sizes[DDM_SIZES_WHOLES], lists->cuts,
+                           sizes[DDM_SIZES_CUTS], lists->planes, sizes[DDM_SIZES_PLANES], result, DDM_BUILD_SLOT);
 }
 
 /* Lists without entries, over these two values. */
 static inline ddm_lists ddm_lists_none(size_t *whole, double *value) {
     ddm_lists none;
-    none.level_points = none.internals = none.domains = none.borrowed = none.wholes = whole;
-    none.boxes = none.floats = value;
+    none.level_points = none.internals = none.domains = none.borrowed = none.wholes = none.cuts = whole;
+    none.boxes = none.floats = none.planes = value;
     for (size_t i = 0; i < DDM_SIZES_SLOT; i++)
         none.sizes[i] = 0;
     return none;
@@ -234,7 +255,7 @@ static inline size_t ddm_tree_nodes(const ddm_tree *tree, size_t levels) {
     return nodes;
 }
 
-/* The tree takes what the lists hold, and gives the working room back. Its record, where it has one, is cut to its nodes. */
+/* The tree takes what the lists hold, and gives the working room back. */
 static inline void ddm_tree_take(ddm_tree *tree, ddm_lists *lists) {
     const size_t rows = ddm_tree_sum(tree->result + DDM_SLOT_ROWS, DDM_MOST_LEVELS);
     const size_t leaves = ddm_tree_sum(tree->result + DDM_SLOT_DOMAINS, DDM_MOST_LEVELS);
@@ -246,10 +267,11 @@ static inline void ddm_tree_take(ddm_tree *tree, ddm_lists *lists) {
     tree->domains = ddm_cut_wholes(lists->domains, DDM_ROW_NUMBERS * leaves);
     tree->boxes = ddm_cut_floats(lists->boxes, DDM_ROW_FLOATS(tree->dimensions) * leaves);
     tree->borrowed = ddm_cut_wholes(lists->borrowed, lent);
-    if (tree->cuts) {
+    /* a tree that is loaded has no record */
+    if (lists->cuts) {
         const size_t nodes = ddm_tree_nodes(tree, tree->result[DDM_SLOT_LEVELS] - 1);
-        tree->cuts = ddm_cut_wholes(tree->cuts, nodes);
-        tree->planes = ddm_cut_floats(tree->planes, nodes);
+        tree->cuts = ddm_cut_wholes(lists->cuts, nodes);
+        tree->planes = ddm_cut_floats(lists->planes, nodes);
     }
 }
 
@@ -261,8 +283,8 @@ static inline void ddm_tree_free(ddm_tree *tree) {
     free(tree);
 }
 
-/* A tree by the build that records its cuts, or by the other. */
-static inline ddm_tree *ddm_tree_built(const double *points, size_t points_len, size_t dimensions, ddm_params params, int recorded,
+/* A tree by the build that cuts depth first, or by the other. */
+static inline ddm_tree *ddm_tree_built(const double *points, size_t points_len, size_t dimensions, ddm_params params, int depth_first,
                                        ddm_error *error) {
     ddm_error kept;
     ddm_lists lists;
@@ -273,19 +295,13 @@ static inline ddm_tree *ddm_tree_built(const double *points, size_t points_len, 
     if (!kept.number)
         kept.number = ddm_build_sizes(points_len / dimensions, dimensions, params.overlap_knn, lists.sizes, DDM_SIZES_SLOT);
     if (!kept.number) {
-        const size_t entries = DDM_RECORD_ENTRIES(points_len / dimensions);
         tree = (ddm_tree *)calloc(1, sizeof(ddm_tree));
-        if (tree && recorded) {
-            tree->cuts = ddm_list_of_wholes(entries);
-            tree->planes = ddm_list_of_floats(entries);
-        }
-        if (!tree || (recorded && !(tree->cuts && tree->planes)) || !ddm_lists_make(&lists)) {
+        if (!tree || !ddm_lists_make(&lists)) {
             kept.number = DDM_NO_MEMORY;
         } else {
             tree->dimensions = dimensions;
-            kept.number = recorded ? ddm_lists_build_depth_first(&lists, points, points_len, dimensions, params, tree->cuts, tree->planes,
-                                                                 entries, tree->result)
-                                   : ddm_lists_build(&lists, points, points_len, dimensions, params, tree->result);
+            kept.number = depth_first ? ddm_lists_build_depth_first(&lists, points, points_len, dimensions, params, tree->result)
+                                      : ddm_lists_build(&lists, points, points_len, dimensions, params, tree->result);
             kept.place = tree->result[DDM_SLOT_PLACE];
             if (kept.number)
                 ddm_lists_free(&lists);
@@ -297,23 +313,24 @@ static inline ddm_tree *ddm_tree_built(const double *points, size_t points_len, 
         *error = kept;
     if (!kept.number)
         return tree;
-    ddm_tree_free(tree);
+    free(tree);
     return NULL;
 }
 
 /* Builds the tree over points_len / dimensions points, or gives NULL and says why in *error, which may be NULL. What the settings and
- * the counts refuse is refused before a list is made. */
+ * the counts refuse is refused before a list is made. The tree keeps the cut record of each fine level: ddm_tree_record. */
 static inline ddm_tree *ddm_tree_build(const double *points, size_t points_len, size_t dimensions, ddm_params params, ddm_error *error) {
     return ddm_tree_built(points, points_len, dimensions, params, 0, error);
 }
 
-/* The same tree, with the cut record of each fine level: ddm_tree_record. */
+/* The same tree with the same record, by the build that cuts depth first. */
 static inline ddm_tree *ddm_tree_build_depth_first(const double *points, size_t points_len, size_t dimensions, ddm_params params,
                                                    ddm_error *error) {
     return ddm_tree_built(points, points_len, dimensions, params, 1, error);
 }
 
-/* Builds the tree over the live slots of a table, in which slots are the rows; or gives NULL and says why, as ddm_tree_build does. */
+/* Builds the tree over the live slots of a table, in which slots are the rows, with its record; or gives NULL and says why, as
+ * ddm_tree_build does. */
 static inline ddm_tree *ddm_tree_build_slots(ddm_head head, const uint8_t *flags, size_t flags_len, const double *coordinates,
                                              size_t coordinates_len, size_t dimensions, ddm_params params, ddm_error *error) {
     ddm_error kept;
@@ -388,7 +405,7 @@ static inline unsigned char *ddm_tree_store(const ddm_tree *tree, const double *
     kept.number = ddm_build_sizes(n, tree->dimensions, params.overlap_knn, lists.sizes, DDM_SIZES_SLOT);
     if (!kept.number) {
         const size_t size = ddm_file_size(tree->dimensions, n, tree->result, ddm_tree_lent(tree));
-        lists.sizes[DDM_SIZES_FLOATS] = lists.sizes[DDM_SIZES_WHOLES] = 1;
+        ddm_sizes_of_tree(lists.sizes);
         file = (unsigned char *)malloc(size);
         if (!file || !ddm_lists_make(&lists)) {
             kept.number = DDM_NO_MEMORY;
@@ -434,7 +451,7 @@ static inline ddm_tree *ddm_tree_load(const double *points, size_t points_len, s
     if (!kept.number)
         kept.number = ddm_build_sizes(points_len / dimensions, dimensions, params.overlap_knn, lists.sizes, DDM_SIZES_SLOT);
     if (!kept.number) {
-        lists.sizes[DDM_SIZES_FLOATS] = lists.sizes[DDM_SIZES_WHOLES] = 1;
+        ddm_sizes_of_tree(lists.sizes);
         tree = (ddm_tree *)calloc(1, sizeof(ddm_tree));
         if (!tree || !ddm_lists_make(&lists)) {
             kept.number = DDM_NO_MEMORY;
@@ -541,8 +558,7 @@ static inline size_t ddm_tree_depth(const ddm_tree *tree, size_t level, size_t l
     return row ? row[DDM_COLUMN_DEPTH] : 0;
 }
 
-/* A level's cut record, of DDM_RECORD_NODES(leaves) nodes. It is empty at the coarse level, and in a tree that ddm_tree_build built or
- * ddm_tree_load loaded. */
+/* A level's cut record, of DDM_RECORD_NODES(leaves) nodes. It is empty at the coarse level, and in a tree that ddm_tree_load loaded. */
 static inline ddm_record ddm_tree_record(const ddm_tree *tree, size_t level) {
     ddm_record record = {NULL, NULL, 0};
     if (tree->cuts && level < ddm_tree_levels(tree) - 1) {

@@ -94,8 +94,7 @@ int main(void) {
     params.coarse_reduction_factor = 4;
     params.policy = DDM_POLICY_FIXED;
     params.coarse_threshold = 60;
-    /* ddm_tree_build builds the same tree without the record of its cuts */
-    ddm_tree *tree = ddm_tree_build_depth_first(points, AXES * WELLS, AXES, params, &error);
+    ddm_tree *tree = ddm_tree_build(points, AXES * WELLS, AXES, params, &error);
     if (!tree) {
         fprintf(stderr, "no tree: %s (number %zu, place %zu)\n", ddm_error_text(error), error.number, error.place);
         return 1;

@@ -50,6 +50,8 @@ int main(void) {
     size_t *internals = list(sizes[DDM_SIZES_INTERNALS], sizeof *internals);
     size_t *domains = list(sizes[DDM_SIZES_DOMAINS], sizeof *domains);
     size_t *borrowed = list(sizes[DDM_SIZES_BORROWED], sizeof *borrowed), *wholes = list(sizes[DDM_SIZES_WHOLES], sizeof *wholes);
+    size_t *cuts = list(sizes[DDM_SIZES_CUTS], sizeof *cuts);
+    double *planes = list(sizes[DDM_SIZES_PLANES], sizeof *planes);
     unsigned state = 12345;
     for (size_t i = 0; i < AXES * WELLS; i++) {
         state = state * 1103515245u + 12345u;
@@ -58,7 +60,8 @@ int main(void) {
     size_t refused = ddm_build(points, AXES * WELLS, AXES, 32, NEAR, 4, DDM_POLICY_FIXED, 60, level_points,
                                sizes[DDM_SIZES_LEVEL_POINTS], internals, sizes[DDM_SIZES_INTERNALS], domains, sizes[DDM_SIZES_DOMAINS],
                                boxes, sizes[DDM_SIZES_BOXES], borrowed, sizes[DDM_SIZES_BORROWED], floats, sizes[DDM_SIZES_FLOATS],
-                               wholes, sizes[DDM_SIZES_WHOLES], result, DDM_BUILD_SLOT);
+                               wholes, sizes[DDM_SIZES_WHOLES], cuts, sizes[DDM_SIZES_CUTS], planes, sizes[DDM_SIZES_PLANES], result,
+                               DDM_BUILD_SLOT);
     if (refused) {
         fprintf(stderr, "refused %zu at %zu: %s\n", refused, result[DDM_SLOT_PLACE], ddm_refusal_text(refused));
         return 1;
@@ -84,5 +87,6 @@ int main(void) {
     printf("file of %zu bytes, loaded again: levels %zu\n", told[DDM_STORE_BYTES], result[DDM_SLOT_LEVELS]);
     free(file);
     free(points), free(boxes), free(floats), free(level_points), free(internals), free(domains), free(borrowed), free(wholes);
+    free(cuts), free(planes);
     return 0;
 }

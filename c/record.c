@@ -1,4 +1,5 @@
-/* ddm_build_depth_first by ddm.h: its cut record, that its tree is ddm_build's, and that it writes nothing else.
+/* The cut record of each of the three builds by ddm.h: that it is the one of the level's leaves, that all builds write the same record and the
+ * same tree, and nothing else, and what they refuse.
  *
  *   cc -O2 -o record c/record.c target/staticlib/libddm_c.a && ./record
  */
@@ -37,9 +38,9 @@ typedef struct job {
     uint32_t leaf, near, factor, policy, threshold;
 } job;
 
-/* The lists of one call: the entries that are lent of each, in the order of ddm_build_sizes and then those of the record. Whole numbers
- * and floats have 8 bytes each. Every list is filled with FILL, and has SPARE entries behind those that are lent. */
-enum { CUTS = DDM_SIZES_SLOT, PLANES, LISTS, ROOM = 8, SPARE = 3, FILL = 0x5a };
+/* The lists of one call: the entries that are lent of each, in the order of ddm_build_sizes. Whole numbers and floats have 8 bytes each.
+ * Every list is filled with FILL, and has SPARE entries behind those that are lent. */
+enum { CUTS = DDM_SIZES_CUTS, PLANES = DDM_SIZES_PLANES, LISTS = DDM_SIZES_SLOT, ROOM = 8, SPARE = 3, FILL = 0x5a };
 
 typedef struct lent {
     size_t sizes[LISTS], result[DDM_BUILD_SLOT];
@@ -48,8 +49,7 @@ typedef struct lent {
 
 static lent lend(const job *j) {
     lent l;
-    EXPECT(ddm_build_sizes(j->n, j->d, j->near, l.sizes, DDM_SIZES_SLOT) == 0);
-    l.sizes[CUTS] = l.sizes[PLANES] = DDM_RECORD_ENTRIES(j->n);
+    EXPECT(ddm_build_sizes(j->n, j->d, j->near, l.sizes, LISTS) == 0);
     memset(l.result, FILL, sizeof l.result);
     for (size_t i = 0; i < LISTS; i++) {
         l.lists[i] = malloc((l.sizes[i] + SPARE) * ROOM);
@@ -67,18 +67,21 @@ static void give_back(lent *l) {
 
 /* A list of l as a call takes it: pointer, entries. */
 #define LENT(list) l->lists[list], l->sizes[list]
+#define ALL_LENT \
+    LENT(DDM_SIZES_LEVEL_POINTS), LENT(DDM_SIZES_INTERNALS), LENT(DDM_SIZES_DOMAINS), LENT(DDM_SIZES_BOXES), LENT(DDM_SIZES_BORROWED), \
+        LENT(DDM_SIZES_FLOATS), LENT(DDM_SIZES_WHOLES), LENT(CUTS), LENT(PLANES)
 
-static size_t build(const job *j, lent *l) {
-    return ddm_build(j->points, j->n * j->d, j->d, j->leaf, j->near, j->factor, j->policy, j->threshold, LENT(DDM_SIZES_LEVEL_POINTS),
-                     LENT(DDM_SIZES_INTERNALS), LENT(DDM_SIZES_DOMAINS), LENT(DDM_SIZES_BOXES), LENT(DDM_SIZES_BORROWED),
-                     LENT(DDM_SIZES_FLOATS), LENT(DDM_SIZES_WHOLES), l->result, DDM_BUILD_SLOT);
-}
+/* The builds. That over slots is given a table of which every slot is live, so that its rows are those of the points. */
+enum { QUEUE, DEPTH_FIRST, SLOTS, BUILDS };
 
-static size_t build_depth_first(const job *j, lent *l, size_t slot) {
-    return ddm_build_depth_first(j->points, j->n * j->d, j->d, j->leaf, j->near, j->factor, j->policy, j->threshold,
-                                 LENT(DDM_SIZES_LEVEL_POINTS), LENT(DDM_SIZES_INTERNALS), LENT(DDM_SIZES_DOMAINS), LENT(DDM_SIZES_BOXES),
-                                 LENT(DDM_SIZES_BORROWED), LENT(DDM_SIZES_FLOATS), LENT(DDM_SIZES_WHOLES), LENT(CUTS), LENT(PLANES),
-                                 l->result, slot);
+static size_t build(int by, const job *j, lent *l, size_t slot) {
+    uint8_t flags[MOST];
+    memset(flags, 1, sizeof flags);
+    if (by == SLOTS)
+        return ddm_build_slots(j->n, j->n, flags, j->n, j->points, j->n * j->d, j->d, j->leaf, j->near, j->factor, j->policy,
+                               j->threshold, ALL_LENT, l->result, slot);
+    return (by == QUEUE ? ddm_build : ddm_build_depth_first)(j->points, j->n * j->d, j->d, j->leaf, j->near, j->factor, j->policy,
+                                                             j->threshold, ALL_LENT, l->result, slot);
 }
 
 /* Whether these bytes are as they were found. */
@@ -103,15 +106,27 @@ static job on_a_line(const double *points, size_t n, uint32_t leaf, uint32_t thr
 
 /* ---- rows of a table */
 
-/* Level 0 is the only fine level of this job, and its record has these nodes; floats are compared as bits. */
+/* Level 0 is the only fine level of this job, and its record has these nodes by every build; floats are compared as bits. */
 static void has_record(job j, const size_t *cuts, const double *planes, size_t count) {
-    lent l = lend(&j);
-    EXPECT(build_depth_first(&j, &l, DDM_BUILD_SLOT) == 0 && l.result[DDM_SLOT_LEVELS] == 2);
-    EXPECT(DDM_RECORD_NODES(l.result[DDM_SLOT_DOMAINS]) == count);
-    EXPECT(memcmp(l.lists[CUTS], cuts, count * sizeof *cuts) == 0);
-    EXPECT(!planes || memcmp(l.lists[PLANES], planes, count * sizeof *planes) == 0);
-    EXPECT(untouched_from(&l, CUTS, count) && untouched_from(&l, PLANES, count));
-    give_back(&l);
+    for (int by = 0; by < BUILDS; by++) {
+        lent l = lend(&j);
+        EXPECT(build(by, &j, &l, DDM_BUILD_SLOT) == 0 && l.result[DDM_SLOT_LEVELS] == 2);
+        EXPECT(DDM_RECORD_NODES(l.result[DDM_SLOT_DOMAINS]) == count);
+        EXPECT(memcmp(l.lists[CUTS], cuts, count * sizeof *cuts) == 0);
+        EXPECT(!planes || memcmp(l.lists[PLANES], planes, count * sizeof *planes) == 0);
+        EXPECT(untouched_from(&l, CUTS, count) && untouched_from(&l, PLANES, count));
+        give_back(&l);
+    }
+}
+
+/* The job has a coarse level alone, and no node is written. */
+static void has_no_record(job j) {
+    for (int by = 0; by < BUILDS; by++) {
+        lent l = lend(&j);
+        EXPECT(build(by, &j, &l, DDM_BUILD_SLOT) == 0 && l.result[DDM_SLOT_LEVELS] == 1);
+        EXPECT(untouched_from(&l, CUTS, 0) && untouched_from(&l, PLANES, 0));
+        give_back(&l);
+    }
 }
 
 static void table(void) {
@@ -125,12 +140,8 @@ static void table(void) {
     has_record(on_a_line(six, 6, 1, 3), by_depth, NULL, 23);
     has_record(on_a_line(zeros, 2, 1, 1), seven, minus_first, 7);
     has_record(on_a_line(zeros + 1, 2, 1, 1), seven, plus_first, 7);
-    /* two rows and a threshold of two: no fine level, and no record */
-    job j = on_a_line(four, 2, 1, 2);
-    lent l = lend(&j);
-    EXPECT(build_depth_first(&j, &l, DDM_BUILD_SLOT) == 0 && l.result[DDM_SLOT_LEVELS] == 1);
-    EXPECT(untouched_from(&l, CUTS, 0) && untouched_from(&l, PLANES, 0));
-    give_back(&l);
+    /* two rows and a threshold of two: no fine level */
+    has_no_record(on_a_line(four, 2, 1, 2));
 }
 
 /* ---- a record against the leaves of its level */
@@ -240,35 +251,54 @@ static job random_job(void) {
     return j;
 }
 
-/* Both builds on lists of their own: the same refusal, the same slot, and the same five lists to their ends. */
-static void both_builds(void) {
+/* Whether a list is working room, which every build leaves as it pleases. */
+static int is_room(size_t list) {
+    return list == DDM_SIZES_FLOATS || list == DDM_SIZES_WHOLES;
+}
+
+/* A build against that of the queue, on lists of its own: the same refusal, the same slot, and the same tree and record, the lists compared to
+ * their ends. */
+static void same_build(int by, const job *j, const lent *queue, size_t refused) {
+    lent other = lend(j);
+    EXPECT(build(by, j, &other, DDM_BUILD_SLOT) == refused);
+    EXPECT(memcmp(queue->result, other.result, sizeof other.result) == 0);
+    for (size_t list = 0; list < LISTS; list++) {
+        EXPECT(is_room(list) || memcmp(queue->lists[list], other.lists[list], (other.sizes[list] + SPARE) * ROOM) == 0);
+        EXPECT(untouched_from(&other, list, refused ? 0 : other.sizes[list]));
+    }
+    give_back(&other);
+}
+
+static void every_build(void) {
     const job j = random_job();
-    lent queue = lend(&j), deep = lend(&j);
-    const size_t refused = build(&j, &queue);
-    EXPECT(build_depth_first(&j, &deep, DDM_BUILD_SLOT) == refused);
-    EXPECT(memcmp(queue.result, deep.result, sizeof deep.result) == 0);
-    for (size_t list = 0; list < DDM_SIZES_FLOATS; list++)
-        EXPECT(memcmp(queue.lists[list], deep.lists[list], (deep.sizes[list] + SPARE) * ROOM) == 0);
-    for (size_t list = DDM_SIZES_FLOATS; list < LISTS; list++)
-        EXPECT(untouched_from(&deep, list, refused ? 0 : deep.sizes[list]));
+    lent queue = lend(&j);
+    const size_t refused = build(QUEUE, &j, &queue, DDM_BUILD_SLOT);
+    for (size_t list = 0; list < LISTS; list++)
+        EXPECT(untouched_from(&queue, list, refused ? 0 : queue.sizes[list]));
     if (!refused)
-        walk_records(&j, &deep);
-    give_back(&queue), give_back(&deep);
+        walk_records(&j, &queue);
+    same_build(DEPTH_FIRST, &j, &queue, refused);
+    same_build(SLOTS, &j, &queue, refused);
+    give_back(&queue);
 }
 
 /* ---- refused calls */
 
-/* Lent so many entries fewer of one list, the job is refused with this number at this place: no list is written, and the counts are 0. */
+/* Lent so many entries fewer of one list, the job is refused by every build with this number at this place: no list is written, and the
+ * counts are 0. */
 static void refused(job j, size_t list, size_t fewer, size_t number, size_t place) {
-    lent l = lend(&j);
-    l.sizes[list] -= fewer;
-    EXPECT(build_depth_first(&j, &l, DDM_BUILD_SLOT) == number);
-    EXPECT(l.result[DDM_SLOT_PLACE] == place);
-    for (size_t i = DDM_SLOT_LEVELS; i < DDM_BUILD_SLOT; i++)
-        EXPECT(l.result[i] == 0);
-    for (size_t i = 0; i < LISTS; i++)
-        EXPECT(untouched_from(&l, i, 0));
-    give_back(&l);
+    for (int by = 0; by < BUILDS; by++) {
+        lent l = lend(&j);
+        l.sizes[list] -= fewer;
+        EXPECT(build(by, &j, &l, DDM_BUILD_SLOT) == number);
+        l.sizes[list] += fewer;
+        EXPECT(l.result[DDM_SLOT_PLACE] == place);
+        for (size_t i = DDM_SLOT_LEVELS; i < DDM_BUILD_SLOT; i++)
+            EXPECT(l.result[i] == 0);
+        for (size_t i = 0; i < LISTS; i++)
+            EXPECT(untouched_from(&l, i, 0));
+        give_back(&l);
+    }
 }
 
 static void refusals(void) {
@@ -277,7 +307,7 @@ static void refusals(void) {
     job leaf = not_finite, factor = not_finite, threshold = not_finite, low = not_finite;
     leaf.leaf = 0, factor.factor = 1, threshold.threshold = 0, low.threshold = 1, low.n = 9;
     refused(not_finite, CUTS, 0, 10, 2);
-    /* each list, those of the record included, with one entry fewer; before a coordinate is looked at, and after all else */
+    /* each list with one entry fewer than ddm_build_sizes says: before a coordinate is looked at, and after all else */
     for (size_t list = 0; list < LISTS; list++) {
         refused(good, list, 1, 11, 0);
         refused(not_finite, list, 1, 11, 0);
@@ -286,22 +316,44 @@ static void refusals(void) {
         refused(threshold, list, 1, 4, 0);
         refused(low, list, 1, 9, 0);
     }
+    /* no record at all, and the room of before there was one in every build */
     refused(good, CUTS, DDM_RECORD_ENTRIES(4), 11, 0);
     refused(good, PLANES, DDM_RECORD_ENTRIES(4), 11, 0);
-    /* a short slot comes before all else, and is not written either */
-    lent l = lend(&leaf);
-    EXPECT(build_depth_first(&leaf, &l, DDM_BUILD_SLOT - 1) == 11 && untouched(l.result, sizeof l.result));
-    for (size_t i = 0; i < LISTS; i++)
-        EXPECT(untouched_from(&l, i, 0));
-    give_back(&l);
+    refused(good, DDM_SIZES_WHOLES, 8 * good.n, 11, 0);
+}
+
+/* The entries that request 9 states of the record and the room, with K neighbours: each list of a build is refused with one fewer, above. */
+static void stated_sizes(void) {
+    for (size_t n = 1; n <= MOST; n++)
+        for (size_t near = 0; near <= DDM_MOST_NEIGHBOURS; near++) {
+            size_t sizes[LISTS];
+            EXPECT(ddm_build_sizes(n, 1 + n % AXES, (uint32_t)near, sizes, LISTS) == 0);
+            EXPECT(sizes[CUTS] == DDM_RECORD_ENTRIES(n) && sizes[PLANES] == DDM_RECORD_ENTRIES(n));
+            EXPECT(sizes[DDM_SIZES_WHOLES] == 40 * n + 8 * n * (near + 1) && sizes[DDM_SIZES_FLOATS] == 32 * n);
+        }
+}
+
+/* A short slot comes before all else, and is not written either. */
+static void short_slots(void) {
+    const double bad[1] = {NAN};
+    const job leaf = on_a_line(bad, 1, 0, 2);
+    for (int by = 0; by < BUILDS; by++) {
+        lent l = lend(&leaf);
+        EXPECT(build(by, &leaf, &l, DDM_BUILD_SLOT - 1) == 11 && untouched(l.result, sizeof l.result));
+        for (size_t i = 0; i < LISTS; i++)
+            EXPECT(untouched_from(&l, i, 0));
+        give_back(&l);
+    }
 }
 
 int main(void) {
     EXPECT(sizeof(size_t) == ROOM && sizeof(double) == ROOM);
     table();
     for (size_t i = 0; i < 1000; i++)
-        both_builds();
+        every_build();
     refusals();
+    stated_sizes();
+    short_slots();
     if (!wrong)
         printf("record: ok\n");
     return wrong != 0;

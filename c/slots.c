@@ -145,9 +145,10 @@ static void row_tests(void) {
     EXPECT(ddm_row_test(6, 0, 5) == 12 && ddm_row_test((size_t)-1, 2, 5) == 12 && ddm_row_test(2, (size_t)-1, 5) == 12);
 }
 
-/* The sizes of document 01's lists, and the refusals in their order. */
+/* The sizes of document 01's lists, of the record and of the further room, and the refusals in their order. */
 static void build_sizes(void) {
-    const size_t rows = 6001, stated[DDM_SIZES_SLOT] = {4000, 4000, DDM_ROW_NUMBERS * rows, DDM_ROW_FLOATS(2) * rows, 54000, 32000, 104000};
+    const size_t rows = 6001, stated[DDM_SIZES_SLOT] = {4000,  4000,   DDM_ROW_NUMBERS * rows, DDM_ROW_FLOATS(2) * rows, 54000,
+                                                        32000, 112000, 12000,                  12000};
     size_t slot[DDM_SIZES_SLOT + 1];
     mark(slot, DDM_SIZES_SLOT + 1);
     EXPECT(ddm_build_sizes(1000, 2, 8, slot, DDM_SIZES_SLOT - 1) == 11 && marked(slot, DDM_SIZES_SLOT + 1));
@@ -162,6 +163,8 @@ static void build_sizes(void) {
     EXPECT(ddm_build_sizes((size_t)-1, 3, 0, slot, DDM_SIZES_SLOT) == 8);
     EXPECT(ddm_build_sizes(DDM_MOST_POINTS, 3, DDM_MOST_NEIGHBOURS, slot, DDM_SIZES_SLOT) == 0);
     EXPECT(slot[DDM_SIZES_BORROWED] == (size_t)6 * DDM_MOST_POINTS * (DDM_MOST_NEIGHBOURS + 1));
+    EXPECT(slot[DDM_SIZES_WHOLES] == (size_t)560 * DDM_MOST_POINTS && slot[DDM_SIZES_FLOATS] == (size_t)32 * DDM_MOST_POINTS);
+    EXPECT(slot[DDM_SIZES_CUTS] == (size_t)DDM_RECORD_ENTRIES(DDM_MOST_POINTS) && slot[DDM_SIZES_PLANES] == slot[DDM_SIZES_CUTS]);
     /* two stretches and a depth; a box of six bounds and a cover */
     EXPECT(slot[DDM_SIZES_DOMAINS] == ((size_t)6 * DDM_MOST_POINTS + 1) * 5);
     EXPECT(slot[DDM_SIZES_BOXES] == (size_t)7 * (6 * DDM_MOST_POINTS + 1));
@@ -170,30 +173,31 @@ static void build_sizes(void) {
 /* A build over four points on one axis, with one neighbour; each list has room past the length that is lent. */
 enum { N = 4, NEAR = 1, ROOM = 512 };
 
-static size_t level_points[ROOM], internals[ROOM], domains[ROOM], borrowed[ROOM], wholes[ROOM], sizes[DDM_SIZES_SLOT];
-static double boxes[ROOM], floats[ROOM];
+static size_t level_points[ROOM], internals[ROOM], domains[ROOM], borrowed[ROOM], wholes[ROOM], cuts[ROOM], sizes[DDM_SIZES_SLOT];
+static double boxes[ROOM], floats[ROOM], planes[ROOM];
 static size_t slot[DDM_BUILD_SLOT + 1];
 
 static void mark_all(void) {
-    mark(level_points, ROOM), mark(internals, ROOM), mark(domains, ROOM), mark(borrowed, ROOM), mark(wholes, ROOM);
+    mark(level_points, ROOM), mark(internals, ROOM), mark(domains, ROOM), mark(borrowed, ROOM), mark(wholes, ROOM), mark(cuts, ROOM);
     mark(slot, DDM_BUILD_SLOT + 1);
     for (size_t i = 0; i < ROOM; i++)
-        boxes[i] = floats[i] = MARK;
+        boxes[i] = floats[i] = planes[i] = MARK;
 }
 
 static size_t build(const double *points, uint32_t leaf, uint32_t factor, uint32_t policy, uint32_t threshold, size_t slot_len) {
     mark_all();
     return ddm_build(points, N, 1, leaf, NEAR, factor, policy, threshold, level_points, sizes[DDM_SIZES_LEVEL_POINTS], internals,
                      sizes[DDM_SIZES_INTERNALS], domains, sizes[DDM_SIZES_DOMAINS], boxes, sizes[DDM_SIZES_BOXES], borrowed,
-                     sizes[DDM_SIZES_BORROWED], floats, sizes[DDM_SIZES_FLOATS], wholes, sizes[DDM_SIZES_WHOLES], slot, slot_len);
+                     sizes[DDM_SIZES_BORROWED], floats, sizes[DDM_SIZES_FLOATS], wholes, sizes[DDM_SIZES_WHOLES], cuts,
+                     sizes[DDM_SIZES_CUTS], planes, sizes[DDM_SIZES_PLANES], slot, slot_len);
 }
 
 static int untouched(void) {
     for (size_t i = 0; i < ROOM; i++)
-        if (boxes[i] != MARK || floats[i] != MARK)
+        if (boxes[i] != MARK || floats[i] != MARK || planes[i] != MARK)
             return 0;
     return marked(level_points, ROOM) && marked(internals, ROOM) && marked(domains, ROOM) && marked(borrowed, ROOM)
-           && marked(wholes, ROOM);
+           && marked(wholes, ROOM) && marked(cuts, ROOM);
 }
 
 static void refused_builds(void) {
@@ -223,6 +227,14 @@ static int row_is(size_t domain, size_t own, size_t owned, size_t lent, size_t c
            && box[DDM_ROW_COVER(1)] == far && !signbit(box[DDM_ROW_COVER(1)]);
 }
 
+/* Whether the record has so many nodes, of which the first is a cut at this plane, and nothing is written past them. */
+static int recorded(size_t nodes, double plane) {
+    int right = marked(cuts + nodes, ROOM - nodes) && (!nodes || (cuts[0] == 0 && planes[0] == plane));
+    for (size_t i = nodes; i < ROOM; i++)
+        right = right && planes[i] == MARK;
+    return right;
+}
+
 static void builds(void) {
     const double points[N] = {0.0, 1.0, 2.0, 10.0};
     /* Auto: the threshold is 512, whatever stands in its place, so there is the coarse level alone */
@@ -230,6 +242,7 @@ static void builds(void) {
     EXPECT(slot[DDM_SLOT_ROWS] == N && zeros(slot + DDM_SLOT_ROWS + 1, DDM_MOST_LEVELS - 1));
     EXPECT(slot[DDM_SLOT_DOMAINS] == 1 && zeros(slot + DDM_SLOT_DOMAINS + 1, DDM_MOST_LEVELS - 1));
     EXPECT(row_is(0, 0, N, 0, 0, 0, 0.0, 0.0, 0.0) && marked(domains + DDM_ROW_NUMBERS, ROOM - DDM_ROW_NUMBERS));
+    EXPECT(recorded(0, 0.0));
     /* Fixed at 2: two leaves of two rows, each with a row of the other's, and then the coarse level */
     EXPECT(build(points, 3, 2, DDM_POLICY_FIXED, 2, DDM_BUILD_SLOT + 1) == 0 && slot[DDM_BUILD_SLOT] == MARK);
     EXPECT(slot[DDM_SLOT_PLACE] == 0 && slot[DDM_SLOT_LEVELS] == 2 && slot[DDM_SLOT_ROWS] == N && slot[DDM_SLOT_ROWS + 1] == 2);
@@ -239,8 +252,10 @@ static void builds(void) {
     EXPECT(borrowed[0] == 2 && borrowed[1] == 1 && marked(borrowed + 2, ROOM - 2));
     EXPECT(marked(level_points + N + 2, ROOM - N - 2) && marked(internals + N + 2, ROOM - N - 2));
     EXPECT(marked(domains + 3 * DDM_ROW_NUMBERS, ROOM - 3 * DDM_ROW_NUMBERS) && boxes[3 * DDM_ROW_FLOATS(1)] == MARK);
+    EXPECT(recorded(DDM_RECORD_NODES(2), 2.0) && cuts[1] == DDM_RECORD_LEAF && cuts[2] == DDM_RECORD_LEAF + 1);
     /* at leaf threshold 1 each row has a leaf behind an empty one; of the leaves with rows two send theirs, and two send none */
     EXPECT(build(points, 1, 2, DDM_POLICY_FIXED, 2, DDM_BUILD_SLOT) == 0 && slot[DDM_SLOT_DOMAINS] == 8);
+    EXPECT(recorded(DDM_RECORD_NODES(8), 2.0));
     for (size_t leaf = 0; leaf < 8; leaf++) {
         const double far = boxes[DDM_ROW_FLOATS(1) * leaf + DDM_ROW_COVER(1)];
         EXPECT(domains[DDM_ROW_NUMBERS * leaf + DDM_COLUMN_OWN_COUNT] == leaf % 2 && far == (leaf == 5 || leaf == 7 ? INFINITY : 0.0));

@@ -72,11 +72,11 @@ static void round_trip(void) {
     EXPECT(twice && same_trees(tree, loaded));
     EXPECT(twice && bytes == again && memcmp(file, twice, bytes) == 0);
     EXPECT(!loaded || ddm_tree_record(loaded, 0).count == 0);
-    ddm_tree *recorded = ddm_tree_build_depth_first(points, d * n, d, params, &error);
-    unsigned char *same = recorded ? ddm_tree_store(recorded, points, d * n, params, &again, &error) : NULL;
+    ddm_tree *deep = ddm_tree_build_depth_first(points, d * n, d, params, &error);
+    unsigned char *same = deep ? ddm_tree_store(deep, points, d * n, params, &again, &error) : NULL;
     EXPECT(same && bytes == again && memcmp(file, same, bytes) == 0);
     free(same);
-    ddm_tree_free(recorded);
+    ddm_tree_free(deep);
     if (file) {
         points[0] += 1.0;
         EXPECT(!ddm_tree_load(points, d * n, d, params, file, bytes, &error) && error.number == 19);
@@ -103,7 +103,9 @@ typedef struct lent {
     double boxes[DDM_ROW_FLOATS(1) * ROWS];
     size_t borrowed[6 * WELLS * (NEAR + 1)];
     double floats[32 * WELLS];
-    size_t wholes[32 * WELLS + 8 * WELLS * (NEAR + 1)], result[DDM_BUILD_SLOT];
+    size_t wholes[40 * WELLS + 8 * WELLS * (NEAR + 1)], cuts[DDM_RECORD_ENTRIES(WELLS)];
+    double planes[DDM_RECORD_ENTRIES(WELLS)];
+    size_t result[DDM_BUILD_SLOT];
     unsigned char file[FILE_BYTES];
 } lent;
 
@@ -112,7 +114,8 @@ static const double line[WELLS] = {0.0, 1.0, 3.0, 7.0};
 static size_t build_into(lent *l) {
     return ddm_build(line, WELLS, 1, 2, NEAR, 2, DDM_POLICY_FIXED, 2, l->level_points, 8 * WELLS, l->internals, 8 * WELLS, l->domains,
                      DDM_ROW_NUMBERS * ROWS, l->boxes, DDM_ROW_FLOATS(1) * ROWS, l->borrowed, 6 * WELLS * (NEAR + 1), l->floats,
-                     32 * WELLS, l->wholes, 32 * WELLS + 8 * WELLS * (NEAR + 1), l->result, DDM_BUILD_SLOT);
+                     32 * WELLS, l->wholes, 40 * WELLS + 8 * WELLS * (NEAR + 1), l->cuts, DDM_RECORD_ENTRIES(WELLS), l->planes,
+                     DDM_RECORD_ENTRIES(WELLS), l->result, DDM_BUILD_SLOT);
 }
 
 static size_t load_into(lent *l, const unsigned char *file, size_t bytes, uint32_t leaf, size_t borrowed, size_t *result, size_t slot) {
@@ -239,6 +242,37 @@ static void depths(lent *built, const size_t *tree) {
     refused_load(built->file, BYTES - DEPTH_BYTES, 2, 6 * WELLS * (NEAR + 1), DDM_BUILD_SLOT, 20);
 }
 
+/* Loader and writer are lent the tree's five lists at the lengths that ddm_build_sizes says, and no room and no record: each list with one
+ * entry fewer is refused, and then all are as long as they have to be. */
+static void five_lists(const lent *built) {
+    enum { LISTS = DDM_SIZES_FLOATS, ENTRY = 8 };
+    size_t sizes[DDM_SIZES_SLOT], result[DDM_BUILD_SLOT], slot[DDM_STORE_SLOT];
+    void *lists[LISTS];
+    unsigned char file[BYTES];
+    EXPECT(ddm_build_sizes(WELLS, 1, NEAR, sizes, DDM_SIZES_SLOT) == 0);
+    for (size_t i = 0; i < LISTS; i++) {
+        lists[i] = calloc(sizes[i], ENTRY);
+        if (!lists[i])
+            exit(1);
+    }
+    for (size_t short_list = 0; short_list <= LISTS; short_list++) {
+        const size_t fewer = short_list < LISTS, number = fewer ? 11 : 0;
+        sizes[short_list] -= fewer;
+        EXPECT(ddm_load(line, WELLS, 1, 2, NEAR, 2, DDM_POLICY_FIXED, 2, built->file, BYTES, lists[DDM_SIZES_LEVEL_POINTS],
+                        sizes[DDM_SIZES_LEVEL_POINTS], lists[DDM_SIZES_INTERNALS], sizes[DDM_SIZES_INTERNALS], lists[DDM_SIZES_DOMAINS],
+                        sizes[DDM_SIZES_DOMAINS], lists[DDM_SIZES_BOXES], sizes[DDM_SIZES_BOXES], lists[DDM_SIZES_BORROWED],
+                        sizes[DDM_SIZES_BORROWED], result, DDM_BUILD_SLOT) == number);
+        EXPECT(ddm_store(line, WELLS, 1, 2, NEAR, 2, DDM_POLICY_FIXED, 2, built->result, DDM_BUILD_SLOT, lists[DDM_SIZES_LEVEL_POINTS],
+                         sizes[DDM_SIZES_LEVEL_POINTS], lists[DDM_SIZES_INTERNALS], sizes[DDM_SIZES_INTERNALS], lists[DDM_SIZES_DOMAINS],
+                         sizes[DDM_SIZES_DOMAINS], lists[DDM_SIZES_BOXES], sizes[DDM_SIZES_BOXES], lists[DDM_SIZES_BORROWED],
+                         sizes[DDM_SIZES_BORROWED], file, BYTES, slot, DDM_STORE_SLOT) == number);
+        sizes[short_list] += fewer;
+    }
+    EXPECT(slot[DDM_STORE_BYTES] == BYTES && memcmp(file, built->file, BYTES) == 0);
+    for (size_t i = 0; i < LISTS; i++)
+        free(lists[i]);
+}
+
 static void refusals(void) {
     static lent built, other;
     size_t slot[DDM_STORE_SLOT], tree[DDM_BUILD_SLOT];
@@ -250,6 +284,7 @@ static void refusals(void) {
     EXPECT(load_into(&other, built.file, BYTES, 2, 6 * WELLS * (NEAR + 1), tree, DDM_BUILD_SLOT) == 0);
     EXPECT(memcmp(tree, built.result, sizeof tree) == 0);
     too_many_points(&built, tree);
+    five_lists(&built);
     refused_load(built.file, BYTES, 3, 6 * WELLS * (NEAR + 1), DDM_BUILD_SLOT, 18);
     refused_load(built.file, BYTES - 1, 3, 6 * WELLS * (NEAR + 1), DDM_BUILD_SLOT, 20);
     refused_load(built.file, BYTES, 0, 6 * WELLS * (NEAR + 1), DDM_BUILD_SLOT, 2);

@@ -1,5 +1,5 @@
 /* The table of wells by ddm.h: edits and closing against a plain model, the build over its live slots against ddm_build of the live points,
- * the build before closing against the one after it, the refusals in their order, and that a refused call writes nothing.
+ * the build before closing against the one after it, records included, the refusals in their order, and that a refused call writes nothing.
  *
  *   cc -O2 -o table c/table.c target/staticlib/libddm_c.a && ./table
  */
@@ -563,7 +563,7 @@ static void give_back(lent *l) {
 #define LENT(list) l->lists[list], l->sizes[list]
 #define LISTS \
     LENT(DDM_SIZES_LEVEL_POINTS), LENT(DDM_SIZES_INTERNALS), LENT(DDM_SIZES_DOMAINS), LENT(DDM_SIZES_BOXES), LENT(DDM_SIZES_BORROWED), \
-        LENT(DDM_SIZES_FLOATS), LENT(DDM_SIZES_WHOLES)
+        LENT(DDM_SIZES_FLOATS), LENT(DDM_SIZES_WHOLES), LENT(DDM_SIZES_CUTS), LENT(DDM_SIZES_PLANES)
 
 static size_t build(const double *points, size_t n, size_t d, settings s, lent *l) {
     return ddm_build(points, n * d, d, s.leaf, s.near, s.factor, s.policy, s.threshold, LISTS, l->result, DDM_BUILD_SLOT);
@@ -637,10 +637,11 @@ static void same_renamed(lent *one, const lent *other, size_t number, size_t d, 
     if (!number)
         rename_all(one, by, many);
     EXPECT(memcmp(one->result, other->result, sizeof other->result) == 0);
-    for (size_t i = 0; i < DDM_SIZES_FLOATS; i++)
-        EXPECT(memcmp(one->lists[i], other->lists[i], (other->sizes[i] + SPARE) * ROOM) == 0);
-    for (size_t i = DDM_SIZES_FLOATS; i < DDM_SIZES_SLOT; i++)
+    for (size_t i = 0; i < DDM_SIZES_SLOT; i++) {
+        const int room = i == DDM_SIZES_FLOATS || i == DDM_SIZES_WHOLES;
+        EXPECT(room || memcmp(one->lists[i], other->lists[i], (other->sizes[i] + SPARE) * ROOM) == 0);
         EXPECT(untouched_from(other, i, number ? 0 : other->sizes[i]));
+    }
 }
 
 /* Both builds, with so many entries fewer of one list: the same refusal and slot, its place in the lent list; and the same lists to their
@@ -734,7 +735,8 @@ static void edited_builds(void) {
 static void four_wells(void) {
     const uint8_t flags[7] = {0, 2, 0, 255, 1, 0, 128};
     const settings s = {2, 1, 2, DDM_POLICY_FIXED, 2};
-    const size_t rows[6] = {1, 3, 4, 6, 1, 3}, borrowed[6] = {3, 1, 4, 3, 6, 4};
+    const size_t rows[6] = {1, 3, 4, 6, 1, 3}, borrowed[6] = {3, 1, 4, 3, 6, 4}, cuts[7] = {0, 0, 3, 4, 0, 5, 6};
+    const double planes[7] = {3.0, 1.0, 0.0, 0.0, 7.0, 0.0, 0.0};
     table t = with_flags(1, 9, flags, 7);
     lent l = lend(4, 1, s.near);
     t.coordinates[1] = 0.0, t.coordinates[3] = 1.0, t.coordinates[4] = 3.0, t.coordinates[6] = 7.0;
@@ -743,6 +745,9 @@ static void four_wells(void) {
     EXPECT(memcmp(l.lists[DDM_SIZES_LEVEL_POINTS], rows, sizeof rows) == 0 && untouched_from(&l, DDM_SIZES_LEVEL_POINTS, 6));
     EXPECT(memcmp(l.lists[DDM_SIZES_INTERNALS], rows, sizeof rows) == 0 && untouched_from(&l, DDM_SIZES_INTERNALS, 6));
     EXPECT(memcmp(l.lists[DDM_SIZES_BORROWED], borrowed, sizeof borrowed) == 0 && untouched_from(&l, DDM_SIZES_BORROWED, 6));
+    /* the record names axes, leaves and planes, and no slot */
+    EXPECT(memcmp(l.lists[DDM_SIZES_CUTS], cuts, sizeof cuts) == 0 && untouched_from(&l, DDM_SIZES_CUTS, 7));
+    EXPECT(memcmp(l.lists[DDM_SIZES_PLANES], planes, sizeof planes) == 0 && untouched_from(&l, DDM_SIZES_PLANES, 7));
     give_back(&l);
 }
 

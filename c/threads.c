@@ -1,4 +1,4 @@
-/* Calls at once: eight threads build trees of their own over points that they share, by both builds, each on a stack of 24 KiB; and every
+/* Calls at once: eight threads build trees of their own over points that they share, by both builds, each on a stack of 40 KiB; and every
  * tree and record is the one that is built alone.
  *
  *   cc -O2 -pthread -o threads c/threads.c target/staticlib/libddm_c.a && ./threads
@@ -8,15 +8,13 @@
 #include <stdio.h>
 #include <string.h>
 
-enum { WELLS = 2000, AXES = 3, THREADS = 8, TURNS = 3, STACK = 24 * 1024, NODES = DDM_RECORD_ENTRIES(WELLS) };
+enum { WELLS = 2000, AXES = 3, THREADS = 8, TURNS = 3, STACK = 40 * 1024 };
 
 static double points[AXES * WELLS];
 
 /* What stands in a thread's hands: its own lists and slot. */
 typedef struct {
     ddm_lists lists;
-    size_t cuts[NODES];
-    double planes[NODES];
     size_t result[DDM_BUILD_SLOT], refused;
     ddm_params params;
 } job;
@@ -26,8 +24,7 @@ static void *work(void *of) {
     for (size_t turn = 0; turn < TURNS && !own->refused; turn++) {
         own->refused = ddm_lists_build(&own->lists, points, AXES * WELLS, AXES, own->params, own->result);
         if (!own->refused)
-            own->refused = ddm_lists_build_depth_first(&own->lists, points, AXES * WELLS, AXES, own->params, own->cuts, own->planes,
-                                                       NODES, own->result);
+            own->refused = ddm_lists_build_depth_first(&own->lists, points, AXES * WELLS, AXES, own->params, own->result);
     }
     return NULL;
 }
@@ -46,7 +43,8 @@ static void prepare(job *own, uint32_t leaf) {
 static int same(const job *a, const job *b) {
     const size_t *s = a->lists.sizes, whole = sizeof(size_t);
     return !a->refused && !b->refused && memcmp(a->result, b->result, sizeof a->result) == 0
-           && memcmp(a->cuts, b->cuts, sizeof a->cuts) == 0 && memcmp(a->planes, b->planes, sizeof a->planes) == 0
+           && memcmp(a->lists.cuts, b->lists.cuts, whole * s[DDM_SIZES_CUTS]) == 0
+           && memcmp(a->lists.planes, b->lists.planes, sizeof(double) * s[DDM_SIZES_PLANES]) == 0
            && memcmp(a->lists.level_points, b->lists.level_points, whole * s[DDM_SIZES_LEVEL_POINTS]) == 0
            && memcmp(a->lists.internals, b->lists.internals, whole * s[DDM_SIZES_INTERNALS]) == 0
            && memcmp(a->lists.domains, b->lists.domains, whole * s[DDM_SIZES_DOMAINS]) == 0

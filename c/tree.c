@@ -94,7 +94,9 @@ static void same_tree(const ddm_tree *tree, const ddm_lists *lists, const size_t
 }
 
 /* The records of the fine levels, one after the other; the coarse level and a level that is not there have none. */
-static void same_record(const ddm_tree *tree, const size_t *cuts, const double *planes) {
+static void same_record(const ddm_tree *tree, const ddm_lists *lists) {
+    const size_t *cuts = lists->cuts;
+    const double *planes = lists->planes;
     for (size_t level = 0; level < ddm_tree_levels(tree) - 1; level++) {
         const ddm_record record = ddm_tree_record(tree, level);
         EXPECT(record.count == DDM_RECORD_NODES(ddm_tree_leaves(tree, level)) && ddm_record_behind(record, 0) == record.count);
@@ -106,9 +108,31 @@ static void same_record(const ddm_tree *tree, const size_t *cuts, const double *
         EXPECT(ddm_tree_record(tree, level).count == 0 && !ddm_tree_record(tree, level).cuts && !ddm_tree_record(tree, level).planes);
 }
 
+/* The tree that the lists hold, with their record. */
+static void same_built(const ddm_tree *tree, const ddm_lists *lists, const size_t *result) {
+    if (tree) {
+        same_tree(tree, lists, result);
+        same_record(tree, lists);
+    }
+}
+
+/* Without a record, which a loaded tree does not have. */
+static void stored_and_loaded(const ddm_tree *tree, const double *points, size_t points_len, ddm_params params, const ddm_lists *lists,
+                              const size_t *result) {
+    size_t bytes;
+    unsigned char *file = tree ? ddm_tree_store(tree, points, points_len, params, &bytes, NULL) : NULL;
+    ddm_tree *loaded = file ? ddm_tree_load(points, points_len, ddm_tree_dimensions(tree), params, file, bytes, NULL) : NULL;
+    EXPECT(!loaded == !tree);
+    if (loaded) {
+        same_tree(loaded, lists, result);
+        for (size_t level = 0; level <= DDM_MOST_LEVELS; level++)
+            EXPECT(ddm_tree_record(loaded, level).count == 0 && !ddm_tree_record(loaded, level).cuts);
+    }
+    free(file);
+    ddm_tree_free(loaded);
+}
+
 static void random_tree(void) {
-    static size_t cuts[DDM_RECORD_ENTRIES(120)];
-    static double planes[DDM_RECORD_ENTRIES(120)];
     double points[3 * 120];
     const size_t d = 1 + below(3), n = 1 + below(120);
     ddm_params params = ddm_default_params();
@@ -127,18 +151,13 @@ static void random_tree(void) {
     cutting = below(2) == 0;
     ddm_tree *tree = ddm_tree_build(points, n * d, d, params, &error);
     EXPECT(error.number == refused && error.place == 0 && !tree == (refused != 0));
-    if (tree) {
-        same_tree(tree, &lists, result);
-        EXPECT(ddm_tree_record(tree, 0).count == 0 && !ddm_tree_record(tree, 0).cuts);
-    }
+    same_built(tree, &lists, result);
+    stored_and_loaded(tree, points, n * d, params, &lists, result);
     ddm_tree_free(tree);
-    EXPECT(ddm_lists_build_depth_first(&lists, points, n * d, d, params, cuts, planes, DDM_RECORD_ENTRIES(n), result) == refused);
+    EXPECT(ddm_lists_build_depth_first(&lists, points, n * d, d, params, result) == refused);
     tree = ddm_tree_build_depth_first(points, n * d, d, params, &error);
     EXPECT(error.number == refused && error.place == 0 && !tree == (refused != 0));
-    if (tree) {
-        same_tree(tree, &lists, result);
-        same_record(tree, cuts, planes);
-    }
+    same_built(tree, &lists, result);
     cutting = 1;
     ddm_tree_free(tree);
     ddm_lists_free(&lists);
@@ -170,8 +189,7 @@ static void random_slots(void) {
     EXPECT(refused == 0 || refused == 9 || (refused == 6 && !head.live));
     ddm_tree *tree = ddm_tree_build_slots(head, flags, capacity, coordinates, capacity * d, d, params, &error);
     EXPECT(error.number == refused && error.place == 0 && !tree == (refused != 0));
-    if (tree)
-        same_tree(tree, &lists, result);
+    same_built(tree, &lists, result);
     ddm_tree_free(tree);
     ddm_lists_free(&lists);
 }
@@ -252,13 +270,34 @@ static size_t lists_of(ddm_tree *(*build)(const double *, size_t, size_t, ddm_pa
     return lists;
 }
 
+/* To be stored a tree needs its five lists, and to be loaded these and the tree itself: no room and no record. */
+static void kept_lists(void) {
+    const double points[4] = {0.0, 1.0, 2.0, 10.0};
+    const ddm_params params = ddm_default_params();
+    ddm_error error;
+    size_t bytes, lists = 0;
+    unsigned char *file;
+    ddm_tree *tree = ddm_tree_build(points, 4, 1, params, NULL), *loaded;
+    for (allowed = 0; !(file = ddm_tree_store(tree, points, 4, params, &bytes, &error)); allowed = ++lists)
+        EXPECT(error.number == DDM_NO_MEMORY && error.place == 0 && bytes == 0);
+    EXPECT(lists == DDM_SIZES_FLOATS);
+    lists = 0;
+    for (allowed = 0; !(loaded = ddm_tree_load(points, 4, 1, params, file, bytes, &error)); allowed = ++lists)
+        EXPECT(error.number == DDM_NO_MEMORY && error.place == 0);
+    EXPECT(lists == 1 + DDM_SIZES_FLOATS);
+    allowed = (size_t)-1;
+    free(file);
+    ddm_tree_free(tree), ddm_tree_free(loaded);
+}
+
 static void memory(void) {
     const ddm_error error = {DDM_NO_MEMORY, 0};
     EXPECT(strcmp(ddm_error_text(error), "there is no memory for the lists") == 0);
-    /* the tree itself and its lists, and two more for the record */
+    /* the tree itself and its lists */
     EXPECT(lists_of(ddm_tree_build) == 1 + DDM_SIZES_SLOT);
-    EXPECT(lists_of(ddm_tree_build_depth_first) == 1 + DDM_SIZES_SLOT + 2);
+    EXPECT(lists_of(ddm_tree_build_depth_first) == 1 + DDM_SIZES_SLOT);
     EXPECT(lists_of(build_all_slots) == 1 + DDM_SIZES_SLOT);
+    kept_lists();
 }
 
 /* ---- what ddm.h says of the lent bytes: how many they are, and that few are touched */
@@ -285,14 +324,13 @@ static void lent_bytes(uint32_t leaf_threshold, size_t most) {
     for (size_t i = 0; i < AXES * WELLS; i++)
         points[i] = (double)below(1000000) + 1;
     EXPECT(ddm_build_sizes(WELLS, AXES, params.overlap_knn, lists.sizes, DDM_SIZES_SLOT) == 0 && ddm_lists_make(&lists));
-    void *all[DDM_SIZES_SLOT] = {lists.level_points, lists.internals, lists.domains, lists.boxes, lists.borrowed, lists.floats,
-                                 lists.wholes};
+    void *all[DDM_SIZES_SLOT] = {lists.level_points, lists.internals, lists.domains, lists.boxes, lists.borrowed,
+                                 lists.floats,       lists.wholes,    lists.cuts,    lists.planes};
     for (size_t i = 0; i < DDM_SIZES_SLOT; i++) {
         bytes += lists.sizes[i] * sizeof(uint64_t);
         memset(all[i], 0xff, lists.sizes[i] * sizeof(uint64_t));
     }
-    EXPECT(bytes / WELLS == 864 + 96 * AXES + 112 * (params.overlap_knn + 1));
-    EXPECT(DDM_RECORD_ENTRIES(WELLS) * (sizeof(size_t) + sizeof(double)) / WELLS == 192);
+    EXPECT(bytes / WELLS == 1120 + 96 * AXES + 112 * (params.overlap_knn + 1));
     EXPECT(ddm_lists_build(&lists, points, AXES * WELLS, AXES, params, result) == 0);
     for (size_t i = 0; i < DDM_SIZES_SLOT; i++)
         touched += changed(all[i], lists.sizes[i]) * sizeof(uint64_t);
@@ -334,9 +372,7 @@ static void nowhere(void) {
     EXPECT(ddm_tree_cover(tree, 0, 2) == 0.0 && ddm_tree_cover(tree, 2, 0) == 0.0 && ddm_tree_cover(tree, far, far) == 0.0);
     EXPECT(ddm_tree_depth(tree, 0, 1) == 1 && ddm_tree_depth(tree, 1, 0) == 0);
     EXPECT(ddm_tree_depth(tree, 0, 2) == 0 && ddm_tree_depth(tree, 2, 0) == 0 && ddm_tree_depth(tree, far, far) == 0);
-    ddm_tree_free(tree);
-    tree = ddm_tree_build_depth_first(points, 4, 1, params, &error);
-    EXPECT(tree && ddm_tree_record(tree, 0).count == DDM_RECORD_NODES(2));
+    EXPECT(ddm_tree_record(tree, 0).count == DDM_RECORD_NODES(2));
     EXPECT(ddm_tree_record(tree, 1).count == 0 && ddm_tree_record(tree, 2).count == 0 && ddm_tree_record(tree, far).count == 0);
     ddm_tree_free(tree);
     ddm_tree_free(NULL);
@@ -352,7 +388,7 @@ int main(void) {
     slots_refusals();
     memory();
     lent_bytes(256, 100);
-    lent_bytes(1, 700);
+    lent_bytes(1, 850);
     versions();
     nowhere();
     if (wrong == 0)

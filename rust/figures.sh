@@ -1,30 +1,39 @@
 #!/bin/sh
-# The figures: the library against plain Rust, whole and stage by stage; or the build that cuts depth first against the queue's, whole
-# and its cut stage; or the cut stage, the neighbour stage and sampling against those of an earlier commit. Each in one run. Not a test,
-# and nothing that the gate runs.
+# The figures: the library against plain Rust, whole and stage by stage; or the scan of every pair against the search for neighbours, and
+# whole builds of many wells; or the build that cuts depth first against the queue's, whole and its cut stage; or the cut stage, the
+# neighbour stage and sampling against those of an earlier commit. Each in one run. Not a test, and nothing that the gate runs.
 #
-#   rust/figures.sh [--engines | --against COMMIT]
+#   rust/figures.sh [--search | --engines | --against COMMIT]
 #
 # The stages are inner functions that ask something of their callers, so the product exports none of them: a copy of the repository
 # gets the crate of rust/stages, which exports them, and is built apart. Needs rt and cargo, on x86-64, and for --against a C compiler
-# (CC names another one) and git; takes some minutes.
+# (CC names another one) and git; takes some minutes, and --search a quarter of an hour.
 set -eu
 cd "$(dirname "$0")/.."
 against=
 case "$#${1-}" in
 0) figures=figures ;;
+1--search) figures=search_figures ;;
 1--engines) figures=engine_figures ;;
 2--against) figures= against=$(git rev-parse --verify "$2^{commit}") ;;
-*) echo "use: rust/figures.sh [--engines | --against COMMIT]" >&2; exit 2 ;;
+*) echo "use: rust/figures.sh [--search | --engines | --against COMMIT]" >&2; exit 2 ;;
 esac
 made=$(mktemp -d)
 trap 'rm -rf "$made"' EXIT
 
-# Gives the copy $1 the crate of its rust/stages, which cites the crates that its text names.
+# Gives the copy $1 the crate of its rust/stages, which cites the crates that its texts name. A text of proofs/ is that of one function.
 add_stages() {
-    mkdir -p "$1/crates/ddm_stages/src"
-    cp "$1/rust/stages/lib.rt.txt" "$1/crates/ddm_stages/src/lib.rt"
-    cited=$(sed -n 's/.*Rattle\.\([a-z0-9_]*\)\..*/\1/p; s/^ *\([a-z0-9_]*\)::.*/\1/p; s/^use \([a-z0-9_]*\)::.*/\1/p' "$1/rust/stages/lib.rt.txt" | grep -v '^std$' | sort -u | tr '\n' ' ')
+    stages=$1/rust/stages crate=$1/crates/ddm_stages
+    mkdir -p "$crate/src"
+    cp "$stages/lib.rt.txt" "$crate/src/lib.rt"
+    for proof in "$stages"/proofs/*.antt.txt; do
+        [ -f "$proof" ] || continue
+        function=$(basename "$proof" .antt.txt)
+        mkdir -p "$crate/proofs/$function"
+        cp "$proof" "$crate/proofs/$function/Answers.antt"
+    done
+    cited=$(find "$stages" -name '*.txt' -exec grep -ohE 'Rattle\.[a-z0-9_]+|[a-z0-9_]+::' {} + | sed 's/^Rattle\.//; s/::$//' \
+        | grep -vx -e std -e ddm_stages | sort -u | tr '\n' ' ')
     echo "ddm_stages staticlib: $cited" >> "$1/crates.txt"
 }
 

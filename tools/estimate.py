@@ -1,13 +1,34 @@
-"""How long a build will take, from figures of one machine (docs/PERFORMANCE.md): the neighbours of a level are found by a scan of
-every pair of its active wells, which is nearly all of the time."""
+"""How long a build will take, from figures of one machine (docs/PERFORMANCE.md). Nearly all of the time goes to the search for each well's
+neighbours, which looks at the wells of the leaves that the ball about them meets. Here wells are taken to lie evenly."""
+import math
 
-PAIR = {1: 2.2e-9, 2: 2.4e-9, 3: 2.8e-9}   # seconds for a pair of wells, by dimension
-LONG = 5.0                                 # seconds: a build that takes longer is announced
+LONG = 5.0              # seconds: a build that takes longer is announced
+
+WELL = 2.5e-6           # seconds for a well of a level, beside what follows
+NEIGHBOUR = 0.06e-6     # for each neighbour that it has
+LOOKED_AT = 5e-9        # for each well that is looked at for it
+
+BALL = {1: 2.0, 2: math.pi, 3: 4 / 3 * math.pi}   # what a ball of radius 1 holds, by dimension
 
 
-def seconds(sizes, dimension):
+def leaf_size(size, leaf):
+    """The wells of a leaf, in a level of this size: it is cut once, and halves of at least the threshold once more."""
+    half = size / 2
+    while half >= max(1, leaf):
+        half /= 2
+    return half
+
+
+def looked_at(size, dimension, leaf, neighbours):
+    """The wells of the leaves that a ball meets which holds so many neighbours."""
+    wells = leaf_size(size, leaf)
+    radius = (neighbours / (BALL[dimension] * wells)) ** (1 / dimension)   # where a leaf is 1 wide
+    return min(size, wells * (1 + 2 * radius) ** dimension)
+
+
+def seconds(sizes, dimension, leaf, neighbours):
     """The time of a build whose levels have these sizes; the coarse level costs nothing."""
-    return PAIR[dimension] * sum(size * size for size in sizes[:-1])
+    return sum(size * (WELL + NEIGHBOUR * neighbours + LOOKED_AT * looked_at(size, dimension, leaf, neighbours)) for size in sizes[:-1])
 
 
 def spelt(time):

@@ -30,7 +30,7 @@ import rekvashu
 def announce(table, settings):
     """Says what will be built, and the time that it will take. Returns that time in words."""
     sizes = job_settings.level_sizes(settings, len(table))
-    time = estimate.seconds(sizes, table.dimension)
+    time = estimate.seconds(sizes, table.dimension, settings["leaf"], settings["neighbours"])
     if time > estimate.LONG:
         lent = 8 * sum(rekvashu.build_sizes(len(table), table.dimension, settings["neighbours"]).values())
         print(f"{len(table):,} wells, levels of {', '.join(f'{size:,}' for size in sizes)}: about {estimate.spelt(time)} (lists of "

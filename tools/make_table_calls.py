@@ -8,7 +8,8 @@ A record: its length after these 4 bytes; a kind, 1 add, 2 retire, 3 build or 4 
 alone); the coordinates; the flags; slot count and live count; then
   edit: the point to add, the slot to retire, or the rename list that closing is lent and the same list after it; number, place, slot (of
     closing the new slot count); slot count and live count after it; the coordinates after it; the flags after it
-  build: the lengths of the seven lists; number, place, levels, four row counts, four domain counts; the five lists' fronts
+  build: the lengths of the nine lists; number, place, levels, four row counts, four domain counts; the fronts of the five lists of the tree
+    and of the two of its records
 Numbers have 4 bytes but for kind, dimension, policy and refusal number (1), slot and live counts, the slot to retire, entries of the lists
 and floats' bits (8), all little-endian; lists and fronts have their count before them, and a flag is one byte. Before a build each list
 holds 9 (the float 9); what the outcome does not name stays so. A float that is not a number is given by any of its patterns, and stands
@@ -26,10 +27,12 @@ from table_model import Table
 
 PATH = "crates/run_table_calls/data/calls"
 STDOUT = "crates/run_table_calls/stdout"
-MOST_BYTES = 650_000
+MOST_BYTES = 820_000
 # The room of crates/run_table_calls.
 MOST_FLAGS, MOST_COORDINATES, MOST_POINT, MOST_LIVE, MOST_NEIGHBOURS, MOST_BORROWED, MOST_RENAME = 40, 130, 5, 16, 3, 400, 44
 LISTS = stored_model.LISTS + ("floats", "wholes")
+RECORDS = ("cuts", "planes")
+LENT = LISTS + RECORDS
 LONG = 2 ** 64 - 1
 SIGN = 1 << 63
 INFINITY = 0x7FF0000000000000
@@ -121,19 +124,27 @@ def bits_of_levels(d, levels):
                      stored_model.bits_of([cover])[0], depth) for own, borrowed, box, cover, depth in leaves]) for rows, leaves in levels]
 
 
+def nodes_written(planes):
+    """The nodes in lists that held 9: the last one is a leaf, whose float is 0."""
+    return max((at + 1 for at, plane in enumerate(planes) if plane != 9), default=0)
+
+
 def build_record(call):
     room = {**table_model.stated(3, MOST_LIVE, MOST_NEIGHBOURS), "borrowed": MOST_BORROWED}
-    assert all(call.lent[name] <= room[name] for name in LISTS)
-    number, place, counts, fronts = 0, 0, stored_model.ZERO_COUNTS, {name: [] for name in stored_model.LISTS}
+    assert all(call.lent[name] <= room[name] for name in LENT)
+    number, place, counts, fronts = 0, 0, stored_model.ZERO_COUNTS, {name: [] for name in stored_model.LISTS + RECORDS}
+    cuts, planes = [9] * call.lent["cuts"], [9.0] * call.lent["planes"]
     try:
-        levels = table_model.build(table_of(call.wells), *call.settings, lent=call.lent)
+        levels = table_model.build(table_of(call.wells), *call.settings, lent=call.lent, records=(cuts, planes))
         tree = bits_of_levels(call.settings[0], levels)
         counts, fronts = stored_model.counts(tree), stored_model.packed(tree)
     except model.Refused as r:
         number, place = r.number, r.place
-    out = [head(3, call.settings, call.wells), struct.pack("<7I", *(call.lent[name] for name in LISTS)),
+    many = nodes_written(planes)
+    fronts["cuts"], fronts["planes"] = cuts[:many], stored_model.bits_of(planes[:many])
+    out = [head(3, call.settings, call.wells), struct.pack("<9I", *(call.lent[name] for name in LENT)),
            struct.pack("<BI9I", number, place, counts[0], *counts[1], *counts[2])]
-    out += [counted(fronts[name], "Q") for name in stored_model.LISTS]
+    out += [counted(fronts[name], "Q") for name in stored_model.LISTS + RECORDS]
     return number, b"".join(out)
 
 
@@ -339,7 +350,7 @@ def large_tables(rng):
 def lengths(d, live, neighbours, short=None, by=1, more=0):
     """The stated lengths, `short` naming a list that has `by` entries less, and the others with `more`."""
     wanted = table_model.stated(d if 1 <= d <= 3 else 1, min(live, MOST_LIVE), min(neighbours, 65 if live == 1 else MOST_NEIGHBOURS))
-    return {name: max(0, wanted[name] - by) if name == short else wanted[name] + more for name in LISTS}
+    return {name: max(0, wanted[name] - by) if name == short else wanted[name] + more for name in LENT}
 
 
 # The refusals of the build over slots in their order: 7 and 8 cannot come.
@@ -603,12 +614,95 @@ def builds_about_closing(rng):
         yield Build(settings, wells_of(closed(call)[3]), lent)
 
 
+# ---- the records of the cuts
+
+def with_lent(call, **entries):
+    """The build with other lengths of these lists."""
+    return call._replace(lent={**call.lent, **entries})
+
+
+def fewer(call, name, by):
+    return with_lent(call, **{name: max(0, call.lent[name] - by)})
+
+
+def some_build(rng, d, live, leaf=1, neighbours=1, threshold=1):
+    """A build over a table with gaps, of two live slots at least, whose levels halve; lists are as long as stated."""
+    flags = [rng.choice((1, 2, 255)) for _ in range(live)] + [0] * rng.randint(1, 3)
+    rng.shuffle(flags)
+    wells = wells_with(rng, d, flags + [rng.choice((0, 1, 255))], len(flags))
+    return Build((d, leaf, neighbours, 3, 1, threshold), wells, lengths(d, live, neighbours))
+
+
+def with_live(call, at, bits):
+    """The build with another coordinate in the first live slot."""
+    d, wells = call.settings[0], call.wells
+    first = next(i for i in range(wells.slots) if wells.flags[i])
+    return call._replace(wells=with_coordinate(wells, first * d + at, bits))
+
+
+def record_lists(rng):
+    """Either list of the records one entry short, by many, and empty, and both; with a coordinate that is not finite too; and longer ones, one
+    alone and both, whose entries past the records stay."""
+    for d, live in ((1, 2), (2, 5), (3, 3)):
+        call = some_build(rng, d, live)
+        yield call
+        for names in (("cuts",), ("planes",), RECORDS):
+            for by in (1, live, 11 * live, 12 * live):
+                short = with_lent(call, **{name: call.lent[name] - by for name in names})
+                yield short
+                if by == 1:
+                    yield with_live(short, d - 1, rng.choice(ODD))
+            for more in (1, 12):
+                yield with_lent(call, **{name: call.lent[name] + more for name in names})
+        # one list has what the other lacks
+        for less, more in (RECORDS, RECORDS[::-1]):
+            yield with_lent(call, **{less: call.lent[less] - 1, more: call.lent[more] + 1})
+
+
+def record_room(rng):
+    """Whole numbers of room: as stated, one more, one fewer, as few as were asked for before request 9, and about that; with longer lists of
+    records; and with a coordinate that is not finite."""
+    for d, live, neighbours in ((1, 1, 0), (1, 2, 1), (2, 3, 3), (3, 7, 2)):
+        call = some_build(rng, d, live, 1, neighbours)
+        for by in (-1, 0, 1, 8 * live - 1, 8 * live, 8 * live + 1):
+            yield fewer(call, "wholes", by)
+        before = fewer(call, "wholes", 8 * live)
+        yield with_lent(before, cuts=call.lent["cuts"] + 8 * live, planes=call.lent["planes"] + 8 * live)
+        yield with_live(before, 0, rng.choice(ODD))
+
+
+def record_conditions(rng):
+    """Each refusal of the build beside a list of the records, or a room, that is one entry short."""
+    for number, name in itertools.product(BUILD_ORDER, RECORDS + ("wholes",)):
+        yield fewer(build_under(rng, rng.randint(1, 3), (number,)), name, 1)
+
+
+def record_shapes(rng):
+    """Live counts about the powers of two, with each of three leaf thresholds: leaves of two depths, whose numbers do not go from left to
+    right; three levels, and so three records, or fewer."""
+    for d, (live, leaf) in zip(itertools.cycle((1, 2, 3)), itertools.product((3, 5, 6, 7, 9, 12, 13, 16), (1, 2, 3))):
+        call = some_build(rng, d, live, leaf, rng.randint(0, 1), rng.choice((1, 1, 2)))
+        yield with_lent(call, cuts=call.lent["cuts"] + rng.choice((0, 0, 5))) if live < MOST_LIVE else call
+
+
+def record_planes(rng):
+    """Live slots whose coordinates are a zero of either sign, or two or three values in all: a plane is that of the first row to its right."""
+    for d, live, values in itertools.product((1, 2, 3), (2, 3, 6), ((0, SIGN), stored_model.bits_of([-1.5, -0.0, 9.0]))):
+        call = some_build(rng, d, live, 1, 0)
+        wells = call.wells
+        for i in range(wells.slots):
+            for a in range(d if wells.flags[i] else 0):
+                wells = with_coordinate(wells, i * d + a, rng.choice(values))
+        yield call._replace(wells=wells)
+
+
 # The parts of each request, drawn by a generator of its own: those of a later one leave the calls before them as they are.
 PARTS = {
     7: (flag_patterns, capacities_of_none, add_conditions, odd_points, retire_conditions, odd_heads, dimensions, short_and_long, sequences,
         large_tables, build_conditions, short_lists, odd_coordinates, level_rules, same_places, random_builds, large_builds),
     8: (close_patterns, close_dimensions, close_odd_coordinates, close_renames, close_conditions, close_heads, close_capacities,
         closing_sequences, random_closings, large_closings, builds_about_closing),
+    9: (record_lists, record_room, record_conditions, record_shapes, record_planes),
 }
 
 

@@ -1,7 +1,8 @@
-"""Document 01 with requests 2, 4, 5 and 6 of document 02 as plain Python, for making stored answers and for checking tables by hand.
+"""Document 01 with requests 2, 4, 5, 6 and 9 of document 02 as plain Python, for making stored answers and for checking tables by hand.
 
 It follows the papers rule by rule and shares nothing with the Rattle code. Python's floats are IEEE 754 binary64 and its
-`math.sqrt` is correctly rounded, so every rounded step is the papers'.
+`math.sqrt` is correctly rounded, so every rounded step is the papers'. A well's neighbours are found by ordering all wells, which answers as
+request 9's search does; from that request on every build writes the record of its cuts.
 
     python3 tools/model.py < STREAM      prints what the program prints for a job stream
 """
@@ -261,7 +262,7 @@ def levels_over(cs, d, leaf, neighbours, f, policy, number, rows):
     return levels
 
 
-# ---- the cut record (document 02, request 2)
+# ---- the cut record (document 02, requests 2 and 9)
 
 # A node of at least this is a leaf: this plus its number. One below it is a cut: its axis.
 RECORD_LEAF = 3

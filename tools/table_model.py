@@ -1,4 +1,5 @@
-"""Requests 7 and 8 of document 02 as plain Python: the table of wells, its edits, closing its gaps, and the build over its live slots.
+"""Requests 7, 8 and 9 of document 02 as plain Python: the table of wells, its edits, closing its gaps, and the build over its live slots,
+which writes the records of its cuts too.
 
 It follows the paper's words over tools/model.py and shares nothing with the Rattle code. A refused call raises `model.Refused` and leaves
 the table as it was.
@@ -96,14 +97,20 @@ def close(table, d, rename):
 
 # ---- the build over slots
 
+# The most nodes of a tree's records, for each point.
+NODES = 12
+
+
 def stated(d, n, neighbours):
     """The entries that each list of a build over n points needs, by name."""
-    return {**stored_model.stated(d, n, neighbours), "floats": 32 * n, "wholes": 32 * n + 8 * n * (neighbours + 1)}
+    return {**stored_model.stated(d, n, neighbours), "floats": 32 * n, "wholes": 40 * n + 8 * n * (neighbours + 1), "cuts": NODES * n,
+            "planes": NODES * n}
 
 
-def build(table, d, leaf, neighbours, f, policy, number, lent=None):
+def build(table, d, leaf, neighbours, f, policy, number, lent=None, records=None):
     """The levels as `model.build` gives them, with slots for rows. lent: the entries of each list by name, where they are to be
-    judged."""
+    judged. records: the lists that take the records of the fine levels, one after the other, whole numbers and floats, where they are to
+    be written; what stands past them stays."""
     check_head(table)
     model.check_settings(d, leaf, neighbours, f, policy, number)
     rows = table.live_slots()
@@ -114,4 +121,13 @@ def build(table, d, leaf, neighbours, f, policy, number, lent=None):
         raise model.Refused(11)
     check_coordinates(table, d)
     model.check_finite(table.coordinates, (i * d + a for i in rows for a in range(d)))
-    return model.levels_over(table.coordinates, d, leaf, neighbours, f, policy, number, rows)
+    levels = model.levels_over(table.coordinates, d, leaf, neighbours, f, policy, number, rows)
+    if records is not None:
+        write_records(records, [node for record in model.records(table.coordinates, d, leaf, levels) for node in record])
+    return levels
+
+
+def write_records(lists, nodes):
+    """Writes these nodes to the fronts of the two lists."""
+    for lent, entries in zip(lists, zip(*nodes)):
+        lent[:len(nodes)] = entries

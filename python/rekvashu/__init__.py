@@ -6,7 +6,8 @@
         for leaf in level.leaves:
             print(leaf.own, leaf.borrowed, leaf.box, leaf.cover, leaf.depth)
 
-`rekvashu.build(.., engine="depth-first")` builds the same tree and keeps its cuts: `level.cuts` has them from the root downwards.
+A tree that was built keeps its cuts: `level.cuts` has them from the root downwards. `rekvashu.build(.., engine="depth-first")` builds the
+same tree with the same cuts by another engine.
 
 `rekvashu.Table(capacity, dimension)` is a table of wells that is edited between builds: `table.add(point)` answers with the well's slot,
 `table.retire(slot)` frees it, `table.build(..)` builds over the live slots, and `table.close()` closes the gaps and gives a list from old

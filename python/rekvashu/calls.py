@@ -1,5 +1,6 @@
 """The public calls: each lends the lists that the library asks for, calls it, and reads what it wrote."""
 import ctypes
+import functools
 import numbers
 import reprlib
 from collections import namedtuple
@@ -51,36 +52,28 @@ def lists_of(lengths, names=layout.LISTS):
     return {name: Lent(KINDS.get(name, ctypes.c_size_t), lengths.get(name, 0)) for name in names}
 
 
-def build_into(given, params, lists):
-    """One call of the build with these lists: (refusal number, slot)."""
-    result = slot(layout.BUILD_SLOT)
-    number = library.load().ddm_build(given.c, given.length, given.dimension, *params, *lent_of(lists, layout.LISTS), result, len(result))
+def build_into(name, given, params, lists):
+    """One call of the build of this name with these lists: (refusal number, slot)."""
+    result, build = slot(layout.BUILD_SLOT), getattr(library.load(), name)
+    number = build(given.c, given.length, given.dimension, *params, *lent_of(lists, layout.LISTS), result, len(result))
     return number, result
 
 
-def depth_first_into(given, params, lists):
-    """One call of the build that cuts depth first: the same, with the lists of the record too."""
-    result = slot(layout.BUILD_SLOT)
-    number = library.load().ddm_build_depth_first(given.c, given.length, given.dimension, *params,
-                                                  *lent_of(lists, layout.LISTS + layout.RECORD_LISTS), result, len(result))
-    return number, result
-
-
-# The builds by name: the call, and the lists that it is lent.
-ENGINES = {"queue": (build_into, layout.LISTS), "depth-first": (depth_first_into, layout.LISTS + layout.RECORD_LISTS)}
+# The builds over points.
+ENGINES = {"queue": "ddm_build", "depth-first": "ddm_build_depth_first"}
 
 
 def engine_of(name):
-    """The build of this name."""
+    """The build of this name, as a function like those that `tree_by` takes."""
     if not isinstance(name, str):
         raise TypeError(f"engine is {reprlib.repr(name)}, and has to be 'queue' or 'depth-first'")
     if name not in ENGINES:
         raise ValueError(f"engine is {name!r}, and has to be 'queue' or 'depth-first'")
-    return ENGINES[name]
+    return functools.partial(build_into, ENGINES[name])
 
 
 def load_into(data):
-    """One call of the loader with these bytes, as a function like build_into."""
+    """One call of the loader with these bytes, as a function like those that `tree_by` takes."""
     def call(given, params, lists):
         result = slot(layout.BUILD_SLOT)
         number = library.load().ddm_load(given.c, given.length, given.dimension, *params, data, len(data),
@@ -94,14 +87,13 @@ def params_of(leaf, neighbours, factor, coarse):
 
 
 def tree_by(call, names, given, params, neighbours):
-    """The tree that a call writes to the lists of these names, which are lent at the stated lengths."""
+    """The tree that a call writes to the lists of these names, which are lent at the stated lengths. call: a function of points, settings and
+    lists that gives a refusal's number and the slot."""
     # Settings and counts are judged before the lists: a call that lends none costs nothing, and 11 says that only they were missing.
     number, result = call(given, params, lists_of({}, names))
     if number != NO_ROOM:
         passed(number, result[layout.SLOT_PLACE])
-    lengths = build_sizes(given.rows, given.dimension, neighbours)
-    lengths.update({name: layout.record_entries(given.rows) for name in layout.RECORD_LISTS})
-    lists = lists_of(lengths, names)
+    lists = lists_of(build_sizes(given.rows, given.dimension, neighbours), names)
     number, result = call(given, params, lists)
     passed(number, result[layout.SLOT_PLACE])
     return Tree(Packed(given.dimension, lists, result), lambda packed: stored(given, params, packed))
@@ -123,10 +115,10 @@ def build(points, leaf=settings.LEAF, neighbours=settings.NEIGHBOURS, factor=set
 
     points: rows of one to three numbers (a list of lists, an array), or numbers alone for one axis. With `dimension`, a flat list
     of coordinates, that many for each row. coarse: "auto" or a whole number. engine: "queue" or "depth-first"; both give the same tree,
-    and "depth-first" keeps the record of its cuts (`Level.cuts`). A Refusal says what the library refused."""
-    call, names = engine_of(engine)
+    which keeps the record of its cuts (`Level.cuts`). A Refusal says what the library refused."""
+    call = engine_of(engine)
     given = coordinates(points, dimension)
-    return tree_by(call, names, given, params_of(leaf, neighbours, factor, coarse), neighbours)
+    return tree_by(call, layout.LISTS, given, params_of(leaf, neighbours, factor, coarse), neighbours)
 
 
 def load(points, data, leaf=settings.LEAF, neighbours=settings.NEIGHBOURS, factor=settings.FACTOR, coarse=settings.COARSE, *,

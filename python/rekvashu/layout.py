@@ -1,13 +1,10 @@
 """The strides of the lists and the places in the result slots, each named once: later versions of the library widen the rows."""
 
 # The lists of a build, in the order in which the library takes them and ddm_build_sizes gives their lengths.
-LISTS = ("level_points", "internals", "domains", "boxes", "borrowed", "floats", "wholes")
+LISTS = ("level_points", "internals", "domains", "boxes", "borrowed", "floats", "wholes", "cuts", "planes")
 
-# Those that hold a tree; the others are working room.
+# Those that hold a tree, which loader and writer are lent alone. Behind them stand two of working room and the two of the cut record.
 TREE_LISTS = LISTS[:5]
-
-# Those that take the cut record, after the others.
-RECORD_LISTS = ("cuts", "planes")
 
 # A domain row: its numbers, and the floats that belong to it.
 ROW_NUMBERS = 5
@@ -38,11 +35,6 @@ RECORD_DEEPEST = 21
 def record_nodes(domains):
     """The nodes of a fine level's record, by the level's domains. The coarse level has none."""
     return 2 * domains - 1
-
-
-def record_entries(rows):
-    """The entries that each list of a record needs, for so many points."""
-    return 12 * rows
 
 
 # The slot of a build: place, levels, rows of each level, domains of each level.

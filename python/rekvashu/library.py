@@ -22,17 +22,19 @@ class Head(ctypes.Structure):
 
 HEAD = [ctypes.POINTER(Head)]
 TREE = WHOLES * 3 + FLOATS + WHOLES
+ROOM, RECORD = FLOATS + WHOLES, WHOLES + FLOATS
+BUILD = TREE + ROOM + RECORD
 
 # The public functions and their arguments, as in c/ddm.h; each returns a refusal number, ddm_version its number.
 FUNCTIONS = {
     "ddm_version": [],
     "ddm_build_sizes": [SIZE, SIZE, UINT32] + WHOLES,
-    "ddm_build": POINTS + [UINT32] * 5 + TREE + FLOATS + WHOLES + WHOLES,
-    "ddm_build_depth_first": POINTS + [UINT32] * 5 + TREE + FLOATS + WHOLES + WHOLES + FLOATS + WHOLES,
+    "ddm_build": POINTS + [UINT32] * 5 + BUILD + WHOLES,
+    "ddm_build_depth_first": POINTS + [UINT32] * 5 + BUILD + WHOLES,
     "ddm_add": HEAD + BYTES + POINTS + FLOATS + WHOLES,
     "ddm_retire": HEAD + BYTES + POINTS + [SIZE],
     "ddm_close": HEAD + BYTES + POINTS + WHOLES + WHOLES,
-    "ddm_build_slots": [SIZE] * 2 + BYTES + POINTS + [UINT32] * 5 + TREE + FLOATS + WHOLES + WHOLES,
+    "ddm_build_slots": [SIZE] * 2 + BYTES + POINTS + [UINT32] * 5 + BUILD + WHOLES,
     "ddm_store": POINTS + [UINT32] * 5 + WHOLES + TREE + BYTES + WHOLES,
     "ddm_load": POINTS + [UINT32] * 5 + BYTES + TREE + WHOLES,
     "ddm_sample": POINTS + [SIZE] * 2 + WHOLES + FLOATS + WHOLES + FLOATS + WHOLES,

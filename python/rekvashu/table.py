@@ -53,8 +53,8 @@ class Table:
         return rename.c[:rename.entries]
 
     def build(self, leaf=settings.LEAF, neighbours=settings.NEIGHBOURS, factor=settings.FACTOR, coarse=settings.COARSE):
-        """The tree over the live slots, in slot order: rows in it are slots. It stays as it is when the table is edited. `to_bytes` refuses
-        it (20), unless the live slots are 0 to n - 1, as they are after `close`."""
+        """The tree over the live slots, in slot order, with the record of its cuts: rows in it are slots. It stays as it is when the table is
+        edited. `to_bytes` refuses it (20), unless the live slots are 0 to n - 1, as they are after `close`."""
         return tree_by(self._build_into, layout.LISTS, self._live_points(), params_of(leaf, neighbours, factor, coarse), neighbours)
 
     def _build_into(self, given, params, lists):

@@ -27,7 +27,7 @@ class Packed:
         self.domains = lists["domains"].cut(layout.ROW_NUMBERS * domains)
         self.boxes = lists["boxes"].cut(layout.row_floats(dimension) * domains)
         self.borrowed = lists["borrowed"].cut(self.borrowed_end(domains - 1))
-        # the nodes of each level's record; the coarse level has none, and no level where the cuts were not recorded
+        # the nodes of each level's record; the coarse level has none, and no level of a tree that was loaded
         self.recorded, self.nodes = "cuts" in lists, [0] * levels
         if self.recorded:
             self.nodes[:-1] = [layout.record_nodes(leaves) for leaves in self.leaves[:-1]]
@@ -65,7 +65,7 @@ class Tree:
 
 
 class Level:
-    """A level: its active rows (`points`), ascending, its leaves, and its cuts where these are recorded. The coarse level has one domain
+    """A level: its active rows (`points`), ascending, its leaves, and its cuts where the tree was built. The coarse level has one domain
     that holds all rows."""
 
     def __init__(self, packed, number):
@@ -81,8 +81,8 @@ class Level:
     @property
     def cuts(self):
         """The level's cut record: a list of its nodes from the root downwards, each cut before its halves, and the left half completely
-        before the right. A level with m leaves has 2m - 1 nodes, and the coarse level none. None where the tree was built by the queue
-        or loaded, and keeps no record.
+        before the right. A level with m leaves has 2m - 1 nodes, and the coarse level none. None where the tree was loaded: a file holds no
+        record.
 
         Leaves are numbered by depth, and then from left to right, which is the order of `leaves`."""
         if not self._packed.recorded:

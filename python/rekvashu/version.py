@@ -1,5 +1,5 @@
 """The version of the package and of the tools. A library of another major or minor version is not loaded."""
-MAJOR, MINOR, PATCH = 0, 8, 0
+MAJOR, MINOR, PATCH = 0, 9, 0
 VERSION = f"{MAJOR}.{MINOR}.{PATCH}"
 NUMBER = MAJOR * 10000 + MINOR * 100 + PATCH
 

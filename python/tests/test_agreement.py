@@ -49,7 +49,7 @@ class Header(unittest.TestCase):
         self.assertEqual(said, NAMED)
         for x in (1, 2, 3):
             for name, ours in (("BOX_FLOATS", layout.box_floats), ("ROW_FLOATS", layout.row_floats), ("ROW_COVER", layout.row_cover),
-                               ("RECORD_NODES", layout.record_nodes), ("RECORD_ENTRIES", layout.record_entries)):
+                               ("RECORD_NODES", layout.record_nodes)):
                 argument, words = re.search(rf"#define DDM_{name}\((\w+)\) (.+)", header()).groups()
                 self.assertEqual(eval(words, {argument: x, "DDM_BOX_FLOATS": layout.box_floats}), ours(x))
 

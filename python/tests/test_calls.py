@@ -172,7 +172,7 @@ class Others(unittest.TestCase):
 
     def test_sizes(self):
         self.assertEqual(rekvashu.build_sizes(10, 2, 3), {"level_points": 40, "internals": 40, "domains": 305, "boxes": 305,
-                                                         "borrowed": 240, "floats": 320, "wholes": 640})
+                                                         "borrowed": 240, "floats": 320, "wholes": 720, "cuts": 120, "planes": 120})
 
 
 if __name__ == "__main__":

@@ -28,10 +28,11 @@ ROUND_TRIPS = [
     (10, 0, lambda: rekvashu.build([-INF, NAN])),
     (10, 3, lambda: rekvashu.build([[0.0, 0.0], [1.0, NAN]], engine="depth-first")),
     (2, 0, lambda: rekvashu.build([NAN], leaf=0, engine="depth-first")),
-    (11, 0, lambda: short_build()),
-    (11, 0, lambda: short_record("cuts", TWO)),
-    (11, 0, lambda: short_record("planes", TWO)),
-    (11, 0, lambda: short_record("planes", [[0.0, NAN], [1.0, 1.0]])),
+    (11, 0, lambda: short_table_build("cuts")),
+    (11, 0, lambda: short_table_build("planes")),
+    (11, 0, lambda: short_table_build("wholes")),
+    *[(11, 0, lambda build=build, name=name, points=points: short_build(build, name, points))
+      for build in calls.ENGINES.values() for name in layout.LISTS for points in (TWO, [[0.0, NAN], [1.0, 1.0]])],
     (12, 0, lambda: rekvashu.row_test(3, 2, 4)),
     (12, 0, lambda: rekvashu.row_test(2 ** 64 - 1, 2, 4)),
     (13, 0, lambda: rekvashu.sample(TWO, 3, 0)),
@@ -85,19 +86,23 @@ def unsound_table():
     return table
 
 
-def short_build():
-    """A build with lists that are one entry too short: the package never lends such lists itself."""
-    given = coordinates(TWO)
-    lengths = {name: length - 1 for name, length in rekvashu.build_sizes(2, 2, 1).items()}
-    number, slot = calls.build_into(given, [1, 1, 2, 1, 1], calls.lists_of(lengths))
+def short_lists(name):
+    """Lists for two points on two axes, of which this one is one entry too short: the package never lends such lists itself."""
+    lengths = rekvashu.build_sizes(2, 2, 1)
+    lengths[name] -= 1
+    return calls.lists_of(lengths)
+
+
+def short_build(build, name, points):
+    number, slot = calls.build_into(build, coordinates(points), [1, 1, 2, 1, 1], short_lists(name))
     calls.passed(number, slot[0])
 
 
-def short_record(name, points):
-    """A build that records its cuts, where one list of the record is one entry too short."""
-    lengths = dict(rekvashu.build_sizes(2, 2, 1), cuts=layout.record_entries(2), planes=layout.record_entries(2))
-    lengths[name] -= 1
-    number, slot = calls.depth_first_into(coordinates(points), [1, 1, 2, 1, 1], calls.lists_of(lengths, layout.LISTS + layout.RECORD_LISTS))
+def short_table_build(name):
+    table = rekvashu.Table(2, 2)
+    for point in TWO:
+        table.add(point)
+    number, slot = table._build_into(None, [1, 1, 2, 1, 1], short_lists(name))
     calls.passed(number, slot[0])
 
 

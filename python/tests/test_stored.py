@@ -9,6 +9,9 @@ import support
 import make_stored_calls
 import rekvashu
 import stored_model
+from rekvashu import calls, layout
+from rekvashu.coordinates import coordinates
+from rekvashu.tree import Packed
 
 setUpModule = support.need_library
 
@@ -51,6 +54,18 @@ class Stored(unittest.TestCase):
             data = rekvashu.build(points, **params, dimension=d).to_bytes()
             settings, bits = settings_of(d, **params), stored_model.bits_of(points)
             self.assertEqual(data, stored_model.file_bytes(settings, bits, stored_model.built(settings, bits)))
+
+    def test_no_record_and_no_room_is_lent(self):
+        """Loader and writer take the five lists of a tree at the lengths that build_sizes says, and no others."""
+        points, data = [0, 1, 3, 7], rekvashu.build([0, 1, 3, 7], **FOUR).to_bytes()
+        given, params = coordinates(points), calls.params_of(2, 1, 2, 2)
+        for name in layout.TREE_LISTS:
+            lengths = rekvashu.build_sizes(4, 1, 1)
+            lengths[name] -= 1
+            self.assertEqual(calls.load_into(data)(given, params, calls.lists_of(lengths, layout.TREE_LISTS))[0], calls.NO_ROOM, name)
+        lists = calls.lists_of(rekvashu.build_sizes(4, 1, 1), layout.TREE_LISTS)
+        number, slot = calls.load_into(data)(given, params, lists)
+        self.assertEqual((number, calls.stored(given, params, Packed(1, lists, slot))), (0, data))
 
     @support.both
     def test_covers(self):

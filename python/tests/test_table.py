@@ -102,6 +102,11 @@ def renamed(levels, names):
     return [(name(points), [(name(own), name(borrowed), *rest) for own, borrowed, *rest in leaves]) for points, leaves in levels]
 
 
+def cuts_of(tree):
+    """The cuts of each level, planes by their bits."""
+    return [[(node.depth, node.axis, node.plane is not None and bits([node.plane]), node.leaf) for node in level.cuts] for level in tree.levels]
+
+
 class Closing(unittest.TestCase):
     @both
     def test_gaps(self):
@@ -162,6 +167,8 @@ class Closing(unittest.TestCase):
             numbers.add(number)
             if number == 0:
                 self.assertEqual(renamed(seen(tree), names), seen(after))
+                # the cuts name no slots
+                self.assertEqual(cuts_of(tree), cuts_of(after))
                 # the slots are 0 to n - 1 now
                 points = [x for slot in table.live for x in table.point(slot)]
                 self.assertEqual(after.to_bytes(), rekvashu.build(points, *settings, dimension=d).to_bytes())
@@ -206,6 +213,8 @@ class Build(unittest.TestCase):
             numbers.add(number)
             if number == 0:
                 self.assertEqual(seen(tree), as_seen(levels))
+                points = [x for slot in table.live for x in table.point(slot)]
+                self.assertEqual(cuts_of(tree), cuts_of(rekvashu.build(points, leaf, neighbours, factor, coarse, dimension=d)))
         self.assertEqual(numbers, {0, 2, 4, 6, 9})
 
     @both

@@ -3,12 +3,11 @@
 //!     rust/figures.sh --against COMMIT
 //!
 //! For each input it prints the processor milliseconds of both, the ratio now / before, and the entries of the working room that each
-//! wrote; at the end the greatest ratio. Both must give the same leaves.
+//! wrote; at the end the greatest ratio. Both must give the same leaves. Since version 0.9.0 the stage writes the record of its cuts too.
 mod stage;
 
-use stage::{against, compared, exported, lattice, stretches, touched_floats, touched_wholes, units, Cut, Lent};
+use stage::{against, compared, lattice, stretches, touched_floats, touched_wholes, units, Cut, Lent};
 use std::cell::RefCell;
-use std::ffi::c_void;
 
 /// The cut stage of each library, and the numbers of its domain rows.
 #[derive(Clone, Copy)]
@@ -49,8 +48,7 @@ fn line(stages: Stages, kind: &str, coords: &[f64], d: usize, leaf: usize, turns
 
 fn main() {
     let against = against();
-    let cuts = against.libraries.map(|library| unsafe { std::mem::transmute::<*mut c_void, Cut>(exported(library, c"stage_leaves")) });
-    let stages = Stages { cuts, row_numbers: against.row_numbers() };
+    let stages = Stages { cuts: against.cuts(), row_numbers: against.row_numbers() };
     let mut unit = units();
     let mut greatest = 0.0f64;
     println!("the cut stage: processor milliseconds, and the whole numbers and floats of the room that were written");

@@ -2,13 +2,13 @@
 //!
 //!     rust/figures.sh --engines
 //!
-//! For each input it prints the processor milliseconds of the queue's build and of the one that cuts depth first and records its cuts, and
-//! the ratio depth first / queue; at the end of each table the greatest ratio. Both must give the same leaves.
+//! For each input it prints the processor milliseconds of the queue's build and of the one that cuts depth first, and the ratio depth first /
+//! queue; at the end of each table the greatest ratio. Both must give the same leaves and the same record.
 mod stage;
 
 use rekvashu::{build, build_depth_first, DDMParams, SizePolicy};
 use stage::packed::record_nodes;
-use stage::{compared, lattice, touched_floats, touched_wholes, units, Lent, NO_FLOAT, NO_WHOLE};
+use stage::{compared, lattice, touched_floats, touched_wholes, units, Cut, Lent};
 use std::cell::RefCell;
 
 #[link(name = "ddm_stages", kind = "static")]
@@ -16,7 +16,8 @@ extern "C" {
     fn stage_leaves(
         points: *const f64, points_len: usize, dimensions: usize, leaf: usize, active: *const usize, active_len: usize,
         internals: *mut usize, internals_len: usize, domains: *mut usize, domains_len: usize, boxes: *mut f64, boxes_len: usize,
-        floats: *mut f64, floats_len: usize, wholes: *mut usize, wholes_len: usize,
+        floats: *mut f64, floats_len: usize, wholes: *mut usize, wholes_len: usize, cuts: *mut usize, cuts_len: usize,
+        planes: *mut f64, planes_len: usize,
     ) -> usize;
     fn stage_leaves_depth_first(
         points: *const f64, points_len: usize, dimensions: usize, leaf: usize, active: *const usize, active_len: usize,
@@ -26,49 +27,20 @@ extern "C" {
     ) -> usize;
 }
 
-/// The lists of a level and of its cut record.
-struct Recorded {
-    level: Lent,
-    cuts: Vec<usize>,
-    planes: Vec<f64>,
-}
+const QUEUE: Cut = Cut::Recorded(stage_leaves);
+const DEPTH_FIRST: Cut = Cut::Recorded(stage_leaves_depth_first);
 
-impl Recorded {
-    /// Lists that are long enough to cut `n` rows either way.
-    fn new(n: usize, d: usize) -> Recorded {
-        let mut level = Lent::for_cut(n, d);
-        // depth first the cut asks for one whole number a row more than by the queue
-        level.wholes.resize(7 * n, NO_WHOLE);
-        // a level has at most 2 leaves a row, and the stage asks for one entry more than their record has nodes
-        let most = record_nodes(2 * n) + 1;
-        Recorded { level, cuts: vec![NO_WHOLE; most], planes: vec![NO_FLOAT; most] }
-    }
-
-    fn by_queue(&mut self, coords: &[f64], d: usize, leaf: usize, rows: &[usize]) -> usize {
-        self.level.cut(stage_leaves, coords, d, leaf, rows)
-    }
-
-    fn depth_first(&mut self, coords: &[f64], d: usize, leaf: usize, rows: &[usize]) -> usize {
-        let l = &mut self.level;
-        unsafe {
-            stage_leaves_depth_first(
-                coords.as_ptr(), coords.len(), d, leaf, rows.as_ptr(), rows.len(), l.internals.as_mut_ptr(), l.internals.len(),
-                l.domains.as_mut_ptr(), l.domains.len(), l.boxes.as_mut_ptr(), l.boxes.len(), l.floats.as_mut_ptr(), l.floats.len(),
-                l.wholes.as_mut_ptr(), l.wholes.len(), self.cuts.as_mut_ptr(), self.cuts.len(), self.planes.as_mut_ptr(),
-                self.planes.len(),
-            )
-        }
-    }
-}
-
-/// Both stages once, on lists of their own: the same leaves, and a record of as many nodes as these have.
+/// Both stages once, on lists of their own: the same leaves, and the same record, of as many nodes as these have.
 fn same_leaves(coords: &[f64], d: usize, leaf: usize, rows: &[usize]) {
-    let (mut queue, mut deep) = (Recorded::new(rows.len(), d), Recorded::new(rows.len(), d));
-    let m = queue.by_queue(coords, d, leaf, rows);
-    assert_eq!(deep.depth_first(coords, d, leaf, rows), m, "the numbers of leaves differ");
-    assert!(queue.level.internals == deep.level.internals, "the internals differ");
-    assert!(queue.level.domains == deep.level.domains, "the domain rows differ");
-    assert!(queue.level.boxes == deep.level.boxes, "the boxes differ");
+    let [(m, queue), (k, deep)] = [QUEUE, DEPTH_FIRST].map(|stage| {
+        let mut lent = Lent::for_cut(rows.len(), d);
+        (lent.cut(stage, coords, d, leaf, rows), lent)
+    });
+    assert_eq!(m, k, "the numbers of leaves differ");
+    assert!(queue.internals == deep.internals, "the internals differ");
+    assert!(queue.domains == deep.domains, "the domain rows differ");
+    assert!(queue.boxes == deep.boxes, "the boxes differ");
+    assert!(queue.cuts == deep.cuts && queue.planes == deep.planes, "the records differ");
     let nodes = (touched_wholes(&deep.cuts), touched_floats(&deep.planes));
     assert_eq!(nodes, (record_nodes(m), record_nodes(m)), "the nodes of the record");
 }
@@ -79,10 +51,9 @@ fn stages(kind: &str, coords: &[f64], d: usize, leaf: usize, turns: usize) -> f6
     let rows: Vec<usize> = (0..n).collect();
     same_leaves(coords, d, leaf, &rows);
     // the same lists for both, so that no address favours either
-    let lent = RefCell::new(Recorded::new(n, d));
-    let queue = || lent.borrow_mut().by_queue(coords, d, leaf, &rows);
-    let deep = || lent.borrow_mut().depth_first(coords, d, leaf, &rows);
-    let (a, b) = compared(turns, queue, deep);
+    let lent = RefCell::new(Lent::for_cut(n, d));
+    let cut = |stage| lent.borrow_mut().cut(stage, coords, d, leaf, &rows);
+    let (a, b) = compared(turns, || cut(QUEUE), || cut(DEPTH_FIRST));
     println!("{n:>9} {d:>4} {leaf:>5} {kind:<8} {a:>10.4} {b:>15.4} {:>7.3}", b / a);
     b / a
 }

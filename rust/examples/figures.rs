@@ -11,7 +11,7 @@ mod stage;
 
 use rekvashu::{build, build_sizes, square_root, DDMParams, SizePolicy};
 use stage::packed::box_floats;
-use stage::{compared, touched_floats, touched_wholes, units, Lent};
+use stage::{compared, touched_floats, touched_wholes, units, Cut, Lent};
 use std::hint::black_box;
 
 #[link(name = "ddm_stages", kind = "static")]
@@ -19,12 +19,14 @@ extern "C" {
     fn stage_leaves(
         points: *const f64, points_len: usize, dimensions: usize, leaf: usize, active: *const usize, active_len: usize,
         internals: *mut usize, internals_len: usize, domains: *mut usize, domains_len: usize, boxes: *mut f64, boxes_len: usize,
-        floats: *mut f64, floats_len: usize, wholes: *mut usize, wholes_len: usize,
+        floats: *mut f64, floats_len: usize, wholes: *mut usize, wholes_len: usize, cuts: *mut usize, cuts_len: usize,
+        planes: *mut f64, planes_len: usize,
     ) -> usize;
     fn stage_overlaps(
         points: *const f64, points_len: usize, dimensions: usize, neighbours: usize, active: *const usize, active_len: usize,
-        internals: *const usize, internals_len: usize, domains: *mut usize, domains_len: usize, m: usize,
-        borrowed: *mut usize, borrowed_len: usize, wholes: *mut usize, wholes_len: usize,
+        cuts: *const usize, cuts_len: usize, planes: *const f64, planes_len: usize, internals: *const usize, internals_len: usize,
+        domains: *mut usize, domains_len: usize, m: usize, borrowed: *mut usize, borrowed_len: usize, wholes: *mut usize,
+        wholes_len: usize,
     ) -> usize;
     fn stage_coarse_points(
         points: *const f64, points_len: usize, dimensions: usize, size: usize, level_points: *mut usize, level_points_len: usize,
@@ -37,13 +39,16 @@ fn line(what: &str, (ours, theirs): (f64, f64)) {
     println!("  {what:<28} {ours:>10.3} ms {theirs:>10.3} ms   ratio {:.2}", ours / theirs);
 }
 
+/// What the queue has of a domain that waits: start, count, depth, and the place of its node.
+const WAITING: usize = 4;
+
 /// What one cut writes of its room, for a rows and m leaves: whole numbers of the ordering (one a row), of the packed leaves (one a
-/// row) and of the queue (three for each of the m - 1 domains that wait), and floats of the queue (their boxes). It writes no others.
+/// row) and of the queue (four for each of the m - 1 domains that wait), and floats of the queue (their boxes). It writes no others.
 fn cut_room(coords: &[f64], d: usize, leaf: usize, rows: &[usize]) {
     let a = rows.len();
     let mut lent = Lent::for_cut(a, d);
-    let m = lent.cut(stage_leaves, coords, d, leaf, rows);
-    let (wholes, floats) = (2 * a + 3 * (m - 1), box_floats(d) * (m - 1));
+    let m = lent.cut(Cut::Recorded(stage_leaves), coords, d, leaf, rows);
+    let (wholes, floats) = (2 * a + WAITING * (m - 1), box_floats(d) * (m - 1));
     let [ordering, packed, queue] = [0..a, a..2 * a, 2 * a..wholes].map(|range| touched_wholes(&lent.wholes[range]));
     let boxes = touched_floats(&lent.floats[..floats]);
     println!("  room touched by the cut: ordering {ordering}, packed leaves {packed}, queue {queue} whole numbers and {boxes} floats");
@@ -57,25 +62,30 @@ fn stages(coords: &[f64], d: usize, s: &plain::Settings, turns: usize) {
     let sizes = build_sizes(n, d, s.neighbours).unwrap();
     let rows: Vec<usize> = (0..n).collect();
     let points = plain::Points { coords, d };
-    let mut lent = Lent::new(n, sizes.domains, sizes.boxes, sizes.floats, sizes.wholes);
+    let mut lent = Lent::new(n, sizes.domains, sizes.boxes, sizes.floats, sizes.wholes, sizes.cuts);
     let mut m = 0;
-    let ours = || m = lent.cut(stage_leaves, coords, d, s.leaf as usize, &rows);
-    line("cut", compared(turns, ours, || plain::leaves(&points, s.leaf, &rows)));
+    let ours = || m = lent.cut(Cut::Recorded(stage_leaves), coords, d, s.leaf as usize, &rows);
+    // the plain one makes no record
+    line("cut and its record", compared(turns, ours, || plain::leaves(&points, s.leaf, &rows)));
     let leaves = plain::leaves(&points, s.leaf, &rows);
     assert_eq!(m, leaves.len());
+    let (cuts, planes) = lent.record(m);
+    let (cuts, planes) = (cuts.to_vec(), planes.to_vec());
     let Lent { internals, mut domains, mut floats, mut wholes, .. } = lent;
     let mut borrowed = vec![0usize; sizes.borrowed];
     let turns = if n > 20_000 { 1 } else { turns };
     let overlaps = compared(turns, || unsafe {
         stage_overlaps(
-            coords.as_ptr(), coords.len(), d, s.neighbours as usize, rows.as_ptr(), n, internals.as_ptr(), n, domains.as_mut_ptr(),
-            domains.len(), m, borrowed.as_mut_ptr(), borrowed.len(), wholes.as_mut_ptr(), wholes.len(),
+            coords.as_ptr(), coords.len(), d, s.neighbours as usize, rows.as_ptr(), n, cuts.as_ptr(), cuts.len(), planes.as_ptr(),
+            planes.len(), internals.as_ptr(), n, domains.as_mut_ptr(), domains.len(), m, borrowed.as_mut_ptr(), borrowed.len(),
+            wholes.as_mut_ptr(), wholes.len(),
         )
     }, || {
         let mut leaves = leaves.clone();
         plain::borrow(&points, s.neighbours, &rows, &mut leaves);
         leaves
     });
+    // the plain one scans every pair
     line("neighbours and overlaps", overlaps);
     let c = plain::threshold(s.policy, n);
     let size = plain::level_size(n, c, plain::reductions(n, c, s.factor));

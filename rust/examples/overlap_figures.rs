@@ -3,21 +3,35 @@
 //!     rust/figures.sh --against COMMIT
 //!
 //! For each input it prints the processor milliseconds of both and the ratio now / before; at the end the greatest ratio. No two rows of an
-//! input stand at one place, so both must lend the same rows.
+//! input stand at one place, so both must lend the same rows. Before version 0.9.0 the stage scanned every pair; `search_figures` times the
+//! scan and the search of one library.
 mod stage;
 
-use stage::{against, compared, exported, lattice, stretches, units, Cut, Lent};
+use stage::{against, compared, exported, lattice, stretches, units, Against, Cut, Lent};
 use std::cell::RefCell;
 use std::ffi::c_void;
 
 const LEAF: usize = 64;
 
 /// The neighbour stage as rust/stages exports it.
-type Overlaps = unsafe extern "C" fn(
+type Searching = unsafe extern "C" fn(
+    points: *const f64, points_len: usize, dimensions: usize, neighbours: usize, active: *const usize, active_len: usize,
+    cuts: *const usize, cuts_len: usize, planes: *const f64, planes_len: usize, internals: *const usize, internals_len: usize,
+    domains: *mut usize, domains_len: usize, m: usize, borrowed: *mut usize, borrowed_len: usize, wholes: *mut usize, wholes_len: usize,
+) -> usize;
+
+/// The neighbour stage before it went by the record.
+type Scanning = unsafe extern "C" fn(
     points: *const f64, points_len: usize, dimensions: usize, neighbours: usize, active: *const usize, active_len: usize,
     internals: *const usize, internals_len: usize, domains: *mut usize, domains_len: usize, m: usize,
     borrowed: *mut usize, borrowed_len: usize, wholes: *mut usize, wholes_len: usize,
 ) -> usize;
+
+#[derive(Clone, Copy)]
+enum Overlaps {
+    Searching(Searching),
+    Scanning(Scanning),
+}
 
 /// The stages of each library, and the numbers of its domain rows.
 #[derive(Clone, Copy)]
@@ -27,13 +41,24 @@ struct Stages {
     row_numbers: [usize; 2],
 }
 
+impl Stages {
+    fn of(against: &Against) -> Stages {
+        let [before, now] = against.libraries.map(|library| exported(library, c"stage_overlaps"));
+        let searching = |found| Overlaps::Searching(unsafe { std::mem::transmute::<*mut c_void, Searching>(found) });
+        let scanning = |found| Overlaps::Scanning(unsafe { std::mem::transmute::<*mut c_void, Scanning>(found) });
+        let before = if against.had_records() { searching(before) } else { scanning(before) };
+        Stages { cuts: against.cuts(), overlaps: [before, searching(now)], row_numbers: against.row_numbers() }
+    }
+}
+
 /// A level that is cut, with the lists that the stage writes to. Each library has domain rows of its own.
 struct Level<'a> {
     coords: &'a [f64],
     d: usize,
     neighbours: usize,
     rows: Vec<usize>,
-    internals: Vec<usize>,
+    /// What the present library cut: its own rows and its record.
+    now: Lent,
     domains: [Vec<usize>; 2],
     leaves: usize,
     borrowed: Vec<usize>,
@@ -48,20 +73,30 @@ impl Level<'_> {
             let mut lent = Lent::for_cut(n, d);
             (lent.cut(cut, coords, d, LEAF, &rows), lent)
         });
-        let (internals, domains, pairs) = (now.internals, [before.domains, now.domains], 2 * n * (neighbours + 1));
-        Level { coords, d, neighbours, rows, internals, domains, leaves, borrowed: vec![0; pairs], wholes: vec![0; n + pairs] }
+        let (domains, pairs) = ([before.domains, now.domains.clone()], 2 * n * (neighbours + 1));
+        Level { coords, d, neighbours, rows, now, domains, leaves, borrowed: vec![0; pairs], wholes: vec![0; 10 * n + pairs] }
     }
 
     /// The stage of one library: 0 the earlier one, 1 the present one.
     fn lend(&mut self, stages: Stages, which: usize) -> usize {
-        let (stage, domains) = (stages.overlaps[which], &mut self.domains[which]);
+        let (coords, d, neighbours, leaves, rows, domains) =
+            (self.coords, self.d, self.neighbours, self.leaves, &self.rows, &mut self.domains[which]);
+        let (internals, (cuts, planes)) = (&self.now.internals, self.now.record(leaves));
         let (borrowed, wholes) = (&mut self.borrowed, &mut self.wholes);
-        unsafe {
-            stage(
-                self.coords.as_ptr(), self.coords.len(), self.d, self.neighbours, self.rows.as_ptr(), self.rows.len(),
-                self.internals.as_ptr(), self.internals.len(), domains.as_mut_ptr(), domains.len(), self.leaves,
-                borrowed.as_mut_ptr(), borrowed.len(), wholes.as_mut_ptr(), wholes.len(),
-            )
+        match stages.overlaps[which] {
+            Overlaps::Searching(stage) => unsafe {
+                stage(
+                    coords.as_ptr(), coords.len(), d, neighbours, rows.as_ptr(), rows.len(), cuts.as_ptr(), cuts.len(), planes.as_ptr(),
+                    planes.len(), internals.as_ptr(), internals.len(), domains.as_mut_ptr(), domains.len(), leaves,
+                    borrowed.as_mut_ptr(), borrowed.len(), wholes.as_mut_ptr(), wholes.len(),
+                )
+            },
+            Overlaps::Scanning(stage) => unsafe {
+                stage(
+                    coords.as_ptr(), coords.len(), d, neighbours, rows.as_ptr(), rows.len(), internals.as_ptr(), internals.len(),
+                    domains.as_mut_ptr(), domains.len(), leaves, borrowed.as_mut_ptr(), borrowed.len(), wholes.as_mut_ptr(), wholes.len(),
+                )
+            },
         }
     }
 }
@@ -83,10 +118,7 @@ fn line(stages: Stages, kind: &str, mut level: Level, turns: usize) -> f64 {
 }
 
 fn main() {
-    let against = against();
-    let cuts = against.libraries.map(|library| unsafe { std::mem::transmute::<*mut c_void, Cut>(exported(library, c"stage_leaves")) });
-    let overlaps = against.libraries.map(|library| unsafe { std::mem::transmute::<*mut c_void, Overlaps>(exported(library, c"stage_overlaps")) });
-    let stages = Stages { cuts, overlaps, row_numbers: against.row_numbers() };
+    let stages = Stages::of(&against());
     let mut unit = units();
     let mut greatest = 0.0f64;
     println!("the neighbour stage: processor milliseconds, leaf {LEAF}");

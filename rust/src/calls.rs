@@ -3,7 +3,6 @@
 use crate::lists::{reserved, BuildSizes, Lists};
 use crate::packed::*;
 use crate::{sys, DDMParams, Error, Refusal, Tree};
-use std::collections::TryReserveError;
 
 /// The refusal of a list that is too short.
 const SHORT_LIST: usize = 11;
@@ -24,7 +23,7 @@ const fn whole(digits: &str) -> usize {
 /// The version of the linked library: major * 10,000 + minor * 100 + patch.
 ///
 /// ```
-/// assert!(rekvashu::version() >= 800);
+/// assert!(rekvashu::version() >= 900);
 /// ```
 pub fn version() -> usize {
     sys::version()
@@ -46,7 +45,7 @@ pub(crate) fn refused(number: usize, place: usize) -> Error {
 ///
 /// ```
 /// let sizes = rekvashu::build_sizes(1000, 2, 16)?;
-/// assert_eq!((sizes.level_points, sizes.borrowed, sizes.bytes() / 1000), (4000, 102_000, 2960));
+/// assert_eq!((sizes.level_points, sizes.borrowed, sizes.bytes() / 1000), (4000, 102_000, 3216));
 /// # Ok::<(), rekvashu::Refusal>(())
 /// ```
 pub fn build_sizes(n: usize, dimension: usize, neighbours: u32) -> Result<BuildSizes, Refusal> {
@@ -59,28 +58,15 @@ pub fn build_sizes(n: usize, dimension: usize, neighbours: u32) -> Result<BuildS
 
 /// Builds the tree over the points: `points` holds the coordinates, `dimension` of them for each row. Refusals 1 to 10.
 ///
-/// ```
-/// use rekvashu::{build, DDMParams};
-///
-/// let tree = build(&[0.0, 0.0, 3.0, 4.0], 2, DDMParams::default())?;
-/// assert_eq!(tree.level(0).unwrap().rows(), [0, 1]);
-/// # Ok::<(), rekvashu::Error>(())
-/// ```
-pub fn build(points: &[f64], dimension: usize, params: DDMParams) -> Result<Tree, Error> {
-    let call = |lists: &mut Lists, slot: &mut _| sys::build(points, dimension, params, lists, slot);
-    built(call, rows(points, dimension), dimension, params, Ok)
-}
-
-/// Builds the same tree as [`build`], and keeps the cuts that made it: [`Level::nodes`](crate::Level::nodes) gives them from the root
-/// downwards, the left half of each cut completely before the right. The record takes 192 bytes a point more while it is built, and 16 a
-/// node afterwards. Refusals 1 to 10.
+/// The tree keeps the cuts that made it, 16 bytes a node: [`Level::nodes`](crate::Level::nodes) gives them from the root downwards, the left
+/// half of each cut completely before the right.
 ///
 /// ```
-/// use rekvashu::{build, build_depth_first, DDMParams, NodeKind, SizePolicy};
+/// use rekvashu::{build, DDMParams, NodeKind, SizePolicy};
 ///
 /// let params = DDMParams { leaf_threshold: 2, overlap_knn: 1, coarse_reduction_factor: 2, coarse_threshold: SizePolicy::Fixed(2) };
-/// let tree = build_depth_first(&[0.0, 1.0, 3.0, 7.0], 1, params)?;
-/// assert_eq!(tree, build(&[0.0, 1.0, 3.0, 7.0], 1, params)?);
+/// let tree = build(&[0.0, 1.0, 3.0, 7.0], 1, params)?;
+/// assert_eq!(tree.level(0).unwrap().rows(), [0, 1, 2, 3]);
 /// for node in tree.level(0).unwrap().nodes() {
 ///     match node.kind {
 ///         NodeKind::Cut { axis, plane } => println!("{:w$}axis {axis} at {plane}", "", w = 2 * node.depth),
@@ -89,10 +75,26 @@ pub fn build(points: &[f64], dimension: usize, params: DDMParams) -> Result<Tree
 /// }
 /// # Ok::<(), rekvashu::Error>(())
 /// ```
+pub fn build(points: &[f64], dimension: usize, params: DDMParams) -> Result<Tree, Error> {
+    let call = |lists: &mut Lists, slot: &mut _| sys::build(points, dimension, params, lists, slot);
+    built(call, rows(points, dimension), dimension, params)
+}
+
+/// Builds the same tree as [`build`], with the same record of its cuts, by another engine: it cuts the left half of a domain completely
+/// before the right. Refusals 1 to 10.
+///
+/// ```
+/// use rekvashu::{build, build_depth_first, DDMParams, SizePolicy};
+///
+/// let params = DDMParams { leaf_threshold: 2, overlap_knn: 1, coarse_reduction_factor: 2, coarse_threshold: SizePolicy::Fixed(2) };
+/// let (tree, same) = (build(&[0.0, 1.0, 3.0, 7.0], 1, params)?, build_depth_first(&[0.0, 1.0, 3.0, 7.0], 1, params)?);
+/// assert_eq!(tree, same);
+/// assert!(tree.level(0).unwrap().nodes().eq(same.level(0).unwrap().nodes()));
+/// # Ok::<(), rekvashu::Error>(())
+/// ```
 pub fn build_depth_first(points: &[f64], dimension: usize, params: DDMParams) -> Result<Tree, Error> {
     let call = |lists: &mut Lists, slot: &mut _| sys::build_depth_first(points, dimension, params, lists, slot);
-    let n = rows(points, dimension);
-    built(call, n, dimension, params, |lists| lists.with_record(n))
+    built(call, rows(points, dimension), dimension, params)
 }
 
 /// How many points these are; none where the dimension is 0, which every build refuses.
@@ -100,10 +102,9 @@ fn rows(points: &[f64], dimension: usize) -> usize {
     points.len().checked_div(dimension).unwrap_or(0)
 }
 
-/// The tree that a build over `n` points makes in lists of the stated lengths, with what else it needs.
+/// The tree that a build over `n` points makes in lists of the stated lengths.
 pub(crate) fn built(
     build: impl Fn(&mut Lists, &mut [usize; BUILD_SLOT]) -> usize, n: usize, dimension: usize, params: DDMParams,
-    with: impl FnOnce(Lists) -> Result<Lists, TryReserveError>,
 ) -> Result<Tree, Error> {
     right_version()?;
     let mut slot = [0; BUILD_SLOT];
@@ -111,7 +112,7 @@ pub(crate) fn built(
         SHORT_LIST => {}
         number => return Err(refused(number, slot[SLOT_PLACE])),
     }
-    let mut lists = with(Lists::reserved(&build_sizes(n, dimension, params.overlap_knn)?)?)?;
+    let mut lists = Lists::reserved(&build_sizes(n, dimension, params.overlap_knn)?)?;
     match build(&mut lists, &mut slot) {
         0 => Ok(Tree::of(dimension, &slot, lists)),
         number => Err(refused(number, slot[SLOT_PLACE])),
@@ -138,7 +139,7 @@ pub fn load(points: &[f64], dimension: usize, params: DDMParams, file: &[u8]) ->
         number => return Err(refused(number, slot[SLOT_PLACE])),
     }
     let sizes = build_sizes(points.len() / dimension, dimension, params.overlap_knn)?;
-    let mut lists = Lists::reserved(&BuildSizes { floats: 0, wholes: 0, ..sizes })?;
+    let mut lists = Lists::reserved(&sizes.of_tree())?;
     match sys::load(points, dimension, params, file, &mut lists, &mut slot) {
         0 => Ok(Tree::of(dimension, &slot, lists)),
         number => Err(refused(number, slot[SLOT_PLACE])),
@@ -251,11 +252,12 @@ mod tests {
     }
 
     #[test]
-    fn sizes_are_document_01s() {
+    fn sizes_are_those_of_the_documents() {
         let (sizes, rows) = (build_sizes(1000, 3, 16).unwrap(), 6001);
         assert_eq!((sizes.level_points, sizes.internals), (4000, 4000));
         assert_eq!((sizes.domains, sizes.boxes), (ROW_NUMBERS * rows, 7 * rows));
-        assert_eq!((sizes.borrowed, sizes.floats, sizes.wholes), (102_000, 32_000, 168_000));
+        assert_eq!((sizes.borrowed, sizes.floats, sizes.wholes), (102_000, 32_000, 176_000));
+        assert_eq!((sizes.cuts, sizes.planes), (12_000, 12_000));
         let refused = |n, d, k| build_sizes(n, d, k).unwrap_err().number;
         assert_eq!((refused(0, 4, 65), refused(0, 3, 65), refused(0, 3, 64), refused(1_048_577, 3, 64)), (1, 5, 6, 8));
     }

@@ -22,7 +22,8 @@
 //! [`Leaf::cover`] says how far the worst well that a leaf does not send up is from the nearest one that it sends: the factor is set by it.
 //! [`Leaf::depth`] says how often a level was cut to make the leaf.
 //!
-//! [`build_depth_first`] builds the same tree and keeps its cuts, which [`Level::nodes`] gives from the root downwards.
+//! A tree that was built keeps its cuts, which [`Level::nodes`] gives from the root downwards. [`build_depth_first`] builds the same tree,
+//! with the same cuts, by another engine.
 //!
 //! A [`Table`] of wells is edited between builds: wells are added and retired, and the tree is built over those that are live.
 //! [`Table::close`] closes the gaps that retired wells leave, and says how the slots of a tree built before are named now.
@@ -32,7 +33,7 @@
 //!
 //! # Memory, threads, floating environment
 //!
-//! The lists of a build have room for the worst input ([`build_sizes`]: 2,960 bytes a well in two dimensions with 16 neighbours) and are
+//! The lists of a build have room for the worst input ([`build_sizes`]: 3,216 bytes a well in two dimensions with 16 neighbours) and are
 //! reserved without being filled, so that only what the build touches costs memory. Where they can't be had, the answer is
 //! [`Error::OutOfMemory`], and settings and counts that are refused are refused before. The library has no global state: any number of
 //! threads may build and read at once. It needs round to nearest and no flush to zero, as Rust itself does, on x86-64 Linux.

@@ -20,6 +20,10 @@ pub struct BuildSizes {
     pub floats: usize,
     /// Working room: whole numbers.
     pub wholes: usize,
+    /// The cut record: the nodes' whole numbers.
+    pub cuts: usize,
+    /// The cut record: the nodes' planes.
+    pub planes: usize,
 }
 
 impl BuildSizes {
@@ -32,18 +36,25 @@ impl BuildSizes {
             borrowed: slot[SIZES_BORROWED],
             floats: slot[SIZES_FLOATS],
             wholes: slot[SIZES_WHOLES],
+            cuts: slot[SIZES_CUTS],
+            planes: slot[SIZES_PLANES],
         }
+    }
+
+    /// The same without room and record: to load a tree, its five lists are lent alone.
+    pub(crate) fn of_tree(self) -> Self {
+        BuildSizes { floats: 0, wholes: 0, cuts: 0, planes: 0, ..self }
     }
 
     /// The bytes of all lists: what is lent, of which little is touched.
     pub fn bytes(&self) -> usize {
-        let wholes = self.level_points + self.internals + self.domains + self.borrowed + self.wholes;
-        let floats = self.boxes + self.floats;
+        let wholes = self.level_points + self.internals + self.domains + self.borrowed + self.wholes + self.cuts;
+        let floats = self.boxes + self.floats + self.planes;
         wholes * std::mem::size_of::<usize>() + floats * std::mem::size_of::<f64>()
     }
 }
 
-/// The lists of one build. Those of the record stay empty where none is asked for.
+/// The lists of one call. Those of the room and of the record stay empty where a tree is stored or loaded.
 #[derive(Default)]
 pub struct Lists {
     pub level_points: Vec<usize>,
@@ -58,7 +69,7 @@ pub struct Lists {
 }
 
 impl Lists {
-    /// Room for these sizes, and none for a record.
+    /// Room for these sizes.
     pub fn reserved(sizes: &BuildSizes) -> Result<Self, TryReserveError> {
         Ok(Lists {
             level_points: reserved(sizes.level_points)?,
@@ -68,13 +79,9 @@ impl Lists {
             borrowed: reserved(sizes.borrowed)?,
             floats: reserved(sizes.floats)?,
             wholes: reserved(sizes.wholes)?,
-            ..Lists::default()
+            cuts: reserved(sizes.cuts)?,
+            planes: reserved(sizes.planes)?,
         })
-    }
-
-    /// The same lists with room for the cut record over `n` points.
-    pub fn with_record(self, n: usize) -> Result<Self, TryReserveError> {
-        Ok(Lists { cuts: reserved(record_entries(n))?, planes: reserved(record_entries(n))?, ..self })
     }
 }
 

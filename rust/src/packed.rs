@@ -34,11 +34,6 @@ pub const fn record_nodes(domains: usize) -> usize {
     2 * domains - 1
 }
 
-/// The entries that each list of a record needs, for so many points.
-pub const fn record_entries(points: usize) -> usize {
-    12 * points
-}
-
 /// The most points of a tree, and the most slots of a table.
 pub const MOST_POINTS: usize = 1_048_576;
 
@@ -60,7 +55,9 @@ pub const SIZES_BOXES: usize = 3;
 pub const SIZES_BORROWED: usize = 4;
 pub const SIZES_FLOATS: usize = 5;
 pub const SIZES_WHOLES: usize = 6;
-pub const SIZES_SLOT: usize = 7;
+pub const SIZES_CUTS: usize = 7;
+pub const SIZES_PLANES: usize = 8;
+pub const SIZES_SLOT: usize = 9;
 
 /// Sampling's slot: the place of a refusal, the rows written.
 pub const SAMPLE_PLACE: usize = 0;
@@ -145,6 +142,8 @@ mod tests {
             ("SIZES_BORROWED", SIZES_BORROWED),
             ("SIZES_FLOATS", SIZES_FLOATS),
             ("SIZES_WHOLES", SIZES_WHOLES),
+            ("SIZES_CUTS", SIZES_CUTS),
+            ("SIZES_PLANES", SIZES_PLANES),
             ("SIZES_SLOT", SIZES_SLOT),
             ("SAMPLE_PLACE", SAMPLE_PLACE),
             ("SAMPLE_WRITTEN", SAMPLE_WRITTEN),

@@ -21,7 +21,8 @@ extern "C" {
         coarse_reduction_factor: u32, policy: u32, coarse_threshold: u32, level_points: *mut usize, level_points_len: usize,
         internals: *mut usize, internals_len: usize, domains: *mut usize, domains_len: usize, boxes: *mut f64,
         boxes_len: usize, borrowed: *mut usize, borrowed_len: usize, floats: *mut f64, floats_len: usize, wholes: *mut usize,
-        wholes_len: usize, result: *mut usize, result_len: usize,
+        wholes_len: usize, cuts: *mut usize, cuts_len: usize, planes: *mut f64, planes_len: usize, result: *mut usize,
+        result_len: usize,
     ) -> usize;
     fn ddm_build_depth_first(
         points: *const f64, points_len: usize, dimensions: usize, leaf_threshold: u32, overlap_knn: u32,
@@ -48,7 +49,8 @@ extern "C" {
         dimensions: usize, leaf_threshold: u32, overlap_knn: u32, coarse_reduction_factor: u32, policy: u32, coarse_threshold: u32,
         level_points: *mut usize, level_points_len: usize, internals: *mut usize, internals_len: usize, domains: *mut usize,
         domains_len: usize, boxes: *mut f64, boxes_len: usize, borrowed: *mut usize, borrowed_len: usize, floats: *mut f64,
-        floats_len: usize, wholes: *mut usize, wholes_len: usize, result: *mut usize, result_len: usize,
+        floats_len: usize, wholes: *mut usize, wholes_len: usize, cuts: *mut usize, cuts_len: usize, planes: *mut f64,
+        planes_len: usize, result: *mut usize, result_len: usize,
     ) -> usize;
     fn ddm_store(
         points: *const f64, points_len: usize, dimensions: usize, leaf_threshold: u32, overlap_knn: u32,
@@ -112,7 +114,22 @@ unsafe fn tree_written(l: &mut Lists, dimensions: usize, result: &[usize; BUILD_
     unsafe { written(&mut l.borrowed, borrowed) };
 }
 
-/// Builds into the lists, and after an accepted call gives each its length; the working room stays empty.
+/// Gives the lists of a tree and those of its record their lengths; the working room stays empty.
+///
+/// # Safety
+/// The slot is that of an accepted build into these lists.
+unsafe fn build_written(l: &mut Lists, dimensions: usize, result: &[usize; BUILD_SLOT]) {
+    let fine = &result[SLOT_DOMAINS..SLOT_DOMAINS + result[SLOT_LEVELS] - 1];
+    let nodes = fine.iter().map(|&domains| record_nodes(domains)).sum();
+    // each fine level's record is written to the front of both lists, one after the other
+    unsafe {
+        tree_written(l, dimensions, result);
+        written(&mut l.cuts, nodes);
+        written(&mut l.planes, nodes);
+    }
+}
+
+/// Builds into the lists, and after an accepted call gives each its length.
 pub fn build(points: &[f64], dimensions: usize, params: DDMParams, lists: &mut Lists, result: &mut [usize; BUILD_SLOT]) -> usize {
     let (policy, threshold) = policy(&params);
     let l = &mut *lists;
@@ -122,16 +139,17 @@ pub fn build(points: &[f64], dimensions: usize, params: DDMParams, lists: &mut L
             params.coarse_reduction_factor, policy, threshold, l.level_points.as_mut_ptr(), l.level_points.capacity(),
             l.internals.as_mut_ptr(), l.internals.capacity(), l.domains.as_mut_ptr(), l.domains.capacity(), l.boxes.as_mut_ptr(),
             l.boxes.capacity(), l.borrowed.as_mut_ptr(), l.borrowed.capacity(), l.floats.as_mut_ptr(), l.floats.capacity(),
-            l.wholes.as_mut_ptr(), l.wholes.capacity(), result.as_mut_ptr(), result.len(),
+            l.wholes.as_mut_ptr(), l.wholes.capacity(), l.cuts.as_mut_ptr(), l.cuts.capacity(), l.planes.as_mut_ptr(),
+            l.planes.capacity(), result.as_mut_ptr(), result.len(),
         )
     };
     if number == 0 {
-        unsafe { tree_written(l, dimensions, result) };
+        unsafe { build_written(l, dimensions, result) };
     }
     number
 }
 
-/// Builds depth first into the lists, and after an accepted call gives each its length, those of the record included.
+/// Builds depth first into the lists, and after an accepted call gives each its length.
 pub fn build_depth_first(
     points: &[f64], dimensions: usize, params: DDMParams, lists: &mut Lists, result: &mut [usize; BUILD_SLOT],
 ) -> usize {
@@ -148,14 +166,7 @@ pub fn build_depth_first(
         )
     };
     if number == 0 {
-        let fine = &result[SLOT_DOMAINS..SLOT_DOMAINS + result[SLOT_LEVELS] - 1];
-        let nodes = fine.iter().map(|&domains| record_nodes(domains)).sum();
-        // each fine level's record is written to the front of both lists, one after the other
-        unsafe {
-            tree_written(l, dimensions, result);
-            written(&mut l.cuts, nodes);
-            written(&mut l.planes, nodes);
-        }
+        unsafe { build_written(l, dimensions, result) };
     }
     number
 }
@@ -174,11 +185,11 @@ pub fn build_slots(
             l.level_points.as_mut_ptr(), l.level_points.capacity(), l.internals.as_mut_ptr(), l.internals.capacity(),
             l.domains.as_mut_ptr(), l.domains.capacity(), l.boxes.as_mut_ptr(), l.boxes.capacity(), l.borrowed.as_mut_ptr(),
             l.borrowed.capacity(), l.floats.as_mut_ptr(), l.floats.capacity(), l.wholes.as_mut_ptr(), l.wholes.capacity(),
-            result.as_mut_ptr(), result.len(),
+            l.cuts.as_mut_ptr(), l.cuts.capacity(), l.planes.as_mut_ptr(), l.planes.capacity(), result.as_mut_ptr(), result.len(),
         )
     };
     if number == 0 {
-        unsafe { tree_written(l, dimensions, result) };
+        unsafe { build_written(l, dimensions, result) };
     }
     number
 }

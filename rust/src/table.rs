@@ -127,14 +127,15 @@ impl Table {
         self.dimension
     }
 
-    /// Builds the tree over the live slots, in slot order: rows in the tree are slots, and n is the number of live wells.
+    /// Builds the tree over the live slots, in slot order: rows in the tree are slots, and n is the number of live wells. The tree keeps its
+    /// cuts, as that of [`build`](crate::build) does.
     /// [`Tree::to_bytes`] refuses such a tree with 20, unless the live slots are 0 to n - 1, as they are after [`close`](Table::close).
     /// Refusals 2 to 6, 9.
     pub fn build(&self, params: DDMParams) -> Result<Tree, Error> {
         let call = |lists: &mut _, slot: &mut _| {
             sys::build_slots(self.head, &self.flags, &self.coordinates, self.dimension, params, lists, slot)
         };
-        built(call, self.len(), self.dimension, params, Ok)
+        built(call, self.len(), self.dimension, params)
     }
 }
 

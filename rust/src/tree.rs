@@ -6,8 +6,8 @@ use std::collections::TryReserveError;
 
 /// A tree of domains over the points.
 ///
-/// Two trees are equal where their levels and leaves are, with or without a record of the cuts: [`build`](crate::build) and
-/// [`build_depth_first`](crate::build_depth_first) give equal trees for the same input.
+/// Two trees are equal where their levels and leaves are, with or without a record of the cuts: a loaded tree, which has none, equals the
+/// one that was stored.
 ///
 /// ```
 /// use rekvashu::{build, DDMParams, SizePolicy};
@@ -153,16 +153,15 @@ impl<'a> Level<'a> {
     }
 
     /// The level's cut record: the cuts from the root downwards, each before its halves, and the left half completely before the right.
-    /// A level with m leaves has 2m - 1 nodes. The coarse level has none, and neither has a tree that [`build`](crate::build) built or
-    /// [`load`](crate::load) loaded.
+    /// A level with m leaves has 2m - 1 nodes. The coarse level has none, and neither has a tree that [`load`](crate::load) loaded.
     ///
     /// Leaves are numbered by depth, and then from left to right, which is the order of [`leaves`](Level::leaves).
     ///
     /// ```
-    /// use rekvashu::{build_depth_first, DDMParams, Node, NodeKind, SizePolicy};
+    /// use rekvashu::{build, DDMParams, Node, NodeKind, SizePolicy};
     ///
     /// let params = DDMParams { leaf_threshold: 3, overlap_knn: 1, coarse_reduction_factor: 2, coarse_threshold: SizePolicy::Fixed(2) };
-    /// let tree = build_depth_first(&[0.0, 1.0, 3.0, 7.0], 1, params)?;
+    /// let tree = build(&[0.0, 1.0, 3.0, 7.0], 1, params)?;
     /// let nodes: Vec<Node> = tree.level(0).unwrap().nodes().collect();
     /// assert_eq!(nodes, [
     ///     Node { depth: 0, kind: NodeKind::Cut { axis: 0, plane: 3.0 } },

@@ -1,22 +1,29 @@
-//! The library against the plain implementation: random jobs, refusals, and the sizes around each limit.
+//! The library against the plain implementation: random jobs by all three builds, whose search for neighbours has to find what the plain scan
+//! of every pair finds; refusals, and the sizes around each limit.
 mod plain;
 
+use plain::jobs::{job, Wells, NEIGHBOURS, WELLS};
 use plain::random::Random;
-use plain::trees::settings;
-use rekvashu::{build, level_size, quotas, sample, square_root, DDMParams, Error, Refusal, SizePolicy, Tree};
+use plain::trees::{has_records, settings};
+use rekvashu::{build, build_depth_first, level_size, quotas, sample, square_root, DDMParams, Error, Refusal, SizePolicy, Table, Tree};
+
+/// How many random jobs there are: fewer without optimisation.
+const JOBS: usize = if cfg!(debug_assertions) { 4_000 } else { 20_000 };
 
 fn bits(xs: &[f64]) -> Vec<u64> {
     xs.iter().map(|x| x.to_bits()).collect()
 }
 
-fn same_tree(tree: &Tree, levels: &[plain::Level]) -> bool {
+/// Whether a tree is the plain one, whose rows it names by this list.
+fn same_tree(tree: &Tree, levels: &[plain::Level], names: &[usize]) -> bool {
+    let same_rows = |ours: &[usize], theirs: &[usize]| ours.iter().copied().eq(theirs.iter().map(|&row| names[row]));
     tree.len() == levels.len()
         && tree.levels().zip(levels).all(|(ours, theirs)| {
-            ours.rows() == &theirs.rows[..]
+            same_rows(ours.rows(), &theirs.rows)
                 && ours.len() == theirs.leaves.len()
                 && ours.leaves().zip(&theirs.leaves).all(|(a, b)| {
-                    a.own() == &b.own[..]
-                        && a.borrowed() == &b.borrowed[..]
+                    same_rows(a.own(), &b.own)
+                        && same_rows(a.borrowed(), &b.borrowed)
                         && match a.bounds() {
                             Some((lower, upper)) => bits(lower) == bits(&b.lower) && bits(upper) == bits(&b.upper),
                             None => ours.is_coarse(),
@@ -31,41 +38,53 @@ fn refused(number: usize, place: usize) -> Error {
     Refusal::new(number, place).into()
 }
 
-/// The library's answer is the plain one. The levels, none where the job is refused.
-fn check(coords: &[f64], d: usize, p: DDMParams) -> Vec<plain::Level> {
-    match (build(coords, d, p), plain::build(coords, d, &settings(p))) {
-        (Ok(tree), Ok(levels)) => {
-            assert!(same_tree(&tree, &levels), "trees differ: {d} {p:?} {coords:?}");
-            levels
+/// A table of these wells, with retired slots in front of some of them, and the slots that the wells have.
+fn table(coords: &[f64], d: usize) -> (Table, Vec<usize>) {
+    let n = coords.len() / d;
+    let mut random = Random(1 + n as u64);
+    let gaps: Vec<usize> = (0..n).map(|_| if random.below(5) == 0 { 1 + random.below(3) } else { 0 }).collect();
+    let mut table = Table::new(n + gaps.iter().sum::<usize>(), d).unwrap();
+    let mut slots = Vec::new();
+    for (well, gap) in coords.chunks(d).zip(gaps) {
+        for _ in 0..gap {
+            table.add(well).unwrap();
         }
-        (Err(ours), Err((number, place))) => {
-            assert_eq!(ours, refused(number, place), "{d} {p:?} {coords:?}");
-            Vec::new()
-        }
-        (ours, theirs) => panic!("{:?} against {:?}: {d} {p:?} {coords:?}", ours.err(), theirs.err()),
+        slots.push(table.add(well).unwrap());
     }
+    let retired: Vec<usize> = table.live().filter(|slot| slots.binary_search(slot).is_err()).collect();
+    for slot in retired {
+        table.retire(slot).unwrap();
+    }
+    (table, slots)
 }
 
-/// A job: coordinates, dimension, settings. Nested wells share a few places, and their tree has a fine level.
-fn random_job(random: &mut Random, nested: bool) -> (Vec<f64>, usize, DDMParams) {
-    let d = 1 + random.below(3);
-    let n = 1 + usize::from(nested) + random.below(90);
-    let kind = random.below(5);
-    let places = if nested { 1 + random.below(n / 2) } else { n };
-    let mut coords: Vec<f64> = (0..places * d).map(|_| random.coordinate(kind)).collect();
-    if nested {
-        coords = (0..n).flat_map(|_| coords.chunks(d).nth(random.below(places)).unwrap().to_vec()).collect();
+/// What each build answers: the two over points, and the one over the slots of a table where these wells can be in one; with the names of the
+/// wells.
+fn builds(coords: &[f64], d: usize, p: DDMParams) -> Vec<(Result<Tree, Error>, Vec<usize>)> {
+    let rows: Vec<usize> = (0..coords.len()).collect();
+    let mut answers = vec![(build(coords, d, p), rows.clone()), (build_depth_first(coords, d, p), rows)];
+    if (1..=3).contains(&d) && coords.len() % d == 0 && coords.iter().all(|x| x.is_finite()) {
+        let (table, slots) = table(coords, d);
+        answers.push((table.build(p), slots));
     }
-    let factor = 2 + random.below(5);
-    let least = n.div_ceil(factor.pow(3));
-    let coarse = if nested { least + random.below(n - least) } else { 1 + random.below(30) };
-    let p = DDMParams {
-        leaf_threshold: 1 + random.below(12) as u32,
-        overlap_knn: random.below(if nested { 4 } else { 12 }) as u32,
-        coarse_reduction_factor: factor as u32,
-        coarse_threshold: SizePolicy::Fixed(coarse as u32),
-    };
-    (coords, d, p)
+    answers
+}
+
+/// The answer of each build is the plain one: tree and record, or refusal. The levels, none where the job is refused.
+fn check(coords: &[f64], d: usize, p: DDMParams) -> Vec<plain::Level> {
+    let expected = plain::build(coords, d, &settings(p));
+    for (answer, names) in builds(coords, d, p) {
+        match (answer, &expected) {
+            (Ok(tree), Ok(levels)) => {
+                assert!(same_tree(&tree, levels, &names), "trees differ: {d} {p:?} {coords:?}");
+                let records = plain::records(coords, d, p.leaf_threshold, levels);
+                assert!(has_records(&tree, &records), "records differ: {d} {p:?} {coords:?}");
+            }
+            (Err(ours), Err((number, place))) => assert_eq!(ours, refused(*number, *place), "{d} {p:?} {coords:?}"),
+            (ours, theirs) => panic!("{:?} against {:?}: {d} {p:?} {coords:?}", ours.err(), theirs.as_ref().err()),
+        }
+    }
+    expected.unwrap_or_default()
 }
 
 /// 0 for an empty leaf, 1 for a cover of 0, 3 for an infinite one, and 2 for any other.
@@ -84,30 +103,73 @@ fn most_same(coords: &[f64], d: usize, same: fn(&[f64], &[f64]) -> bool) -> usiz
     coords.chunks(d).map(count).max().unwrap()
 }
 
-#[test]
-fn random_jobs() {
-    let mut random = Random(0x5eed_0001);
-    let (mut with_duplicates, mut crowded, mut covers, mut depths) = (0, 0, [0; 4], [0; 2]);
-    for number in 0..20_000 {
-        let (coords, d, p) = random_job(&mut random, number % 2 == 0);
-        let levels = check(&coords, d, p);
-        for leaf in levels.iter().rev().skip(1).flat_map(|level| &level.leaves) {
-            covers[kind_of_cover(leaf)] += 1;
+/// What the random jobs had in them, so that it is tested often enough.
+#[derive(Debug, Default)]
+struct Seen {
+    /// Trees with a fine level: with duplicates, and with more rows at distance zero than a row takes.
+    duplicates: usize,
+    crowded: usize,
+    /// Fine leaves by the kind of their cover, and fine levels with one depth and with two.
+    covers: [usize; 4],
+    depths: [usize; 2],
+    /// Trees with a fine level: by how the wells lie, by the neighbour counts that are listed, and with the leaf threshold 1 or above n.
+    wells: [usize; WELLS.len()],
+    neighbours: [usize; NEIGHBOURS.len()],
+    thresholds: [usize; 2],
+}
+
+impl Seen {
+    fn add(&mut self, job: &plain::jobs::Job, levels: &[plain::Level]) {
+        let [fine @ .., _] = levels else { return };
+        for leaf in fine.iter().flat_map(|level| &level.leaves) {
+            self.covers[kind_of_cover(leaf)] += 1;
         }
-        for level in levels.iter().rev().skip(1) {
-            depths[usize::from(level.leaves[0].depth < level.leaves.last().unwrap().depth)] += 1;
+        for level in fine {
+            self.depths[usize::from(level.leaves[0].depth < level.leaves.last().unwrap().depth)] += 1;
         }
-        if levels.len() > 1 {
-            with_duplicates += usize::from(most_same(&coords, d, |a, b| a == b) > 1);
-            crowded += usize::from(most_same(&coords, d, |a, b| plain::distance_sq(a, b) == 0.0) > p.overlap_knn as usize + 1);
+        if fine.is_empty() {
+            return;
         }
+        let (d, p, n) = (job.d, job.params, job.coords.len() / job.d);
+        self.duplicates += usize::from(most_same(&job.coords, d, |a, b| a == b) > 1);
+        let at_zero = most_same(&job.coords, d, |a, b| plain::distance_sq(a, b) == 0.0);
+        self.crowded += usize::from(at_zero > p.overlap_knn as usize + 1);
+        self.wells[WELLS.iter().position(|wells| *wells == job.wells).unwrap()] += 1;
+        if let Some(which) = NEIGHBOURS.iter().position(|count| *count == p.overlap_knn) {
+            self.neighbours[which] += 1;
+        }
+        self.thresholds[0] += usize::from(p.leaf_threshold == 1);
+        self.thresholds[1] += usize::from(p.leaf_threshold as usize > n);
     }
-    println!("trees with a fine level: {with_duplicates} with duplicates, {crowded} with more at distance zero than a row takes");
-    assert!(with_duplicates > 10_000 && crowded > 5_000, "{with_duplicates}, {crowded}");
-    println!("fine leaves: {} empty, {} with the cover 0, {} with another, {} with an infinite one", covers[0], covers[1], covers[2], covers[3]);
-    assert!(covers.iter().all(|many| *many > 10_000), "{covers:?}");
-    println!("fine levels: {} with one depth, {} with two", depths[0], depths[1]);
-    assert!(depths.iter().all(|many| *many > 1_000), "{depths:?}");
+
+    /// How many trees with a fine level had wells that lie so.
+    fn lying(&self, wells: Wells) -> usize {
+        self.wells[WELLS.iter().position(|each| *each == wells).unwrap()]
+    }
+}
+
+/// The plain implementation scans every pair, and the library searches.
+#[test]
+fn search_against_scan() {
+    let mut random = Random(0x5eed_0001);
+    let mut seen = Seen::default();
+    for number in 0..JOBS {
+        let job = job(&mut random, number);
+        seen.add(&job, &check(&job.coords, job.d, job.params));
+    }
+    println!("trees with a fine level: {} with duplicates, {} with more at distance zero than a row takes", seen.duplicates, seen.crowded);
+    assert!(seen.duplicates > JOBS / 2 && seen.crowded > JOBS / 4, "{seen:?}");
+    let [empty, none, some, infinite] = seen.covers;
+    println!("fine leaves: {empty} empty, {none} with the cover 0, {some} with another, {infinite} with an infinite one");
+    assert!(seen.covers.iter().all(|many| *many > JOBS / 2), "{seen:?}");
+    println!("fine levels: {} with one depth, {} with two", seen.depths[0], seen.depths[1]);
+    assert!(seen.depths.iter().all(|many| *many > JOBS / 20), "{seen:?}");
+    for wells in [Wells::Scattered, Wells::Nested, Wells::Lattice, Wells::Shuffled, Wells::Together, Wells::Half, Wells::Hundreds] {
+        println!("wells {wells:?}: {} trees with a fine level", seen.lying(wells));
+        assert!(seen.lying(wells) > JOBS / 20, "{seen:?}");
+    }
+    println!("neighbours {NEIGHBOURS:?}: {:?}; leaf threshold 1 and above n: {:?}", seen.neighbours, seen.thresholds);
+    assert!(seen.neighbours.iter().chain(&seen.thresholds).all(|many| *many > JOBS / 20), "{seen:?}");
 }
 
 #[test]
@@ -115,8 +177,10 @@ fn larger_jobs() {
     let mut random = Random(0x5eed_0002);
     for n in [511, 512, 513, 1000, 1500] {
         for d in 1..=3 {
-            let coords: Vec<f64> = (0..n * d).map(|_| random.coordinate(0)).collect();
-            check(&coords, d, DDMParams { leaf_threshold: 20, ..DDMParams::default() });
+            for kind in [0, 1] {
+                let coords: Vec<f64> = (0..n * d).map(|_| random.coordinate(kind)).collect();
+                check(&coords, d, DDMParams { leaf_threshold: 20, ..DDMParams::default() });
+            }
         }
     }
 }

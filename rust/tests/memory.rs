@@ -1,8 +1,8 @@
 //! Calls of 1,048,576 points under a memory limit: they answer, and nothing is aborted.
-use rekvashu::{build, build_depth_first, sample, DDMParams, Error, Refusal, SizePolicy};
+use rekvashu::{build, build_depth_first, build_sizes, sample, DDMParams, Error, Refusal, SizePolicy};
 use std::process::Command;
 
-/// A limit on the address space in KiB: it holds the points (8 MiB), and no list of a build (32 MiB and more).
+/// A limit on the address space in KiB: it holds the points (8 MiB), and not the lists of a build (3 GiB).
 const LIMIT: usize = 160 * 1024;
 const MOST: usize = 1_048_576;
 
@@ -27,6 +27,7 @@ fn large_calls() {
     assert_eq!(build(full, 1, params), Err(Error::OutOfMemory));
     assert_eq!(build_depth_first(full, 1, params), Err(Error::OutOfMemory));
     assert_eq!(build_depth_first(&points, 1, params), Err(refused(8)));
+    assert_eq!(build_sizes(MOST, 1, params.overlap_knn).unwrap().bytes() / MOST, 1120 + 96 + 112 * 17);
     assert_eq!(sample(full, 1, MOST + 1, 0), Err(refused(13)));
     assert_eq!(sample(full, 1, MOST, MOST), Err(refused(13)));
     println!("all calls answered");

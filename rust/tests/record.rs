@@ -1,10 +1,9 @@
-//! The two builds against each other and against a plain implementation, list by list: trees, cut records, refusals, and that nothing
-//! else is written.
+//! The three builds against a plain implementation, list by list: trees, cut records, refusals, and that nothing else is written.
 mod plain;
 
-use plain::random::Random;
-use plain::{Node, Policy, Settings};
-use rekvashu::{build, build_depth_first, DDMParams, NodeKind, SizePolicy};
+use plain::random::{Random, KINDS};
+use plain::{trees, Node, Policy, Settings};
+use rekvashu::{build, build_depth_first, load, DDMParams, NodeKind, SizePolicy};
 
 #[path = "../src/packed.rs"]
 #[allow(dead_code)]
@@ -19,7 +18,8 @@ extern "C" {
         coarse_reduction_factor: u32, policy: u32, coarse_threshold: u32, level_points: *mut usize, level_points_len: usize,
         internals: *mut usize, internals_len: usize, domains: *mut usize, domains_len: usize, boxes: *mut f64,
         boxes_len: usize, borrowed: *mut usize, borrowed_len: usize, floats: *mut f64, floats_len: usize, wholes: *mut usize,
-        wholes_len: usize, result: *mut usize, result_len: usize,
+        wholes_len: usize, cuts: *mut usize, cuts_len: usize, planes: *mut f64, planes_len: usize, result: *mut usize,
+        result_len: usize,
     ) -> usize;
     fn ddm_build_depth_first(
         points: *const f64, points_len: usize, dimensions: usize, leaf_threshold: u32, overlap_knn: u32,
@@ -29,9 +29,27 @@ extern "C" {
         wholes_len: usize, cuts: *mut usize, cuts_len: usize, planes: *mut f64, planes_len: usize, result: *mut usize,
         result_len: usize,
     ) -> usize;
+    fn ddm_build_slots(
+        slots: usize, live: usize, flags: *const u8, flags_len: usize, coordinates: *const f64, coordinates_len: usize,
+        dimensions: usize, leaf_threshold: u32, overlap_knn: u32, coarse_reduction_factor: u32, policy: u32, coarse_threshold: u32,
+        level_points: *mut usize, level_points_len: usize, internals: *mut usize, internals_len: usize, domains: *mut usize,
+        domains_len: usize, boxes: *mut f64, boxes_len: usize, borrowed: *mut usize, borrowed_len: usize, floats: *mut f64,
+        floats_len: usize, wholes: *mut usize, wholes_len: usize, cuts: *mut usize, cuts_len: usize, planes: *mut f64,
+        planes_len: usize, result: *mut usize, result_len: usize,
+    ) -> usize;
 }
 
-#[derive(Debug)]
+/// The builds. That over slots is given a table of which every slot is live, so that its rows are those of the points.
+#[derive(Clone, Copy, Debug)]
+enum Build {
+    Queue,
+    DepthFirst,
+    Slots,
+}
+
+const BUILDS: [Build; 3] = [Build::Queue, Build::DepthFirst, Build::Slots];
+
+#[derive(Clone, Debug)]
 struct Job {
     coords: Vec<f64>,
     d: usize,
@@ -42,7 +60,7 @@ struct Job {
 
 /// Most jobs are good; some have a short list, a bad coordinate, a bad setting, or several of these.
 fn job(random: &mut Random) -> Job {
-    let (n, kind) = (1 + random.below(90), random.below(5));
+    let (n, kind) = (1 + random.below(90), random.below(KINDS));
     let mut d = 1 + random.below(3);
     let mut coords: Vec<f64> = (0..n * d).map(|_| random.coordinate(kind)).collect();
     if random.below(6) == 0 {
@@ -67,7 +85,25 @@ fn job(random: &mut Random) -> Job {
             _ => settings.policy = Policy::Auto,
         }
     }
-    Job { coords, d, settings, short: (random.below(4) == 0).then(|| random.below(LISTS)) }
+    Job { coords, d, settings, short: (random.below(4) == 0).then(|| random.below(SIZES_SLOT)) }
+}
+
+impl Job {
+    /// The job as a table has it: of whole points alone.
+    fn whole(&self) -> Job {
+        let mut job = self.clone();
+        job.coords.truncate(self.points() * self.axes());
+        job
+    }
+
+    /// A number of axes that there is, for the lengths of the lists.
+    fn axes(&self) -> usize {
+        self.d.clamp(1, 3)
+    }
+
+    fn points(&self) -> usize {
+        self.coords.len() / self.axes()
+    }
 }
 
 /// What stands in every list before a call, and the entries behind those that are lent, which no call may write.
@@ -75,14 +111,9 @@ const NO_WHOLE: usize = 0x5a5a_5a5a;
 const NO_FLOAT: f64 = -7.25e77;
 const SPARE: usize = 2;
 
-/// The lists of a call: those of a build, and the two of a record.
-const CUTS: usize = SIZES_SLOT;
-const PLANES: usize = SIZES_SLOT + 1;
-const LISTS: usize = SIZES_SLOT + 2;
-
 /// The lists of one call and its slot.
 struct Lent {
-    lent: [usize; LISTS],
+    lent: [usize; SIZES_SLOT],
     level_points: Vec<usize>,
     internals: Vec<usize>,
     domains: Vec<usize>,
@@ -98,7 +129,7 @@ struct Lent {
 impl Lent {
     /// Lists for the job: of the stated lengths, but for the one that is short.
     fn new(job: &Job) -> Lent {
-        let mut lent = plain::stated(job.coords.len() / job.d.clamp(1, 3), job.d.clamp(1, 3), job.settings.neighbours);
+        let mut lent = plain::stated(job.points(), job.axes(), job.settings.neighbours);
         if let Some(list) = job.short {
             lent[list] = lent[list].saturating_sub(1);
         }
@@ -112,36 +143,41 @@ impl Lent {
             borrowed: wholes(SIZES_BORROWED),
             floats: floats(SIZES_FLOATS),
             wholes: wholes(SIZES_WHOLES),
-            cuts: wholes(CUTS),
-            planes: floats(PLANES),
+            cuts: wholes(SIZES_CUTS),
+            planes: floats(SIZES_PLANES),
             slot: [NO_WHOLE; BUILD_SLOT],
             lent,
         }
     }
 
-    fn build(&mut self, job: &Job) -> usize {
-        let (s, (policy, threshold), lent) = (&job.settings, policy(job), self.lent);
+    fn build(&mut self, build: Build, job: &Job) -> usize {
+        let (s, (policy, threshold), l) = (&job.settings, policy(job), self.lent);
+        let call = match build {
+            Build::Slots => return self.build_slots(job),
+            Build::Queue => ddm_build,
+            Build::DepthFirst => ddm_build_depth_first,
+        };
         unsafe {
-            ddm_build(
+            call(
                 job.coords.as_ptr(), job.coords.len(), job.d, s.leaf, s.neighbours, s.factor, policy, threshold,
-                self.level_points.as_mut_ptr(), lent[SIZES_LEVEL_POINTS], self.internals.as_mut_ptr(), lent[SIZES_INTERNALS],
-                self.domains.as_mut_ptr(), lent[SIZES_DOMAINS], self.boxes.as_mut_ptr(), lent[SIZES_BOXES],
-                self.borrowed.as_mut_ptr(), lent[SIZES_BORROWED], self.floats.as_mut_ptr(), lent[SIZES_FLOATS],
-                self.wholes.as_mut_ptr(), lent[SIZES_WHOLES], self.slot.as_mut_ptr(), BUILD_SLOT,
+                self.level_points.as_mut_ptr(), l[SIZES_LEVEL_POINTS], self.internals.as_mut_ptr(), l[SIZES_INTERNALS],
+                self.domains.as_mut_ptr(), l[SIZES_DOMAINS], self.boxes.as_mut_ptr(), l[SIZES_BOXES], self.borrowed.as_mut_ptr(),
+                l[SIZES_BORROWED], self.floats.as_mut_ptr(), l[SIZES_FLOATS], self.wholes.as_mut_ptr(), l[SIZES_WHOLES],
+                self.cuts.as_mut_ptr(), l[SIZES_CUTS], self.planes.as_mut_ptr(), l[SIZES_PLANES], self.slot.as_mut_ptr(), BUILD_SLOT,
             )
         }
     }
 
-    fn build_depth_first(&mut self, job: &Job) -> usize {
-        let (s, (policy, threshold), lent) = (&job.settings, policy(job), self.lent);
+    fn build_slots(&mut self, job: &Job) -> usize {
+        let (s, (policy, threshold), l) = (&job.settings, policy(job), self.lent);
+        let (n, flags) = (job.points(), vec![1; job.points()]);
         unsafe {
-            ddm_build_depth_first(
-                job.coords.as_ptr(), job.coords.len(), job.d, s.leaf, s.neighbours, s.factor, policy, threshold,
-                self.level_points.as_mut_ptr(), lent[SIZES_LEVEL_POINTS], self.internals.as_mut_ptr(), lent[SIZES_INTERNALS],
-                self.domains.as_mut_ptr(), lent[SIZES_DOMAINS], self.boxes.as_mut_ptr(), lent[SIZES_BOXES],
-                self.borrowed.as_mut_ptr(), lent[SIZES_BORROWED], self.floats.as_mut_ptr(), lent[SIZES_FLOATS],
-                self.wholes.as_mut_ptr(), lent[SIZES_WHOLES], self.cuts.as_mut_ptr(), lent[CUTS], self.planes.as_mut_ptr(),
-                lent[PLANES], self.slot.as_mut_ptr(), BUILD_SLOT,
+            ddm_build_slots(
+                n, n, flags.as_ptr(), n, job.coords.as_ptr(), job.coords.len(), job.d, s.leaf, s.neighbours, s.factor, policy, threshold,
+                self.level_points.as_mut_ptr(), l[SIZES_LEVEL_POINTS], self.internals.as_mut_ptr(), l[SIZES_INTERNALS],
+                self.domains.as_mut_ptr(), l[SIZES_DOMAINS], self.boxes.as_mut_ptr(), l[SIZES_BOXES], self.borrowed.as_mut_ptr(),
+                l[SIZES_BORROWED], self.floats.as_mut_ptr(), l[SIZES_FLOATS], self.wholes.as_mut_ptr(), l[SIZES_WHOLES],
+                self.cuts.as_mut_ptr(), l[SIZES_CUTS], self.planes.as_mut_ptr(), l[SIZES_PLANES], self.slot.as_mut_ptr(), BUILD_SLOT,
             )
         }
     }
@@ -183,7 +219,7 @@ struct Outcome {
     record: Vec<Vec<Node>>,
 }
 
-fn outcome(job: &Job, lent: &[usize]) -> Outcome {
+fn outcome(job: &Job, lent: &[usize; SIZES_SLOT]) -> Outcome {
     let mut out = Outcome::default();
     if let Some((number, place)) = plain::lent_refusal(&job.coords, job.d, &job.settings, lent) {
         out.number = number;
@@ -217,106 +253,130 @@ fn same_record(lent: &Lent, expected: &Outcome) -> bool {
     holds(&lent.cuts, &cuts) && holds_floats(&lent.planes, &planes)
 }
 
-/// Both builds on lists of their own.
-fn check(job: &Job) -> Outcome {
-    let (mut queue, mut deep) = (Lent::new(job), Lent::new(job));
-    let expected = outcome(job, &deep.lent);
-    assert_eq!(deep.build_depth_first(job), expected.number, "{job:?}");
-    assert!(same_tree(&deep, &expected), "another tree: {job:?}");
-    assert!(same_record(&deep, &expected), "another record: {job:?}");
-    // the queue's build has no lists for a record, so that none of these is too short for it
-    let seven = outcome(job, &queue.lent[..SIZES_SLOT]);
-    assert_eq!(queue.build(job), seven.number, "{job:?}");
-    assert!(same_tree(&queue, &seven), "the queue's build makes another tree: {job:?}");
-    assert!(is_filled(&queue.cuts, &NO_WHOLE) && is_filled(&queue.planes, &NO_FLOAT));
+/// What a build of the job leaves behind, on lists of its own, is the plain outcome.
+fn check(build: Build, job: &Job, expected: &Outcome) {
+    let mut lent = Lent::new(job);
+    assert_eq!(lent.build(build, job), expected.number, "{build:?} {job:?}");
+    assert!(same_tree(&lent, expected), "another tree: {build:?} {job:?}");
+    assert!(same_record(&lent, expected), "another record: {build:?} {job:?}");
     for (domains, record) in expected.slot[SLOT_DOMAINS..SLOT_DOMAINS + MOST_LEVELS].iter().zip(&expected.record) {
         assert_eq!(record_nodes(*domains), record.len());
+    }
+}
+
+/// Each build of the job leaves the same behind, and the plain outcome says what; but a table has no point that lacks a coordinate.
+fn check_each(job: &Job) -> Outcome {
+    let expected = outcome(job, &Lent::new(job).lent);
+    check(Build::Queue, job, &expected);
+    check(Build::DepthFirst, job, &expected);
+    let whole = job.whole();
+    if whole.coords.len() == job.coords.len() {
+        check(Build::Slots, job, &expected);
+    } else {
+        check(Build::Slots, &whole, &outcome(&whole, &Lent::new(&whole).lent));
     }
     expected
 }
 
+/// How many random jobs there are: fewer without optimisation.
+const JOBS: usize = if cfg!(debug_assertions) { 4_000 } else { 20_000 };
+
 #[test]
 fn random_jobs() {
     let mut random = Random(0x5eed_0018);
-    let (mut seen, mut recorded, mut short_records) = ([0; 12], 0, 0);
-    for _ in 0..20_000 {
+    let (mut seen, mut recorded, mut short) = ([0; 12], 0, [0; SIZES_SLOT]);
+    for _ in 0..JOBS {
         let job = job(&mut random);
-        let expected = check(&job);
+        let expected = check_each(&job);
         seen[expected.number] += 1;
         recorded += usize::from(!expected.record.is_empty());
-        short_records += usize::from(expected.number == 11 && job.short >= Some(CUTS));
+        if let (11, Some(list)) = (expected.number, job.short) {
+            short[list] += 1;
+        }
     }
     // each outcome came up often enough to be tested (8 needs over a million points)
-    println!("outcomes 0 to 11: {seen:?}; with a record: {recorded}; a list of the record too short: {short_records}");
-    assert!(recorded > 5_000 && short_records > 500 && [0, 9, 10, 11].iter().all(|number| seen[*number] > 500), "{seen:?}");
-    assert!((1..8).all(|number| seen[number] > 50), "{seen:?}");
+    println!("outcomes 0 to 11: {seen:?}; with a record: {recorded}; refused for each list: {short:?}");
+    assert!(recorded > JOBS / 4 && [0, 9, 10, 11].iter().all(|number| seen[*number] > JOBS / 40), "{seen:?}");
+    assert!((1..8).all(|number| seen[number] > JOBS / 400) && short.iter().all(|many| *many > JOBS / 100), "{seen:?} {short:?}");
 }
 
-/// The crate's own calls: equal trees, and the plain record with its depths.
+/// Each list with one entry fewer than the documents state, of 12n for the record and of 40n + 8n(K + 1) whole numbers of room, is refused by
+/// each build, and no list is written; with what they state it is not.
+#[test]
+fn lists_that_are_one_entry_too_short() {
+    for (n, d, neighbours) in [(1, 1, 0), (1, 3, 64), (5, 2, 1), (33, 3, 16), (90, 1, 64)] {
+        let coords = (0..n * d).map(|i| ((i * 7919) % 101) as f64).collect();
+        let settings = Settings { leaf: 2, neighbours, factor: 8, policy: Policy::Fixed(1) };
+        let good = Job { coords, d, settings, short: None };
+        let k = neighbours as usize;
+        let record_and_room = [SIZES_CUTS, SIZES_PLANES, SIZES_WHOLES, SIZES_FLOATS].map(|list| Lent::new(&good).lent[list]);
+        assert_eq!(record_and_room, [n * 12, n * 12, n * 40 + n * 8 * (k + 1), n * 32]);
+        assert_eq!(check_each(&good).number, 0);
+        for list in 0..SIZES_SLOT {
+            assert_eq!(check_each(&Job { short: Some(list), ..good.clone() }).number, 11, "{list}");
+        }
+    }
+}
+
+fn params(s: &Settings) -> DDMParams {
+    let coarse_threshold = match s.policy {
+        Policy::Auto => SizePolicy::Auto,
+        Policy::Fixed(c) => SizePolicy::Fixed(c),
+    };
+    DDMParams { leaf_threshold: s.leaf, overlap_knn: s.neighbours, coarse_reduction_factor: s.factor, coarse_threshold }
+}
+
+/// The crate's own calls: equal trees, the plain record with its depths from both builds, and none from a loaded tree.
 #[test]
 fn nodes_by_level() {
     let mut random = Random(0x5eed_0019);
-    let (mut trees, mut nodes) = (0, 0);
+    let (mut accepted, mut nodes) = (0, 0);
     for _ in 0..3_000 {
         let job = Job { short: None, ..job(&mut random) };
-        let s = job.settings;
-        let coarse_threshold = match s.policy {
-            Policy::Auto => SizePolicy::Auto,
-            Policy::Fixed(c) => SizePolicy::Fixed(c),
-        };
-        let params = DDMParams { leaf_threshold: s.leaf, overlap_knn: s.neighbours, coarse_reduction_factor: s.factor, coarse_threshold };
+        let params = params(&job.settings);
         let (queue, deep) = (build(&job.coords, job.d, params), build_depth_first(&job.coords, job.d, params));
         assert_eq!(queue, deep, "{job:?}");
         let (Ok(queue), Ok(deep)) = (queue, deep) else { continue };
-        let mut records = plain::records(&job.coords, job.d, s.leaf, &plain::build(&job.coords, job.d, &s).unwrap());
-        records.push(Vec::new());
-        assert_eq!(deep.len(), records.len());
-        for (level, record) in deep.levels().zip(&records) {
-            assert_eq!(level.nodes().len(), record.len());
-            let ours = level.nodes().map(|node| match node.kind {
-                NodeKind::Cut { axis, plane } => (node.depth, axis, plane.to_bits(), None),
-                NodeKind::Leaf(number) => (node.depth, 0, 0, Some(number)),
-            });
-            let plains = record.iter().map(|node| match *node {
-                Node::Cut { depth, axis, plane } => (depth, axis, plane.to_bits(), None),
-                Node::Leaf { depth, number } => (depth, 0, 0, Some(number)),
-            });
-            assert!(ours.eq(plains), "{job:?}");
+        let levels = plain::build(&job.coords, job.d, &job.settings).unwrap();
+        let records = plain::records(&job.coords, job.d, job.settings.leaf, &levels);
+        assert!(trees::has_records(&queue, &records) && trees::has_records(&deep, &records), "{job:?}");
+        for level in queue.levels() {
             for node in level.nodes() {
                 if let NodeKind::Leaf(number) = node.kind {
                     assert_eq!(level.leaf(number).unwrap().depth(), node.depth, "{job:?}");
                 }
             }
-            nodes += record.len();
+            nodes += level.nodes().len();
         }
-        assert!(queue.levels().all(|level| level.nodes().next().is_none()));
-        trees += 1;
+        let loaded = load(&job.coords, job.d, params, &queue.to_bytes(&job.coords, params).unwrap()).unwrap();
+        assert!(loaded == queue && loaded.levels().all(|level| level.nodes().next().is_none()));
+        accepted += 1;
     }
-    assert!(trees > 1_000 && nodes > 10_000, "{trees} trees, {nodes} nodes");
+    assert!(accepted > 1_000 && nodes > 10_000, "{accepted} trees, {nodes} nodes");
 }
 
-/// The whole numbers and the bits of the planes that a build writes, for points on a line with one neighbour and factor 2.
-fn on_a_line(points: &[f64], leaf: u32, threshold: u32) -> (Vec<usize>, Vec<u64>) {
+/// For points on a line with one neighbour and factor 2 every build writes these whole numbers and, where they are given, these planes.
+fn on_a_line(points: &[f64], leaf: u32, threshold: u32, cuts: &[usize], planes: Option<&[f64]>) {
     let settings = Settings { leaf, neighbours: 1, factor: 2, policy: Policy::Fixed(threshold) };
     let job = Job { coords: points.to_vec(), d: 1, settings, short: None };
-    let mut lent = Lent::new(&job);
-    assert_eq!(lent.build_depth_first(&job), 0);
-    let fine = &lent.slot[SLOT_DOMAINS..SLOT_DOMAINS + lent.slot[SLOT_LEVELS] - 1];
-    let nodes = fine.iter().map(|domains| record_nodes(*domains)).sum();
-    (lent.cuts[..nodes].to_vec(), lent.planes[..nodes].iter().map(|x| x.to_bits()).collect())
+    for build in BUILDS {
+        let mut lent = Lent::new(&job);
+        assert_eq!(lent.build(build, &job), 0);
+        assert!(holds(&lent.cuts, cuts), "{build:?} {points:?}");
+        assert!(planes.map_or(true, |planes| holds_floats(&lent.planes, planes)), "{build:?} {points:?}");
+    }
 }
 
 #[test]
 fn rows_of_the_table() {
-    let bits = |planes: [f64; 7]| planes.map(f64::to_bits).to_vec();
-    let seven = vec![0, 0, 3, 4, 0, 5, 6];
-    assert_eq!(on_a_line(&[0.0, 1.0, 3.0, 7.0], 2, 2), (seven.clone(), bits([3.0, 1.0, 0.0, 0.0, 7.0, 0.0, 0.0])));
+    let seven = [0, 0, 3, 4, 0, 5, 6];
+    on_a_line(&[0.0, 1.0, 3.0, 7.0], 2, 2, &seven, Some(&[3.0, 1.0, 0.0, 0.0, 7.0, 0.0, 0.0]));
     // numbers by depth are not places from the left
-    let (cuts, _) = on_a_line(&[0.0, 1.0, 2.0, 3.0, 4.0, 5.0], 1, 3);
-    assert_eq!(cuts, [0, 0, 0, 3, 4, 0, 0, 7, 8, 0, 9, 10, 0, 0, 5, 6, 0, 0, 11, 12, 0, 13, 14]);
+    let by_depth = [0, 0, 0, 3, 4, 0, 0, 7, 8, 0, 9, 10, 0, 0, 5, 6, 0, 0, 11, 12, 0, 13, 14];
+    on_a_line(&[0.0, 1.0, 2.0, 3.0, 4.0, 5.0], 1, 3, &by_depth, None);
     // a plane keeps the sign of a zero
-    assert_eq!(on_a_line(&[-0.0, 0.0], 1, 1), (seven.clone(), bits([0.0, -0.0, 0.0, 0.0, 0.0, 0.0, 0.0])));
-    assert_eq!(on_a_line(&[0.0, -0.0], 1, 1), (seven, bits([-0.0, 0.0, 0.0, 0.0, -0.0, 0.0, 0.0])));
+    on_a_line(&[-0.0, 0.0], 1, 1, &seven, Some(&[0.0, -0.0, 0.0, 0.0, 0.0, 0.0, 0.0]));
+    on_a_line(&[0.0, -0.0], 1, 1, &seven, Some(&[-0.0, 0.0, 0.0, 0.0, -0.0, 0.0, 0.0]));
     // no fine level
-    assert_eq!(on_a_line(&[0.0, 1.0], 1, 2), (vec![], vec![]));
+    on_a_line(&[0.0, 1.0], 1, 2, &[], Some(&[]));
 }

@@ -2,7 +2,7 @@
 //! closing against the one after it.
 mod plain;
 
-use plain::random::Random;
+use plain::random::{Random, KINDS};
 use plain::stored::Packed;
 use plain::{table, trees, Level};
 use rekvashu::{build, DDMParams, Error, Refusal, SizePolicy, Table};
@@ -40,7 +40,7 @@ fn empty(capacity: usize, d: usize) -> table::Table {
 
 /// A point, sometimes of another length or with a coordinate that is not finite.
 fn point(random: &mut Random, d: usize) -> Vec<f64> {
-    let kind = random.below(5);
+    let kind = random.below(KINDS);
     let many = if random.below(30) == 0 { random.below(5) } else { d };
     let mut point: Vec<f64> = (0..many).map(|_| random.coordinate(kind)).collect();
     if many > 0 && random.below(20) == 0 {
@@ -90,12 +90,15 @@ fn lists(levels: &[Level], d: usize) -> (Packed, Vec<u64>) {
     (lists, bits)
 }
 
-/// The table's tree is the plain one, and that of the live points with each row named by its slot. The refusal's number, 0 for none.
+/// The table's tree is the plain one, and that of the live points with each row named by its slot; its record is that of both. The refusal's
+/// number, 0 for none.
 fn same_builds(ours: &Table, theirs: &table::Table, d: usize, params: DDMParams) -> usize {
     let live = theirs.live_slots();
     let points: Vec<f64> = live.iter().flat_map(|i| theirs.coordinates[i * d..(i + 1) * d].to_vec()).collect();
     match (ours.build(params), build(&points, d, params), theirs.build(d, &trees::settings(params))) {
         (Ok(tree), Ok(other), Ok(levels)) => {
+            let records = plain::records(&theirs.coordinates, d, params.leaf_threshold, &levels);
+            assert!(trees::has_records(&tree, &records) && trees::has_records(&other, &records), "{theirs:?} {params:?}");
             let tree = lists(&trees::levels(&tree), d);
             assert_eq!(tree, lists(&levels, d), "{theirs:?} {params:?}");
             assert_eq!(tree, lists(&renamed(trees::levels(&other), &live), d), "{theirs:?} {params:?}");
@@ -109,8 +112,8 @@ fn same_builds(ours: &Table, theirs: &table::Table, d: usize, params: DDMParams)
     }
 }
 
-/// Closes both tables: the same list, and the tree built before, its rows renamed by the list, is the one built after. The refusal's number
-/// of the builds, 0 for none.
+/// Closes both tables: the same list, and the tree built before, its rows renamed by the list, is the one built after, with the same record.
+/// The refusal's number of the builds, 0 for none.
 fn same_closing(ours: &mut Table, theirs: &mut table::Table, d: usize, params: DDMParams) -> usize {
     let before = ours.build(params);
     let mut due = vec![usize::MAX; theirs.slots];
@@ -121,6 +124,8 @@ fn same_closing(ours: &mut Table, theirs: &mut table::Table, d: usize, params: D
         (Ok(before), Ok(after)) => {
             let renamed = renamed(trees::levels(&before), &names);
             assert_eq!(lists(&renamed, d), lists(&trees::levels(&after), d), "{names:?} {params:?}");
+            let [fine @ .., _] = &trees::records(&before)[..] else { panic!("a tree without levels") };
+            assert!(trees::has_records(&after, fine), "{names:?} {params:?}");
             0
         }
         (Err(before), Err(after)) => {

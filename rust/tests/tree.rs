@@ -145,7 +145,7 @@ fn covers_of_samples() {
 }
 
 #[test]
-fn trees_are_equal_with_and_without_a_record() {
+fn a_tree_that_was_built_has_a_record_and_a_loaded_one_is_equal_without() {
     let (points, params) = ([0.0, 1.0, 3.0, 7.0], DDMParams { coarse_threshold: SizePolicy::Fixed(2), ..DDMParams::default() });
     let (queue, deep) = (build(&points, 1, params).unwrap(), build_depth_first(&points, 1, params).unwrap());
     assert_eq!(queue, deep);
@@ -153,7 +153,8 @@ fn trees_are_equal_with_and_without_a_record() {
     let loaded = load(&points, 1, params, &deep.to_bytes(&points, params).unwrap()).unwrap();
     assert_eq!(loaded, deep);
     let nodes = |tree: &Tree| tree.levels().map(|level| level.nodes().count()).collect::<Vec<_>>();
-    assert_eq!([nodes(&queue), nodes(&deep), nodes(&loaded)], [[0, 0], [3, 0], [0, 0]]);
+    assert_eq!([nodes(&queue), nodes(&deep), nodes(&loaded)], [[3, 0], [3, 0], [0, 0]]);
+    assert_eq!(loaded.to_bytes(&points, params), queue.to_bytes(&points, params));
     let other = |points| build_depth_first(points, 1, params).unwrap();
     // other rows, another box, and another count of levels
     for points in [&[3.0, 1.0, 0.0, 7.0][..], &[0.0, 1.0, 3.0, 8.0], &[0.0, 1.0]] {

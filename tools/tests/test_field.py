@@ -118,8 +118,16 @@ class Long(support.InFolder):
         self.assertIn("32 wells, levels of 32, 12, 4: about 1 s", err)
 
     def test_estimates(self):
-        self.assertLess(estimate.seconds([5000, 1000, 200], 2), estimate.LONG)
-        self.assertGreater(estimate.seconds([200_000, 4096], 2), 60)
+        self.assertEqual([estimate.leaf_size(size, leaf) for size, leaf in ((64, 16), (64, 17), (100, 1), (10, 99))], [8, 16, 0.78125, 5])
+        self.assertLess(estimate.seconds([200_000, 4096], 2, 256, 16), estimate.LONG)
+        self.assertGreater(estimate.seconds([1_048_576, 100_000, 4096], 3, 256, 64), estimate.LONG)
+        # two leaves: each well is compared with half of the others, or all
+        self.assertGreater(estimate.seconds([200_000, 4096], 2, 10 ** 9, 16), 60)
+        for wells in (1, 32, 5000):
+            for dimension in (1, 2, 3):
+                self.assertEqual(estimate.seconds([wells], dimension, 1, 64), 0)
+                self.assertLess(estimate.seconds([wells, 1], dimension, 1, 64), 1)
+                self.assertGreater(estimate.seconds([wells, 1], dimension, 256, 64), estimate.seconds([wells, 1], dimension, 256, 0))
         self.assertEqual([estimate.spelt(t) for t in (0.1, 50, 600, 9000)], ["1 s", "50 s", "10 min", "2.5 h"])
 
     def test_progress(self):

@@ -1,4 +1,4 @@
-"""Tests of the plain model of the table: document 02's requests 7 and 8."""
+"""Tests of the plain model of the table: document 02's requests 7, 8 and 9."""
 import math
 import random
 import struct
@@ -300,7 +300,65 @@ class Builds(Calls):
 
     def test_the_stated_lengths(self):
         self.assertEqual(table_model.stated(2, 10, 3), {"level_points": 40, "internals": 40, "domains": 305, "boxes": 305, "borrowed": 240,
-                                                        "floats": 320, "wholes": 640})
+                                                        "floats": 320, "wholes": 720, "cuts": 120, "planes": 120})
+
+
+def some_table(r):
+    """A table with gaps, whose live slots stand on few places."""
+    d, capacity = r.randint(1, 3), r.randint(1, 40)
+    t = Table([r.choice([0, 1, r.randint(0, 255)]) for _ in range(capacity)], [NAN] * (capacity * d), r.randint(0, capacity))
+    t.live = len(t.live_slots())
+    for i in t.live_slots():
+        t.coordinates[i * d:(i + 1) * d] = [float(r.randint(0, 9)) for _ in range(d)]
+    return d, t
+
+
+class Records(Calls):
+    def lists(self, entries):
+        return [BEFORE] * entries, [float(BEFORE)] * entries
+
+    def test_the_papers_example_in_other_slots(self):
+        t = Table([0, 2, 0, 255, 1, 0, 128], [NAN, 0.0, INF, 1.0, 3.0, NAN, 7.0], 7, 4)
+        cuts, planes = self.lists(48)
+        build(t, 1, 2, 1, 2, 1, 2, lent=table_model.stated(1, 4, 1), records=(cuts, planes))
+        self.assertEqual(cuts, [0, 0, 3, 4, 0, 5, 6] + [BEFORE] * 41)
+        self.assertEqual(planes, [3.0, 1.0, 0.0, 0.0, 7.0, 0.0, 0.0] + [float(BEFORE)] * 41)
+
+    def test_one_after_the_other_those_of_the_live_points(self):
+        r, most = random.Random(5), 0
+        for _ in range(300):
+            d, t = some_table(r)
+            settings = (d, r.randint(1, 4), r.randint(0, 3), r.randint(2, 4), 1, r.randint(1, 12))
+            cuts, planes = self.lists(12 * t.live + 2)
+            try:
+                build(t, *settings, records=(cuts, planes))
+            except model.Refused:
+                self.assertEqual((cuts, planes), self.lists(12 * t.live + 2))
+                continue
+            points = [x for i in t.live_slots() for x in t.coordinates[i * d:(i + 1) * d]]
+            nodes = sum(model.records(points, d, settings[1], model.build(points, *settings)), [])
+            rest = 12 * t.live + 2 - len(nodes)
+            self.assertGreaterEqual(rest, 2)
+            self.assertEqual(cuts, [whole for whole, _ in nodes] + [BEFORE] * rest)
+            self.assertEqual(planes, [plane for _, plane in nodes] + [BEFORE] * rest)
+            # closing moves the wells, and the record names none
+            close(t, d, [BEFORE] * t.slots)
+            again = self.lists(12 * t.live + 2)
+            build(t, *settings, records=again)
+            self.assertEqual(again, (cuts, planes))
+            most = max(most, len(nodes))
+        self.assertGreater(most, 100)
+
+    def test_refused_builds_write_none(self):
+        t = Table([1] * 5, [0.0, 1.0, NAN, 3.0, 4.0], 5, 5)
+        enough = table_model.stated(1, 5, 1)
+        before = self.lists(60)
+        cuts, planes = self.lists(60)
+        # as many whole numbers of room as before request 9 are too few now
+        for name, entries in (("cuts", 59), ("planes", 59), ("wholes", 279), ("wholes", 240), ("floats", 159)):
+            self.refused(11, 0, build, t, 1, 1, 1, 2, 1, 2, lent={**enough, name: entries}, records=(cuts, planes))
+        self.refused(10, 2, build, t, 1, 1, 1, 2, 1, 2, lent=enough, records=(cuts, planes))
+        self.assertEqual((cuts, planes), before)
 
 
 if __name__ == "__main__":

@@ -5,7 +5,7 @@
 #[path = "../../src/packed.rs"]
 pub mod packed;
 
-use packed::{box_floats, DEPTH, ROW_NUMBERS};
+use packed::{box_floats, record_nodes, DEPTH, ROW_NUMBERS};
 use std::ffi::{c_char, c_int, c_void, CStr, CString};
 use std::hint::black_box;
 
@@ -19,9 +19,11 @@ extern "C" {
 const RTLD_LOCAL: c_int = 0;
 const RTLD_NOW: c_int = 2;
 
-/// The first version whose domain rows and samples have covers, and the first one whose domain rows have depths.
+/// The first version whose domain rows and samples have covers, the first one whose domain rows have depths, and the first one whose queue
+/// records the cuts.
 const COVERS: usize = 500;
 const DEPTHS: usize = 600;
+const RECORDS: usize = 900;
 
 /// What a comparison with an earlier commit is given: two shared libraries, the earlier one and the present one, and the earlier version.
 pub struct Against {
@@ -38,6 +40,19 @@ impl Against {
     /// The numbers of a domain row in each library: before there were depths, those in front of the depth.
     pub fn row_numbers(&self) -> [usize; 2] {
         [if self.version >= DEPTHS { ROW_NUMBERS } else { DEPTH }, ROW_NUMBERS]
+    }
+
+    /// Whether the queue of the earlier library records the cuts, and its neighbour stage is lent them.
+    pub fn had_records(&self) -> bool {
+        self.version >= RECORDS
+    }
+
+    /// The cut stage of each library.
+    pub fn cuts(&self) -> [Cut; 2] {
+        let [before, now] = self.libraries.map(|library| exported(library, c"stage_leaves"));
+        let recorded = |found| Cut::Recorded(unsafe { std::mem::transmute::<*mut c_void, RecordedCut>(found) });
+        let bare = |found| Cut::Bare(unsafe { std::mem::transmute::<*mut c_void, BareCut>(found) });
+        [if self.had_records() { recorded(before) } else { bare(before) }, recorded(now)]
     }
 }
 
@@ -116,52 +131,88 @@ pub fn lattice(n: usize, d: usize) -> Vec<f64> {
 }
 
 /// The cut stage as rust/stages exports it.
-pub type Cut = unsafe extern "C" fn(
+pub type RecordedCut = unsafe extern "C" fn(
+    points: *const f64, points_len: usize, dimensions: usize, leaf: usize, active: *const usize, active_len: usize,
+    internals: *mut usize, internals_len: usize, domains: *mut usize, domains_len: usize, boxes: *mut f64, boxes_len: usize,
+    floats: *mut f64, floats_len: usize, wholes: *mut usize, wholes_len: usize, cuts: *mut usize, cuts_len: usize,
+    planes: *mut f64, planes_len: usize,
+) -> usize;
+
+/// The cut stage before the queue recorded its cuts.
+pub type BareCut = unsafe extern "C" fn(
     points: *const f64, points_len: usize, dimensions: usize, leaf: usize, active: *const usize, active_len: usize,
     internals: *mut usize, internals_len: usize, domains: *mut usize, domains_len: usize, boxes: *mut f64, boxes_len: usize,
     floats: *mut f64, floats_len: usize, wholes: *mut usize, wholes_len: usize,
 ) -> usize;
 
+#[derive(Clone, Copy)]
+pub enum Cut {
+    Recorded(RecordedCut),
+    Bare(BareCut),
+}
+
 /// The room is filled with these, which no stage writes: the points have no negative coordinate.
 pub const NO_WHOLE: usize = usize::MAX;
 pub const NO_FLOAT: f64 = -7.5;
 
-/// The lists of a level: what the cut writes, and its working room (`floats`, `wholes`).
+/// The lists of a level: what the cut writes, its working room (`floats`, `wholes`) and its record.
 pub struct Lent {
     pub internals: Vec<usize>,
     pub domains: Vec<usize>,
     pub boxes: Vec<f64>,
     pub floats: Vec<f64>,
     pub wholes: Vec<usize>,
+    pub cuts: Vec<usize>,
+    pub planes: Vec<f64>,
 }
 
 impl Lent {
     /// Lists of these lengths.
-    pub fn new(internals: usize, domains: usize, boxes: usize, floats: usize, wholes: usize) -> Lent {
+    pub fn new(internals: usize, domains: usize, boxes: usize, floats: usize, wholes: usize, record: usize) -> Lent {
         Lent {
             internals: vec![0; internals],
             domains: vec![0; domains],
             boxes: vec![0.0; boxes],
             floats: vec![NO_FLOAT; floats],
             wholes: vec![NO_WHOLE; wholes],
+            cuts: vec![NO_WHOLE; record],
+            planes: vec![NO_FLOAT; record],
         }
     }
 
     /// Lists that are long enough to cut `n` rows.
     pub fn for_cut(n: usize, d: usize) -> Lent {
         let leaves = 2 * n;
-        Lent::new(n, ROW_NUMBERS * leaves, box_floats(d) * leaves, box_floats(d) * leaves, 8 * n)
+        // of their record the stage asks for one entry more than it has nodes
+        let record = record_nodes(leaves) + 1;
+        Lent::new(n, ROW_NUMBERS * leaves, box_floats(d) * leaves, box_floats(d) * leaves, 10 * n, record)
     }
 
     /// Cuts the rows into leaves. The answer is their number.
     pub fn cut(&mut self, stage: Cut, coords: &[f64], d: usize, leaf: usize, rows: &[usize]) -> usize {
-        unsafe {
-            stage(
-                coords.as_ptr(), coords.len(), d, leaf, rows.as_ptr(), rows.len(), self.internals.as_mut_ptr(), self.internals.len(),
-                self.domains.as_mut_ptr(), self.domains.len(), self.boxes.as_mut_ptr(), self.boxes.len(), self.floats.as_mut_ptr(),
-                self.floats.len(), self.wholes.as_mut_ptr(), self.wholes.len(),
-            )
+        let l = self;
+        match stage {
+            Cut::Recorded(stage) => unsafe {
+                stage(
+                    coords.as_ptr(), coords.len(), d, leaf, rows.as_ptr(), rows.len(), l.internals.as_mut_ptr(), l.internals.len(),
+                    l.domains.as_mut_ptr(), l.domains.len(), l.boxes.as_mut_ptr(), l.boxes.len(), l.floats.as_mut_ptr(),
+                    l.floats.len(), l.wholes.as_mut_ptr(), l.wholes.len(), l.cuts.as_mut_ptr(), l.cuts.len(), l.planes.as_mut_ptr(),
+                    l.planes.len(),
+                )
+            },
+            Cut::Bare(stage) => unsafe {
+                stage(
+                    coords.as_ptr(), coords.len(), d, leaf, rows.as_ptr(), rows.len(), l.internals.as_mut_ptr(), l.internals.len(),
+                    l.domains.as_mut_ptr(), l.domains.len(), l.boxes.as_mut_ptr(), l.boxes.len(), l.floats.as_mut_ptr(),
+                    l.floats.len(), l.wholes.as_mut_ptr(), l.wholes.len(),
+                )
+            },
         }
+    }
+
+    /// The record of a level with so many leaves: its whole numbers and its planes.
+    pub fn record(&self, leaves: usize) -> (&[usize], &[f64]) {
+        (&self.cuts[..record_nodes(leaves)], &self.planes[..record_nodes(leaves)])
     }
 }
 

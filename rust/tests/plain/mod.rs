@@ -1,6 +1,8 @@
-//! Document 01 with requests 2, 4, 5 and 6 of document 02 in plain Rust, from the papers alone: what the library's answers are compared with.
+//! Document 01 with requests 2, 4, 5, 6 and 9 of document 02 in plain Rust, from the papers alone: what the library's answers are compared with.
+//! Of request 9 it has what a build is lent. It finds neighbours by the scan that the library's search has to agree with.
 #![allow(dead_code)]
 
+pub mod jobs;
 pub mod random;
 pub mod stored;
 pub mod table;
@@ -66,8 +68,8 @@ pub fn refusal(coords: &[f64], d: usize, s: &Settings) -> Option<(usize, usize)>
     settings_refusal(coords, d, s).or_else(|| coordinate_refusal(coords))
 }
 
-/// The refusal of a call that is lent these entries of each list: the seven of a build and, where the cuts are recorded, two more.
-pub fn lent_refusal(coords: &[f64], d: usize, s: &Settings, lent: &[usize]) -> Option<(usize, usize)> {
+/// The refusal of a build that is lent these entries of each list.
+pub fn lent_refusal(coords: &[f64], d: usize, s: &Settings, lent: &[usize; 9]) -> Option<(usize, usize)> {
     let refused = settings_refusal(coords, d, s);
     if refused.is_some() {
         return refused;
@@ -90,10 +92,10 @@ pub fn row_floats(d: usize) -> usize {
     box_floats(d) + 1
 }
 
-/// The entries that each list needs: level_points, internals, domains, boxes, borrowed, floats, wholes; cuts, planes.
+/// The entries that each list of a build needs: level_points, internals, domains, boxes, borrowed, floats, wholes, cuts, planes.
 pub fn stated(n: usize, d: usize, neighbours: u32) -> [usize; 9] {
     let (domains, near) = (6 * n + 1, neighbours as usize + 1);
-    [4 * n, 4 * n, ROW_NUMBERS * domains, row_floats(d) * domains, 6 * n * near, 32 * n, 32 * n + 8 * n * near, 12 * n, 12 * n]
+    [4 * n, 4 * n, ROW_NUMBERS * domains, row_floats(d) * domains, 6 * n * near, 32 * n, 40 * n + 8 * n * near, 12 * n, 12 * n]
 }
 
 fn coordinate_refusal(coords: &[f64]) -> Option<(usize, usize)> {
@@ -321,6 +323,12 @@ pub enum Node {
 }
 
 impl Node {
+    pub fn depth(&self) -> usize {
+        match *self {
+            Node::Cut { depth, .. } | Node::Leaf { depth, .. } => depth,
+        }
+    }
+
     /// As lent: a whole number and a float.
     pub fn lent(&self) -> (usize, f64) {
         match *self {
