@@ -4,9 +4,9 @@ import math
 
 LONG = 5.0              # seconds: a build that takes longer is announced
 
-WELL = 2.5e-6           # seconds for a well of a level, beside what follows
-NEIGHBOUR = 0.06e-6     # for each neighbour that it has
-LOOKED_AT = 5e-9        # for each well that is looked at for it
+WELL = 3e-6             # seconds for a well of a level, beside what follows
+NEIGHBOUR = 0.25e-6     # for each neighbour that it has
+LOOKED_AT = 1.5e-8      # for each well that is looked at for it
 
 BALL = {1: 2.0, 2: math.pi, 3: 4 / 3 * math.pi}   # what a ball of radius 1 holds, by dimension
 
