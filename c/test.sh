@@ -107,12 +107,15 @@ case $("$made/flush") in
     *) failed "c/flush.c: another tree with -ffast-math" ;;
 esac
 
-# ---- no global state, and exactly the public names
+# ---- no global state, exactly the public names, and two from outside
 sed -n 's/^size_t \(ddm_[a-z_]*\)(.*/\1/p' c/ddm.h | sort > "$made/names"
 if there nm; then
     ! nm "$lib" | grep ' [BbCDd] ' || failed "the archive has data that can be written"
     nm -g --defined-only "$lib" | sed -n 's/^[0-9a-f]* [A-Z] //p' | sort > "$made/in_archive"
     diff "$made/names" "$made/in_archive" || failed "the archive's names are not those of c/ddm.h"
+    # a compiler may write calls of these two itself, and a program without a C library has them
+    nm -u "$lib" | sed -n 's/^ *U //p' | sort -u > "$made/from_outside"
+    printf 'memcpy\nmemset\n' | diff - "$made/from_outside" || failed "the archive needs other names from outside than memcpy and memset"
 else
     skipped "the names of the libraries (there is no 'nm')"
 fi

@@ -1,5 +1,6 @@
 -- The pass over the slots: what it has written after i of them, at its start, at each turn and at its end. Assumes nothing.
--- Holds: slot-room, is-retired, is_live, live-one-more, live_same, live-low, parts-length, MovedDown, starts, ends, low, turn
+-- Holds: copy-none, copy-down, slot-room, is-retired, is_live, live-one-more, live_same, live-low, parts-length, MovedDown,
+--   starts, ends, low, turn
 use mathlib.Core.Path.{◌≡◌, refl, sym, ap, ◌∙◌}
 use mathlib.Core.Logic.{⊎_elim}
 use mathlib.Core.Bool.{true, false, cond}
@@ -7,6 +8,7 @@ use mathlib.Core.List.{List, [], ◌∷◌, ◌++◌, map}
 use Prim.Native.Nat.{ℕ, ◌+◌, ◌*◌, ◌≤◌, ◌<◌}
 use native.Mathlib.Omega.{arith}
 use native.Mathlib.Nat.{add-zero, zero-add, mul-le-mul_right}
+use native.Mathlib.Numerals.{add-one}
 use borrow.Author.Tests.{eq-eqb, ne_eqb}
 use lib.ListN.{length, get_or, set, replicate, length-append, length-replicate}
 use lib.Ieee.{Float}
@@ -16,10 +18,23 @@ use Rattle.lists.proofs.Count.{keep-in, keep_out, length-keep, count-len}
 use Rattle.lists.proofs.From.{from-mem, below_suc, length_from, map-below-suc, length-map-from}
 use Rattle.lists.proofs.Joined.{joined-map-snoc}
 use Rattle.lists.proofs.Members.{keep-mem}
-use Rattle.lists.proofs.Put.{put-nil, put-next-at, put-snoc, put-same-more, get_d-put-after, part-put-after}
+use Rattle.lists.proofs.Put.{put-nil, put-next-at, put-snoc, put-same-more, get_d-put-after, length_part, part-nil, part-snoc, part-put-after}
 use Rattle.definition.specs.Table.{flagged}
 use Rattle.table_laws.proofs.Ranks.{stretch-below, length-parts}
 use Rattle.closing.specs.Passed.{live_below_lem, live_parts, renames}
+
+-- a stretch that is copied down within its list: none of it yet
+pub copy-none : {A : Type 0} (l : List A) (to at : ℕ) → l ≡ put l to (part l at 0)
+copy-none l to at = rw (part-nil l at) (sym (put-nil l to))
+
+-- and one element more: what is read was not written yet
+pub copy-down : {A : Type 0} (l m : List A) (at to i : ℕ) (z : A) → to ≤ at → at + i < length l → m ≡ put l to (part l at i)
+    → set m (to + i) (get_or m (at + i) z) ≡ put l to (part l at (i + 1))
+copy-down {A} l m at to i z h g e =
+    ap (λ (x : List A). set x (to + i) (get_or x (at + i) z)) e
+    ∙ ap (λ (v : A). set (put l to (part l at i)) (to + i) v) (get_d-put-after l to (part l at i) (at + i) z (omega arith) (omega (arith, length_part l at i (omega arith))))
+    ∙ put-snoc l to (part l at i) (get_or l (at + i) z) (to + i) (omega (arith, length_part l at i (omega arith))) (omega arith)
+    ∙ ap (put l to) (sym (part-snoc l at i z g) ∙ ap (part l at) (sym (add-one i)))
 
 -- the coordinates of a slot below n stand in those of n slots
 pub slot-room : (d i n k : ℕ) → i < n → n * d ≤ k → i * d + d ≤ k

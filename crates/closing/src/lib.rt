@@ -14,6 +14,17 @@ ghost use Rattle.closing.specs.Passed.{live_below_lem, live_parts, renames};
 use refusal::Refusal;
 use table_checks::{Head, Table, Wells};
 
+// Copies a point down, one coordinate after the other: what was written is not read again. A loop, since `copy_within` becomes a call of
+// `memmove`, which the archive for C would need from outside.
+fn move_point(coordinates: &mut [f64], from: usize, to: usize, dimensions: usize)
+    requires { (to ≤ from) × (from + dimensions ≤ length coordinates.old) }
+    ensures { coordinates.new ≡ put coordinates.old to (part coordinates.old from dimensions) }
+{
+    for i in 0..dimensions {
+        coordinates[to + i] = coordinates[from + i];
+    }
+}
+
 // One slot of the pass: its new slot is noted, and a live one moves down to slot `to`. Returns where the next live one goes. A retired one
 // gets the slot count for a new slot, and no None: the rename list is of plain numbers, and the definition writes it so.
 fn move_slot(
@@ -39,10 +50,12 @@ fn move_slot(
     let next = to + 1;
     rename[slot] = to;
     wells.flags[to] = 1;
-    let from = slot * dimensions;
-    wells
-        .coordinates
-        .copy_within(from..from + dimensions, to * dimensions);
+    move_point(
+        wells.coordinates,
+        slot * dimensions,
+        to * dimensions,
+        dimensions,
+    );
     next
 }
 

@@ -16,7 +16,9 @@ fn put_cover(boxes: &mut [f64], dimensions: usize, start: usize, l: usize, cover
     let width = boxes::box_width(dimensions);
     let from = start + boxes::bounds_before(dimensions, l);
     let to = start + packed::floats_before(dimensions, l);
-    boxes.copy_within(from..from + width, to);
+    // by value: both may overlap, and `copy_within` becomes a call of `memmove`, which the archive for C would need from outside
+    let whole = boxes::read_box(&boxes[from..from + width], dimensions);
+    boxes::write_box(whole, &mut boxes[to..to + width]);
     boxes[to + width] = cover;
 }
 

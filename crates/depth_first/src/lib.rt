@@ -101,7 +101,7 @@ pub fn leaves(
     let domains: &mut [usize] = lists.domains;
     let boxes: &mut [f64] = lists.boxes;
     let rows: &mut [usize] = &mut internals[start.from..end];
-    rows.copy_from_slice(active);
+    stretches::copy_values(rows, active);
     let level = Level {
         points,
         leaf,

@@ -4,6 +4,7 @@
 
 ghost use Rattle.std.specs.Prelude.{Bool, ℕ, ◌≤◌, length};
 ghost use Rattle.marks.specs.Bits.{Marked};
+ghost use Rattle.row_sets.specs.Lent.{SameSets};
 ghost use Rattle.row_sets.specs.Tested.{LeftIsListed};
 ghost use Rattle.file_domains.specs.Domains.{DomainPassed, DomainsPassed};
 
@@ -31,7 +32,8 @@ pub fn check_domain(
     sets: &mut LevelRows<'_>,
 ) -> Option<Passed>
     requires { (dimensions ≤ 3) × (at ≤ length bytes.now) × LeftIsListed sets.old.left.now sets.old.listed.now }
-    ensures { (p q : ℕ → Bool) → Marked sets.old.left.now p → Marked sets.old.listed.now q
+    ensures same { SameSets sets.old sets.new }
+    ensures tested { (p q : ℕ → Bool) → Marked sets.old.left.now p → Marked sets.old.listed.now q
         → DomainPassed bytes.now at dimensions level.coarse level.rows before.least before.remaining p q sets.new.left.now sets.new.listed.now result }
 {
     let floats = file_reader::record_floats(dimensions, level.coarse);
@@ -74,7 +76,8 @@ pub fn check_domains(
     sets: &mut LevelRows<'_>,
 ) -> Option<Passed>
     requires { (dimensions ≤ 3) × (at ≤ length bytes.now) × LeftIsListed sets.old.left.now sets.old.listed.now }
-    ensures { (p q : ℕ → Bool) → Marked sets.old.left.now p → Marked sets.old.listed.now q
+    ensures same { SameSets sets.old sets.new }
+    ensures tested { (p q : ℕ → Bool) → Marked sets.old.left.now p → Marked sets.old.listed.now q
         → DomainsPassed bytes.now at m dimensions level.coarse level.rows p q sets.new.listed.now result }
 {
     let mut next = at;

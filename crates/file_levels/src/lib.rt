@@ -10,6 +10,7 @@ ghost use Rattle.stored.specs.Sound.{sound};
 ghost use Rattle.stored.specs.Stored.{levels_at};
 ghost use Rattle.tree_tests.specs.Whole.{levels_whole};
 ghost use Rattle.marks.specs.Bits.{Marked};
+ghost use Rattle.row_sets.specs.Lent.{SameSets};
 ghost use Rattle.file_levels.specs.Levels.{IsHead, LevelPassedIs, TreePassedIs};
 
 use bytes_in::{COUNTS, marks};
@@ -78,7 +79,8 @@ pub fn check_level(
     sets: &mut LevelRows<'_>,
 ) -> Option<LevelPassed>
     requires { (dimensions ≤ 3) × (at ≤ length bytes.now) }
-    ensures { (p : ℕ → Bool) → Marked sets.old.listed.now p
+    ensures same { SameSets sets.old sets.new }
+    ensures tested { (p : ℕ → Bool) → Marked sets.old.listed.now p
         → LevelPassedIs bytes.now at dimensions least below p sets.new.listed.now result }
 {
     let h = level_at(bytes, at)?;
@@ -118,7 +120,8 @@ pub fn check_levels(
     sets: &mut LevelRows<'_>,
 ) -> Option<TreePassed>
     requires { (dimensions ≤ 3) × (n ≤ most_points) × (at ≤ length bytes.now) × Marked sets.old.listed.now (λ i. ltb i n) }
-    ensures { TreePassedIs bytes.now at dimensions n result }
+    ensures same { SameSets sets.old sets.new }
+    ensures tested { TreePassedIs bytes.now at dimensions n result }
 {
     let mut place = at;
     let mut least = n;

@@ -16,7 +16,7 @@ fn middle_of(column: Column<'_>, rows: &[usize], room: &mut [usize]) -> usize
     requires { (column.axis < column.points.dimensions) × (1 ≤ length rows.now) × GoodRows column.points.dimensions column.points.coordinates.now rows.now × (length room.old ≡ length rows.now) }
     ensures { MiddleIn column.entry rows.now result }
 {
-    room.copy_from_slice(rows);
+    stretches::copy_values(room, rows);
     middle_row::middle(column, room)
 }
 
@@ -57,6 +57,6 @@ pub fn halves(column: Column<'_>, rows: &mut [usize], room: &mut [usize]) -> usi
     let m = middle_of(column, rows, room);
     let lo = part_rows(column, m, rows, room);
     let others = rows.len() - lo;
-    rows[lo..].copy_from_slice(&room[..others]);
+    stretches::copy_values(&mut rows[lo..], &room[..others]);
     m
 }

@@ -4,6 +4,7 @@
 
 ghost use Rattle.std.specs.Prelude.{Bool, ℕ, ◌≤◌, length};
 ghost use Rattle.marks.specs.Bits.{Marked};
+ghost use Rattle.row_sets.specs.Lent.{SameSets};
 ghost use Rattle.row_sets.specs.Tested.{LeftIsListed};
 ghost use Rattle.leaf_tests.specs.Passed.{LeafPassed};
 
@@ -30,7 +31,8 @@ pub fn check_leaf<O: Rows, B: Rows>(
 ) -> Option<LeavesPassed>
     requires few { length (O.rows own.now) ≤ passed.remaining }
     requires kept { LeftIsListed sets.old.left.now sets.old.listed.now }
-    ensures { (p q : ℕ → Bool) → Marked sets.old.left.now p → Marked sets.old.listed.now q
+    ensures same { SameSets sets.old sets.new }
+    ensures tested { (p q : ℕ → Bool) → Marked sets.old.left.now p → Marked sets.old.listed.now q
         → LeafPassed level.coarse level.rows (O.rows own.now) (B.rows borrowed.now) depth passed p q sets.new.left.now sets.new.listed.now result }
 {
     if !level.depth_passes(passed.least, own.count(), depth) || !sets.rows_pass(own, borrowed) {

@@ -52,7 +52,7 @@ fn take_packed(rows: &mut [usize], wholes: &[usize])
     ensures { rows.new ≡ part wholes.now (length rows.old) (length rows.old) }
 {
     let n = rows.len();
-    rows.copy_from_slice(&wholes[n..2 * n]);
+    stretches::copy_values(rows, &wholes[n..2 * n]);
 }
 
 // The box that stands as the k-th in a list of boxes.
@@ -197,7 +197,7 @@ pub fn leaves(
     let domains: &mut [usize] = lists.domains;
     let boxes: &mut [f64] = lists.boxes;
     let rows: &mut [usize] = &mut internals[start.from..end];
-    rows.copy_from_slice(active);
+    stretches::copy_values(rows, active);
     cut_leaves(
         points,
         leaf,

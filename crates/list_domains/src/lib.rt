@@ -6,6 +6,7 @@ ghost use Rattle.std.specs.Prelude.{◌≡◌, ◌≤◌};
 ghost use Rattle.packed.specs.View.{packed_of};
 ghost use Rattle.packed.specs.Rows.{plain_row};
 ghost use Rattle.stored.specs.Sound.{all_of};
+ghost use Rattle.row_sets.specs.Lent.{SameSets};
 ghost use Rattle.row_sets.specs.Tested.{LeftIsListed};
 ghost use Rattle.list_domains.specs.Boxes.{bound_fits_lem, floats_fit_lem};
 ghost use Rattle.list_domains.specs.InLists.{stretches_fit_lem};
@@ -86,7 +87,8 @@ pub fn check_domain(
 ) -> Option<SoFar>
     requires ready { Ready (packed_of tree) borrowed_most j 1 so_far.own_at so_far.borrowed_at so_far.leaves.remaining }
     requires kept { LeftIsListed sets.old.left.now sets.old.listed.now }
-    ensures { DomainPassed level.coarse (packed_of tree.entry) borrowed_most level.rows j so_far.own_at so_far.borrowed_at so_far.leaves.remaining
+    ensures same { SameSets sets.old sets.new }
+    ensures tested { DomainPassed level.coarse (packed_of tree.entry) borrowed_most level.rows j so_far.own_at so_far.borrowed_at so_far.leaves.remaining
         so_far.leaves.least sets.old.left.now sets.old.listed.now sets.new.left.now sets.new.listed.now result }
 {
     let row = packed::read_row(tree.domains, j);
@@ -125,7 +127,8 @@ pub fn check_domains(
 ) -> Option<usize>
     requires ready { Ready (packed_of tree) borrowed_most before.domains count before.rows before.borrowed level.rows }
     requires kept { LeftIsListed sets.old.left.now sets.old.listed.now }
-    ensures { DomainsPassed level.coarse (packed_of tree.entry) borrowed_most before.domains before.rows before.borrowed level.rows count
+    ensures same { SameSets sets.old sets.new }
+    ensures tested { DomainsPassed level.coarse (packed_of tree.entry) borrowed_most before.domains before.rows before.borrowed level.rows count
         sets.old.left.now sets.old.listed.now sets.new.listed.now result }
 {
     let mut so_far = SoFar {

@@ -8,6 +8,7 @@ ghost use Rattle.definition.specs.Refusals.{most_points, most_neighbours};
 ghost use Rattle.packed.specs.View.{packed_of};
 ghost use Rattle.stored.specs.Outcome.{lists_short_lem};
 ghost use Rattle.tree_answer.specs.Answers.{tree_counts, lists_of};
+ghost use Rattle.row_sets.specs.Lent.{SameSets};
 ghost use Rattle.list_levels.specs.InLists.{count_fits_lem, one_only, all_zero, four_counts_lem, counts_stand_lem};
 ghost use Rattle.list_levels.specs.Passed.{LevelReady, NextReady, LevelsReady, LevelPassed, NextPassed, LevelsPassed, TreePassed};
 
@@ -27,7 +28,8 @@ pub fn check_level(
     sets: &mut LevelRows<'_>,
 ) -> Option<usize>
     requires { LevelReady (packed_of tree.leaves) tree.level_points.now borrowed_most before.domains count before.rows before.borrowed level.rows }
-    ensures { LevelPassed level.coarse (packed_of tree.entry.leaves) tree.entry.level_points.now borrowed_most before.domains before.rows before.borrowed
+    ensures same { SameSets sets.old sets.new }
+    ensures tested { LevelPassed level.coarse (packed_of tree.entry.leaves) tree.entry.level_points.now borrowed_most before.domains before.rows before.borrowed
         level.rows count sets.old.listed.now sets.new.listed.now result }
 {
     let points = &tree.level_points[before.rows..before.rows + level.rows];
@@ -75,7 +77,8 @@ fn next_level(
 ) -> Option<ListsPassed>
     requires ready { NextReady (packed_of tree.leaves) tree.level_points.now n borrowed_most above done }
     requires counted { (t < length tree.rows.now) × (t < length tree.domains.now) }
-    ensures { NextPassed (eqb (t + 1) tree.entry.levels) (packed_of tree.entry.leaves) tree.entry.level_points.now n borrowed_most t above
+    ensures same { SameSets sets.old sets.new }
+    ensures tested { NextPassed (eqb (t + 1) tree.entry.levels) (packed_of tree.entry.leaves) tree.entry.level_points.now n borrowed_most t above
         (get_or tree.entry.rows.now t 0) (get_or tree.entry.domains.now t 0) done sets.old.listed.now sets.new.listed.now result }
 {
     let level = LeafLevel {
@@ -105,7 +108,8 @@ pub fn check_levels(
     sets: &mut LevelRows<'_>,
 ) -> Option<ListsPassed>
     requires { LevelsReady (packed_of tree.leaves) tree.level_points.now (tree_counts tree) n borrowed_most sets.old.listed.now }
-    ensures { LevelsPassed (packed_of tree.entry.leaves) tree.entry.level_points.now (tree_counts tree.entry) n borrowed_most result }
+    ensures same { SameSets sets.old sets.new }
+    ensures tested { LevelsPassed (packed_of tree.entry.leaves) tree.entry.level_points.now (tree_counts tree.entry) n borrowed_most result }
 {
     let mut done = ListsPassed {
         rows: 0,

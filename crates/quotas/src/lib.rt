@@ -167,7 +167,7 @@ pub fn get_domain_coarse_quotas(
     }
     let seats = wanted.min(rows);
     let front = &mut quotas[..leaves];
-    front.copy_from_slice(sizes);
+    stretches::copy_values(front, sizes);
     share_in_place(front, rows, seats);
     Ok(Seated { leaves, seats })
 }

@@ -9,6 +9,7 @@ ghost use Rattle.row_sets.specs.Markable.{Markable};
 ghost use Rattle.row_sets.specs.Order.{least_after};
 
 mod level_rows;
+mod row_tests;
 
 pub use level_rows::LevelRows;
 

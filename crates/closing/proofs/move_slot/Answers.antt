@@ -1,10 +1,6 @@
 -- `closing::move_slot` meets its contract. Assumes nothing.
-use mathlib.Core.Path.{◌≡◌, refl, ◌∙◌}
-use Prim.Native.Nat.{◌+◌, ◌-◌, ◌*◌}
 use native.Mathlib.Nat.{add-zero, mul-le-mul_right}
 use native.Mathlib.Omega.{arith}
-use Rattle.lists.specs.Lists.{put, part}
-use Rattle.lists.proofs.Put.{length_part}
 use Rattle.closing.proofs.Moves.{is-retired, is_live}
 use Rattle.closing.proofs.move_slot.Goals as goal
 
@@ -30,13 +26,13 @@ returns-clause-next c = let a = c.args in rw (is_live a.wells.now.flags.now a.sl
 pub returns-clause-flags : goal.returns-clause-flags
 returns-clause-flags c = let a = c.args in rw (is_live a.wells.now.flags.now a.slot c.if-flag-eq0.false)
 
+pub move_point-requires : goal.move_point-requires
+move_point-requires c = let s = c in
+    (mul-le-mul_right s.args.wells.now.dimensions s.requires.0, s.requires.2)
+
 pub returns-clause-coordinates : goal.returns-clause-coordinates
-unfolding put part
 returns-clause-coordinates c = let w = c.args.wells.now in
-    let from = c.args.slot * w.dimensions in
-    let long = length_part w.coordinates.now from w.dimensions c.requires.2 in
-    let n : from + w.dimensions - from ≡ w.dimensions = omega arith in
-    rw (is_live w.flags.now c.args.slot c.if-flag-eq0.false) (c.copy_within.ensures.after ∙ rw (n, long) refl)
+    rw (is_live w.flags.now c.args.slot c.if-flag-eq0.false) c.move_point.ensures
 
 pub returns-clause-rename : goal.returns-clause-rename
 returns-clause-rename c = let a = c.args in rw (is_live a.wells.now.flags.now a.slot c.if-flag-eq0.false)

@@ -6,25 +6,25 @@ use borrow.Author.Rules.{rules}
 use Rattle.file_levels.proofs.check_levels.Goals as goal
 
 pub loop-i-init : goal.loop-i-init
-loop-i-init c = levels-start _ _ _ _ _ c.requires.2 c.requires.3
+loop-i-init c = (levels-start _ _ _ _ _ c.requires.2 c.requires.3, search rules)
 
-pub returns-in_err-l : goal.returns-in_err-l
-returns-in_err-l c = rw c.from_residual.ensures (level-bad _ _ _ _ _ _ _ _ _ _ _ c.loop-i.invariant (search rules) _ _ c.check_level.ensures c.in_err-l.was)
+pub returns-in_err-l-clause-tested : goal.returns-in_err-l-clause-tested
+returns-in_err-l-clause-tested c = rw c.from_residual.ensures (level-bad _ _ _ _ _ _ _ _ _ _ _ c.loop-i.invariant.0 (search rules) _ _ c.check_level.ensures.tested c.in_err-l.was)
 
 pub overflow_add-domains : goal.overflow_add-domains
-overflow_add-domains c = omega (arith, level-fits _ _ _ _ _ _ _ _ _ _ _ c.loop-i.invariant (search rules) _ _ c.check_level.ensures _ c.in_ok-l.was)
+overflow_add-domains c = omega (arith, level-fits _ _ _ _ _ _ _ _ _ _ _ c.loop-i.invariant.0 (search rules) _ _ c.check_level.ensures.tested _ c.in_ok-l.was)
 
 pub overflow_add-borrowed : goal.overflow_add-borrowed
-overflow_add-borrowed c = omega (arith, level-fits _ _ _ _ _ _ _ _ _ _ _ c.loop-i.invariant (search rules) _ _ c.check_level.ensures _ c.in_ok-l.was)
+overflow_add-borrowed c = omega (arith, level-fits _ _ _ _ _ _ _ _ _ _ _ c.loop-i.invariant.0 (search rules) _ _ c.check_level.ensures.tested _ c.in_ok-l.was)
 
-pub returns-then-place-bytes : goal.returns-then-place-bytes
-returns-then-place-bytes c = levels-trail _ _ _ _ _ _ _ _ _ _ _ c.loop-i.invariant (search rules) _ _ c.check_level.ensures _ c.in_ok-l.was (search rules) (search rules)
+pub returns-then-place-bytes-clause-tested : goal.returns-then-place-bytes-clause-tested
+returns-then-place-bytes-clause-tested c = levels-trail _ _ _ _ _ _ _ _ _ _ _ c.loop-i.invariant.0 (search rules) _ _ c.check_level.ensures.tested _ c.in_ok-l.was (search rules) (search rules)
 
-pub returns-then-l-eq1 : goal.returns-then-l-eq1
-returns-then-l-eq1 c = levels-end _ _ _ _ _ _ _ _ _ _ _ c.loop-i.invariant (search rules) _ _ c.check_level.ensures _ c.in_ok-l.was (search rules) (search rules)
+pub returns-then-l-eq1-clause-tested : goal.returns-then-l-eq1-clause-tested
+returns-then-l-eq1-clause-tested c = levels-end _ _ _ _ _ _ _ _ _ _ _ c.loop-i.invariant.0 (search rules) _ _ c.check_level.ensures.tested _ c.in_ok-l.was (search rules) (search rules)
 
 pub loop-i-preserved : goal.loop-i-preserved
-loop-i-preserved c = levels-next _ _ _ _ _ _ _ _ _ _ _ c.loop-i.invariant (search rules) _ _ c.check_level.ensures _ c.in_ok-l.was (search rules)
+loop-i-preserved c = (levels-next _ _ _ _ _ _ _ _ _ _ _ c.loop-i.invariant.0 (search rules) _ _ c.check_level.ensures.tested _ c.in_ok-l.was (search rules), search rules)
 
-pub returns : goal.returns
-returns c = levels-none _ _ _ _ _ _ _ _ _ _ _ c.loop-i.invariant (omega arith)
+pub returns-clause-tested : goal.returns-clause-tested
+returns-clause-tested c = levels-none _ _ _ _ _ _ _ _ _ _ _ c.loop-i.invariant.0 (omega arith)

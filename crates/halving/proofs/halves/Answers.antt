@@ -29,23 +29,23 @@ offset_bounds-rows-lo c = let f = c.part_rows-lo in
     let h = low-most c.middle_of-m.ensures f.ensures.number in
     search rules
 
-pub slice_bounds-copy_from_slice-count : goal.slice_bounds-copy_from_slice-count
-slice_bounds-copy_from_slice-count c = let f = c.part_rows-lo in
+pub slice_bounds-copy_values-count : goal.slice_bounds-copy_values-count
+slice_bounds-copy_values-count c = let f = c.part_rows-lo in
     let h = low-most c.middle_of-m.ensures f.ensures.number in
     omega (arith, h, f.auto.rows)
 
-pub slice_bounds-copy_from_slice-start : goal.slice_bounds-copy_from_slice-start
-slice_bounds-copy_from_slice-start c = let f = c.part_rows-lo in
+pub slice_bounds-copy_values-start : goal.slice_bounds-copy_values-start
+slice_bounds-copy_values-start c = let f = c.part_rows-lo in
     let h = low-most c.middle_of-m.ensures f.ensures.number in
     omega (arith, h, f.auto.rows)
 
-pub slice_bounds-copy_from_slice-end : goal.slice_bounds-copy_from_slice-end
-slice_bounds-copy_from_slice-end c = let p = c.requires in
+pub slice_bounds-copy_values-end : goal.slice_bounds-copy_values-end
+slice_bounds-copy_values-end c = let p = c.requires in
     let f = c.part_rows-lo in
     omega (arith, p.3, c.middle_of-m.auto.room, f.auto.rows, f.auto.room)
 
-pub copy_from_slice-requires : goal.copy_from_slice-requires
-copy_from_slice-requires c = let p = c.requires in
+pub copy_values-requires : goal.copy_values-requires
+copy_values-requires c = let p = c.requires in
     let f = c.part_rows-lo in
     let h = low-most c.middle_of-m.ensures f.ensures.number in
     simp (length-take, length-drop) (omega (arith, h, p.3, c.middle_of-m.auto.room, f.auto.rows, f.auto.room))
@@ -59,9 +59,9 @@ returns c = let p = c.requires in
     let k = m.auto.room in
     let h = low-most m.ensures e.number in
     let n = length f.new.rows - f.result in
-    let back = c.copy_from_slice in
-    let long : length back.new.self ≡ n = back.auto.self ∙ length-take-le n (drop f.result f.new.rows) (simp length-drop (omega arith)) in
-    let copied = mid_back f.new.rows f.result n back.new.self long ∙ ap (put f.new.rows f.result) back.ensures.after in
+    let back = c.copy_values in
+    let long : length back.new.list ≡ n = back.auto.list ∙ length-take-le n (drop f.result f.new.rows) (simp length-drop (omega arith)) in
+    let copied = mid_back f.new.rows f.result n back.new.list long ∙ ap (put f.new.rows f.result) back.ensures.after in
     record {
       rows = rows_cut m.ensures p.0 p.2 _ (k ∙ p.3) e.number e.rows e.room copied;
       room = f.auto.room ∙ k;

@@ -2,7 +2,7 @@
 use Rattle.halving.proofs.middle_of.Goals as goal
 
 pub middle-requires : goal.middle-requires
-middle-requires c = let p = c.requires in let e = c.copy_from_slice.ensures.after in (p.0, rw e p.1, rw e p.2)
+middle-requires c = let p = c.requires in let e = c.copy_values.ensures.after in (p.0, rw e p.1, rw e p.2)
 
 pub returns : goal.returns
-returns c = rw c.copy_from_slice.ensures.after at c.middle.ensures
+returns c = rw c.copy_values.ensures.after at c.middle.ensures

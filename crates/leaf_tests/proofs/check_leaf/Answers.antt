@@ -8,10 +8,10 @@ use Rattle.lists.proofs.Tests.{and-of}
 use Rattle.tree_tests.specs.InTurn.{depth_passes_lem}
 use Rattle.leaf_tests.proofs.check_leaf.Goals as goal
 
-pub returns : goal.returns
-returns g c = λ p q m n.
+pub returns-clause-tested : goal.returns-clause-tested
+returns-clause-tested g c = λ p q m n.
     let a = c.args in
-    let rows = c.rows_pass.ensures p q m n in
+    let rows = c.rows_pass.ensures.tested p q m n in
     let deep : depth_passes_lem a.level.coarse a.level.rows a.passed.least (length (g.O.Rows.rows a.own.now)) a.depth ≡ true =
     sym (ap (λ (k : ℕ). depth_passes_lem a.level.coarse a.level.rows a.passed.least k a.depth) c.count.ensures) ∙ sym c.depth_passes.ensures ∙ search rules in
     record {

@@ -12,7 +12,7 @@ use Rattle.leaves.proofs.leaves.Goals as goal
 pub cut_leaves-requires : goal.cut_leaves-requires
 cut_leaves-requires c = let p = c.requires in
     let a = c.args in
-    let copied = c.copy_from_slice.ensures.after in
+    let copied = c.copy_values.ensures.after in
     record {
       dimensions_nonzero = rw copied p.dimensions_nonzero;
       rows_in_bounds = rw copied p.active_in_bounds;
@@ -25,7 +25,7 @@ cut_leaves-requires c = let p = c.requires in
 pub returns : goal.returns
 returns c = let p = c.requires in
     let a = c.args in
-    let copied = c.copy_from_slice.ensures.after in
+    let copied = c.copy_values.ensures.after in
     let cut = c.cut_leaves in
     let f = rw copied at cut.ensures in
     let back = part-back a.lists.now.internals.now a.start.from (length a.active.now) cut.new.rows (cut.auto.rows ∙ ap length copied) in

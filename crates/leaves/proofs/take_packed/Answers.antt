@@ -10,4 +10,4 @@ pub returns : goal.returns
 unfolding part
 returns c = let n = length c.args.rows.now in
     let e : 2 * n - n ≡ n = omega arith in
-    c.copy_from_slice.ensures.after ∙ rw e refl
+    c.copy_values.ensures.after ∙ rw e refl

@@ -17,9 +17,9 @@ pub check_levels-requires : goal.check_levels-requires
 check_levels-requires c = let a = c.args in let t = a.tree.leaves in
     let l = lists_of a.tree.level_points.now t.internals.now t.domains.now t.boxes.now t.borrowed.now in
     rw c.most_borrowed.ensures (levels-ready t.dimensions a.n a.neighbours (tree_counts a.tree) l c.requires.0 c.requires.1 c.requires.3 _
-    c.counts_stand.ensures c.if-not-counts_stand.false _ c.below-sets.ensures)
+    c.counts_stand.ensures c.if-not-counts_stand.false _ c.below-sets.ensures.listed)
 
 pub returns : goal.returns
 returns c = λ s e f. let a = c.args in let t = a.tree.leaves in
     let l = lists_of a.tree.level_points.now t.internals.now t.domains.now t.boxes.now t.borrowed.now in
-    tree-tell t.dimensions a.n a.neighbours (tree_counts a.tree) l c.requires.3 _ c.counts_stand.ensures s e f c.if-not-counts_stand.false _ (rw c.most_borrowed.ensures at c.check_levels.ensures)
+    tree-tell t.dimensions a.n a.neighbours (tree_counts a.tree) l c.requires.3 _ c.counts_stand.ensures s e f c.if-not-counts_stand.false _ (rw c.most_borrowed.ensures at c.check_levels.ensures.tested)

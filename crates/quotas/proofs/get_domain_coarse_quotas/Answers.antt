@@ -20,12 +20,12 @@ front-shared sizes l new s h e = rw e (ap (λ (n : ℕ). quotas_for sizes s ++ d
 pub share_in_place-requires : goal.share_in_place-requires
 share_in_place-requires c =
     let i = c.in-Some.ensures in
-    (i.0 ∙ sym (ap total c.copy_from_slice.ensures.after), i.1, omega arith)
+    (i.0 ∙ sym (ap total c.copy_values.ensures.after), i.1, omega arith)
 
 pub returns : goal.returns
 returns c = let a = c.args in
     let i = c.in-Some.ensures in
     let s = c.min-seats.ensures in
-    let e = c.share_in_place.ensures ∙ ap (λ (l : List ℕ). quotas_for l c.min-seats.result) c.copy_from_slice.ensures.after in
+    let e = c.share_in_place.ensures ∙ ap (λ (l : List ℕ). quotas_for l c.min-seats.result) c.copy_values.ensures.after in
     seated _ _ _ _ _ _ _ _ (omega arith) c.if-quotas-leaves.false c.if-wholes-leaves.false refl (omega arith)
     (front-shared a.sizes.now a.quotas.now _ _ (omega arith) e) refl

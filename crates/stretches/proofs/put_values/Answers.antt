@@ -6,6 +6,6 @@ use Rattle.lists.proofs.Put.{part-back}
 use Rattle.stretches.proofs.put_values.Goals as goal
 
 pub returns : goal.returns
-returns g c = let e = c.copy_from_slice.ensures in
+returns g c = let e = c.copy_values.ensures in
     let a = c.args in
     part-back _ _ _ _ (ap length e.after) ∙ ap (put a.list.now a.at) e.after
