@@ -45,14 +45,27 @@ pub fn get_num_level_reductions(n: usize, c: u32, f: u32) -> u32
     4
 }
 
+// b^r, for r up to 3. Written out, since the library's `pow` is a loop: a level size alone would take up to twice the time.
+fn power(b: usize, r: u32) -> usize
+    requires { (b ≤ most_points) × (r ≤ 3) }
+    ensures { result ≡ b ^ r }
+{
+    match r {
+        0 => 1,
+        1 => b,
+        2 => b * b,
+        _ => b * b * b,
+    }
+}
+
 // The least m with m^r at least c * a^(r-1): no root is taken, so nothing is rounded. The three numbers stay side by side, here
 // and below, as document 01's formula has them, and what holds of them is asked of each.
 fn exact_size(a: usize, c: usize, r: u32) -> usize
     requires { (a ≤ most_points) × (c < a) × (1 ≤ r) × (r ≤ 3) }
     ensures { result ≡ exact_size_lem a c r }
 {
-    let goal = c * a.pow(r - 1);
-    bisection::least_passing(a, |m| goal <= m.pow(r))
+    let goal = c * power(a, r - 1);
+    bisection::least_passing(a, |m| goal <= power(m, r))
 }
 
 // The size of the next level, of a active rows at the threshold c with r reductions left. The size is at least c, so only the

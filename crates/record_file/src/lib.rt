@@ -14,9 +14,9 @@ const MOST: u64 = 100000;
 // How many calls were made, how many of them differ, and the first of those, counted from 1.
 #[derive(Clone, Copy)]
 pub struct Tally {
-    calls: u64,
-    differ: u64,
-    first: Option<u64>,
+    pub calls: u64,
+    pub differ: u64,
+    pub first: Option<u64>,
 }
 
 // Why a record could not be read: the file or the room ends before it does.

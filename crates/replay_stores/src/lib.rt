@@ -1,10 +1,11 @@
 // The call of a store: five lists of the given lengths with their fronts, a file list that holds 9, and the outcome.
 #![tactic(auto)]
 
-use call_records::Fields;
+use call_records::{BORROWED, BOXES, DOMAINS, Fields, NINE, ROWS};
 use points::Points;
 use refusal::Refusal;
 use tree_answer::DDMTree;
+use tree_lists::TreeLists;
 
 // The most entries of a file list in the stored calls.
 const FILE: usize = 2000;
@@ -48,8 +49,14 @@ pub fn agrees(fields: &mut Fields<'_>) -> Option<bool> {
         dimensions: settings.dimensions,
     };
     let counts = counts(fields)?;
-    let mut room = call_records::nines();
-    let lists = fields.lend_filled_lists(room.lend())?;
+    let lists = TreeLists {
+        level_points: &mut [NINE; ROWS],
+        internals: &mut [NINE; ROWS],
+        domains: &mut [NINE; DOMAINS],
+        boxes: &mut [9.0; BOXES],
+        borrowed: &mut [NINE; BORROWED],
+    };
+    let lists = fields.lend_filled_lists(lists)?;
     let mut room = [9u8; FILE];
     let file = fields.lend(&mut room)?;
     let answer = store::store_tree(points, settings.params, counts, lists.read(), file);

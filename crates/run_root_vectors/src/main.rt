@@ -3,16 +3,25 @@
 // and its root, with a space between them; no root is the pattern of NaN. tools/make_root_vectors.py makes the file.
 #![tactic(auto)]
 
-use std::{io, str};
+use std::io;
 
 // The bytes of a line, and the room for a file.
 const LINE: usize = 34;
 
 const ROOM: usize = 131072;
 
-// The number that these hexadecimal digits say.
-fn number(text: &[u8]) -> Option<u64> {
-    u64::from_str_radix(str::from_utf8(text).ok()?, 16).ok()
+// A hexadecimal digit's number; 0 for any other byte. `from_str_radix` would take capitals too, and no other byte.
+fn digit(c: u8) -> u64 {
+    match c {
+        b'0'..=b'9' => (c - b'0') as u64,
+        b'a'..=b'f' => (c - b'a') as u64 + 10,
+        _ => 0,
+    }
+}
+
+// The number that these digits say.
+fn number(digits: &[u8]) -> u64 {
+    digits.iter().fold(0, |x, &c| (x << 4) | digit(c))
 }
 
 // Whether the root of the value with the pattern b has the pattern `want`.
@@ -23,10 +32,10 @@ fn agrees(b: u64, want: u64) -> bool {
     }
 }
 
-// Whether a line holds. `None` says that it has not two patterns where they are to stand.
+// Whether a line holds. `None` says that it has no room for two patterns.
 fn line_holds(line: &[u8]) -> Option<bool> {
-    let value = number(line.get(..16)?)?;
-    let want = number(line.get(17..33)?)?;
+    let value = number(line.get(..16)?);
+    let want = number(line.get(17..33)?);
     Some(agrees(value, want))
 }
 

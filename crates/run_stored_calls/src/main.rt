@@ -1,9 +1,10 @@
 // Replays stored calls of the loader and the writer: reads the file that the first argument names, makes each call there, and says how
-// many of the calls differ from their stored outcomes, in their answers or in an entry of a list, and which differs first.
-// tools/make_stored_calls.py makes the file, and its head says the form of a record.
+// many of the calls differ from their stored outcomes, in their answers or in an entry of a list. tools/make_stored_calls.py makes the
+// file, and its head says the form of a record.
 #![tactic(auto)]
 
 use call_records::Fields;
+use record_file::Tally;
 use std::io;
 
 // The room for a record.
@@ -46,6 +47,7 @@ fn outcome_agrees(record: &[u8]) -> Option<bool> {
 fn main(rt: HostRuntime) -> io::Result<()> {
     let mut file = program_input::open_argument(&rt, 1)?;
     let mut room = [0u8; ROOM];
-    let tally = record_file::replay(&mut file, &mut room, outcome_agrees);
-    println!(rt; "{tally}")
+    let Tally { calls, differ, .. } = record_file::replay(&mut file, &mut room, outcome_agrees);
+    // and not the tally, which names the first that differs too
+    println!(rt; "{calls} calls, {differ} differ")
 }
