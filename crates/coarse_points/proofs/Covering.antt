@@ -63,15 +63,15 @@ module _ (d : ℕ) (cs : List Float) (I D : List ℕ) (first : ℕ) (shares : Li
   covers-next xs l x h q p = fill_more covers xs l x h q p
 
   -- as the definition has them, quota by quota
-  pub covers-zip : (m : ℕ) → length shares ≡ m
-      → covers_at d cs I D first shares m ≡ zip_with (leaf_cover d cs) (read_own I D first m) (zip_with (sent_by d cs) (read_own I D first m) shares)
-  covers-zip m e =
+  pub covers-zip : (m : ℕ) (ws : List ℕ) → length ws ≡ m → ((l : ℕ) → l < m → get_or shares l 0 ≡ get_or ws l 0)
+      → covers_at d cs I D first shares m ≡ zip_with (leaf_cover d cs) (read_own I D first m) (zip_with (sent_by d cs) (read_own I D first m) ws)
+  covers-zip m ws e h =
       let own = read_own I D first m in
       let n = read_length I D first m in
-      let w : length shares ≡ length own = e ∙ sym n in
+      let w : length ws ≡ length own = e ∙ sym n in
       ap (λ (k : ℕ). map covers (from 0 k)) (sym n)
-      ∙ zip-from-at covers (leaf_cover d cs) [] [] own (zip_with (sent_by d cs) own shares) 0 (zip_length (sent_by d cs) own shares w)
+      ∙ zip-from-at covers (leaf_cover d cs) [] [] own (zip_with (sent_by d cs) own ws) 0 (zip_length (sent_by d cs) own ws w)
       (λ i l.
       let z : 0 + i ≡ i = omega arith in
       let b : i < m = omega (arith, n) in
-      rw (z, zip-at (sent_by d cs) own shares w i [] 0 [] l, read_at I D first m i b))
+      rw (z, zip-at (sent_by d cs) own ws w i [] 0 [] l, read_at I D first m i b, h i b))

@@ -1,7 +1,7 @@
 -- How the steps fit together: sizes, quotas, what each leaf sends, and the sorted rows behind the active ones. Assumes nothing.
 -- Holds: counts_all, leaves-fit, sorted-up, covers_up, lent-good, lent-size, part-between, part-size, leaf_room, leaf-end,
 --   leaf-list, all-sent
-use mathlib.Core.Path.{◌≡◌, sym, ap, ◌∙◌}
+use mathlib.Core.Path.{◌≡◌, refl, sym, ap, ◌∙◌}
 use mathlib.Core.List.{List, [], ◌++◌, map, zip_with, map-map}
 use Prim.Native.Nat.{ℕ, ◌+◌, ◌-◌, ◌≤◌, ◌<◌}
 use native.Mathlib.Nat.{zero-add}
@@ -128,7 +128,7 @@ module _ (d : ℕ) (cs : List Float) (active I D : List ℕ) (first m : ℕ) (s 
 
     pub covers_up : (xs : List Float) → xs ≡ covers_at d cs I D first shares m → xs ≡ sent_covers d cs (read_own I D first m) size
     unfolding sent_covers
-    covers_up xs h = h ∙ covers-zip d cs I D first shares m many ∙ rw (sizes-read, as-quotas)
+    covers_up xs h = h ∙ covers-zip d cs I D first shares m shares many (λ l b. refl) ∙ rw (sizes-read, as-quotas)
 
 -- ---- one leaf's own rows, as they are lent
 module _ (d : ℕ) (cs : List Float) (I D : List ℕ) (r quota k : ℕ) (f : LeafFits d cs I D r quota k) (rows : List ℕ) (e : rows ≡ own_at I D r) where

@@ -86,23 +86,23 @@ module _ (d : ℕ) (cs : List Float) (active : List ℕ) (row : ℕ) (rows : Goo
       rw (le-ltb (get_or active p 0) (get_or active q 0) (omega arith)) (or-none (lt (apart d cs active row p) (apart d cs active row q)) (eq (apart d cs active row p) (apart d cs active row q)))
 
   -- ---- the turns of the scan
-  module _ (neighbours : ℕ) where
+  module _ (neighbours : ℕ) (near₀ : List ℕ) (far₀ : List Float) (room : neighbours ≤ length near₀) (room2 : neighbours ≤ length far₀) where
     abbrev Turn : List ℕ → List Float → ℕ → ℕ → Type 0
-    Turn = Scanned (apart d cs active row) bef else-at neighbours n
+    Turn = Scanned (apart d cs active row) bef else-at neighbours n near₀ far₀
 
-    pub near_none : (near : List ℕ) (far : List Float) → neighbours ≤ length near → neighbours ≤ length far → Turn near far 0 0
-    near_none = scan-none (apart d cs active row) bef else-at neighbours n sooner-irr sooner-trans sooner-or sooner-late
+    pub near_none : Turn near₀ far₀ 0 0
+    near_none = scan-none (apart d cs active row) bef else-at neighbours n sooner-irr sooner-trans sooner-or sooner-late near₀ far₀ room room2
 
     module _ (near : List ℕ) (far : List Float) (c t : ℕ) (s : Turn near far c t) (here : t < n) where
       -- the row itself
       pub near-over : else-at t ≡ false → Turn near far c (t + 1)
-      near-over = scan-over (apart d cs active row) bef else-at neighbours n sooner-irr sooner-trans sooner-or sooner-late near far c t s here
+      near-over = scan-over (apart d cs active row) bef else-at neighbours n sooner-irr sooner-trans sooner-or sooner-late near₀ far₀ room room2 near far c t s here
 
       module _ (value : Float) (ev : value ≡ apart d cs active row t) where
         -- there are as many as there are neighbours, and the row does not come before the last of them
         pub near-left : neighbours ≤ c → lt value (get_or far (c - 1) nan) ≡ false → Turn near far c (t + 1)
         near-left h f =
-            scan-left (apart d cs active row) bef else-at neighbours n sooner-irr sooner-trans sooner-or sooner-late near far c t s here h
+            scan-left (apart d cs active row) bef else-at neighbours n sooner-irr sooner-trans sooner-or sooner-late near₀ far₀ room room2 near far c t s here h
             (subst (λ (x : Float). lt x (get_or far (c - 1) nan) ≡ false) ev f)
 
         -- another row comes in among the first k
@@ -116,7 +116,7 @@ module _ (d : ℕ) (cs : List Float) (active : List ℕ) (row : ℕ) (rows : Goo
 
           pub near-more : k ≡ c → c < neighbours → Turn near' far' (k + 1) (t + 1)
           near-more e h =
-              scan-more (apart d cs active row) bef else-at neighbours n sooner-irr sooner-trans sooner-or sooner-late near far c t s here else k (omega arith) (omega arith)
+              scan-more (apart d cs active row) bef else-at neighbours n sooner-irr sooner-trans sooner-or sooner-late near₀ far₀ room room2 near far c t s here else k (omega arith) (omega arith)
               (λ j a b. absurd (omega arith)) r spot-at near' far' far_at en (sym e)
 
           pub near-full : k ≡ c - 1 → neighbours ≤ c → 0 < c → lt value (get_or far (c - 1) nan) ≡ true → Turn near' far' c (t + 1)
@@ -124,7 +124,7 @@ module _ (d : ℕ) (cs : List Float) (active : List ℕ) (row : ℕ) (rows : Goo
               let i = s.most in
               let z : k + 1 ≡ c = omega arith in
               subst (λ (x : ℕ). Turn near' far' x (t + 1)) z
-              (scan-full (apart d cs active row) bef else-at neighbours n sooner-irr sooner-trans sooner-or sooner-late near far c t s here else k (omega arith) (omega arith)
+              (scan-full (apart d cs active row) bef else-at neighbours n sooner-irr sooner-trans sooner-or sooner-late near₀ far₀ room room2 near far c t s here else k (omega arith) (omega arith)
               last r spot-at near' far' far_at en (omega arith))
             where
               last : (j : ℕ) → k ≤ j → j < c → lt (apart d cs active row t) (get_or far j nan) ≡ true
@@ -184,10 +184,10 @@ module _ (d : ℕ) (cs : List Float) (active : List ℕ) (row : ℕ) (rows : Goo
   )
 
   -- THE LAW: the end of the scan
-  pub found : (neighbours : ℕ) (near : List ℕ) (far : List Float) (c t : ℕ)
-      → Scanned (apart d cs active row) bef else-at neighbours n near far c t → n ≤ t
+  pub found : (neighbours : ℕ) (near₀ : List ℕ) (far₀ : List Float) (near : List ℕ) (far : List Float) (c t : ℕ)
+      → Scanned (apart d cs active row) bef else-at neighbours n near₀ far₀ near far c t → n ≤ t
       → (c ≤ neighbours) × Found d cs active row neighbours (take c near) (take c far)
-  found m near far c t s h =
+  found m near₀ far₀ near far c t s h =
       let i = s.inside in
       let e : t ≡ n = omega arith in
       let l = sorted_of bef else-at n in
