@@ -95,7 +95,7 @@ module _ (d : ℕ) (cs : List Float) (wanted seed : ℕ) (out : List ℕ) (float
     -- b is what is told, and a what the call behind it answers
     pub sample-long : (out' : List ℕ) (floats' : List Float) (wholes' slot' : List ℕ) (a b : Answer Sampled) → 2 ≤ length slot
         → RowsSampled d cs wanted seed out out' floats floats' wholes wholes' a → b ≡ a
-        → slot' ≡ put slot 0 (sample_slot b) → SampleTold d cs wanted seed out out' floats floats' wholes wholes' cover (set cover 0 b.value.cover) slot slot' b.number
+        → slot' ≡ put slot 0 (b.place ∷ b.value.rows ∷ []) → SampleTold d cs wanted seed out out' floats floats' wholes wholes' cover (set cover 0 b.value.cover) slot slot' b.number
     sample-long out' floats' wholes' slot' a b g o e w =
         record {
           number_is = slot-long 1 cover _ _ _ h (number-long 2 slot b _ b.number g refl (e ∙ o.answers));
