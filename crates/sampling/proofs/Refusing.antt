@@ -1,9 +1,8 @@
 -- The refusals of a sampling, and what holds where it is accepted. Assumes nothing.
--- Holds: tests-dimension, tests-count, tests-choice, tests-lists, tests-finite, SampleAccepted, call-accepted, rows-numbered,
---   call-ready, call-written, call-covered, call-refused, call-sampled
+-- Holds: SampleAccepted, call-accepted, rows-numbered, call-ready, call-written, call-covered, call-refused, call-sampled
 use mathlib.Core.Path.{◌≡◌, refl, sym, ap, ap₂, ◌∙◌}
-use mathlib.Core.Bool.{Bool, true, false, not, ◌||◌}
-use mathlib.Core.List.{List, [], ◌∷◌, ◌++◌}
+use mathlib.Core.Bool.{true, not, ◌||◌}
+use mathlib.Core.List.{List, ◌++◌}
 use Prim.Native.Nat.{ℕ, zero, suc, ◌*◌, ◌/◌, ◌≤◌, ◌<◌}
 use native.Mathlib.Nat.{zero-add, div-mul-le_self}
 use native.Mathlib.Omega.{arith}
@@ -21,58 +20,17 @@ use Rattle.lists.proofs.Put.{put-zero}
 use Rattle.lists.proofs.Members.{none_any}
 use Rattle.lists.proofs.Tests.{or-none}
 use Rattle.definition.specs.Packed.{sample_stated}
-use Rattle.definition.specs.Refusals as definition
-use Rattle.definition.specs.Refusals.{Test, on, accepted, refused, verdict, wrong_dimension_lem, coordinates_missing, first_bad, not_finite_lem, most_points, sample_short, sample_verdict}
+use Rattle.definition.specs.Refusals.{on, accepted, refused, wrong_dimension_lem, coordinates_missing, not_finite_lem, most_points, sample_short, sample_verdict}
 use Rattle.definition.specs.Sampling.{sample, cover_of}
 use Rattle.definition.specs.Outcome.{number_of, place_of, value_of, written, list_after, RoomAfter, sample_call, sample_of, sample_cover_lem, sample_answer, sample_output}
 use Rattle.rows.specs.Rows.{GoodRows}
 use Rattle.rows.proofs.AllRows.{all-rows-good}
-use Rattle.definition_laws.proofs.Accepted.{passes, decides, pass, right-dimension}
-use Rattle.point_checks.specs.Tests.{count_tests}
-use Rattle.point_checks.proofs.Laws.{fault-first, fault-second}
+use Rattle.definition_laws.proofs.Accepted.{passes, right-dimension}
 use Rattle.std.specs.Prelude.{Ok, Err}
 use Rattle.refusal.specs.declared.Refusal.{Refusal}
 use Rattle.refusal.specs.Refusals.{as_refusal}
 use Rattle.sampling.specs.Answers.{sample_lent, sample_report_lem}
 use Rattle.sampling.specs.Outcome.{RowsSampled}
-
--- ---- its tests, group by group
-module _ (d : ℕ) (cs : List Float) (wanted seed o f w : ℕ) where
-  abbrev n : ℕ
-  n = length cs / d
-
-  abbrev choice : Bool
-  choice = eqb wanted 0 || ltb n wanted || leb n seed
-
-  abbrev short : Bool
-  short = sample_short (sample_lent o f w) (sample_stated n wanted)
-
-  abbrev last : List Test
-  last = on choice 13 ∷ on short 11 ∷ not_finite_lem cs ∷ []
-
-  pub tests-dimension : (r : definition.Refusal) → refused r ≡ verdict (on (wrong_dimension_lem d) 1 ∷ []) → refused r ≡ sample_verdict d cs wanted seed (sample_lent o f w)
-  unfolding sample_verdict
-  tests-dimension = fault-first (on (wrong_dimension_lem d) 1 ∷ []) (count_tests (length cs) d ++ last)
-
-  module _ (one : accepted ≡ verdict (on (wrong_dimension_lem d) 1 ∷ [])) where
-    pub tests-count : (r : definition.Refusal) → refused r ≡ verdict (count_tests (length cs) d) → refused r ≡ sample_verdict d cs wanted seed (sample_lent o f w)
-    unfolding sample_verdict
-    tests-count r e = fault-first (count_tests (length cs) d) last r e ∙ fault-second (on (wrong_dimension_lem d) 1 ∷ []) (count_tests (length cs) d ++ last) one
-
-    module _ (eight : accepted ≡ verdict (count_tests (length cs) d)) where
-      last-three : verdict last ≡ sample_verdict d cs wanted seed (sample_lent o f w)
-      unfolding sample_verdict
-      last-three = fault-second (count_tests (length cs) d) last eight ∙ fault-second (on (wrong_dimension_lem d) 1 ∷ []) (count_tests (length cs) d ++ last) one
-
-      pub tests-choice : choice ≡ true → refused (record { number = 13; place = 0 }) ≡ sample_verdict d cs wanted seed (sample_lent o f w)
-      tests-choice e = sym (decides (on choice 13) (on short 11 ∷ not_finite_lem cs ∷ []) e) ∙ last-three
-
-      module _ (fine : choice ≡ false) where
-        pub tests-lists : short ≡ true → refused (record { number = 11; place = 0 }) ≡ sample_verdict d cs wanted seed (sample_lent o f w)
-        tests-lists e = sym (pass (on choice 13) (on short 11 ∷ not_finite_lem cs ∷ []) fine ∙ decides (on short 11) (not_finite_lem cs ∷ []) e) ∙ last-three
-
-        pub tests-finite : short ≡ false → verdict (not_finite_lem cs ∷ []) ≡ sample_verdict d cs wanted seed (sample_lent o f w)
-        tests-finite e = sym (pass (on choice 13) (on short 11 ∷ not_finite_lem cs ∷ []) fine ∙ pass (on short 11) (not_finite_lem cs ∷ []) e) ∙ last-three
 
 -- ---- an accepted call
 above_zero : (n : ℕ) → (n ≡ 0 → ⊥) → 0 < n

@@ -47,6 +47,7 @@ fn lists_short(rows: usize, wanted: usize, lent: Lent) -> bool
 }
 
 // The tests of a sampling, in their order; and how many rows there are to sample.
+#[tactic(auto, unfolding(definition::specs::Refusals::sample_verdict, definition::specs::Refusals::verdict))]
 fn sampling_verdict(
     points: Points<'_>,
     wanted: usize,

@@ -103,9 +103,10 @@ module _ {s : tree.Settings} {bs rest : List ℕ} {cs : List Float} {n : ℕ} (r
     whole_is = ap (whole point_mark size) front_is ∙ whole_take size rest point_mark size (omega arith) (omega arith)
 
     module _ (some : 0 < length rest) where
-      pub reading-cut : whole point_mark size xs ≡ false → broken_at (settings_size + n * size) ≡ read_points s stream_points settings_size bs []
-      reading-cut e =
-          sym (r.same ∙ stream-cut s rest (take (n * s.dimension) cs) (stream_points - n) (settings_size + n * size) some (sym whole_is ∙ e))
+      pub reading-cut : whole point_mark size xs ≡ false → (at : ℕ) → at ≡ settings_size + n * size → broken_at at ≡ read_points s stream_points settings_size bs []
+      reading-cut e at place =
+          ap broken_at place
+          ∙ sym (r.same ∙ stream-cut s rest (take (n * s.dimension) cs) (stream_points - n) (settings_size + n * size) some (sym whole_is ∙ e))
 
       pub reading-full : whole point_mark size xs ≡ true → n ≡ stream_points → too_large ≡ read_points s stream_points settings_size bs []
       reading-full e f =

@@ -7,9 +7,9 @@ use native.Mathlib.Nat.{mul-add, mul-one}
 use native.Mathlib.Omega.{arith}
 use borrow.Author.Rules.{rules}
 use borrow.Rule.Slice.PartMut.{put_mid}
-use lib.ListN.{length, set}
+use lib.ListN.{length, set, take, drop}
 use lib.Ieee.{Float}
-use Rattle.lists.specs.Lists.{put}
+use Rattle.lists.specs.Lists.{put, part}
 use Rattle.lists.proofs.Put.{part-lent}
 use Rattle.definition.specs.Number.{plus_zero}
 use Rattle.definition.specs.Points.{box_width_lem}
@@ -265,6 +265,12 @@ overflow_add-k c = let t = c in
     let u = known x in
     omega (arith, u.leaves-fit, i.1.same-O, i.1.cap-O)
 
+-- a stretch of the rows, packed at this place
+packed_at : (w to rows : List ℕ) (at k start count : ℕ) → to ≡ put w at (take (start + count - start) (drop start rows)) → at ≡ k
+    → to ≡ put w k (part rows start count)
+packed_at w to rows at k start count e place =
+    e ∙ ap (λ (i : ℕ). put w i (take (start + count - start) (drop start rows))) place ∙ ap (put w k) (part-lent rows start count)
+
 pub loop-head-smaller : goal.loop-head-smaller
 loop-head-smaller c = let cut = c in
     let read = c in
@@ -274,7 +280,7 @@ loop-head-smaller c = let cut = c in
     next-leaves-less x cut.cut_node-plane.new.rows cut.cut_node-plane.new.wholes cut.cut_node-plane.ensures.rows cut.cut_node-plane.auto.wholes
     cut.cut_node-plane.result.axis cut.cut_node-plane.result.value (floats_of read.box_at-whole.result) read.box_at-whole.result.dimensions
     cut.cut_node-plane.ensures.plane.0 cut.cut_node-plane.ensures.plane.1 read.box_at-whole.ensures.1 read.box_at-whole.ensures.0
-    c.if-leaf-count.false _ (c.put_values.ensures ∙ ap (put _ _) (part-lent _ _ _))
+    c.if-leaf-count.false _ (packed_at _ _ _ _ _ _ _ c.put_values.ensures (omega arith))
 
 pub loop-head-preserved : goal.loop-head-preserved
 loop-head-preserved c = let wrote = c in
@@ -296,7 +302,7 @@ loop-head-preserved c = let wrote = c in
       next-leaves x cut.cut_node-plane.new.rows cut.cut_node-plane.new.wholes cut.cut_node-plane.ensures.rows cut.cut_node-plane.auto.wholes
           y v b whole.dimensions
           cut.cut_node-plane.ensures.plane.0 cut.cut_node-plane.ensures.plane.1 read.box_at-whole.ensures.1 read.box_at-whole.ensures.0
-          c.if-leaf-count.false _ (packed.put_values.ensures ∙ ap (put _ _) (part-lent _ _ _)) _ _ named.put_leaves.ensures
+          c.if-leaf-count.false _ (packed_at _ _ _ _ _ _ _ packed.put_values.ensures (omega arith)) _ _ named.put_leaves.ensures
           (wrote.put_boxes-else-leaf-count.ensures ∙ ap (λ (d : ℕ). put t.loop-head.boxes (box_width_lem d * t.loop-head.k) (set b (whole.dimensions + y) v ++ set b y v)) read.box_at-whole.ensures.0)
           _ _
           (recorded.write_leaves.ensures.cuts ∙ ap (λ (z : List ℕ). set (set z (p + 1) (3 + number)) (p + 1 + 1) (3 + (number + 1))) cut.cut_node-plane.ensures.cuts)

@@ -40,7 +40,7 @@ pub returns-then-not-record_at-clause-same : goal.returns-then-not-record_at-cla
 returns-then-not-record_at-clause-same c =
     let next = c.in-Some.ensures.steps.0 in
     rw c.point_size-size.ensures (reading-cut (state c) _ _ next.1.0 (next.1.1 ∙ ap (λ (k : ℕ). min k (length (chunks_rest (enumerate_source c.loop-n.n-iterator)))) c.loop-n.invariant.2) next.1.2
-    (rw c.point_size-size.ensures at (sym c.record_at.ensures ∙ c.if-not-record_at.true)))
+    (rw c.point_size-size.ensures at (sym c.record_at.ensures ∙ c.if-not-record_at.true)) _ (omega arith))
 
 pub returns-then-n-eq-MOST_POINTS-clause-same : goal.returns-then-n-eq-MOST_POINTS-clause-same
 returns-then-n-eq-MOST_POINTS-clause-same c =
